@@ -2,18 +2,18 @@
 use Rattle.std.proofs.Common.{◌≡◌, ℕ, ◌<◌, true, false, refl, ap, ◌∙◌, sym, subst}
 use Rattle.std.proofs.lemmas.Bool.{true≢false}
 use Rattle.pif_types.specs.declared.requests.Request.{Request}
-use Rattle.pif_types.specs.declared.requests.Request.TheVariants.{Lock, Wait, Signal, Broadcast}
+use Rattle.pif_types.specs.declared.requests.Request.TheVariants.{Wait, Signal, Broadcast}
 use Rattle.pif_model.specs.declared.lines.Line.TheVariants.{At}
 use Rattle.pif_model.specs.declared.lines.Place.{Place}
 use Rattle.pif_model.specs.declared.lines.Place.TheVariants.{Load, Give, LoadUses, Park, StayParked, Wake}
 use Rattle.pif_model.specs.declared.lines.WakeStep.TheVariants.{CountUse}
-use Rattle.pif_model.specs.declared.lines.Status.{Status}
 use Rattle.pif_model.specs.PiKernel.{is_living}
 use Rattle.pif_model.specs.Table.{Table, line_at}
-use Rattle.pif_model.specs.Lines.{counts_at}
+use Rattle.pif_model.specs.Lines.{line_of, go_outcome}
 use Rattle.pif_model.specs.Soundness.{belongs, CallIsSound, LineIsSound, IsSound}
 use Rattle.pif_simulation.proofs.Facts.{call_limited}
 use Rattle.pif_simulation.proofs.Hole.{each_thread}
+use Rattle.pif_simulation.proofs.Undue.{goes_by_line}
 use Rattle.pif_mutex.specs.Mutexes.{is_on_mutex, is_of_mutexes}
 use Rattle.pif_cond.specs.Conditions.{is_of_conditions, is_of_wait, is_own}
 
@@ -51,9 +51,10 @@ pub handed_on : (s : Table) (t : ℕ) (q : Request) (p : Place) → IsSound s �
 handed_on s t q p h k e o other =
     rw e (of_mutexes q p (call_of s t q p h k e).belongs (rw e at o) other)
 
--- of the calls whose next step is their own only a wait has a deadline that counts
-pub due_waits : (q : Request) (p : Place) (x : Status) → is_own q p ≡ true → counts_at q p x ≡ true
-    → (c : ℕ) × ((m : ℕ) × (q ≡ Wait c m))
-due_waits (Wait c m) p x o e = (c, (m, refl))
-due_waits (Lock m) p x o e = absurd (true≢false (sym o))
-due_waits _ p x o e = absurd (true≢false (sym e))
+-- a step of a signal, and of a broadcast, is its line
+pub signal_goes : (c : ℕ) (p : Place) (t : ℕ) (s : Table) → go_outcome (At (Signal c) p) t s ≡ line_of (Signal c) p t s
+signal_goes c p t s = goes_by_line (Signal c) p t s refl (λ expired a. refl)
+
+pub broadcast_goes : (c : ℕ) (p : Place) (t : ℕ) (s : Table)
+    → go_outcome (At (Broadcast c) p) t s ≡ line_of (Broadcast c) p t s
+broadcast_goes c p t s = goes_by_line (Broadcast c) p t s refl (λ expired a. refl)

@@ -4,8 +4,8 @@ ghost use Rattle.pif_model.specs.declared.lines.Line;
 ghost use Rattle.pif_model.specs.declared.lines.Place;
 ghost use Rattle.pif_model.specs.declared.lines.WakeStep;
 ghost use Rattle.pif_model.specs.PiKernel.{is_living};
-ghost use Rattle.pif_model.specs.Table.{line_at, cell_at, has_thread, has_cond, status_at};
-ghost use Rattle.pif_model.specs.Lines.{line_of, use_line, counts_at, expires_at, go_outcome};
+ghost use Rattle.pif_model.specs.Table.{line_at, cell_at, has_thread, has_cond};
+ghost use Rattle.pif_model.specs.Lines.{line_of, use_line, go_outcome};
 ghost use Rattle.pif_mutex.specs.Outcomes.{outcome_of};
 ghost use Rattle.pif_simulation.specs.Steppable.{CallMayStep};
 ghost use Rattle.pif_cond.specs.Conditions.{is_of_conditions, is_of_wait, is_own};
@@ -84,9 +84,9 @@ fn is_of_wait(place: &Place) -> bool
 }
 
 /// One step of the open call of `t`, which is this request at this place, on a condition variable. A wait that is due
-/// expires, and does nothing else.
+/// expires, and does nothing else. A signal and a broadcast are never due.
 #[inline(always)]
-#[tactic(auto, unfolding(pif_model::specs::Lines::go_outcome))]
+#[tactic(auto, unfolding(pif_model::specs::Lines::line_of, pif_model::specs::Lines::use_line), using(crate::proofs::Stepping::signal_goes, crate::proofs::Stepping::broadcast_goes))]
 fn go<K: PiKernel + Drop>(state: &mut State<K>, request: Request, place: Place, t: Tid) -> Progress
     requires living { is_living state.old.kernel t ≡ true }
     requires own { is_own request place ≡ true }
@@ -94,59 +94,38 @@ fn go<K: PiKernel + Drop>(state: &mut State<K>, request: Request, place: Place, 
     requires below { (v : ℕ) → place ≡ Place.Wake (WakeStep.CountUse v) → v < state.old.limits.signals }
     ensures { outcome_of result state.new ≡ go_outcome (Line.At request place) t state.old }
 {
-    if state.is_due_at(&request, &place, t) {
-        expire_at(state, request, place, t)
-    } else {
-        let expired = state.timer(t).expired;
-        let progress = step(state, request, place, t);
-        told(&request, expired, progress)
-    }
-}
-
-/// The expiry of the open call of `t`, which is this request at this place, where its deadline counts: a wait.
-#[cold]
-#[inline(never)]
-#[tactic(auto, unfolding(pif_model::specs::Lines::expires_at), using(crate::proofs::Stepping::due_waits))]
-fn expire_at<K: PiKernel + Drop>(
-    state: &mut State<K>,
-    request: Request,
-    place: Place,
-    t: Tid,
-) -> Progress
-    requires living { is_living state.old.kernel t ≡ true }
-    requires own { is_own request place ≡ true }
-    requires call { CallMayStep state.old t request place }
-    requires counts { counts_at request place (status_at state.old t) ≡ true }
-    ensures { outcome_of result state.new ≡ expires_at request place t state.old }
-{
     match request {
-        Request::Wait(c, m) => wait_expire(state, c, m, t),
-        _ => unreachable!(),
-    }
-}
-
-/// The line of the open call of `t`, which is this request at this place, on a condition variable.
-#[inline(always)]
-#[tactic(auto, unfolding(pif_model::specs::Lines::line_of))]
-fn step<K: PiKernel + Drop>(
-    state: &mut State<K>,
-    request: Request,
-    place: Place,
-    t: Tid,
-) -> Progress
-    requires known { has_thread state.old t ≡ true }
-    requires own { is_own request place ≡ true }
-    requires call { CallMayStep state.old t request place }
-    requires below { (v : ℕ) → place ≡ Place.Wake (WakeStep.CountUse v) → v < state.old.limits.signals }
-    ensures { outcome_of result state.new ≡ line_of request place t state.old }
-{
-    match request {
-        Request::Wait(c, m) => wait_step(state, place, c, m, t),
+        Request::Wait(c, m) => go_wait(state, place, c, m, t),
         Request::Signal(c) | Request::Broadcast(c) => match place {
             Place::Wake(step) => use_step(state, request, step, c, t),
             _ => state.answer(t, Errno::Invalid.number()),
         },
         _ => unreachable!(),
+    }
+}
+
+/// One step of a wait, which is not one on its mutex, or its expiry, if it is due.
+#[inline(always)]
+#[tactic(auto, unfolding(pif_model::specs::Lines::go_outcome, pif_model::specs::Lines::expires_at))]
+fn go_wait<K: PiKernel + Drop>(
+    state: &mut State<K>,
+    place: Place,
+    c: CondId,
+    m: MutexId,
+    t: Tid,
+) -> Progress
+    requires living { is_living state.old.kernel t ≡ true }
+    requires own { is_of_wait place ≡ true }
+    requires call { CallMayStep state.old t (Request.Wait c m) place }
+    ensures { outcome_of result state.new ≡ go_outcome (Line.At (Request.Wait c m) place) t state.old }
+{
+    let request = Request::Wait(c, m);
+    if state.is_due_at(&request, &place, t) {
+        wait_expire(state, c, m, t)
+    } else {
+        let expired = state.timer(t).expired;
+        let progress = wait_step(state, place, c, m, t);
+        told(&request, expired, progress)
     }
 }
 

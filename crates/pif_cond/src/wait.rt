@@ -63,7 +63,8 @@ pub(crate) fn wait_uses<K: PiKernel + Drop>(
 
 /// The kernel call wait_requeue_pi (FUTEX_WAIT_REQUEUE_PI of futex(2)), which expects the condition word that was read
 /// before the mutex was given up. Where the variable was used since the thread is not parked, and locks the mutex
-/// again.
+/// again. It is a function of its own, so that its locals cost the other steps nothing.
+#[inline(never)]
 #[tactic(auto, unfolding(pif_model::specs::Lines::wait_park, pif_model::specs::Lines::wait_by), using(pif_simulation::proofs::events::KernelLeaves::wait_requeue_keeps_threads))]
 pub(crate) fn wait_park<K: PiKernel + Drop>(
     state: &mut State<K>,
@@ -106,6 +107,8 @@ pub(crate) fn wait_parked<K: PiKernel + Drop>(
 
 /// The deadline of a wait that is parked is reached: the kernel call expire. The wait has expired, and locks its mutex
 /// again, for which no deadline counts (POSIX, pthread_cond_timedwait).
+#[cold]
+#[inline(never)]
 #[tactic(auto, unfolding(pif_model::specs::Lines::expires_at, pif_model::specs::Lines::expired_in), using(pif_simulation::proofs::events::KernelLeaves::expire_keeps_threads))]
 pub(crate) fn wait_expire<K: PiKernel + Drop>(
     state: &mut State<K>,

@@ -3,6 +3,7 @@ pub mod Kept
 pub mod Hole
 pub mod Agreement
 pub mod deadlines
+pub mod Undue
 pub mod Facts
 pub mod Steps
 pub mod Written

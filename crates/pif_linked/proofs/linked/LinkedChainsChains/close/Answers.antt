@@ -36,7 +36,7 @@ forget_at-requires-clause-row c =
       w.0,
       w.1,
       same_Some w.0.row c.row-row.result
-      (sym (c.self.invariant.words c.get.result w.0 w.1).row ∙ ap (get c.self.inside.owners.places) w.2 ∙ c.row-row.ensures.value),
+          (sym (c.self.invariant.words c.get.result w.0 w.1).row ∙ ap (get c.self.inside.owners.places) w.2 ∙ c.row-row.ensures.value),
     )
 
 -- the word of the mutex
