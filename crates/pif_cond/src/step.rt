@@ -6,6 +6,7 @@ ghost use Rattle.pif_model.specs.declared.lines.WakeStep;
 ghost use Rattle.pif_model.specs.PiKernel.{is_living};
 ghost use Rattle.pif_model.specs.Table.{line_at, cell_at, has_thread, has_cond};
 ghost use Rattle.pif_model.specs.Lines.{line_of, use_line, go_outcome};
+ghost use Rattle.pif_mutex.specs.Mutexes.{is_of_mutexes};
 ghost use Rattle.pif_mutex.specs.Outcomes.{outcome_of};
 ghost use Rattle.pif_simulation.specs.Steppable.{CallMayStep};
 ghost use Rattle.pif_cond.specs.Conditions.{is_of_conditions, is_of_wait, is_own};
@@ -39,7 +40,7 @@ pub fn advance<K: PiKernel + Drop>(parts: &mut Parts<K>, t: Tid) -> Progress
 }
 
 /// The same for a caller that knows the call, which is this request, and the place of it at which the thread stands.
-#[inline(never)]
+#[inline(always)]
 pub fn advance_at<K: PiKernel + Drop>(
     parts: &mut Parts<K>,
     request: Request,
@@ -58,8 +59,20 @@ pub fn advance_at<K: PiKernel + Drop>(
     if is_own(&request, &place) {
         go(&mut parts.state, request, place, t)
     } else {
-        pif_mutex::advance_at(parts, request, place, t)
+        advance_on_mutex(parts, t)
     }
+}
+
+/// One step of a wait on its mutex, in a function of its own, so that its locals cost the steps on the variable nothing.
+#[inline(never)]
+fn advance_on_mutex<K: PiKernel + Drop>(parts: &mut Parts<K>, t: Tid) -> Progress
+    requires living { is_living parts.old.kernel t ≡ true }
+    requires call { is_of_mutexes (line_at parts.old t) ≡ true }
+    ensures line { outcome_of result parts.new ≡ go_outcome (line_at parts.old t) t parts.old }
+    ensures once { (m : ℕ) → (cell_at parts.new m).word.number ≢ (cell_at parts.old m).word.number
+        → (cell_at parts.new m).word.number ≢ 0 → (cell_at parts.new m).count ≡ 1 }
+{
+    pif_mutex::advance(parts, t)
 }
 
 /// Whether a call takes a step of its own on a condition variable at this place.

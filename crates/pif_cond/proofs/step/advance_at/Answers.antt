@@ -24,8 +24,8 @@ go-requires-clause-below g c =
     (ap (λ (x : Table). is_living x.kernel c.args.t) c.parts.view_is ∙ c.requires.living)
     (ap (λ (x : Table). line_at x c.args.t) c.parts.view_is ∙ c.requires.line)
 
-pub advance_at-requires-clause-call : goal.advance_at-requires-clause-call
-advance_at-requires-clause-call g c =
+pub advance_on_mutex-requires-clause-call : goal.advance_on_mutex-requires-clause-call
+advance_on_mutex-requires-clause-call g c =
     rw (← c.parts.view_is) (handed_on c.parts.inside.state c.args.t c.args.request c.args.place c.parts.invariant
     (ap (λ (x : Table). is_living x.kernel c.args.t) c.parts.view_is ∙ c.requires.living)
     (ap (λ (x : Table). line_at x c.args.t) c.parts.view_is ∙ c.requires.line)
