@@ -7,28 +7,21 @@
 #![tactic(auto)]
 
 mod laws;
-mod migrating;
-mod notices;
-mod reading;
-mod replaying;
-mod running;
 mod runs;
 mod showing;
 mod shown;
 mod tracing;
 mod transcribing;
-mod writing;
 
 pub use laws::commands_have_no_fault;
-pub use migrating::{migrate, migrate_noting, migrated_trace_has_its_verdict, read_all};
-pub use notices::Notice;
-pub use pif_script_model::{CliFault, Ending, OpenFault};
+pub use pif_reading::{
+    CliFault, Ending, MOST_BYTES, MOST_LINE, Notice, OpenFault, obey, open_core, read_all,
+    write_whole,
+};
+pub use pif_replays::{migrate, migrate_noting, migrated_trace_has_its_verdict};
 pub use pif_text::Cause;
-pub use reading::{MOST_BYTES, MOST_LINE};
-pub use running::{obey, open_core};
 pub use runs::{
     replay, replay_noting, run, run_noting, script_trace_is_the_same, trace, trace_noting,
 };
 pub use showing::{Detail, show, show_all, show_noting};
 pub use tracing::{write_trace, written_trace_is_the_same};
-pub use writing::write_whole;

@@ -2,11 +2,10 @@ ghost use Rattle.pif_script_model.specs.Running.{RunsTo};
 ghost use Rattle.pif_script_model.specs.Traces.{ReplaysTo};
 ghost use Rattle.pif_script_model.specs.Transcripts.{SameAsTraced, TracesTo};
 
-use crate::reading::read_script;
-use crate::replaying::Replayed;
 use crate::transcribing::Transcribing;
-use crate::{CliFault, Notice};
 use pif_core::Core;
+use pif_reading::{CliFault, Notice, read_script};
+use pif_replays::Replayed;
 use std::alloc::Global;
 use std::io::{Read, Write};
 

@@ -5,15 +5,14 @@ ghost use Rattle.pif_text_model.specs.Extends.{Stays};
 ghost use Rattle.pif_script_model.specs.Scripts.{closed_at};
 ghost use Rattle.pif_script_model.specs.Running.{script};
 ghost use Rattle.pif_script_model.specs.Runs.{WritesEnd, Feeds, Stops, RunsPart};
-ghost use Rattle.pif_scripts.specs.Scanners.{scan_of};
+ghost use Rattle.pif_reading.specs.Scanners.{scan_of};
 ghost use Rattle.pif_script_model.specs.Showing.{OrUnwritten, ShowsTo, Silent};
 
-use crate::reading::{
-    CHUNK, END_ROOM, End, MOST_LINE, OUTPUT_ROOM, Output, Scanner, Stop, append, stop,
-};
 use crate::shown::Shown;
-use crate::writing::write_whole;
-use crate::{CliFault, Notice};
+use pif_reading::{
+    CHUNK, CliFault, END_ROOM, End, MOST_LINE, Notice, OUTPUT_ROOM, Output, Scanner, Stop, append,
+    stop, write_whole,
+};
 use pif_show::{Unwritten, errno_name, write_changes, write_state};
 use pif_types::Errno;
 use std::alloc::Global;

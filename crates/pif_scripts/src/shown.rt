@@ -6,11 +6,11 @@ ghost use Rattle.pif_script_model.specs.Running.{line_meaning, script};
 ghost use Rattle.pif_script_model.specs.Scripts.{Hears};
 ghost use Rattle.pif_script_model.specs.Showing.{as_done, state_behind};
 
-use crate::reading::{
-    ANSWER_ROOM, End, Ending, Listener, OUTPUT_ROOM, OpenFault, Output, append_end,
-};
-use crate::running::{obey, open_core, tell};
 use pif_core::{Core, Seen};
+use pif_reading::{
+    ANSWER_ROOM, End, Ending, Listener, OUTPUT_ROOM, OpenFault, Output, append_end, obey,
+    open_core, tell,
+};
 use pif_show::errno_of;
 use pif_text::{Cause, Command, Reply, Version, command_of};
 use pif_types::Errno;

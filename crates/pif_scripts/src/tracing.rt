@@ -3,24 +3,13 @@ ghost use Rattle.pif_script_model.specs.Runs.{Writes};
 ghost use Rattle.pif_script_model.specs.Traces.{SameAgain, entry_command, entry_reply, entry_text, entry_line, front_lines, limits_text, trace};
 ghost use Rattle.arrayvec.specs.ArrayVec.{array_vec_len};
 
-use crate::CliFault;
-use crate::writing::write_whole;
 use pif_core::Entry;
+use pif_reading::{CliFault, FRONT_ROOM, ROW_ROOM, write_whole};
 use pif_text::{
-    Added, Addition, COMMAND_ROOM, Command, HEADER_ROOM, RECORDED_ROOM, Reply, TEXT_ROOM, Text,
-    command_text, header_text, recorded_text,
+    Added, Addition, Command, Reply, TEXT_ROOM, Text, command_text, header_text, recorded_text,
 };
 use pif_types::Limits;
 use std::io::Write;
-
-/// Room for a command and the answer to it.
-pub const ROW_ROOM: usize = COMMAND_ROOM + RECORDED_ROOM;
-
-/// The most bytes that the line of an entry has, its LF included.
-pub const LINE_ROOM: usize = ROW_ROOM + 1;
-
-/// The most bytes of the first two lines of a trace: the header, and the line of the limits.
-pub const FRONT_ROOM: usize = HEADER_ROOM + 1 + LINE_ROOM;
 
 /// The command that an entry asks for.
 fn entry_command(entry: Entry) -> Command

@@ -7,16 +7,17 @@ ghost use Rattle.pif_model.specs.Lines.{event_outcome, goes_on};
 ghost use Rattle.pif_calls.specs.Calls.{call_outcome};
 ghost use Rattle.pif_script_model.specs.Running.{run_outcome};
 ghost use Rattle.pif_script_model.specs.Traces.{entry_line};
-ghost use Rattle.pif_script_model.specs.Transcripts.{Transcribed, call_entries, entry_lines, event_entry, first_limits, going_entries, is_added, row, run_entries, single_line, transcript, was_made};
+ghost use Rattle.pif_script_model.specs.Transcripts.{Transcribed, call_entries, entry_lines, event_entry, going_entries, is_added, row, run_entries, single_line, transcript, was_made};
 
-use crate::reading::{End, Ending, Listener, OUTPUT_ROOM, OpenFault, Output, append};
-use crate::running::{default_limits, obey};
-use crate::tracing::{LINE_ROOM, front_lines};
+use crate::tracing::front_lines;
 use pif_core::{Core, Event, MORE_STEPS, Seen};
+use pif_reading::{
+    End, Ending, LINE_ROOM, Listener, OUTPUT_ROOM, OpenFault, Output, append, first_limits, obey,
+};
 use pif_text::{
     Added, Cause, Command, Reply, Text, Version, command_of, command_text, if_traced, recorded_text,
 };
-use pif_types::{Limits, Request, Tid};
+use pif_types::{Request, Tid};
 use std::alloc::Global;
 use std::marker::Model;
 
@@ -165,19 +166,6 @@ fn transcribe(core: &mut Core, command: Command, output: &mut Output) -> Option<
                 None => None,
             }
         }
-    }
-}
-
-/// The limits of the core that a first command makes; `None` where it names one that is out of its range.
-#[tactic(auto, unfolding(pif_script_model::specs::Transcripts::first_limits, pif_script_model::specs::Running::limits_in))]
-pub fn first_limits(command: Command) -> Option<Limits>
-    ensures { result ≡ first_limits command }
-{
-    match command {
-        Command::Limits(threads, mutexes, conds, signals) => {
-            Limits::new(threads, mutexes, conds, signals)
-        }
-        _ => Some(default_limits()),
     }
 }
 

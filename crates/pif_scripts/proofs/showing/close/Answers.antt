@@ -1,7 +1,7 @@
 use Rattle.std.proofs.Common.{refl}
 use Rattle.pif_script_model.specs.Running.{script}
 use Rattle.pif_script_model.specs.Scripts.{closed_at}
-use Rattle.pif_scripts.specs.Scanners.{scan_of}
+use Rattle.pif_reading.specs.Scanners.{scan_of}
 use Rattle.pif_script_model.proofs.ShowingLemmas.{WritesEnd-shown, SilentAt-stopped, Stays-stopped}
 use Rattle.pif_scripts.proofs.showing.close.Goals as goal
 

@@ -2,7 +2,7 @@ use Rattle.std.proofs.Common.{◌+◌, get_or, drop, arith, [], None, Ok, refl}
 use Rattle.std.proofs.KnownBytes.{Keeps-refl, Keeps-trans}
 use Rattle.std.proofs.lemmas.List.{drop_more, drop_all}
 use Rattle.pif_script_model.specs.Running.{script}
-use Rattle.pif_scripts.specs.Scanners.{scan_of}
+use Rattle.pif_reading.specs.Scanners.{scan_of}
 use Rattle.pif_script_model.proofs.FeedLemmas.{Feeding-start, Feeds-end}
 use Rattle.pif_script_model.proofs.ShowingLemmas.{Feeding-shown, Feeds-shown, Feeds-shown_no_memory, SilentAt-stopped, Stays-stopped, unheard-before}
 use Rattle.pif_scripts.proofs.showing.feed.Goals as goal

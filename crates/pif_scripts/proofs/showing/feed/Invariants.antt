@@ -2,7 +2,7 @@ use Rattle.std.proofs.Common.{◌≡◌, ◌+◌, [], None, drop}
 use Rattle.std.specs.Io.KnownBytes.{Keeps}
 use Rattle.pif_text_model.specs.Extends.{Stays}
 use Rattle.pif_script_model.specs.Running.{script}
-use Rattle.pif_scripts.specs.Scanners.{scan_of}
+use Rattle.pif_reading.specs.Scanners.{scan_of}
 use Rattle.pif_script_model.proofs.FeedLemmas.{Feeding}
 use Rattle.pif_scripts.proofs.showing.feed.Given as goal
 

@@ -3,7 +3,7 @@ use Rattle.std.proofs.KnownBytes.{Keeps-refl, Keeps-trans}
 use Rattle.std.proofs.lemmas.Result.{err_from_is_err_and}
 use Rattle.pif_script_model.specs.Running.{script}
 use Rattle.pif_script_model.specs.Scripts.{start}
-use Rattle.pif_scripts.specs.Scanners.{scan_of}
+use Rattle.pif_reading.specs.Scanners.{scan_of}
 use Rattle.pif_script_model.specs.Showing.{Silent}
 use Rattle.pif_script_model.proofs.RunLemmas.{Goes-start, Goes-more, Goes-ends}
 use Rattle.pif_script_model.proofs.ShowingLemmas.{RunsTo-shown}

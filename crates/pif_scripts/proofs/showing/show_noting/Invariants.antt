@@ -3,7 +3,7 @@ use Rattle.std.specs.Io.KnownBytes.{Keeps}
 use Rattle.pif_text_model.specs.Extends.{Stays}
 use Rattle.pif_script_model.specs.Running.{script}
 use Rattle.pif_script_model.specs.Scripts.{start}
-use Rattle.pif_scripts.specs.Scanners.{scan_of}
+use Rattle.pif_reading.specs.Scanners.{scan_of}
 use Rattle.pif_script_model.proofs.RunLemmas.{Goes}
 use Rattle.pif_scripts.proofs.showing.show_noting.Given as goal
 

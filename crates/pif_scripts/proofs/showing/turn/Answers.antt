@@ -1,7 +1,7 @@
 use Rattle.std.proofs.Common.{take, arith, None}
 use Rattle.std.proofs.lemmas.Result.{err_from_is_err_and}
 use Rattle.pif_script_model.specs.Running.{script}
-use Rattle.pif_scripts.specs.Scanners.{scan_of}
+use Rattle.pif_reading.specs.Scanners.{scan_of}
 use Rattle.pif_script_model.proofs.FeedLemmas.{RunsPart-fed}
 use Rattle.pif_script_model.proofs.RunLemmas.{RunsFrom-read_failed}
 use Rattle.pif_script_model.proofs.ShowingLemmas.{RunsPart-shown_closed, RunsPart-shown_fed}
