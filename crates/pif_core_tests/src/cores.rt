@@ -1,67 +1,135 @@
-mod deadlines;
-
-use super::driver::{Ask, Reply, Wish, check};
-use pif_core::Core;
-use pif_model::{Seen, Status, Woken};
-use pif_types::{AddFault, Health, Kind, Limits, Refusal};
+//! Readers of a core of which a script says nothing: how many there are, the time, who rests, and which call is open.
+//! What a script can say of the same scenes is in crates/pif_transcripts/data/cores.txt, under the same names.
+use super::driver::{Wish, core_with, request, see};
+use pif_core::{Core, Event, Seen};
+use pif_model::{Status, Woken};
+use pif_types::{CondId, Kind, MutexId, Prio, Refusal, Tid};
 use std::alloc::Global;
 use std::process::Abort;
 use std::test::Fail;
 
-/// A core with mutex 1 of this kind, threads of these priorities, and room for one condition variable.
-fn scene(alloc: Global, kind: Kind, levels: &[u32]) -> Result<Core, Fail> {
-    let limits = Limits::new(4, 2, 1, 1).ok_or("limits")?;
-    let mut core = Core::new(alloc, limits)?;
-    fill(&mut core, kind, levels)?;
-    Ok(core)
+/// What is asked of a core, and what it answers, by numbers, of which 0 is nobody.
+#[derive(Clone, Copy)]
+enum Ask {
+    /// A mutex more, and its number.
+    AddMutex(Kind, bool, u32),
+    /// A variable more that is bound to this mutex, and its number.
+    AddCond(u32, u32),
+    Call(u32, Wish, Seen),
+    Go(u32, Seen),
+    End(u32, Seen),
+    Tick(u32, Seen),
+    /// How many threads, mutexes and variables there are.
+    Counts(u32, u32, u32),
+    Time(u32),
+    Base(u32, u32),
+    /// It may run, and was never woken.
+    IsReady(u32),
+    /// The thread is queued on this mutex, or parked on this variable.
+    IsQueued(u32, u32),
+    IsParked(u32, u32),
+    Waiting(u32, Option<bool>),
+    Open(u32, Wish),
+    Kind(u32, Kind, bool),
+    /// The thread that owns a mutex, and how often it holds it.
+    Owner(u32, u32, u32),
+    /// The waiter of a mutex, and the thread that is parked on a variable, at a place.
+    Waiter(u32, u32, u32),
+    Parked(u32, u32, u32),
+    Bound(u32, u32),
+    Ready(u32, u32),
 }
 
-/// Adds a mutex of this kind, and threads of these priorities.
-fn fill(core: &mut Core, kind: Kind, levels: &[u32]) -> Result<(), AddFault> {
-    let _mutex = core.add_mutex(kind, false)?;
-    for level in levels {
-        let _thread = core.add_thread(*level)?;
+/// Whether a core answers so. `None` if it can't be asked, since nobody has number 0.
+fn answers(core: &mut Core, ask: Ask) -> Option<bool> {
+    Some(match ask {
+        Ask::AddMutex(kind, robust, m) => core.add_mutex(kind, robust).ok() == MutexId::new(m),
+        Ask::AddCond(m, c) => core.add_cond(MutexId::new(m)?).ok() == CondId::new(c),
+        Ask::Call(t, wish, seen) => core.call(Tid::new(t)?, request(wish)?) == seen,
+        Ask::Go(t, seen) => core.step(Event::Go(Tid::new(t)?)) == seen,
+        Ask::End(t, seen) => core.step(Event::End(Tid::new(t)?)) == seen,
+        Ask::Tick(time, seen) => core.step(Event::Tick(time)) == seen,
+        _ => shows(core, ask)?,
+    })
+}
+
+/// The same of what only reads.
+fn shows(core: &Core, ask: Ask) -> Option<bool> {
+    Some(match ask {
+        Ask::Counts(threads, mutexes, conds) => {
+            core.threads() == threads && core.mutexes() == mutexes && core.conds() == conds
+        }
+        Ask::Time(time) => core.time() == time,
+        Ask::Kind(m, kind, robust) => is_of(core.kind(MutexId::new(m)?), kind, robust),
+        Ask::Owner(m, t, count) => is_held(core.owner(MutexId::new(m)?), t, count),
+        Ask::Waiter(m, place, t) => core.waiter(MutexId::new(m)?, place) == Tid::new(t),
+        Ask::Parked(c, place, t) => core.parked(CondId::new(c)?, place) == Tid::new(t),
+        Ask::Bound(c, m) => core.bound(CondId::new(c)?) == MutexId::new(m),
+        Ask::Ready(place, t) => core.ready(place) == Tid::new(t),
+        _ => shows_thread(core, ask)?,
+    })
+}
+
+/// The same of what a thread does.
+fn shows_thread(core: &Core, ask: Ask) -> Option<bool> {
+    match ask {
+        Ask::Base(t, level) => Some(core.base(Tid::new(t)?) == Prio::new(level)),
+        Ask::IsReady(t) => Some(does(core, Tid::new(t)?, Status::Ready(Woken::Fresh))),
+        Ask::IsQueued(t, m) => Some(does(core, Tid::new(t)?, Status::Queued(MutexId::new(m)?))),
+        Ask::IsParked(t, c) => Some(does(core, Tid::new(t)?, Status::Parked(CondId::new(c)?))),
+        Ask::Waiting(t, rests) => Some(core.waiting(Tid::new(t)?) == rests),
+        Ask::Open(t, wish) => Some(core.open_call(Tid::new(t)?) == request(wish)),
+        _ => None,
     }
-    Ok(())
 }
 
-/// Asks all this of such a core.
+fn does(core: &Core, t: Tid, status: Status) -> bool {
+    core.status(t) == Some(status)
+}
+
+fn is_of(read: Option<(Kind, bool)>, kind: Kind, robust: bool) -> bool {
+    match read {
+        Some((k, r)) => k == kind && r == robust,
+        None => false,
+    }
+}
+
+fn is_held(read: Option<(Tid, u32)>, owner: u32, count: u32) -> bool {
+    match read {
+        Some((t, n)) => t.get() == owner && n == count,
+        None => owner == 0,
+    }
+}
+
+/// Asks all this in turn.
+fn check(rt: &impl Abort, core: &mut Core, asks: &[Ask]) {
+    for (place, ask) in asks.iter().enumerate() {
+        see(rt, place, answers(core, *ask));
+    }
+}
+
+/// Asks all this of a core with a mutex of this kind and threads of these priorities.
 fn play(
     rt: &impl Abort,
     alloc: Global,
     kind: Kind,
     levels: &[u32],
-    steps: &[(Ask, Reply)],
+    asks: &[Ask],
 ) -> Result<(), Fail> {
-    let mut core = scene(alloc, kind, levels)?;
-    check(rt, &mut core, steps);
+    let mut core = core_with(alloc, kind, false, levels)?;
+    check(rt, &mut core, asks);
     Ok(())
 }
 
-const DONE: Reply = Reply::Is(Seen::Answered(0));
-
-const WAITS: Reply = Reply::Is(Seen::Waits);
-
-const DEAD: Reply = Reply::Is(Seen::Refused(Refusal::Dead));
+const DONE: Seen = Seen::Answered(0);
 
 /// Thread 1 holds mutex 1, for which thread 2, of higher priority, waits.
-const BOOST: [(Ask, Reply); 16] = [
-    (Ask::Threads, Reply::Number(2)),
-    (Ask::Pick, Reply::Number(2)),
-    (Ask::Run(1, Wish::Lock(1), 2), DONE),
-    (Ask::Word(1), Reply::Number(1)),
-    (Ask::Run(2, Wish::Lock(1), 3), WAITS),
-    (Ask::Word(1), Reply::Number(0x8000_0001)),
-    (Ask::Effective(1), Reply::Number(50)),
-    (Ask::Pick, Reply::Number(1)),
-    (Ask::Waiting(1), Reply::Nothing),
-    (Ask::Waiting(2), Reply::Rests(true)),
-    (Ask::Run(1, Wish::Unlock(1), 3), DONE),
-    (Ask::Word(1), Reply::Number(0x8000_0002)),
-    (Ask::Effective(1), Reply::Number(10)),
-    (Ask::Go(2), DONE),
-    (Ask::Run(2, Wish::Unlock(1), 3), DONE),
-    (Ask::Word(1), Reply::Number(0)),
+const BOOST: [Ask; 5] = [
+    Ask::Counts(2, 1, 0),
+    Ask::Call(1, Wish::Lock(1), DONE),
+    Ask::Call(2, Wish::Lock(1), Seen::Waits),
+    Ask::Waiting(1, None),
+    Ask::Waiting(2, Some(true)),
 ];
 
 #[test]
@@ -69,30 +137,10 @@ fn holder_is_boosted_until_it_unlocks(rt: HostRuntime) -> Result<(), Fail> {
     play(&rt, rt.alloc(), Kind::Normal, &[10, 50], &BOOST)
 }
 
-const EQUALS: [(Ask, Reply); 8] = [
-    (Ask::Run(1, Wish::Lock(1), 2), DONE),
-    (Ask::Word(1), Reply::Number(1)),
-    (Ask::Run(2, Wish::Lock(1), 3), WAITS),
-    (Ask::Word(1), Reply::Number(0x8000_0001)),
-    (Ask::Run(3, Wish::Lock(1), 3), WAITS),
-    (Ask::Word(1), Reply::Number(0x8000_0001)),
-    (Ask::Run(1, Wish::Unlock(1), 3), DONE),
-    (Ask::Word(1), Reply::Number(0x8000_0002)),
-];
-
-#[test]
-fn equals_are_served_in_order_of_arrival(rt: HostRuntime) -> Result<(), Fail> {
-    play(&rt, rt.alloc(), Kind::ErrorCheck, &[10, 20, 20], &EQUALS)
-}
-
-const ENDED: [(Ask, Reply); 7] = [
-    (Ask::End(1), Reply::Is(Seen::Ended)),
-    (Ask::Begin(1, Wish::Lock(1)), DEAD),
-    (Ask::Go(1), DEAD),
-    (Ask::End(1), DEAD),
-    (Ask::Effective(1), Reply::Nothing),
-    (Ask::Health(1), Reply::State(Health::Fine)),
-    (Ask::Threads, Reply::Number(1)),
+const ENDED: [Ask; 3] = [
+    Ask::End(1, Seen::Ended),
+    Ask::End(1, Seen::Refused(Refusal::Dead)),
+    Ask::Counts(1, 1, 0),
 ];
 
 #[test]
@@ -100,40 +148,14 @@ fn who_has_ended_is_refused(rt: HostRuntime) -> Result<(), Fail> {
     play(&rt, rt.alloc(), Kind::Normal, &[10], &ENDED)
 }
 
-/// There is no mutex 2, and room for one variable.
-const BINDING: [(Ask, Reply); 6] = [
-    (Ask::CondWord(1), Reply::Nothing),
-    (Ask::AddCond(2), Reply::Fault(AddFault::NoSuch)),
-    (Ask::AddCond(1), Reply::Number(1)),
-    (Ask::AddCond(2), Reply::Fault(AddFault::NoSuch)),
-    (Ask::AddCond(1), Reply::Fault(AddFault::TooMany)),
-    (Ask::CondWord(1), Reply::Number(0)),
-];
-
-#[test]
-fn condition_variable_needs_its_mutex_and_room(rt: HostRuntime) -> Result<(), Fail> {
-    play(&rt, rt.alloc(), Kind::Normal, &[10], &BINDING)
-}
-
-/// Thread 2 signals thread 1, and may not signal again.
-const SIGNAL: [(Ask, Reply); 14] = [
-    (Ask::AddCond(1), Reply::Number(1)),
-    (Ask::Run(1, Wish::Lock(1), 2), DONE),
-    (Ask::Word(1), Reply::Number(1)),
-    (Ask::Run(1, Wish::Wait(1, 1), 4), WAITS),
-    (Ask::Word(1), Reply::Number(0)),
-    (Ask::Waiting(1), Reply::Rests(true)),
-    (Ask::CondWord(1), Reply::Number(0)),
-    (Ask::Run(2, Wish::Signal(1), 3), DONE),
-    (Ask::Word(1), Reply::Number(1)),
-    (Ask::Waiting(1), Reply::Rests(false)),
-    (Ask::CondWord(1), Reply::Number(1)),
-    (Ask::Go(1), DONE),
-    (
-        Ask::Run(2, Wish::Signal(1), 1),
-        Reply::Is(Seen::Answered(75)),
-    ),
-    (Ask::Word(1), Reply::Number(1)),
+/// Thread 2 signals thread 1.
+const SIGNAL: [Ask; 6] = [
+    Ask::AddCond(1, 1),
+    Ask::Call(1, Wish::Lock(1), DONE),
+    Ask::Call(1, Wish::Wait(1, 1), Seen::Waits),
+    Ask::Waiting(1, Some(true)),
+    Ask::Call(2, Wish::Signal(1), DONE),
+    Ask::Waiting(1, Some(false)),
 ];
 
 #[test]
@@ -141,35 +163,70 @@ fn signal_hands_a_free_mutex_to_who_waits(rt: HostRuntime) -> Result<(), Fail> {
     play(&rt, rt.alloc(), Kind::Normal, &[10, 20], &SIGNAL)
 }
 
+const LOCK_EXPIRES: [Ask; 10] = [
+    Ask::Call(1, Wish::Lock(1), DONE),
+    Ask::Call(2, Wish::TimedLock(1, 5), Seen::Waits),
+    Ask::Open(2, Wish::TimedLock(1, 5)),
+    Ask::Tick(4, Seen::Ticked),
+    Ask::Waiting(2, Some(true)),
+    Ask::Tick(5, Seen::Ticked),
+    Ask::Waiting(2, Some(false)),
+    Ask::Go(2, Seen::Answered(110)),
+    Ask::Tick(4, Seen::Refused(Refusal::Past)),
+    Ask::Time(5),
+];
+
+#[test]
+fn timed_lock_expires(rt: HostRuntime) -> Result<(), Fail> {
+    play(&rt, rt.alloc(), Kind::Normal, &[10, 50], &LOCK_EXPIRES)
+}
+
+const WAIT_EXPIRES: [Ask; 10] = [
+    Ask::AddCond(1, 1),
+    Ask::Call(2, Wish::Lock(1), DONE),
+    Ask::Call(2, Wish::TimedWait(1, 1, 3), Seen::Waits),
+    Ask::Call(1, Wish::Lock(1), DONE),
+    Ask::Tick(3, Seen::Ticked),
+    Ask::Go(2, Seen::Went),
+    Ask::Go(2, Seen::Went),
+    Ask::Go(2, Seen::Waits),
+    Ask::Open(2, Wish::TimedWait(1, 1, 3)),
+    Ask::Waiting(2, Some(true)),
+];
+
+#[test]
+fn timed_wait_expires(rt: HostRuntime) -> Result<(), Fail> {
+    play(&rt, rt.alloc(), Kind::Normal, &[10, 10], &WAIT_EXPIRES)
+}
+
 /// Thread 1 holds a recursive mutex twice, for which thread 3 waits, and thread 2 is parked with a robust one.
-const LOOK: [(Ask, Reply); 27] = [
-    (Ask::AddMutex(Kind::Normal, true), Reply::Number(2)),
-    (Ask::AddCond(2), Reply::Number(1)),
-    (Ask::Call(2, Wish::Lock(2)), DONE),
-    (Ask::Call(2, Wish::Wait(1, 2)), WAITS),
-    (Ask::Call(1, Wish::Lock(1)), DONE),
-    (Ask::Call(1, Wish::Lock(1)), DONE),
-    (Ask::Call(3, Wish::Lock(1)), WAITS),
-    (Ask::Base(1), Reply::Number(10)),
-    (Ask::Status(1), Reply::Does(Status::Ready(Woken::Fresh))),
-    (Ask::IsOpen(1, Wish::Lock(1)), Reply::Nothing),
-    (Ask::Base(2), Reply::Number(50)),
-    (Ask::IsParked(2, 1), Reply::Agrees(true)),
-    (Ask::IsOpen(2, Wish::Wait(1, 2)), Reply::Opened(true)),
-    (Ask::Base(3), Reply::Number(30)),
-    (Ask::IsQueued(3, 1), Reply::Agrees(true)),
-    (Ask::IsOpen(3, Wish::Lock(1)), Reply::Opened(true)),
-    (Ask::Kind(1), Reply::Of(Kind::Recursive, false)),
-    (Ask::Owner(1), Reply::Holds(1, 2)),
-    (Ask::Waiter(1, 0), Reply::Number(3)),
-    (Ask::Kind(2), Reply::Of(Kind::Normal, true)),
-    (Ask::Owner(2), Reply::Nothing),
-    (Ask::Waiter(2, 0), Reply::Nothing),
-    (Ask::Mutexes, Reply::Number(2)),
-    (Ask::Conds, Reply::Number(1)),
-    (Ask::Bound(1), Reply::Number(2)),
-    (Ask::Parked(1, 0), Reply::Number(2)),
-    (Ask::Ready(0), Reply::Number(1)),
+const LOOK: [Ask; 26] = [
+    Ask::AddMutex(Kind::Normal, true, 2),
+    Ask::AddCond(2, 1),
+    Ask::Call(2, Wish::Lock(2), DONE),
+    Ask::Call(2, Wish::Wait(1, 2), Seen::Waits),
+    Ask::Call(1, Wish::Lock(1), DONE),
+    Ask::Call(1, Wish::Lock(1), DONE),
+    Ask::Call(3, Wish::Lock(1), Seen::Waits),
+    Ask::Base(1, 10),
+    Ask::IsReady(1),
+    Ask::Open(1, Wish::Nothing),
+    Ask::Base(2, 50),
+    Ask::IsParked(2, 1),
+    Ask::Open(2, Wish::Wait(1, 2)),
+    Ask::Base(3, 30),
+    Ask::IsQueued(3, 1),
+    Ask::Open(3, Wish::Lock(1)),
+    Ask::Kind(1, Kind::Recursive, false),
+    Ask::Owner(1, 1, 2),
+    Ask::Waiter(1, 0, 3),
+    Ask::Kind(2, Kind::Normal, true),
+    Ask::Owner(2, 0, 0),
+    Ask::Waiter(2, 0, 0),
+    Ask::Counts(3, 2, 1),
+    Ask::Bound(1, 2),
+    Ask::Parked(1, 0, 2),
+    Ask::Ready(0, 1),
 ];
 
 #[test]

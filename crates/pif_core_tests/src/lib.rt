@@ -2,10 +2,11 @@
 //!
 //! | Module | Tests of |
 //! |---|---|
-//! | `cores` | `pif_core`: events, additions, whole calls and readers; below it `deadlines` |
+//! | `cores` | `pif_core`: its readers |
 //! | `uses` | `pif_uses`: the callers to copy from; below it each of their ways out |
 //!
-//! What `cores` asks of a core, and the answers, stand in tables, for which `driver` has the words.
+//! Each test is a table of what is asked, and of the answers, for which `driver` has the words. What scripts can say of
+//! a core is tested by transcripts: crates/pif_transcripts/data/cores.txt and expiries.txt.
 #![tactic(auto)]
 
 #[cfg(test)]
