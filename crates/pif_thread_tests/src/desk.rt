@@ -7,3 +7,4 @@ mod sleepers;
 mod stress;
 mod threads;
 mod ticks;
+mod watch;

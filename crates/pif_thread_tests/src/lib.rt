@@ -3,10 +3,13 @@
 //!
 //! | Module | Tests of |
 //! |---|---|
+//! | `checks` | none: it has what asserts |
 //! | `desk` | `pif_desk`: calls of real threads at a desk, sleep and time, refused memory, receipts and settling |
 //! | `quick` | `pif_quick`: words from a try to a meeting, passes that wait, sums over many turns |
 #![tactic(auto)]
 
+#[cfg(test)]
+mod checks;
 #[cfg(test)]
 mod desk;
 #[cfg(test)]

@@ -1,16 +1,15 @@
 //! The journal's growth is refused before a call, and between two of its events.
-use super::scenes::{
-    desk_of, enter, holds, is_answer, is_count, is_fault, lock, settles, went_well,
-};
-use pif_desk::{Client, Desk, DeskFault, NoPause};
+use super::scenes::{Scene, add_mutex, enter, is_answer, is_count, is_fault, lock, play};
+use super::watch::Watch;
+use crate::checks::holds;
+use pif_desk::{Client, Desk, DeskFault};
 use pif_types::{Kind, Refusal};
-use std::alloc::Global;
 use std::process::Abort;
 use std::sync::Wait;
 use std::test::Fail;
 
 /// Makes mutexes until the journal has room for just so many entries, and refuses its growth from then on.
-fn refuse_growth(rt: &impl Wait, desk: &Desk<NoPause>, left: usize) -> Result<(), DeskFault> {
+fn refuse_growth(rt: &impl Wait, desk: &Desk<Watch>, left: usize) -> Result<(), DeskFault> {
     for _ in 0..60 {
         if desk.spare_entries(rt) == left {
             break;
@@ -24,7 +23,7 @@ fn refuse_growth(rt: &impl Wait, desk: &Desk<NoPause>, left: usize) -> Result<()
 /// A call is refused so.
 fn check_refused<R: Wait + Abort>(
     rt: &R,
-    desk: &Desk<NoPause>,
+    desk: &Desk<Watch>,
     client: &mut Client,
     fault: DeskFault,
 ) {
@@ -34,7 +33,7 @@ fn check_refused<R: Wait + Abort>(
 /// A call is refused memory at its beginning, and none is open.
 fn refuse_begin<R: Wait + Abort>(
     rt: &R,
-    desk: &Desk<NoPause>,
+    desk: &Desk<Watch>,
     client: &mut Client,
 ) -> Result<(), DeskFault> {
     refuse_growth(rt, desk, 0)?;
@@ -48,7 +47,7 @@ fn refuse_begin<R: Wait + Abort>(
 /// A call is refused memory at its second event, and stays open.
 fn begin_call<R: Wait + Abort>(
     rt: &R,
-    desk: &Desk<NoPause>,
+    desk: &Desk<Watch>,
     client: &mut Client,
 ) -> Result<(), DeskFault> {
     refuse_growth(rt, desk, 1)?;
@@ -61,7 +60,7 @@ fn begin_call<R: Wait + Abort>(
 /// Another call is refused while one is open; the open one goes on.
 fn resume_call<R: Wait + Abort>(
     rt: &R,
-    desk: &Desk<NoPause>,
+    desk: &Desk<Watch>,
     client: &mut Client,
 ) -> Result<(), DeskFault> {
     check_refused(rt, desk, client, DeskFault::Refused(Refusal::Busy));
@@ -73,11 +72,7 @@ fn resume_call<R: Wait + Abort>(
 }
 
 /// The client ends with its call open.
-fn quit<R: Wait + Abort>(
-    rt: &R,
-    desk: &Desk<NoPause>,
-    client: &mut Client,
-) -> Result<(), DeskFault> {
+fn quit<R: Wait + Abort>(rt: &R, desk: &Desk<Watch>, client: &mut Client) -> Result<(), DeskFault> {
     client.quit(rt, desk)?;
     let dead = client.resume(rt, desk).err();
     is_fault(rt, dead, Some(DeskFault::Refused(Refusal::Dead)));
@@ -86,7 +81,7 @@ fn quit<R: Wait + Abort>(
 
 /// What becomes of a call that is refused memory.
 #[derive(Clone, Copy)]
-enum Course {
+pub(crate) enum Course {
     /// It is refused at its beginning.
     Stays,
     /// It has begun, and its client resumes it.
@@ -98,7 +93,7 @@ enum Course {
 /// A client's call is refused memory.
 fn refuse_call<R: Wait + Abort>(
     rt: &R,
-    desk: &Desk<NoPause>,
+    desk: &Desk<Watch>,
     client: &mut Client,
     course: Course,
 ) -> Result<(), DeskFault> {
@@ -114,12 +109,13 @@ fn refuse_call<R: Wait + Abort>(
 }
 
 /// The same of a client that enters.
-fn enter_and_call<R: Wait + Abort>(
+pub(crate) fn enter_and_call<R: Wait + Abort>(
     rt: &R,
-    desk: &Desk<NoPause>,
+    desk: &Desk<Watch>,
     clients: &mut Vec<Client>,
     course: Course,
 ) -> Result<(), DeskFault> {
+    add_mutex(rt, desk, false);
     enter(rt, desk, 1, clients)?;
     for client in clients.iter_mut() {
         refuse_call(rt, desk, client, course)?;
@@ -127,48 +123,35 @@ fn enter_and_call<R: Wait + Abort>(
     Ok(())
 }
 
-/// A client's call is refused memory, and the room settles, with so many calls answered.
-fn check_call<R: Wait + Abort>(
-    rt: &R,
-    alloc: Global,
-    course: Course,
-    answered: u64,
-) -> Result<(), Fail> {
-    let desk = desk_of(rt, alloc, Kind::Normal, false)?;
-    let mut clients = Vec::new(alloc);
-    went_well(rt, enter_and_call(rt, &desk, &mut clients, course));
-    settles(rt, desk.into_room(), clients, answered);
-    Ok(())
-}
-
 /// A tick is refused memory, and the time stays, so that a lesser one is none to the past.
-fn refuse_tick<R: Wait + Abort>(rt: &R, desk: &Desk<NoPause>) {
-    went_well(rt, refuse_growth(rt, desk, 0));
+pub(crate) fn refuse_tick<R: Wait + Abort>(rt: &R, desk: &Desk<Watch>) -> Result<(), DeskFault> {
+    refuse_growth(rt, desk, 0)?;
     let before = desk.entries(rt);
     is_fault(rt, desk.tick(rt, 5).err(), Some(DeskFault::NoMemory));
     is_count(rt, desk.entries(rt), before);
     desk.set_growth(rt, 1);
-    went_well(rt, desk.tick(rt, 3));
+    desk.tick(rt, 3)
 }
 
 #[test]
 fn refused_tick_changes_nothing(rt: HostRuntime) -> Result<(), Fail> {
-    let desk = desk_of(&rt, rt.alloc(), Kind::Normal, false)?;
-    refuse_tick(&rt, &desk);
-    Ok(())
+    play(&rt, rt.alloc(), Watch::new(rt), Scene::Tick, Ok(0))
 }
 
 #[test]
 fn call_that_could_not_begin_is_not_open(rt: HostRuntime) -> Result<(), Fail> {
-    check_call(&rt, rt.alloc(), Course::Stays, 0)
+    let scene = Scene::Call(Course::Stays);
+    play(&rt, rt.alloc(), Watch::new(rt), scene, Ok(0))
 }
 
 #[test]
 fn refused_journal_growth_leaves_call_open(rt: HostRuntime) -> Result<(), Fail> {
-    check_call(&rt, rt.alloc(), Course::Resumes, 1)
+    let scene = Scene::Call(Course::Resumes);
+    play(&rt, rt.alloc(), Watch::new(rt), scene, Ok(1))
 }
 
 #[test]
 fn quit_after_refused_memory(rt: HostRuntime) -> Result<(), Fail> {
-    check_call(&rt, rt.alloc(), Course::Quits, 0)
+    let scene = Scene::Call(Course::Quits);
+    play(&rt, rt.alloc(), Watch::new(rt), scene, Ok(0))
 }

@@ -2,11 +2,13 @@
 ghost use Rattle.std.specs.Prelude.{◌≤◌};
 
 use super::scenes::{
-    book_of, cond, desk_of, enter, enter_one, holds, is_answer, is_count, is_fault, lock, mutex,
-    settled, settles, thread, went_well,
+    Scene, add_mutex, cond, enter, enter_one, is_answer, is_count, is_fault, lock, mutex, play,
+    thread, went_well,
 };
+use super::watch::Watch;
+use crate::checks::{fails, holds};
 use pif_desk::{Act, Book, Client, Desk, DeskFault, Entry, Event, NoPause, Room, Seen, Why};
-use pif_types::{AddFault, CondId, Kind, Limits, MutexId, Prio, Refusal, Request};
+use pif_types::{AddFault, CondId, Kind, Limits, MutexId, NoMemory, Prio, Refusal, Request};
 use std::alloc::Global;
 use std::process::Abort;
 use std::sync::Wait;
@@ -15,7 +17,7 @@ use std::test::Fail;
 /// What a call of a client is answered.
 fn answer(
     rt: &impl Wait,
-    desk: &Desk<NoPause>,
+    desk: &Desk<Watch>,
     client: &mut Client,
     request: Request,
 ) -> Result<u32, DeskFault> {
@@ -28,7 +30,7 @@ fn answer(
 /// A call of a client is answered so, or refused so.
 fn check_call<R: Wait + Abort>(
     rt: &R,
-    desk: &Desk<NoPause>,
+    desk: &Desk<Watch>,
     client: &mut Client,
     request: Request,
     expected: Result<u32, DeskFault>,
@@ -39,7 +41,7 @@ fn check_call<R: Wait + Abort>(
 /// A client has no call to go on with, since it is refused so.
 fn check_resume<R: Wait + Abort>(
     rt: &R,
-    desk: &Desk<NoPause>,
+    desk: &Desk<Watch>,
     client: &mut Client,
     refusal: Refusal,
 ) {
@@ -48,13 +50,13 @@ fn check_resume<R: Wait + Abort>(
 }
 
 /// The journal has so many entries more than `before`.
-fn check_more<R: Wait + Abort>(rt: &R, desk: &Desk<NoPause>, before: usize, more: usize) {
+fn check_more<R: Wait + Abort>(rt: &R, desk: &Desk<Watch>, before: usize, more: usize) {
     is_count(rt, desk.entries(rt).wrapping_sub(before), more);
 }
 
 /// A client locks the mutex and quits, by one event. Then its call is refused, and it has none to go on with, which makes
 /// no event.
-fn lock_and_quit<R: Wait + Abort>(rt: &R, desk: &Desk<NoPause>, client: &mut Client) {
+fn lock_and_quit<R: Wait + Abort>(rt: &R, desk: &Desk<Watch>, client: &mut Client) {
     check_call(rt, desk, client, lock(), Ok(0));
     let before = desk.entries(rt);
     went_well(rt, client.quit(rt, desk));
@@ -72,7 +74,7 @@ fn lock_and_quit<R: Wait + Abort>(rt: &R, desk: &Desk<NoPause>, client: &mut Cli
 
 /// A client has no call to go on with, which makes no event. It gets the mutex from an owner that has ended, and signals
 /// the variable.
-fn lock_and_signal<R: Wait + Abort>(rt: &R, desk: &Desk<NoPause>, client: &mut Client) {
+fn lock_and_signal<R: Wait + Abort>(rt: &R, desk: &Desk<Watch>, client: &mut Client) {
     let before = desk.entries(rt);
     check_resume(rt, desk, client, Refusal::Idle);
     check_more(rt, desk, before, 0);
@@ -81,11 +83,12 @@ fn lock_and_signal<R: Wait + Abort>(rt: &R, desk: &Desk<NoPause>, client: &mut C
 }
 
 /// Two clients, of which the second gets the mutex from the first.
-fn two_that_lock<R: Wait + Abort>(
+pub(crate) fn two_that_lock<R: Wait + Abort>(
     rt: &R,
-    desk: &Desk<NoPause>,
+    desk: &Desk<Watch>,
     clients: &mut Vec<Client>,
 ) -> Result<(), DeskFault> {
+    add_mutex(rt, desk, true);
     check_cond(rt, desk, MutexId::default(), Ok(cond()));
     enter(rt, desk, 2, clients)?;
     match clients.as_mut_slice() {
@@ -94,108 +97,113 @@ fn two_that_lock<R: Wait + Abort>(
             lock_and_signal(rt, desk, two);
             Ok(())
         }
-        _ => panic!(rt; "there are not two clients"),
+        _ => fails(rt, "there are not two clients"),
     }
 }
 
 #[test]
 fn desk_keeps_receipts(rt: HostRuntime) -> Result<(), Fail> {
-    let desk = desk_of(&rt, rt.alloc(), Kind::Normal, true)?;
-    let mut clients = Vec::new(rt.alloc());
-    went_well(&rt, two_that_lock(&rt, &desk, &mut clients));
-    settles(&rt, desk.into_room(), clients, 3);
-    Ok(())
+    play(&rt, rt.alloc(), Watch::new(rt), Scene::Receipts, Ok(3))
 }
 
 /// What happens in a room before it settles.
 #[derive(Clone, Copy)]
-enum Before {
+pub(crate) enum Before {
     /// The client plays a lock.
     Played,
     /// The client's thread begins a call of which the client doesn't know.
     Turned,
-    /// The client is that of another desk's second thread.
+    /// The client is the second one of another desk.
     Changed,
     /// The client is lost.
     Lost,
 }
 
-/// The client plays a lock of mutex 1, which is answered 0.
-fn play_lock(rt: &impl Abort, room: &mut Room, client: &mut Client) {
-    let steps = [
-        (Act::Begin(lock()), Seen::Begun),
-        (Act::Go, Seen::Went),
-        (Act::Go, Seen::Answered(0)),
-    ];
-    for (act, seen) in steps {
-        assert_eq!(rt; room.play(client, act), Ok(seen));
-    }
+/// A mutex, and a client more.
+pub(crate) fn enter_alone<R: Wait + Abort>(
+    rt: &R,
+    desk: &Desk<Watch>,
+    clients: &mut Vec<Client>,
+) -> Result<(), DeskFault> {
+    add_mutex(rt, desk, false);
+    enter(rt, desk, 1, clients)
 }
 
-/// The second client of a desk with two takes the place of this one.
-fn change<R: Wait + Abort>(rt: &R, alloc: Global, clients: &mut Vec<Client>) -> Result<(), Fail> {
-    let desk = desk_of(rt, alloc, Kind::Normal, false)?;
-    let _first = desk.enter(rt, 10);
+/// What an act of a client is answered is as expected.
+fn is_seen(rt: &impl Abort, seen: Result<Seen, NoMemory>, expected: Seen) {
+    assert_eq!(rt; seen, Ok(expected));
+}
+
+/// The client plays a lock of mutex 1, which is answered 0.
+fn play_lock(rt: &impl Abort, room: &mut Room, client: &mut Client) {
+    is_seen(rt, room.play(client, Act::Begin(lock())), Seen::Begun);
+    is_seen(rt, room.play(client, Act::Go), Seen::Went);
+    is_seen(rt, room.play(client, Act::Go), Seen::Answered(0));
+}
+
+/// The second client of another desk.
+fn stranger<R: Wait>(rt: &R, alloc: Global) -> Option<Client> {
+    let desk = Desk::new(alloc, Limits::new(2, 1, 1, 1)?, NoPause).ok()?;
+    let _first = desk.enter(rt, 10).ok()?;
+    desk.enter(rt, 10).ok()
+}
+
+/// The second client of another desk takes the place of this one.
+fn change<R: Wait + Abort>(rt: &R, alloc: Global, clients: &mut Vec<Client>) {
     clients.clear();
-    went_well(rt, enter_one(rt, &desk, 10, clients));
-    Ok(())
+    let client = stranger(rt, alloc).expect(rt, "there is no other client");
+    holds(rt, clients.push(client).is_ok(), "out of memory");
 }
 
 /// Does what happens before the room settles.
-fn prepare<R: Wait + Abort>(
+pub(crate) fn prepare<R: Wait + Abort>(
     rt: &R,
     alloc: Global,
-    before: Before,
     room: &mut Room,
     clients: &mut Vec<Client>,
-) -> Result<(), Fail> {
+    before: Before,
+) {
     match before {
         Before::Played => {
             for client in clients.iter_mut() {
                 play_lock(rt, room, client);
             }
         }
-        Before::Turned => {
-            room.turn(Event::Begin(thread(1), lock()))?;
-        }
-        Before::Changed => change(rt, alloc, clients)?,
+        Before::Turned => is_seen(rt, room.turn(Event::Begin(thread(1), lock())), Seen::Begun),
+        Before::Changed => change(rt, alloc, clients),
         Before::Lost => clients.clear(),
     }
-    Ok(())
 }
 
-/// What a room with one client comes to.
-fn outcome<R: Wait + Abort>(
-    rt: &R,
-    alloc: Global,
-    before: Before,
-) -> Result<Result<u64, Why>, Fail> {
-    let desk = desk_of(rt, alloc, Kind::Normal, false)?;
-    let mut clients = Vec::new(alloc);
-    went_well(rt, enter(rt, &desk, 1, &mut clients));
-    let mut room = desk.into_room();
-    prepare(rt, alloc, before, &mut room, &mut clients)?;
-    Ok(settled(room, clients))
+/// How the room settles then.
+fn end_of(before: Before) -> Result<u64, Why> {
+    match before {
+        Before::Played => Ok(1),
+        Before::Turned => Err(Why::Differs(thread(1))),
+        Before::Changed => Err(Why::Stranger(thread(2))),
+        Before::Lost => Err(Why::Count),
+    }
 }
+
+const ALL_BEFORE: [Before; 4] = [
+    Before::Played,
+    Before::Turned,
+    Before::Changed,
+    Before::Lost,
+];
 
 #[test]
 fn settling_finds_what_clients_do_not_know(rt: HostRuntime) -> Result<(), Fail> {
-    let rooms = [
-        (Before::Played, Ok(1)),
-        (Before::Turned, Err(Why::Differs(thread(1)))),
-        (Before::Changed, Err(Why::Stranger(thread(2)))),
-        (Before::Lost, Err(Why::Count)),
-    ];
-    for (before, end) in rooms {
-        assert_eq!(rt; outcome(&rt, rt.alloc(), before)?, end);
+    for before in ALL_BEFORE {
+        let scene = Scene::Before(before);
+        play(&rt, rt.alloc(), Watch::new(rt), scene, end_of(before))?;
     }
     Ok(())
 }
-
 /// A mutex of this kind is added, or refused, so.
 fn check_mutex<R: Wait + Abort>(
     rt: &R,
-    desk: &Desk<NoPause>,
+    desk: &Desk<Watch>,
     kind: Kind,
     robust: bool,
     expected: Result<MutexId, DeskFault>,
@@ -206,7 +214,7 @@ fn check_mutex<R: Wait + Abort>(
 /// A variable that is bound to this mutex is added, or refused, so.
 fn check_cond<R: Wait + Abort>(
     rt: &R,
-    desk: &Desk<NoPause>,
+    desk: &Desk<Watch>,
     mutex: MutexId,
     expected: Result<CondId, DeskFault>,
 ) {
@@ -214,18 +222,15 @@ fn check_cond<R: Wait + Abort>(
 }
 
 /// A client of this priority is refused so.
-fn check_no_client<R: Wait + Abort>(rt: &R, desk: &Desk<NoPause>, prio: u32, fault: AddFault) {
-    is_fault(
-        rt,
-        desk.enter(rt, prio).err(),
-        Some(DeskFault::NotAdded(fault)),
-    );
+fn check_no_client<R: Wait + Abort>(rt: &R, desk: &Desk<Watch>, prio: u32, fault: AddFault) {
+    let refused = desk.enter(rt, prio).err();
+    is_fault(rt, refused, Some(DeskFault::NotAdded(fault)));
 }
 
 /// Two mutexes, a variable that is bound to the second, and a client, beside what the core refuses.
 fn add_some<R: Wait + Abort>(
     rt: &R,
-    desk: &Desk<NoPause>,
+    desk: &Desk<Watch>,
     clients: &mut Vec<Client>,
 ) -> Result<(), DeskFault> {
     let second = mutex(2);
@@ -245,7 +250,7 @@ fn add_some<R: Wait + Abort>(
 /// One more of each that the limits allow, and then one too many.
 fn add_past_limits<R: Wait + Abort>(
     rt: &R,
-    desk: &Desk<NoPause>,
+    desk: &Desk<Watch>,
     clients: &mut Vec<Client>,
 ) -> Result<(), DeskFault> {
     let third = mutex(3);
@@ -279,24 +284,26 @@ fn added() -> [Entry; 6] {
     ]
 }
 
-/// The book has these limits, and what was added.
-fn check_book(rt: &impl Abort, book: &Book, limits: Limits) {
+/// Both.
+pub(crate) fn add_all<R: Wait + Abort>(
+    rt: &R,
+    desk: &Desk<Watch>,
+    clients: &mut Vec<Client>,
+) -> Result<(), DeskFault> {
+    add_some(rt, desk, clients)?;
+    add_past_limits(rt, desk, clients)
+}
+
+/// The book has the limits of the desk, and what was added.
+pub(crate) fn check_entries(rt: &impl Abort, book: &Book) {
     let entries = added();
-    holds(rt, book.limits == limits, "the limits are others");
-    holds(
-        rt,
-        book.entries.as_slice() == entries.as_slice(),
-        "the entries are others",
-    );
+    let limits = Limits::new(2, 3, 1, 9);
+    holds(rt, Some(book.limits) == limits, "the limits are others");
+    let same = book.entries.as_slice() == entries.as_slice();
+    holds(rt, same, "the entries are others");
 }
 
 #[test]
 fn desk_adds_what_it_is_asked_for(rt: HostRuntime) -> Result<(), Fail> {
-    let limits = Limits::new(2, 3, 1, 9).ok_or("limits")?;
-    let desk = Desk::new(rt.alloc(), limits, NoPause)?;
-    let mut clients = Vec::new(rt.alloc());
-    went_well(&rt, add_some(&rt, &desk, &mut clients));
-    went_well(&rt, add_past_limits(&rt, &desk, &mut clients));
-    check_book(&rt, &book_of(&rt, desk.into_room(), clients), limits);
-    Ok(())
+    play(&rt, rt.alloc(), Watch::new(rt), Scene::Adds, Ok(0))
 }

@@ -1,55 +1,150 @@
 //! Desks and clients for tests. A scene that holds a desk or clients lends them to what may fail.
 ghost use Rattle.std.specs.Prelude.{◌≤◌};
 
-use pif_desk::{Book, Client, Desk, DeskFault, Entry, Event, NoPause, Pause, Room, Why};
-use pif_types::{CondId, Kind, Limits, MutexId, NoMemory, Request, Tid};
+use super::memory::Course;
+use super::receipts::Before;
+use super::sleepers::Owner;
+use super::watch::Watch;
+use super::{memory, receipts, sleepers, ticks};
+use crate::checks::holds;
+use pif_desk::{Book, Client, Desk, DeskFault, Room, Why};
+use pif_types::{CondId, Kind, Limits, MutexId, Request, Tid};
 use std::alloc::Global;
 use std::process::Abort;
+use std::rt::Clock;
 use std::sync::Wait;
 use std::test::Fail;
+use std::thread::Threads;
 
-/// A desk with room for 64 threads and mutexes, and for a condition variable.
-pub(crate) fn desk_with<P: Pause + Drop>(
-    rt: &impl Abort,
-    alloc: Global,
-    pause: P,
-) -> Result<Desk<P>, NoMemory> {
-    match Limits::new(64, 64, 1, 9) {
-        Some(limits) => Desk::new(alloc, limits, pause),
-        None => panic!(rt; "there are no such limits"),
+/// What happens at a desk.
+#[derive(Clone, Copy)]
+pub(crate) enum Scene {
+    /// A tick is refused memory.
+    Tick,
+    /// A call is refused memory.
+    Call(Course),
+    /// Two clients lock, of which the first quits.
+    Receipts,
+    /// What is added, and what is refused.
+    Adds,
+    /// Two clients wait for an owner.
+    Waits(Owner),
+    /// A client waits up to a tick.
+    Deadline,
+    /// Two clients wait up to two ticks.
+    Deadlines,
+    /// A client enters, and something happens in the room.
+    Before(Before),
+}
+
+/// Does what happens at the desk, where clients enter.
+fn act<R: Threads + Wait + Clock + Abort + Sync>(
+    rt: &R,
+    desk: &Desk<Watch>,
+    clients: &mut Vec<Client>,
+    scene: Scene,
+) -> Result<(), DeskFault> {
+    match scene {
+        Scene::Tick => memory::refuse_tick(rt, desk),
+        Scene::Call(course) => memory::enter_and_call(rt, desk, clients, course),
+        Scene::Receipts => receipts::two_that_lock(rt, desk, clients),
+        Scene::Adds => receipts::add_all(rt, desk, clients),
+        Scene::Waits(owner) => sleepers::wait_for_first(rt, desk, owner, clients),
+        Scene::Deadline => ticks::tick_for_two(rt, desk, clients),
+        Scene::Deadlines => ticks::tick_for_three(rt, desk, clients),
+        Scene::Before(_) => receipts::enter_alone(rt, desk, clients),
     }
 }
 
-/// A desk with a mutex of this kind, without pauses.
-pub(crate) fn desk_of<R: Wait + Abort>(
+/// Does what happens in the room.
+fn act_inside<R: Wait + Abort>(
     rt: &R,
     alloc: Global,
-    kind: Kind,
-    robust: bool,
-) -> Result<Desk<NoPause>, Fail> {
-    let desk = desk_with(rt, alloc, NoPause)?;
-    add_mutex(rt, &desk, kind, robust);
-    Ok(desk)
+    room: &mut Room,
+    clients: &mut Vec<Client>,
+    scene: Scene,
+) {
+    if let Scene::Before(before) = scene {
+        receipts::prepare(rt, alloc, room, clients, before);
+    }
 }
 
-/// A mutex more, which the desk has to add.
-pub(crate) fn add_mutex<P: Pause + Drop, R: Wait + Abort>(
+/// The book is as it has to be.
+fn check_book(rt: &impl Abort, book: &Book, scene: Scene) {
+    match scene {
+        Scene::Adds => receipts::check_entries(rt, book),
+        Scene::Waits(_) => sleepers::has_two_waits(rt, book),
+        _ => {}
+    }
+}
+
+/// The limits of a desk: room for 64 threads and mutexes, and for a condition variable, where additions are not at the
+/// limits.
+fn limits_of(scene: Scene) -> Option<Limits> {
+    match scene {
+        Scene::Adds => Limits::new(2, 3, 1, 9),
+        _ => Limits::new(64, 64, 1, 9),
+    }
+}
+
+/// All of this at a desk. In the end its room settles so: so many calls were answered, or this is why it doesn't.
+pub(crate) fn play<R: Threads + Wait + Clock + Abort + Sync>(
     rt: &R,
-    desk: &Desk<P>,
-    kind: Kind,
-    robust: bool,
+    alloc: Global,
+    watch: Watch,
+    scene: Scene,
+    expected: Result<u64, Why>,
+) -> Result<(), Fail> {
+    let limits = limits_of(scene).ok_or("limits")?;
+    let desk = Desk::new(alloc, limits, watch)?;
+    let mut clients = Vec::new(alloc);
+    went_well(rt, act(rt, &desk, &mut clients, scene));
+    let mut room = desk.into_room();
+    act_inside(rt, alloc, &mut room, &mut clients, scene);
+    end(rt, room, clients, scene, expected);
+    Ok(())
+}
+
+/// The room settles so with these clients.
+fn end(
+    rt: &impl Abort,
+    room: Room,
+    clients: Vec<Client>,
+    scene: Scene,
+    expected: Result<u64, Why>,
 ) {
-    holds(
-        rt,
-        desk.make_mutex(rt, kind, robust).is_ok(),
-        "no mutex is added",
-    );
+    match room.settle(clients) {
+        Ok(book) => {
+            is_end(rt, Ok(book.answered), expected);
+            check_book(rt, &book, scene);
+        }
+        Err(unsettled) => is_end(rt, Err(unsettled.why), expected),
+    }
+}
+
+/// The room settles with these clients, of which so many calls were answered.
+pub(crate) fn settles(rt: &impl Abort, room: Room, clients: Vec<Client>, answered: u64) {
+    match room.settle(clients) {
+        Ok(book) => is_end(rt, Ok(book.answered), Ok(answered)),
+        Err(unsettled) => is_end(rt, Err(unsettled.why), Ok(answered)),
+    }
+}
+
+/// How a room settles is as expected.
+fn is_end(rt: &impl Abort, end: Result<u64, Why>, expected: Result<u64, Why>) {
+    assert_eq!(rt; end, expected);
+}
+
+/// A mutex more, of the kind NORMAL, which the desk has to add.
+pub(crate) fn add_mutex<R: Wait + Abort>(rt: &R, desk: &Desk<Watch>, robust: bool) {
+    let added = desk.make_mutex(rt, Kind::Normal, robust).is_ok();
+    holds(rt, added, "no mutex is added");
 }
 
 /// A client more, of this priority.
-pub(crate) fn enter_one<P: Pause + Drop>(
+pub(crate) fn enter_one(
     rt: &impl Wait,
-    desk: &Desk<P>,
+    desk: &Desk<Watch>,
     prio: u32,
     clients: &mut Vec<Client>,
 ) -> Result<(), DeskFault> {
@@ -60,9 +155,9 @@ pub(crate) fn enter_one<P: Pause + Drop>(
 }
 
 /// So many clients more, of priority 10.
-pub(crate) fn enter<P: Pause + Drop>(
+pub(crate) fn enter(
     rt: &impl Wait,
-    desk: &Desk<P>,
+    desk: &Desk<Watch>,
     count: u32,
     clients: &mut Vec<Client>,
 ) -> Result<(), DeskFault> {
@@ -70,11 +165,6 @@ pub(crate) fn enter<P: Pause + Drop>(
         enter_one(rt, desk, 10, clients)?;
     }
     Ok(())
-}
-
-/// This is so; if not, the test fails, and says what is wrong.
-pub(crate) fn holds(rt: &impl Abort, is_so: bool, wrong: &str) {
-    assert!(rt; is_so, "{wrong}");
 }
 
 /// A count is as expected.
@@ -123,45 +213,4 @@ pub(crate) fn cond() -> CondId {
 /// The request to lock mutex 1.
 pub(crate) fn lock() -> Request {
     Request::Lock(MutexId::default())
-}
-
-/// How many calls were answered where the room settles with these clients, else why it doesn't.
-pub(crate) fn settled(room: Room, clients: Vec<Client>) -> Result<u64, Why> {
-    match room.settle(clients) {
-        Ok(book) => Ok(book.answered),
-        Err(unsettled) => Err(unsettled.why),
-    }
-}
-
-/// The room settles with these clients, of which so many calls were answered.
-pub(crate) fn settles(rt: &impl Abort, room: Room, clients: Vec<Client>, answered: u64) {
-    assert_eq!(rt; settled(room, clients), Ok(answered));
-}
-
-/// The book of a room that settles with these clients.
-pub(crate) fn book_of(rt: &impl Abort, room: Room, clients: Vec<Client>) -> Book {
-    match room.settle(clients) {
-        Ok(book) => book,
-        Err(unsettled) => panic!(rt; "it doesn't settle: {:?}", unsettled.why),
-    }
-}
-
-/// The number of the thread of which an entry has an event; 0 where it has none.
-fn thread_of(entry: &Entry) -> u32 {
-    match entry {
-        Entry::Step(Event::Begin(t, _) | Event::Go(t) | Event::End(t), _) => t.get(),
-        _ => 0,
-    }
-}
-
-/// The entries are events of these threads, or additions, where the number is 0.
-pub(crate) fn are_of(rt: &impl Abort, entries: &[Entry], threads: &[u32]) {
-    is_count(rt, entries.len(), threads.len());
-    for (entry, expected) in entries.iter().zip(threads) {
-        holds(
-            rt,
-            thread_of(entry) == *expected,
-            "an entry is of another thread",
-        );
-    }
 }

@@ -1,12 +1,13 @@
 //! Eight real threads on three robust mutexes and a condition variable, one that wakes them, and then calls that end at
 //! each of their steps.
-use super::scenes::{cond, enter, holds, is_fault, settles, went_well};
-use pif_desk::{Act, Client, Desk, DeskFault, Pause, Room, Seen};
-use pif_types::{Kind, Limits, MutexId, NoMemory, Request, Tid};
+use super::scenes::{cond, enter, is_fault, settles, went_well};
+use super::watch::Watch;
+use crate::checks::{fails, holds};
+use pif_desk::{Act, Client, Desk, DeskFault, Room, Seen};
+use pif_types::{Kind, Limits, MutexId, NoMemory, Request};
 use std::alloc::{AllocError, Global};
 use std::process::Abort;
 use std::sync::Wait;
-use std::sync::atomic::{AtomicU32, Ordering};
 use std::test::Fail;
 use std::thread;
 use std::thread::Threads;
@@ -22,34 +23,6 @@ const MOST_STEPS: u32 = 18;
 
 /// How many clients end so, in a lock after 0 steps and more, and then in a wait.
 const ENDINGS: u32 = 38;
-
-/// Counts the threads that have ended.
-#[derive(Drop)]
-struct Ends {
-    count: AtomicU32,
-}
-
-impl Ends {
-    /// No thread has ended.
-    fn new() -> Ends {
-        Ends {
-            count: AtomicU32::new(0),
-        }
-    }
-
-    /// Whether all threads that make calls by chance have ended.
-    fn have_all_ended(&self) -> bool {
-        self.count.load(Ordering::SeqCst) >= THREADS
-    }
-}
-
-impl Pause for Ends {
-    fn after(&self, _t: Tid, seen: Seen) {
-        if let Seen::Ended = seen {
-            self.count.fetch_add(1, Ordering::SeqCst);
-        }
-    }
-}
 
 /// The next number of a row that looks like chance.
 fn next(seed: u64) -> u64 {
@@ -88,7 +61,7 @@ struct Done {
 /// Gives up each mutex that the client holds: how many calls that took.
 fn give_up_all(
     rt: &impl Wait,
-    desk: &Desk<Ends>,
+    desk: &Desk<Watch>,
     client: &mut Client,
     answered: &mut u64,
 ) -> Result<(), DeskFault> {
@@ -107,7 +80,7 @@ fn give_up_all(
 /// Makes calls by chance, and gives up all that the client holds, where its number is odd.
 fn make_calls(
     rt: &impl Wait,
-    desk: &Desk<Ends>,
+    desk: &Desk<Watch>,
     client: &mut Client,
     answered: &mut u64,
 ) -> Result<(), DeskFault> {
@@ -127,12 +100,12 @@ fn make_calls(
 /// Broadcasts until all others are done, so that no wait stays open.
 fn wake_others(
     rt: &impl Wait,
-    desk: &Desk<Ends>,
+    desk: &Desk<Watch>,
     client: &mut Client,
     answered: &mut u64,
 ) -> Result<(), DeskFault> {
     for _ in rt.forever() {
-        if desk.pause().have_all_ended() {
+        if desk.pause().ends() >= THREADS {
             break;
         }
         client.call(rt, desk, Request::Broadcast(cond()))?;
@@ -144,7 +117,7 @@ fn wake_others(
 /// A client's calls, after which it quits: an even one of those that make them by chance with what it holds.
 fn run(
     rt: &impl Wait,
-    desk: &Desk<Ends>,
+    desk: &Desk<Watch>,
     client: &mut Client,
     answered: &mut u64,
 ) -> Result<(), DeskFault> {
@@ -158,7 +131,7 @@ fn run(
 }
 
 /// A client's part.
-fn run_one(rt: &impl Wait, desk: &Desk<Ends>, client: Client) -> Done {
+fn run_one(rt: &impl Wait, desk: &Desk<Watch>, client: Client) -> Done {
     let mut client = client;
     let mut answered = 0;
     let fault = run(rt, desk, &mut client, &mut answered).err();
@@ -172,7 +145,7 @@ fn run_one(rt: &impl Wait, desk: &Desk<Ends>, client: Client) -> Done {
 /// Each client runs in a thread of its own.
 fn run_all<R: Threads + Wait + Sync>(
     rt: &R,
-    desk: &Desk<Ends>,
+    desk: &Desk<Watch>,
     clients: Vec<Client>,
 ) -> Result<Vec<Done>, AllocError> {
     thread::map_vec(rt, clients, &|client| run_one(rt, desk, client))
@@ -263,12 +236,12 @@ fn end_all(room: &mut Room, clients: &mut Vec<Client>) -> Result<u64, NoMemory> 
 fn end_well(rt: &impl Abort, room: &mut Room, clients: &mut Vec<Client>) -> u64 {
     match end_all(room, clients) {
         Ok(answered) => answered,
-        Err(NoMemory) => panic!(rt; "out of memory"),
+        Err(NoMemory) => fails(rt, "out of memory"),
     }
 }
 
 /// The three mutexes, and a condition variable for the first.
-fn make_mutexes(rt: &impl Wait, desk: &Desk<Ends>) -> Result<(), DeskFault> {
+fn make_mutexes(rt: &impl Wait, desk: &Desk<Watch>) -> Result<(), DeskFault> {
     for kind in [Kind::ErrorCheck, Kind::Recursive, Kind::ErrorCheck] {
         let _mutex = desk.make_mutex(rt, kind, true)?;
     }
@@ -279,7 +252,7 @@ fn make_mutexes(rt: &impl Wait, desk: &Desk<Ends>) -> Result<(), DeskFault> {
 /// The mutexes, the clients that run in threads, and behind them others.
 fn prepare(
     rt: &impl Wait,
-    desk: &Desk<Ends>,
+    desk: &Desk<Watch>,
     runners: &mut Vec<Client>,
     clients: &mut Vec<Client>,
 ) -> Result<(), DeskFault> {
@@ -292,14 +265,14 @@ fn prepare(
 fn run_threads<R: Threads + Wait + Abort + Sync>(
     rt: &R,
     alloc: Global,
-    desk: &Desk<Ends>,
+    desk: &Desk<Watch>,
     clients: &mut Vec<Client>,
 ) -> u64 {
     let mut runners = Vec::new(alloc);
     went_well(rt, prepare(rt, desk, &mut runners, clients));
     match run_all(rt, desk, runners) {
         Ok(done) => gather(rt, clients, done),
-        Err(_) => panic!(rt; "out of memory"),
+        Err(_) => fails(rt, "out of memory"),
     }
 }
 
@@ -307,7 +280,7 @@ fn run_threads<R: Threads + Wait + Abort + Sync>(
 #[test]
 fn eight_threads_settle(rt: HostRuntime) -> Result<(), Fail> {
     let limits = Limits::new(64, 3, 1, u32::MAX).ok_or("limits")?;
-    let desk = Desk::new(rt.alloc(), limits, Ends::new())?;
+    let desk = Desk::new(rt.alloc(), limits, Watch::new(rt))?;
     let mut clients = Vec::new(rt.alloc());
     let answered = run_threads(&rt, rt.alloc(), &desk, &mut clients);
     let mut room = desk.into_room();

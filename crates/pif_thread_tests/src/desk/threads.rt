@@ -1,77 +1,19 @@
 //! Two real threads at one desk, of which the first is held inside its call while the second makes one.
-use super::scenes::{are_of, book_of, desk_with, enter, holds, is_answer, mutex, went_well};
-use pif_desk::{Book, Client, Desk, DeskFault, Pause, Receipt, Room, Seen, Unsettled, Why};
-use pif_types::{Kind, MutexId, Request, Tid};
+use super::scenes::{enter, is_answer, is_count, mutex, went_well};
+use super::watch::Watch;
+use crate::checks::{fails, holds};
+use pif_desk::{Book, Client, Desk, DeskFault, Entry, Event, Receipt, Room, Seen, Unsettled, Why};
+use pif_types::{Kind, Limits, MutexId, Request};
 use std::alloc::Global;
 use std::process::Abort;
 use std::sync::Wait;
-use std::sync::atomic::{AtomicBool, Ordering};
 use std::test::Fail;
-use std::thread;
 use std::thread::{Threads, join};
-use std::time::Duration;
-
-/// How often a thread looks whether the other has come so far, a millisecond each time.
-const TURNS: u32 = 10_000;
-
-/// Holds thread 1 after the first of its events that is answered so, until a call of thread 2 was answered.
-#[derive(Drop)]
-struct Overlap {
-    rt: HostRuntime,
-    after: Seen,
-    held: AtomicBool,
-    answered: AtomicBool,
-    overlapped: AtomicBool,
-}
-
-impl Overlap {
-    /// Nothing has happened.
-    fn new(rt: HostRuntime, after: Seen) -> Overlap {
-        Overlap {
-            rt,
-            after,
-            held: AtomicBool::new(false),
-            answered: AtomicBool::new(false),
-            overlapped: AtomicBool::new(false),
-        }
-    }
-
-    /// Waits until this has happened; whether it has.
-    fn comes(&self, flag: &AtomicBool) -> bool {
-        for _ in 0..TURNS {
-            if flag.load(Ordering::SeqCst) {
-                return true;
-            }
-            let _ = thread::sleep(&self.rt, Duration::from_millis(1));
-        }
-        false
-    }
-
-    /// Holds thread 1, at the first time.
-    fn hold(&self) {
-        if !self.held.swap(true, Ordering::SeqCst) {
-            let overlapped = self.comes(&self.answered);
-            self.overlapped.store(overlapped, Ordering::SeqCst);
-        }
-    }
-}
-
-impl Pause for Overlap {
-    fn after(&self, t: Tid, seen: Seen) {
-        if t.get() == 1 {
-            if seen == self.after {
-                self.hold();
-            }
-        } else if let Seen::Answered(_) = seen {
-            self.answered.store(true, Ordering::SeqCst);
-        }
-    }
-}
 
 /// Locks this mutex.
 fn lock(
     rt: &impl Wait,
-    desk: &Desk<Overlap>,
+    desk: &Desk<Watch>,
     client: &mut Client,
     mutex: MutexId,
 ) -> Result<Receipt, DeskFault> {
@@ -81,18 +23,18 @@ fn lock(
 /// Locks this mutex once thread 1 is held inside its call.
 fn lock_inside(
     rt: &impl Wait,
-    desk: &Desk<Overlap>,
+    desk: &Desk<Watch>,
     client: &mut Client,
     mutex: MutexId,
 ) -> Result<Receipt, DeskFault> {
-    desk.pause().comes(&desk.pause().held);
+    desk.pause().come_to_hold();
     lock(rt, desk, client, mutex)
 }
 
 /// Two threads lock a mutex each, the second while the first is held inside its call.
 fn lock_both<R: Threads + Wait + Abort + Sync>(
     rt: &R,
-    desk: &Desk<Overlap>,
+    desk: &Desk<Watch>,
     one: &mut Client,
     two: &mut Client,
 ) -> Result<(), DeskFault> {
@@ -116,15 +58,15 @@ fn lock_both<R: Threads + Wait + Abort + Sync>(
 /// Two clients of this desk, whose calls overlap.
 fn call_both<R: Threads + Wait + Abort + Sync>(
     rt: &R,
-    desk: &Desk<Overlap>,
+    desk: &Desk<Watch>,
     clients: &mut Vec<Client>,
 ) -> Result<(), DeskFault> {
     enter(rt, desk, 2, clients)?;
     match clients.as_mut_slice() {
         [one, two] => lock_both(rt, desk, one, two)?,
-        _ => panic!(rt; "there are not two clients"),
+        _ => fails(rt, "there are not two clients"),
     }
-    let overlapped = desk.pause().overlapped.load(Ordering::SeqCst);
+    let overlapped = desk.pause().has_overlapped();
     holds(rt, overlapped, "the calls do not overlap");
     Ok(())
 }
@@ -132,7 +74,7 @@ fn call_both<R: Threads + Wait + Abort + Sync>(
 /// The room without the last of these clients, with which it doesn't settle.
 fn settle_without_last(rt: &impl Abort, room: Room, clients: Vec<Client>) -> Unsettled {
     match room.settle(clients) {
-        Ok(_) => panic!(rt; "it settles without a client"),
+        Ok(_) => fails(rt, "it settles without a client"),
         Err(unsettled) => unsettled,
     }
 }
@@ -145,6 +87,34 @@ fn come_back(rt: &impl Abort, unsettled: &mut Unsettled, last: Client) {
         unsettled.why == Why::Count,
         "it does not settle for another cause",
     );
+}
+
+/// The book of a room that settles with these clients.
+fn book_of(rt: &impl Abort, room: Room, clients: Vec<Client>) -> Book {
+    match room.settle(clients) {
+        Ok(book) => book,
+        Err(_) => fails(rt, "it does not settle"),
+    }
+}
+
+/// The number of the thread of which an entry has an event; 0 where it has none.
+fn thread_of(entry: &Entry) -> u32 {
+    match entry {
+        Entry::Step(Event::Begin(t, _) | Event::Go(t) | Event::End(t), _) => t.get(),
+        _ => 0,
+    }
+}
+
+/// The entries are events of these threads, or additions, where the number is 0.
+fn are_of(rt: &impl Abort, entries: &[Entry], threads: &[u32]) {
+    is_count(rt, entries.len(), threads.len());
+    for (entry, expected) in entries.iter().zip(threads) {
+        holds(
+            rt,
+            thread_of(entry) == *expected,
+            "an entry is of another thread",
+        );
+    }
 }
 
 /// Two calls were answered, and the entries of the book are of these threads.
@@ -162,7 +132,7 @@ fn settle_both(rt: &impl Abort, room: Room, mut clients: Vec<Client>, threads: &
             let Unsettled { room, clients, .. } = unsettled;
             check_book(rt, &book_of(rt, room, clients), threads);
         }
-        None => panic!(rt; "there is no client"),
+        None => fails(rt, "there is no client"),
     }
 }
 
@@ -170,10 +140,11 @@ fn settle_both(rt: &impl Abort, room: Room, mut clients: Vec<Client>, threads: &
 fn check_overlap<R: Threads + Wait + Abort + Sync>(
     rt: &R,
     alloc: Global,
-    pause: Overlap,
+    watch: Watch,
     threads: &[u32],
 ) -> Result<(), Fail> {
-    let desk = desk_with(rt, alloc, pause)?;
+    let limits = Limits::new(64, 64, 1, 9).ok_or("limits")?;
+    let desk = Desk::new(alloc, limits, watch)?;
     let mut clients = Vec::new(alloc);
     went_well(rt, call_both(rt, &desk, &mut clients));
     settle_both(rt, desk.into_room(), clients, threads);
@@ -185,7 +156,7 @@ fn calls_of_two_threads_overlap(rt: HostRuntime) -> Result<(), Fail> {
     check_overlap(
         &rt,
         rt.alloc(),
-        Overlap::new(rt, Seen::Begun),
+        Watch::held_after(rt, Seen::Begun),
         &[0, 0, 0, 0, 1, 2, 2, 2, 1, 1],
     )
 }
@@ -195,7 +166,7 @@ fn each_step_of_a_call_is_an_event_of_its_own(rt: HostRuntime) -> Result<(), Fai
     check_overlap(
         &rt,
         rt.alloc(),
-        Overlap::new(rt, Seen::Went),
+        Watch::held_after(rt, Seen::Went),
         &[0, 0, 0, 0, 1, 1, 2, 2, 2, 1],
     )
 }

@@ -1,11 +1,10 @@
 //! Time at a desk: a tick lets those sleepers go on whose deadline it reaches.
 use super::scenes;
-use super::scenes::{
-    add_mutex, desk_of, desk_with, enter, holds, is_answer, is_fault, lock, settles, went_well,
-};
-use super::sleepers::Waiters;
-use pif_desk::{Client, Desk, DeskFault, NoPause};
-use pif_types::{Kind, MutexId, Refusal, Request, Tid};
+use super::scenes::{Scene, add_mutex, enter, is_answer, is_fault, lock, play};
+use super::watch::Watch;
+use crate::checks::{fails, holds};
+use pif_desk::{Client, Desk, DeskFault};
+use pif_types::{MutexId, Refusal, Request, Tid};
 use std::process::Abort;
 use std::rt::Clock;
 use std::sync::Wait;
@@ -26,15 +25,15 @@ fn lock_until(deadline: u32) -> Request {
 }
 
 /// Hands in this time once a thread waits.
-fn tick_at_wait(rt: &impl Wait, desk: &Desk<Waiters>, time: u32) -> Result<(), DeskFault> {
-    desk.pause().come_to(1);
+fn tick_at_wait(rt: &impl Wait, desk: &Desk<Watch>, time: u32) -> Result<(), DeskFault> {
+    desk.pause().come_to_waits(1);
     desk.tick(rt, time)
 }
 
 /// The first client holds the mutex; the second, in its own thread, locks it until a tick reaches the deadline.
 fn lock_up_to_tick<R: Threads + Wait + Abort + Sync>(
     rt: &R,
-    desk: &Desk<Waiters>,
+    desk: &Desk<Watch>,
     one: &mut Client,
     two: &mut Client,
 ) -> Result<(), DeskFault> {
@@ -56,62 +55,61 @@ fn lock_up_to_tick<R: Threads + Wait + Abort + Sync>(
 }
 
 /// Two clients, of which the second locks the mutex until a tick.
-fn tick_for_two<R: Threads + Wait + Abort + Sync>(
+pub(crate) fn tick_for_two<R: Threads + Wait + Abort + Sync>(
     rt: &R,
-    desk: &Desk<Waiters>,
+    desk: &Desk<Watch>,
     clients: &mut Vec<Client>,
 ) -> Result<(), DeskFault> {
+    add_mutex(rt, desk, false);
     enter(rt, desk, 2, clients)?;
     match clients.as_mut_slice() {
         [one, two] => lock_up_to_tick(rt, desk, one, two),
-        _ => panic!(rt; "there are not two clients"),
+        _ => fails(rt, "there are not two clients"),
     }
 }
 
 /// Both clients' logs are just what the journal has, which has both ticks.
 #[test]
 fn desk_ticks(rt: HostRuntime) -> Result<(), Fail> {
-    let desk = desk_with(&rt, rt.alloc(), Waiters::new(rt))?;
-    let mut clients = Vec::new(rt.alloc());
-    add_mutex(&rt, &desk, Kind::Normal, false);
-    went_well(&rt, tick_for_two(&rt, &desk, &mut clients));
-    settles(&rt, desk.into_room(), clients, 2);
-    Ok(())
+    play(&rt, rt.alloc(), Watch::new(rt), Scene::Deadline, Ok(2))
 }
 
 /// Waits until the client of this thread sleeps, which has to come: its lock waits for the first client.
-fn wait_for_sleep<R: Wait + Clock + Abort>(rt: &R, desk: &Desk<NoPause>, t: Tid) {
+fn wait_for_sleep<R: Wait + Clock + Abort>(rt: &R, desk: &Desk<Watch>, t: Tid) {
     for _ in 0..LOOKS {
         if desk.sleeps(rt, t) {
             return;
         }
         let _ = thread::sleep(rt, Duration::from_millis(1));
     }
-    panic!(rt; "the client of the thread {} does not sleep", t.get());
+    fails(rt, "a client does not sleep");
 }
 
 /// The time that is handed in, what that is answered, and how often the bells of the two that sleep have rung then.
 type Row = (u32, Result<(), DeskFault>, u64, u64);
 
+/// The bell of this thread has rung so often, and its client sleeps as long as it has not.
+fn check_bell<R: Wait + Abort>(rt: &R, desk: &Desk<Watch>, t: Tid, rings: u64) {
+    holds(
+        rt,
+        desk.rings(t) == Some(rings),
+        "a bell has rung otherwise",
+    );
+    let sleeps = desk.sleeps(rt, t);
+    holds(rt, sleeps == (rings == 0), "a client sleeps, or does not");
+}
+
 /// After the tick of a row the bells have rung so often, and those whose bell has rung sleep no longer.
-fn check_row<R: Wait + Abort>(rt: &R, desk: &Desk<NoPause>, two: Tid, three: Tid, row: Row) {
+fn check_row<R: Wait + Abort>(rt: &R, desk: &Desk<Watch>, two: Tid, three: Tid, row: Row) {
     let (time, answer, second, third) = row;
     is_fault(rt, desk.tick(rt, time).err(), answer.err());
-    assert_eq!(rt;
-        (desk.rings(two), desk.rings(three)),
-        (Some(second), Some(third)),
-        "{time}"
-    );
-    assert_eq!(rt;
-        (desk.sleeps(rt, two), desk.sleeps(rt, three)),
-        (second == 0, third == 0),
-        "{time}"
-    );
+    check_bell(rt, desk, two, second);
+    check_bell(rt, desk, three, third);
 }
 
 /// Once both sleep, the times are handed in. After each tick the bells of those have rung that are due, each once, and
 /// these sleep no longer.
-fn tick_sleepers<R: Wait + Clock + Abort>(rt: &R, desk: &Desk<NoPause>, two: Tid, three: Tid) {
+fn tick_sleepers<R: Wait + Clock + Abort>(rt: &R, desk: &Desk<Watch>, two: Tid, three: Tid) {
     let rows: [Row; 5] = [
         (6, Ok(()), 0, 0),
         (7, Ok(()), 1, 0),
@@ -129,7 +127,7 @@ fn tick_sleepers<R: Wait + Clock + Abort>(rt: &R, desk: &Desk<NoPause>, two: Tid
 /// What a client is answered that locks the mutex until this time.
 fn answer_until(
     rt: &impl Wait,
-    desk: &Desk<NoPause>,
+    desk: &Desk<Watch>,
     client: &mut Client,
     deadline: u32,
 ) -> Result<u32, DeskFault> {
@@ -139,7 +137,7 @@ fn answer_until(
 /// What two clients are answered that lock the mutex, each in a thread of its own, with different deadlines.
 fn lock_both<R: Threads + Wait + Sync>(
     rt: &R,
-    desk: &Desk<NoPause>,
+    desk: &Desk<Watch>,
     two: &mut Client,
     three: &mut Client,
 ) -> (Result<u32, DeskFault>, Result<u32, DeskFault>) {
@@ -153,7 +151,7 @@ fn lock_both<R: Threads + Wait + Sync>(
 /// The first client holds the mutex, and two sleep that lock it in threads of their own.
 fn sleep_up_to_ticks<R: Threads + Wait + Clock + Abort + Sync>(
     rt: &R,
-    desk: &Desk<NoPause>,
+    desk: &Desk<Watch>,
     one: &mut Client,
     two: &mut Client,
     three: &mut Client,
@@ -171,15 +169,16 @@ fn sleep_up_to_ticks<R: Threads + Wait + Clock + Abort + Sync>(
 }
 
 /// Two of three clients sleep until their deadlines. No bell is there for a thread beyond the limits.
-fn tick_for_three<R: Threads + Wait + Clock + Abort + Sync>(
+pub(crate) fn tick_for_three<R: Threads + Wait + Clock + Abort + Sync>(
     rt: &R,
-    desk: &Desk<NoPause>,
+    desk: &Desk<Watch>,
     clients: &mut Vec<Client>,
 ) -> Result<(), DeskFault> {
+    add_mutex(rt, desk, false);
     enter(rt, desk, 3, clients)?;
     match clients.as_mut_slice() {
         [one, two, three] => sleep_up_to_ticks(rt, desk, one, two, three)?,
-        _ => panic!(rt; "there are not three clients"),
+        _ => fails(rt, "there are not three clients"),
     }
     holds(
         rt,
@@ -191,8 +190,5 @@ fn tick_for_three<R: Threads + Wait + Clock + Abort + Sync>(
 
 #[test]
 fn a_tick_wakes_who_is_due_and_nobody_else(rt: HostRuntime) -> Result<(), Fail> {
-    let desk = desk_of(&rt, rt.alloc(), Kind::Normal, false)?;
-    let mut clients = Vec::new(rt.alloc());
-    went_well(&rt, tick_for_three(&rt, &desk, &mut clients));
-    Ok(())
+    play(&rt, rt.alloc(), Watch::new(rt), Scene::Deadlines, Ok(3))
 }
