@@ -9,12 +9,15 @@
 //! | `stories` | `pif_stories`: stories that are shown and traced, and reads and writes that fail |
 //! | `shells` | `pif_shell`: a prompt, stories that are saved, sessions, and what fails |
 //! | `random` | `pif_random`: scripts by a seed |
-//! | `pictures` | `pif_pictures`: reads and writes that fail |
-//! | `streams` | none: the readers and writers that the others share |
+//! | `pictures` | `pif_pictures`: writes and growths of memory that fail |
+//! | `streams` | none: the stream that the others read and write |
+//! | `jobs` | none: what they have done between two streams, and the checks of it |
 //!
 //! What words and an input can ask is a transcript (docs/TRANSCRIPTS.md).
 #![tactic(auto)]
 
+#[cfg(test)]
+mod jobs;
 #[cfg(test)]
 mod lines;
 #[cfg(test)]

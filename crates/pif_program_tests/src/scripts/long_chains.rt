@@ -1,7 +1,6 @@
 //! The longest chain that a core can have.
-use pif_scripts::run;
+use crate::jobs::{Job, check_job};
 use std::alloc::{AllocError, Global};
-use std::process::Abort;
 use std::test::Fail;
 
 const THREADS: u32 = 1024;
@@ -15,7 +14,8 @@ fn chain_of_1024(rt: HostRuntime) -> Result<(), Fail> {
     let mut script = String::new(rt.alloc());
     let mut answers = String::new(rt.alloc());
     write_chain(rt.alloc(), &mut script, &mut answers)?;
-    check(&rt, rt.alloc(), script.as_str(), answers.as_str());
+    let (read, written) = (script.as_str(), answers.as_str());
+    check_job(&rt, rt.alloc(), Job::Run, read, written, Ok(()));
     Ok(())
 }
 
@@ -49,12 +49,4 @@ fn wait_each(alloc: Global, script: &mut String, answers: &mut String) -> Result
         answers.push_str("waits\n")?;
     }
     Ok(())
-}
-
-/// Runs a script, which is done, and checks what is written.
-fn check(rt: &impl Abort, alloc: Global, script: &str, answers: &str) {
-    let mut output = Vec::new(alloc);
-    let ended = run(alloc, &mut script.as_bytes(), &mut output);
-    assert!(rt; output.as_slice() == answers.as_bytes());
-    assert_eq!(rt; ended, Ok(()));
 }

@@ -1,7 +1,8 @@
 //! What `show` writes of the longest line, what it tells of a write that fails, wherever that is, and the errors' names.
 
-use crate::streams::{Faltering, Kept};
-use pif_scripts::{Cause, CliFault, show};
+use crate::jobs::{Job, check_job, check_parts, check_write};
+use crate::streams::Part;
+use pif_scripts::{Cause, CliFault};
 use pif_show::{errno_name, errno_of};
 use pif_types::Errno;
 use std::alloc::Global;
@@ -19,67 +20,40 @@ const SHOWN: &str =
     > call t1 lock m1\nanswer 0\n  t1: priority 10; ready; holds m1\n  m1: normal; word t1; owner t1\n\n\
     > threat\nfault 5 command\n";
 
-/// Checks what is shown of the script at a writer that fails once, behind so many bytes, and goes on.
-fn fail_at(rt: &impl Abort, alloc: Global, left: usize, failure: Option<ErrorKind>) {
-    let mut writer = Faltering::new(Kept::new(), left, failure);
-    let ended = show(alloc, &mut SCRIPT.as_bytes(), &mut writer);
-    let shown = SHOWN.as_bytes();
-    let front = &shown[..left.min(shown.len())];
-    assert!(rt;
-        ended == Err(CliFault::Write) && writer.kept().text() == front,
-        "{left}"
-    );
-}
-
 #[test]
 fn a_write_that_fails_at_any_byte_ends_what_is_shown(rt: HostRuntime) {
-    let mut output = Kept::new();
-    let ended = show(rt.alloc(), &mut SCRIPT.as_bytes(), &mut output);
-    output.check(&rt, SHOWN);
-    assert_eq!(rt; ended, Err(CliFault::Script(5, Cause::Command)));
+    let (job, alloc) = (Job::Show, rt.alloc());
+    let ended = Err(CliFault::Script(5, Cause::Command));
+    check_job(&rt, alloc, job, SCRIPT, SHOWN, ended);
+    let broken = Some(ErrorKind::BrokenPipe);
     for left in 0..SHOWN.len() {
-        fail_at(&rt, rt.alloc(), left, Some(ErrorKind::BrokenPipe));
-        fail_at(&rt, rt.alloc(), left, None);
+        check_write(&rt, alloc, job, SCRIPT, SHOWN, 4096, left, broken);
+        check_write(&rt, alloc, job, SCRIPT, SHOWN, 4096, left, None);
     }
 }
 
-/// Keeps a line of 120 bytes, of which the first and the last are found nowhere else in it.
-fn keep_line(kept: &mut Kept) {
-    kept.append(b"a");
-    kept.append_times(b"b", 118);
-    kept.append(b"c");
-}
+/// A line of 120 bytes, of which the first and the last are found nowhere else in it.
+const LINE: [Part<'_>; 3] = [("a", 1), ("b", 118), ("c\n", 1)];
 
-/// Checks what is shown of a line of 120 bytes with this behind it.
-fn show_long(rt: &impl Abort, alloc: Global, behind: &[u8], fault: &[u8], cause: Cause) {
-    let mut input = Kept::new();
-    keep_line(&mut input);
-    input.append(behind);
-    let mut shown = Kept::new();
-    shown.append(b"> ");
-    keep_line(&mut shown);
-    shown.append(fault);
-    let mut output = Kept::new();
-    let ended = show(alloc, &mut input.text(), &mut output);
-    assert!(rt; output.text() == shown.text(), "{cause:?}");
-    assert_eq!(rt; ended, Err(CliFault::Script(1, cause)));
-}
+const SHOWN_LINE: [Part<'_>; 3] = [("> a", 1), ("b", 118), ("c\nfault 1 command\n", 1)];
+
+/// A longer one.
+const LONG_LINE: [Part<'_>; 3] = [("a", 1), ("b", 118), ("cd\n", 1)];
+
+const SHOWN_LONG_LINE: [Part<'_>; 3] = [("> a", 1), ("b", 118), ("c\nfault 1 long\n", 1)];
 
 /// Of a longer line there are its first 120 bytes.
 #[test]
 fn a_line_of_120_bytes_is_shown_to_its_last(rt: HostRuntime) {
-    show_long(
-        &rt,
-        rt.alloc(),
-        b"\n",
-        b"\nfault 1 command\n",
-        Cause::Command,
-    );
-    show_long(&rt, rt.alloc(), b"d\n", b"\nfault 1 long\n", Cause::Long);
+    let (job, alloc) = (Job::Show, rt.alloc());
+    let ended = Err(CliFault::Script(1, Cause::Command));
+    check_parts(&rt, alloc, job, &LINE, &SHOWN_LINE, ended);
+    let ended = Err(CliFault::Script(1, Cause::Long));
+    check_parts(&rt, alloc, job, &LONG_LINE, &SHOWN_LONG_LINE, ended);
 }
 
 /// Each error.
-const ERRORS: [Errno; 11] = [
+static ERRORS: [Errno; 11] = [
     Errno::NotPermitted,
     Errno::NoSuchThread,
     Errno::Again,
@@ -94,20 +68,24 @@ const ERRORS: [Errno; 11] = [
 ];
 
 /// Checks that an error is found by its number, and has the name that its own text is.
-fn check_error(rt: &impl Abort, alloc: Global, error: Errno) -> Result<(), Fail> {
-    let text = format!(in alloc; "{error}")?;
-    assert_eq!(rt;
-        (errno_of(error.number()), errno_name(error)),
-        (Some(error), text.as_str())
+fn check_error(rt: &impl Abort, error: Errno, text: &str) {
+    assert!(rt;
+        errno_of(error.number()) == Some(error) && errno_name(error) == text,
+        "{text:?}"
     );
+}
+
+/// The same of each error.
+fn check_errors(rt: &impl Abort, alloc: Global) -> Result<(), Fail> {
+    for error in &ERRORS {
+        let text = format!(in alloc; "{error}")?;
+        check_error(rt, *error, text.as_str());
+    }
     Ok(())
 }
 
 #[test]
 fn errors_are_found_and_named(rt: HostRuntime) -> Result<(), Fail> {
-    for error in ERRORS {
-        check_error(&rt, rt.alloc(), error)?;
-    }
-    assert_eq!(rt; (errno_of(0), errno_of(2)), (None, None));
-    Ok(())
+    assert!(rt; errno_of(0).is_none() && errno_of(2).is_none());
+    check_errors(&rt, rt.alloc())
 }

@@ -1,12 +1,9 @@
 //! The table of docs/DEATHS.md on signals and broadcasts: a thread that makes one ends after each number of steps, and
 //! then others lock the mutex and signal.
 
-use super::steps::{Lines, NOTHING, Scene, check_row};
-use Used::*;
+use super::steps::{Called, Lines, NOTHING, Scene, check_row};
 use std::alloc::Global;
 use std::process::Abort;
-
-const SIGNAL: &str = "signal c1";
 
 /// What stands before the threads wait.
 const SIX: Lines = (
@@ -28,7 +25,7 @@ const USING_AROUND: (&str, &str) = (
 );
 
 /// t1 ends before it has used the variable.
-const UNUSED: Scene = (
+static UNUSED: Scene = (
     SIX,
     PARKED_TWO,
     ("end t1\ncondword c1\n", "ended\n0\n"),
@@ -37,7 +34,7 @@ const UNUSED: Scene = (
 );
 
 /// t1 ends once it has.
-const USED: Scene = (
+static USED: Scene = (
     SIX,
     PARKED_TWO,
     ("end t1\ncondword c1\n", "ended\n1\n"),
@@ -128,98 +125,70 @@ const UNUSABLE_BROADCAST: &str =
     "0x80000004\nwaits\n0x80000004\nunusable\nanswer 131\nrefused busy\nrefused idle\nanswer 1\nanswer 131\n\
     0x80000002\nanswer 0\nrefused idle\n0x80000002\nunusable\n";
 
-/// What the end of t1 in its signal or broadcast leaves.
-#[derive(Clone, Copy)]
-enum Used {
-    FreeUnused,
-    FreeSignalled,
-    FreeBroadcast,
-    HeldUnused,
-    HeldSignalled,
-    HeldBroadcast,
-    LostUnused,
-    LostUsed,
-    LostAlready,
-    DiedUnused,
-    DiedSignalled,
-    DiedBroadcast,
-    OrphanSignalled,
-    UnusableUnused,
-    UnusableSignalled,
-    UnusableBroadcast,
-}
-
-impl Used {
-    /// What the lines behind the end are answered.
-    fn answers(self) -> &'static str {
-        match self {
-            Used::FreeUnused => FREE_UNUSED,
-            Used::FreeSignalled => FREE_SIGNALLED,
-            Used::FreeBroadcast => FREE_BROADCAST,
-            Used::HeldUnused => HELD_UNUSED,
-            Used::HeldSignalled => HELD_SIGNALLED,
-            Used::HeldBroadcast => HELD_BROADCAST,
-            Used::LostUnused => LOST_UNUSED,
-            Used::LostUsed => LOST_USED,
-            Used::LostAlready => LOST_ALREADY,
-            Used::DiedUnused => DIED_UNUSED,
-            Used::DiedSignalled => DIED_SIGNALLED,
-            Used::DiedBroadcast => DIED_BROADCAST,
-            Used::OrphanSignalled => ORPHAN_SIGNALLED,
-            Used::UnusableUnused => UNUSABLE_UNUSED,
-            Used::UnusableSignalled => UNUSABLE_SIGNALLED,
-            Used::UnusableBroadcast => UNUSABLE_BROADCAST,
-        }
-    }
-}
-
 /// What stands before a signal or broadcast, whether t2 owns m1, and what the end of t1 leaves before the third step,
 /// and after it of a signal and of a broadcast.
-type Use = (Lines, bool, Used, Used, Used);
+type Use = (Lines, bool, &'static str, &'static str, &'static str);
 
 /// signal and broadcast on a variable of a stalled mutex.
-const USES: [Use; 4] = [
-    (NOTHING, false, FreeUnused, FreeSignalled, FreeBroadcast),
-    (HELD_BY_T2, true, HeldUnused, HeldSignalled, HeldBroadcast),
-    (OWNED, false, LostUnused, LostUsed, LostUsed),
-    (ORPHANED, false, LostAlready, LostAlready, LostAlready),
+static USES: [Use; 4] = [
+    (NOTHING, false, FREE_UNUSED, FREE_SIGNALLED, FREE_BROADCAST),
+    (
+        HELD_BY_T2,
+        true,
+        HELD_UNUSED,
+        HELD_SIGNALLED,
+        HELD_BROADCAST,
+    ),
+    (OWNED, false, LOST_UNUSED, LOST_USED, LOST_USED),
+    (ORPHANED, false, LOST_ALREADY, LOST_ALREADY, LOST_ALREADY),
 ];
 
 /// And of a robust one.
-const ROBUST_USES: [Use; 5] = [
-    (NOTHING, false, FreeUnused, FreeSignalled, FreeBroadcast),
-    (HELD_BY_T2, true, HeldUnused, HeldSignalled, HeldBroadcast),
-    (OWNED, false, DiedUnused, DiedSignalled, DiedBroadcast),
-    (ORPHANED, false, DiedUnused, OrphanSignalled, DiedBroadcast),
+static ROBUST_USES: [Use; 5] = [
+    (NOTHING, false, FREE_UNUSED, FREE_SIGNALLED, FREE_BROADCAST),
+    (
+        HELD_BY_T2,
+        true,
+        HELD_UNUSED,
+        HELD_SIGNALLED,
+        HELD_BROADCAST,
+    ),
+    (OWNED, false, DIED_UNUSED, DIED_SIGNALLED, DIED_BROADCAST),
+    (
+        ORPHANED,
+        false,
+        DIED_UNUSED,
+        ORPHAN_SIGNALLED,
+        DIED_BROADCAST,
+    ),
     (
         GIVEN_UP,
         false,
-        UnusableUnused,
-        UnusableSignalled,
-        UnusableBroadcast,
+        UNUSABLE_UNUSED,
+        UNUSABLE_SIGNALLED,
+        UNUSABLE_BROADCAST,
     ),
 ];
 
 /// Ends t1 after each step of a signal or broadcast: the second uses the variable, the third wakes and is answered.
-fn check_use(rt: &impl Abort, alloc: Global, robust: &'static str, call: &'static str, used: Use) {
-    let (before, waits, unused, signalled, broadcast) = used;
-    let woken = if call == SIGNAL { signalled } else { broadcast };
-    let called = ("normal", robust, call);
-    let left = unused.answers();
-    let first = (before, NOTHING, waits, 0, 1, "went\n", left);
-    check_row(rt, alloc, &UNUSED, called, first);
-    let second = (before, NOTHING, waits, 2, 2, "went\n", left);
-    check_row(rt, alloc, &USED, called, second);
-    let third = (before, NOTHING, waits, 3, 3, "answer 0\n", woken.answers());
-    check_row(rt, alloc, &USED, called, third);
+fn check_use(rt: &impl Abort, alloc: Global, called: &Called, used: &Use, woken: &'static str) {
+    let (before, waits, unused, _, _) = used;
+    let first = (*before, NOTHING, *waits, 0, 1, "went\n", *unused);
+    check_row(rt, alloc, &UNUSED, called, &first);
+    let second = (*before, NOTHING, *waits, 2, 2, "went\n", *unused);
+    check_row(rt, alloc, &USED, called, &second);
+    let third = (*before, NOTHING, *waits, 3, 3, "answer 0\n", woken);
+    check_row(rt, alloc, &USED, called, &third);
 }
 
 /// Goes through the uses of a variable.
 fn check_uses(rt: &impl Abort, alloc: Global, robust: &'static str, uses: &[Use]) {
-    for call in [SIGNAL, "broadcast c1"] {
-        for used in uses {
-            check_use(rt, alloc, robust, call, *used);
-        }
+    for used in uses {
+        let (_, _, _, signalled, broadcast) = used;
+        let called = ("normal", robust, "signal c1");
+        check_use(rt, alloc, &called, used, signalled);
+        let called = ("normal", robust, "broadcast c1");
+        check_use(rt, alloc, &called, used, broadcast);
     }
 }
 

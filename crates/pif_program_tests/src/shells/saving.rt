@@ -1,33 +1,36 @@
 //! Stories that are saved.
 
-use crate::streams::Kept;
+use crate::streams::Stream;
 use pif_shell::{SaveFault, Shelf, shell};
 use std::alloc::Global;
 use std::process::Abort;
 
-/// A shelf that wants this story, and then answers so.
+/// A shelf that wants this story under the name `a story`, and then answers so; and otherwise if another story comes.
 #[derive(Drop)]
-struct Wanting<'a, A> {
-    rt: &'a A,
+struct Wanting {
     story: &'static str,
     answer: Result<(), SaveFault>,
 }
 
-impl<'a, A: Abort> Shelf for Wanting<'a, A> {
+impl Shelf for Wanting {
     fn save(&self, name: &str, text: &[u8]) -> Result<(), SaveFault> {
-        assert!(self.rt; name == "a story", "{name:?}");
-        assert!(self.rt; text == self.story.as_bytes(), "{name:?}");
-        self.answer
+        if name == "a story" && text == self.story.as_bytes() {
+            return self.answer;
+        }
+        match self.answer {
+            Ok(()) => Err(SaveFault::Cut),
+            Err(_) => Ok(()),
+        }
     }
 }
 
 /// Talks with a shell whose stories are kept by this shelf, and compares what it writes.
-fn check_saved(rt: &impl Abort, alloc: Global, shelf: &impl Shelf, lines: &str, text: &str) {
-    let mut output = Kept::new();
-    let mut input = lines.as_bytes();
+fn check_saved(rt: &impl Abort, alloc: Global, shelf: &Wanting, lines: &str, text: &str) {
+    let (lines, written) = ([(lines, 1)], [(text, 1)]);
+    let mut input = Stream::new(&lines);
+    let mut output = Stream::new(&written);
     let ended = shell(alloc, shelf, false, &mut input, &mut output);
-    output.check(rt, text);
-    assert!(rt; ended.is_ok(), "{text:?}");
+    assert!(rt; ended == Ok(()) && output.is_met(), "{text:?}");
 }
 
 const LINES: &str =
@@ -36,32 +39,33 @@ const LINES: &str =
 const STORY: &str =
     "thread 10        = t1\nmutex errorcheck = m1\ncall t1 lock m1  = answer 0\ncall t1 lock m1  = answer 35\n";
 
+/// What a shelf answers, and what is written then.
+static ANSWERS: [(Result<(), SaveFault>, &str); 4] = [
+    (
+        Ok(()),
+        "t1\nm1\nanswer 0\ncolumn 1: no such command; 'help' names them all\nanswer 35 EDEADLK\nsaved a story\nt1\n",
+    ),
+    (
+        Err(SaveFault::Taken),
+        "t1\nm1\nanswer 0\ncolumn 1: no such command; 'help' names them all\nanswer 35 EDEADLK\na story is there already, and is left as it is\nt1\n",
+    ),
+    (
+        Err(SaveFault::Refused),
+        "t1\nm1\nanswer 0\ncolumn 1: no such command; 'help' names them all\nanswer 35 EDEADLK\na story cannot be made\nt1\n",
+    ),
+    (
+        Err(SaveFault::Cut),
+        "t1\nm1\nanswer 0\ncolumn 1: no such command; 'help' names them all\nanswer 35 EDEADLK\na story cannot be written whole\nt1\n",
+    ),
+];
+
 /// The story has the commands that were accepted, with what `run` prints for them.
 #[test]
 fn stories_are_saved(rt: HostRuntime) {
-    let answers: [(Result<(), SaveFault>, &str); 4] = [
-        (
-            Ok(()),
-            "t1\nm1\nanswer 0\ncolumn 1: no such command; 'help' names them all\nanswer 35 EDEADLK\nsaved a story\nt1\n",
-        ),
-        (
-            Err(SaveFault::Taken),
-            "t1\nm1\nanswer 0\ncolumn 1: no such command; 'help' names them all\nanswer 35 EDEADLK\na story is there already, and is left as it is\nt1\n",
-        ),
-        (
-            Err(SaveFault::Refused),
-            "t1\nm1\nanswer 0\ncolumn 1: no such command; 'help' names them all\nanswer 35 EDEADLK\na story cannot be made\nt1\n",
-        ),
-        (
-            Err(SaveFault::Cut),
-            "t1\nm1\nanswer 0\ncolumn 1: no such command; 'help' names them all\nanswer 35 EDEADLK\na story cannot be written whole\nt1\n",
-        ),
-    ];
-    for (answer, text) in answers {
+    for (answer, text) in &ANSWERS {
         let shelf = Wanting {
-            rt: &rt,
             story: STORY,
-            answer,
+            answer: *answer,
         };
         check_saved(&rt, rt.alloc(), &shelf, LINES, text);
     }
@@ -71,7 +75,6 @@ fn stories_are_saved(rt: HostRuntime) {
 #[test]
 fn what_was_taken_back_is_not_saved(rt: HostRuntime) {
     let shelf = Wanting {
-        rt: &rt,
         story: "thread 10 = t1\n",
         answer: Ok(()),
     };
@@ -84,7 +87,6 @@ fn what_was_taken_back_is_not_saved(rt: HostRuntime) {
 #[test]
 fn some_is_not_saved(rt: HostRuntime) {
     let shelf = Wanting {
-        rt: &rt,
         story: "",
         answer: Ok(()),
     };

@@ -1,30 +1,19 @@
-use crate::streams::{Endless, Kept};
+use crate::jobs::{Job, check_parts};
+use crate::streams::Part;
 use pif_scripts::{Cause, CliFault};
-use pif_stories::check;
 
-/// A comment of 16 bytes.
-const COMMENT: &str = "# sixteen bytes\n";
+/// 16,777,216 bytes in comments of 16.
+const COMMENTS: [Part<'_>; 1] = [("# sixteen bytes\n", 1_048_576)];
+
+/// And one byte more.
+const MORE: [Part<'_>; 2] = [("# sixteen bytes\n", 1_048_576), ("#", 1)];
 
 /// As many comments of 16 bytes as fill a story, and one byte more.
 #[test]
 fn a_story_has_16777216_bytes_at_most(rt: HostRuntime) {
-    let stories = [
-        (16_777_216, "ok story 0\n", Ok(())),
-        (
-            16_777_217,
-            "story: fault 1048577 size: \n",
-            Err(CliFault::Script(1_048_577, Cause::Size)),
-        ),
-    ];
-    for (bytes, line, ended) in stories {
-        let mut output = Kept::new();
-        let result = check(
-            rt.alloc(),
-            b"story",
-            &mut Endless::new(COMMENT, bytes),
-            &mut output,
-        );
-        output.check(&rt, line);
-        assert_eq!(rt; result, ended, "{bytes}");
-    }
+    let (job, alloc) = (Job::Check, rt.alloc());
+    check_parts(&rt, alloc, job, &COMMENTS, &[("ok story 0\n", 1)], Ok(()));
+    let ended = Err(CliFault::Script(1_048_577, Cause::Size));
+    let fault = [("story: fault 1048577 size: \n", 1)];
+    check_parts(&rt, alloc, job, &MORE, &fault, ended);
 }
