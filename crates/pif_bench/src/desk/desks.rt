@@ -14,7 +14,7 @@ use std::time::Duration;
 pub const PAIRS: u32 = 48_000;
 
 /// How many they make together where all contend for one mutex.
-const CONTENDED_PAIRS: u32 = 4_800;
+const CONTENDED_PAIRS: u32 = 48_000;
 
 /// Which mutexes the threads lock.
 #[derive(Clone, Copy)]
