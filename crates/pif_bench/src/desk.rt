@@ -3,15 +3,12 @@ mod cores;
 mod desks;
 
 use cores::measure_core;
-use desks::{Mutexes, measure_desk};
+pub use desks::Mutexes;
+use desks::measure_desk;
 use std::rt::Clock;
 use std::sync::Wait;
 use std::thread::Threads;
 use std::time::Duration;
-
-/// The names of these benchmarks, one a line.
-pub const NAMES: &str =
-    "core_alone\ndesk_own_1\ndesk_own_2\ndesk_own_4\ndesk_own_8\ndesk_one_2\ndesk_one_4\ndesk_one_8\n";
 
 /// Who makes the calls.
 #[derive(Clone, Copy)]
@@ -22,45 +19,21 @@ pub enum Crowd {
     Desk(Mutexes, u32),
 }
 
-/// How many events there were in which time.
-#[derive(Clone, Copy)]
-pub struct Figure {
-    pub events: usize,
-    pub time: Duration,
-}
-
-impl Figure {
-    /// How many thousand events there were a second.
-    pub fn thousands(&self) -> u128 {
-        let microseconds = self.time.as_micros();
-        if microseconds == 0 {
-            return 0;
-        }
-        self.events as u128 * 1000 / microseconds
+/// How many thousand events there were a second, where there were so many in such a time.
+fn thousands(events: usize, time: Duration) -> u128 {
+    let microseconds = time.as_micros();
+    if microseconds == 0 {
+        return 0;
     }
+    events as u128 * 1000 / microseconds
 }
 
-/// The benchmark of this name.
-pub fn crowd_of(name: &str) -> Option<Crowd> {
-    match name {
-        "core_alone" => Some(Crowd::Core),
-        "desk_own_1" => Some(Crowd::Desk(Mutexes::Own, 1)),
-        "desk_own_2" => Some(Crowd::Desk(Mutexes::Own, 2)),
-        "desk_own_4" => Some(Crowd::Desk(Mutexes::Own, 4)),
-        "desk_own_8" => Some(Crowd::Desk(Mutexes::Own, 8)),
-        "desk_one_2" => Some(Crowd::Desk(Mutexes::One, 2)),
-        "desk_one_4" => Some(Crowd::Desk(Mutexes::One, 4)),
-        "desk_one_8" => Some(Crowd::Desk(Mutexes::One, 8)),
-        _ => None,
-    }
-}
-
-/// Runs a benchmark. `None` where memory is refused, a thread can't be started, the clock has a fault, or the desk doesn't
-/// settle.
-pub fn measure<R: Clock + Threads + Wait + Sync + AllocGlobal>(
+/// Runs a benchmark. Answers how many thousand events there were a second. `None` where memory is refused, a thread
+/// can't be started, the clock has a fault, or the desk doesn't settle.
+pub fn thousands_of<R: Clock + Threads + Wait + Sync + AllocGlobal>(
     rt: &R,
     crowd: Crowd,
-) -> Option<Figure> {
+) -> Option<u128> {
     match crowd {
         Crowd::Core => measure_core(rt),
         Crowd::Desk(mutexes, threads) => measure_desk(rt, mutexes, threads),

@@ -1,6 +1,6 @@
 //! Calls on a core without a desk.
-use super::Figure;
 use super::desks::PAIRS;
+use super::thousands;
 use crate::moments::{now, time_since};
 use pif_core::{Core, Event, Seen};
 use pif_types::{Kind, Limits, MutexId, Request, Tid};
@@ -30,18 +30,17 @@ fn make_pairs(core: &mut Core, thread: Tid, mutex: MutexId) -> usize {
     events
 }
 
-/// Times the pairs of a thread and a mutex that are added to this core.
-fn time_pairs(rt: &impl Clock, core: &mut Core) -> Option<Figure> {
+/// Times the pairs of a thread and a mutex that are added to this core: how many thousand events a second.
+fn time_pairs(rt: &impl Clock, core: &mut Core) -> Option<u128> {
     let thread = core.add_thread(10).ok()?;
     let mutex = core.add_mutex(Kind::Normal, false).ok()?;
     let start = now(rt)?;
     let events = make_pairs(core, thread, mutex);
-    let time = time_since(rt, start)?;
-    Some(Figure { events, time })
+    Some(thousands(events, time_since(rt, start)?))
 }
 
-/// One thread locks and unlocks one normal mutex.
-pub fn measure_core<R: Clock + AllocGlobal>(rt: &R) -> Option<Figure> {
+/// One thread locks and unlocks one normal mutex: how many thousand events a second.
+pub fn measure_core(rt: &(impl Clock + AllocGlobal)) -> Option<u128> {
     let limits = Limits::new(1, 1, 0, 1)?;
     match Core::new(rt.alloc(), limits) {
         Ok(mut core) => time_pairs(rt, &mut core),

@@ -1,5 +1,5 @@
 //! Calls of real threads at a desk.
-use super::Figure;
+use super::thousands;
 use crate::moments::{now, time_since};
 use pif_desk::{Client, Desk, NoPause};
 use pif_types::{Kind, Limits, MutexId, Request};
@@ -123,8 +123,8 @@ fn enter_all<R: Wait>(
     Some(())
 }
 
-/// Each player runs in a thread of its own, and gives its client back. `None` where memory is refused or a thread can't be
-/// started.
+/// Each player runs in a thread of its own, and gives its client back. `None` where memory is refused or a thread can't
+/// be started.
 fn play_all<R: Threads + Wait + Sync>(
     rt: &R,
     desk: &Desk<NoPause>,
@@ -133,29 +133,31 @@ fn play_all<R: Threads + Wait + Sync>(
     thread::map_vec(rt, players, &|player| play(rt, desk, player)).ok()
 }
 
-/// These players run. Answers their clients, and the time in which the threads ran.
+/// These players run. Answers their clients, and tells the time in which the threads ran.
 fn time_players<R: Clock + Threads + Wait + Sync>(
     rt: &R,
     desk: &Desk<NoPause>,
     players: Vec<Player>,
-) -> Option<(Duration, Vec<Client>)> {
+    time: &mut Duration,
+) -> Option<Vec<Client>> {
     let start = now(rt)?;
     let clients = play_all(rt, desk, players)?;
-    let time = time_since(rt, start)?;
-    Some((time, clients))
+    *time = time_since(rt, start)?;
+    Some(clients)
 }
 
-/// Players enter a desk and run. Answers their clients, and the time in which the threads ran.
+/// So many players enter a desk and run. Answers their clients, and tells the time in which the threads ran.
 fn run_at<R: Clock + Threads + Wait + Sync>(
     rt: &R,
     alloc: Global,
     desk: &Desk<NoPause>,
     mutexes: Mutexes,
     threads: u32,
-) -> Option<(Duration, Vec<Client>)> {
+    time: &mut Duration,
+) -> Option<Vec<Client>> {
     let mut players = Vec::new(alloc);
     match enter_all(rt, desk, mutexes, threads, &mut players) {
-        Some(()) => time_players(rt, desk, players),
+        Some(()) => time_players(rt, desk, players, time),
         None => None,
     }
 }
@@ -174,23 +176,24 @@ fn measure_at<R: Clock + Threads + Wait + Sync + AllocGlobal>(
     desk: Desk<NoPause>,
     mutexes: Mutexes,
     threads: u32,
-) -> Option<Figure> {
-    match run_at(rt, rt.alloc(), &desk, mutexes, threads) {
-        Some((time, clients)) => {
-            let events = settled_entries(desk, clients)?;
-            Some(Figure { events, time })
-        }
+) -> Option<u128> {
+    let mut time = Duration::ZERO;
+    match run_at(rt, rt.alloc(), &desk, mutexes, threads, &mut time) {
+        Some(clients) => match settled_entries(desk, clients) {
+            Some(events) => Some(thousands(events, time)),
+            None => None,
+        },
         None => None,
     }
 }
 
-/// So many threads lock and unlock mutexes at a desk, which then settles: the entries of its journal, and the time in
-/// which the threads ran.
+/// So many threads lock and unlock mutexes at a desk, which then settles: how many thousand entries its journal has for
+/// each second in which the threads ran.
 pub fn measure_desk<R: Clock + Threads + Wait + Sync + AllocGlobal>(
     rt: &R,
     mutexes: Mutexes,
     threads: u32,
-) -> Option<Figure> {
+) -> Option<u128> {
     let limits = Limits::new(threads, threads.saturating_add(1), 0, 1)?;
     match Desk::new(rt.alloc(), limits, NoPause) {
         Ok(desk) => measure_at(rt, desk, mutexes, threads),

@@ -1,5 +1,6 @@
-use super::scenes::{Room, call, core_of, step};
-use crate::moments::{each_since, nanoseconds_since, now};
+//! Threads wait on condition variable 1, which is bound to mutex 1.
+use super::scenes::{call, lock, step};
+use crate::moments::{nanoseconds_since, now};
 use pif_core::{Core, Event};
 use pif_types::{CondId, MutexId, Request, Tid};
 use std::rt::Clock;
@@ -10,32 +11,34 @@ const WAITS: u32 = 10_000;
 /// How many broadcasts are measured.
 const BROADCASTS: u32 = 10;
 
-/// A condition variable, and the mutex to which it is bound.
-#[derive(Clone, Copy)]
-struct Scene {
-    mutex: MutexId,
-    variable: CondId,
+/// Adds the variable. One thread after another, so many, locks the mutex and waits on the variable.
+pub fn park_all(core: &mut Core, parked: u32) -> Option<()> {
+    core.add_cond(MutexId::new(1)?).ok()?;
+    for number in 1..=parked {
+        lock(core, number, 1)?;
+        wait(core, number)?;
+    }
+    Some(())
 }
 
-/// So many threads, at most 1,000, wait on a variable; again and again another one signals it, and the one that is woken
-/// waits anew. Answers how many nanoseconds a wait and its signal took, up to the answer of the wait, which finds its
-/// mutex free.
-pub fn wait_and_signal(rt: &(impl Clock + AllocGlobal), parked: u32) -> Option<u64> {
-    let mut core = core_of(rt, Room::Tight, parked.saturating_add(1), 1, 1, false)?;
-    time_waits(rt, &mut core, parked)
+/// The thread of this number waits on the variable.
+fn wait(core: &mut Core, number: u32) -> Option<()> {
+    let request = Request::Wait(CondId::new(1)?, MutexId::new(1)?);
+    call(core, Tid::new(number)?, request);
+    Some(())
 }
 
-/// All threads of a core but the last wait, and the last one signals.
-fn time_waits(rt: &impl Clock, core: &mut Core, parked: u32) -> Option<u64> {
-    let Scene { mutex, variable } = bind(core)?;
-    park_all(core, parked, Scene { mutex, variable })?;
+/// Of so many threads that are parked, at most 1,000, again and again one is woken by a signal of another thread,
+/// answers its wait, as it finds its mutex free, and waits anew. Answers how many waits that were.
+pub fn wait_and_signal(core: &mut Core, parked: u32) -> Option<u32> {
+    let mutex = MutexId::new(1)?;
+    let variable = CondId::new(1)?;
     let caller = Tid::new(parked.saturating_add(1))?;
-    let start = now(rt)?;
     for round in 0..WAITS {
         let woken = Tid::new(1 + round % parked.max(1))?;
         signal_one(core, caller, woken, mutex, variable);
     }
-    each_since(rt, start, WAITS)
+    Some(WAITS)
 }
 
 /// A caller signals, and the thread that is woken answers its wait, and waits anew.
@@ -45,63 +48,44 @@ fn signal_one(core: &mut Core, caller: Tid, woken: Tid, mutex: MutexId, variable
     call(core, woken, Request::Wait(variable, mutex));
 }
 
-/// A broadcast to so many parked threads, at most 1,000, whose caller holds the mutex or nobody does. Answers how many
-/// nanoseconds it took for each of them.
-pub fn broadcast(
-    rt: &(impl Clock + AllocGlobal),
-    parked: u32,
-    held: bool,
-    room: Room,
-) -> Option<u64> {
-    let mut core = core_of(rt, room, parked.saturating_add(1), 1, 1, false)?;
-    time_broadcasts(rt, &mut core, parked, held)
-}
-
-/// The first threads of a core are parked, and the one behind them broadcasts, again and again.
-fn time_broadcasts(rt: &impl Clock, core: &mut Core, parked: u32, held: bool) -> Option<u64> {
-    let scene = bind(core)?;
-    park_all(core, parked, scene)?;
+/// Broadcasts to so many parked threads, at most 1,000, whose caller, the thread behind them, holds the mutex, or
+/// nobody does. Answers how many nanoseconds one took for each of them.
+pub fn time_broadcasts(rt: &impl Clock, core: &mut Core, parked: u32, held: bool) -> Option<u64> {
     let caller = Tid::new(parked.saturating_add(1))?;
     let mut spent = 0_u64;
     for _round in 0..BROADCASTS {
-        if held {
-            call(core, caller, Request::Lock(scene.mutex));
-        }
-        let start = now(rt)?;
-        call(core, caller, Request::Broadcast(scene.variable));
-        spent = spent.saturating_add(nanoseconds_since(rt, start)?);
-        if held {
-            call(core, caller, Request::Unlock(scene.mutex));
-        }
-        wait_anew(core, parked, scene)?;
+        spent = spent.saturating_add(time_broadcast(rt, core, caller, held)?);
+        wait_anew(core, parked)?;
     }
     let woken = parked.saturating_mul(BROADCASTS).max(1);
     Some(spent / u64::from(woken))
 }
 
-/// Each thread that was woken, one after another, finds that it owns the mutex, and waits again.
-fn wait_anew(core: &mut Core, parked: u32, scene: Scene) -> Option<()> {
-    for number in 1..=parked {
-        let thread = Tid::new(number)?;
-        step(core, Event::Go(thread));
-        call(core, thread, Request::Wait(scene.variable, scene.mutex));
-    }
-    Some(())
-}
-
-/// Adds a variable to a core, bound to mutex 1. `None` where the core refuses it.
-fn bind(core: &mut Core) -> Option<Scene> {
+/// A broadcast by this caller, which locks the mutex before and unlocks it behind, or doesn't. Answers how many
+/// nanoseconds it took.
+fn time_broadcast(rt: &impl Clock, core: &mut Core, caller: Tid, held: bool) -> Option<u64> {
     let mutex = MutexId::new(1)?;
-    let variable = core.add_cond(mutex).ok()?;
-    Some(Scene { mutex, variable })
+    let variable = CondId::new(1)?;
+    call_if(core, held, caller, Request::Lock(mutex));
+    let start = now(rt)?;
+    call(core, caller, Request::Broadcast(variable));
+    let spent = nanoseconds_since(rt, start)?;
+    call_if(core, held, caller, Request::Unlock(mutex));
+    Some(spent)
 }
 
-/// One thread after another locks the mutex and waits on the variable.
-fn park_all(core: &mut Core, parked: u32, scene: Scene) -> Option<()> {
+/// A thread makes a call, or makes none.
+fn call_if(core: &mut Core, makes: bool, thread: Tid, request: Request) {
+    if makes {
+        call(core, thread, request);
+    }
+}
+
+/// Each of so many threads that were woken, one after another, finds that it owns the mutex, and waits again.
+fn wait_anew(core: &mut Core, parked: u32) -> Option<()> {
     for number in 1..=parked {
-        let thread = Tid::new(number)?;
-        call(core, thread, Request::Lock(scene.mutex));
-        call(core, thread, Request::Wait(scene.variable, scene.mutex));
+        step(core, Event::Go(Tid::new(number)?));
+        wait(core, number)?;
     }
     Some(())
 }

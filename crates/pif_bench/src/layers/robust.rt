@@ -1,29 +1,20 @@
-use super::scenes::{Room, call, core_of, step};
-use crate::moments::{each_since, now};
+//! Pairs of a lock and an unlock, and the ends of threads that hold robust mutexes.
+use super::scenes::{call, lock, step};
 use pif_core::{Core, Event};
 use pif_types::{MutexId, Request, Tid};
-use std::rt::Clock;
 
 /// How many pairs of a lock and an unlock are measured.
 const PAIRS: u32 = 10_000;
 
-/// One thread locks and unlocks one normal mutex, for which nobody else contends. Answers how many nanoseconds each pair
-/// took.
-pub fn pair(rt: &(impl Clock + AllocGlobal), robust: bool) -> Option<u64> {
-    let mut core = core_of(rt, Room::Tight, 1, 1, 1, robust)?;
-    time_pairs(rt, &mut core)
-}
-
-/// Thread 1 of a core locks and unlocks mutex 1.
-fn time_pairs(rt: &impl Clock, core: &mut Core) -> Option<u64> {
+/// Thread 1 locks and unlocks mutex 1, for which nobody else contends. Answers how many pairs that were.
+pub fn make_pairs(core: &mut Core) -> Option<u32> {
     let mutex = MutexId::new(1)?;
     let thread = Tid::new(1)?;
-    let start = now(rt)?;
     for _pair in 0..PAIRS {
         call(core, thread, Request::Lock(mutex));
         call(core, thread, Request::Unlock(mutex));
     }
-    each_since(rt, start, PAIRS)
+    Some(PAIRS)
 }
 
 /// How many ends are measured at most.
@@ -32,55 +23,48 @@ const MOST_ENDS: u32 = 100;
 /// How many mutexes all threads that end hold together at most.
 const MOST_HELD: u32 = 1000;
 
-/// Threads that each hold so many robust mutexes, at most 1,000, end, one after another. For each of these mutexes another
-/// thread waits, or none does. Answers how many nanoseconds an end took.
-pub fn ends(
-    rt: &(impl Clock + AllocGlobal),
-    room: Room,
-    held: u32,
-    contended: bool,
-) -> Option<u64> {
+/// How many threads end, of which each holds so many mutexes, at most 1,000.
+fn holders_of(held: u32) -> u32 {
     let most = MOST_HELD / held.saturating_add(1).max(1);
-    let holders = most.max(1).min(MOST_ENDS);
+    most.max(1).min(MOST_ENDS)
+}
+
+/// How many threads and mutexes there are where threads end that hold so many each. For each mutex another thread
+/// waits, or none does.
+pub fn size_of_ends(held: u32, contended: bool) -> (u32, u32) {
+    let holders = holders_of(held);
     let mutexes = holders.saturating_mul(held);
     let waiters = if contended { mutexes } else { 0 };
-    let threads = holders.saturating_add(waiters);
-    let mut core = core_of(rt, room, threads, mutexes, 1, true)?;
-    if prepare_ends(&mut core, holders, held, waiters).is_none() {
-        return None;
-    }
-    time_ends(rt, &mut core, holders)
+    (holders.saturating_add(waiters), mutexes)
 }
 
-/// So many threads of a core take their mutexes, and so many others wait for them.
-fn prepare_ends(core: &mut Core, holders: u32, held: u32, waiters: u32) -> Option<()> {
-    take_all(core, holders, held)?;
-    wait_for_all(core, holders, waiters)
-}
-
-/// So many threads of a core end, from the first on.
-fn time_ends(rt: &impl Clock, core: &mut Core, holders: u32) -> Option<u64> {
-    let start = now(rt)?;
-    for number in 1..=holders {
-        step(core, Event::End(Tid::new(number)?));
+/// Those that are to end lock so many mutexes each, for which others then wait, or none do.
+pub fn prepare_ends(core: &mut Core, held: u32, contended: bool) -> Option<()> {
+    let holders = holders_of(held);
+    let mutexes = holders.saturating_mul(held);
+    for index in 0..mutexes {
+        lock(core, 1 + index / held.max(1), index + 1)?;
     }
-    each_since(rt, start, holders)
-}
-
-/// Each of so many threads locks so many mutexes of its own. `None` where a number is 0.
-fn take_all(core: &mut Core, holders: u32, held: u32) -> Option<()> {
-    for index in 0..holders.saturating_mul(held) {
-        let holder = Tid::new(1 + index / held.max(1))?;
-        call(core, holder, Request::Lock(MutexId::new(index + 1)?));
+    if contended {
+        wait_for_all(core, holders, mutexes)
+    } else {
+        Some(())
     }
-    Some(())
 }
 
 /// For each of so many mutexes, from the first on, a thread behind the holders waits.
 fn wait_for_all(core: &mut Core, holders: u32, mutexes: u32) -> Option<()> {
     for number in 1..=mutexes {
-        let waiter = Tid::new(holders.saturating_add(number))?;
-        call(core, waiter, Request::Lock(MutexId::new(number)?));
+        lock(core, holders.saturating_add(number), number)?;
     }
     Some(())
+}
+
+/// The threads that hold so many mutexes each end, one after another. Answers how many ends that were.
+pub fn end(core: &mut Core, held: u32) -> Option<u32> {
+    let holders = holders_of(held);
+    for number in 1..=holders {
+        step(core, Event::End(Tid::new(number)?));
+    }
+    Some(holders)
 }

@@ -37,6 +37,54 @@ impl Figures {
     }
 }
 
+/// The figures of the quick path and of what it is compared with, and the ratios of each round.
+#[derive(Clone, Copy)]
+pub struct Comparison {
+    quick: Figures,
+    other: Figures,
+    ratios: Figures,
+}
+
+impl Comparison {
+    /// No figures yet.
+    pub fn new() -> Comparison {
+        Comparison {
+            quick: Figures::new(),
+            other: Figures::new(),
+            ratios: Figures::new(),
+        }
+    }
+
+    /// Notes the figures of a round, and their ratio.
+    pub fn note(&mut self, round: usize, quick: u64, other: u64)
+        requires { round < 15 }
+    {
+        self.quick.note(round, quick);
+        self.other.note(round, other);
+        self.ratios.note(round, ratio(quick, other));
+    }
+
+    /// The medians, and the least of the ratios.
+    pub fn medians(&mut self) -> Medians {
+        let (ratio, least) = self.ratios.median_and_least();
+        Medians {
+            quick: self.quick.median(),
+            other: self.other.median(),
+            ratio: Hundredths(ratio),
+            least: Hundredths(least),
+        }
+    }
+}
+
+/// The medians of a comparison, and the least of its ratios.
+#[derive(Clone, Copy)]
+pub struct Medians {
+    pub quick: u64,
+    pub other: u64,
+    pub ratio: Hundredths,
+    pub least: Hundredths,
+}
+
 /// A ratio in hundredths.
 #[derive(Clone, Copy)]
 pub struct Hundredths(pub u64);

@@ -2,10 +2,9 @@
 ghost use Rattle.std.specs.Prelude.{◌≡◌, ◌<◌, All};
 ghost use Rattle.pif_quick.specs.Quick.{word_count, IsPassOf};
 
-use super::figures::{Figures, Hundredths, ROUNDS, ratio};
+use super::figures::{Comparison, Figures, Medians, ROUNDS};
 use crate::moments::{now, time_since};
 use pif_quick::{Pass, Quick};
-use std::io;
 use std::rt::Clock;
 use std::sync::atomic::{AtomicU64, Ordering};
 use std::sync::{Mutex, Wait};
@@ -55,20 +54,14 @@ fn picoseconds(rt: &impl Clock, start: Instant) -> Option<u64> {
     Some(u64::try_from(picoseconds).unwrap_or(u64::MAX))
 }
 
-/// What each of the three ways works on, but the quick path.
+/// What the ways other than the quick path work on, and the figures of all three.
 #[derive(Drop)]
 struct Ways {
     word: AtomicU64,
     value: u64,
     mutex: Mutex<u64>,
-}
-
-/// How many picoseconds a pair takes in each way.
-#[derive(Clone, Copy)]
-struct Round {
-    bare: u64,
-    quick: u64,
-    mutex: u64,
+    to_bare: Comparison,
+    to_mutex: Comparison,
 }
 
 /// How many picoseconds a bare pair takes.
@@ -95,119 +88,60 @@ fn time_mutex<R: Clock + Wait>(rt: &R, mutex: &Mutex<u64>) -> Option<u64> {
     picoseconds(rt, start)
 }
 
-/// Measures the three ways in turn.
+/// Measures the three ways in turn, and notes what a pair took in each.
 fn time_ways<R: Clock + Wait>(
     rt: &R,
     quick: &Quick<u64>,
     pass: &mut Pass<u64>,
     ways: &mut Ways,
-) -> Option<Round>
-    requires { IsPassOf quick.now pass.old × (0 < word_count quick.now) }
+    round: usize,
+) -> Option<()>
+    requires pass { IsPassOf quick.now pass.old × (0 < word_count quick.now) }
+    requires round { round < 15 }
     ensures { IsPassOf quick.now pass.new }
 {
     let bare = time_bare(rt, &ways.word, &mut ways.value)?;
     let tried = time_quick(rt, quick, pass)?;
     let mutex = time_mutex(rt, &ways.mutex)?;
-    Some(Round {
-        bare,
-        quick: tried,
-        mutex,
+    ways.to_bare.note(round, tried, bare);
+    ways.to_mutex.note(round, tried, mutex);
+    Some(())
+}
+
+/// Pairs of bare compare-exchanges: the median of what one takes in picoseconds, and what all of them added.
+#[derive(Clone, Copy)]
+pub struct BarePairs {
+    pub pair: u64,
+    pub added: u64,
+}
+
+/// Measures pairs of bare compare-exchanges. `None` where the clock has a fault.
+pub fn measure_bare(rt: &impl Clock) -> Option<BarePairs> {
+    let mut bare = Figures::new();
+    let word = AtomicU64::new(0);
+    let mut added = 0u64;
+    for round in 0..ROUNDS {
+        bare.note(round, time_bare(rt, &word, &mut added)?);
+    }
+    Some(BarePairs {
+        pair: bare.median(),
+        added,
     })
 }
 
-/// The figures of the three ways, and of each round the ratios of the quick path's to the others'.
+/// What was measured of the three ways, and what the bare pairs added.
 #[derive(Clone, Copy)]
-struct Sheet {
-    bare: Figures,
-    quick: Figures,
-    mutex: Figures,
-    to_bare: Figures,
-    to_mutex: Figures,
+pub struct Pairs {
+    pub to_bare: Medians,
+    pub to_mutex: Medians,
+    pub added: u64,
 }
 
-impl Sheet {
-    /// No figures yet.
-    fn new() -> Sheet {
-        let none = Figures::new();
-        Sheet {
-            bare: none,
-            quick: none,
-            mutex: none,
-            to_bare: none,
-            to_mutex: none,
-        }
-    }
-
-    /// Notes what a pair took in each way.
-    fn note(&mut self, number: usize, round: Round)
-        requires { number < 15 }
-    {
-        self.bare.note(number, round.bare);
-        self.quick.note(number, round.quick);
-        self.mutex.note(number, round.mutex);
-        self.to_bare.note(number, ratio(round.quick, round.bare));
-        self.to_mutex.note(number, ratio(round.quick, round.mutex));
-    }
-
-    /// Prints the medians, and what the bare pairs have added.
-    fn print(&mut self, rt: &impl Print, added: u64) -> io::Result<()> {
-        let (bare, quick, mutex) = (self.bare.median(), self.quick.median(), self.mutex.median());
-        println!(rt; "pairs: quick {quick} ps, bare {bare} ps, Mutex {mutex} ps, added {added}")?;
-        self.print_ratios(rt)
-    }
-
-    /// Prints the medians of the ratios.
-    fn print_ratios(&mut self, rt: &impl Print) -> io::Result<()> {
-        let to_bare = Hundredths(self.to_bare.median());
-        let to_mutex = Hundredths(self.to_mutex.median());
-        println!(rt; "pairs: quick to bare {to_bare}, quick to Mutex {to_mutex}")
-    }
-}
-
-/// The median of what a bare pair takes in picoseconds, and what all of them added.
-fn median_bare(rt: &impl Clock) -> Option<(u64, u64)> {
-    let mut bare = Figures::new();
-    let word = AtomicU64::new(0);
-    let mut value = 0u64;
-    for round in 0..ROUNDS {
-        bare.note(round, time_bare(rt, &word, &mut value)?);
-    }
-    Some((bare.median(), value))
-}
-
-/// Measures pairs of bare compare-exchanges, and prints what was measured beside the median of a pair.
-pub fn compare(rt: &(impl Clock + Print), name: &str, nanoseconds: u64) -> io::Result<()> {
-    let (pair, value) = median_bare(rt).ok_or(io::ErrorKind::Other)?;
-    let pairs = Hundredths(ratio(nanoseconds.saturating_mul(1000), pair));
-    println!(rt; "{name}: {pairs} bare pairs of {pair} ps; added {value}")
-}
-
-/// The same for each hop of a chain of so many threads.
-pub fn compare_hop(
-    rt: &(impl Clock + Print),
-    name: &str,
-    nanoseconds: u64,
-    depth: u32,
-) -> io::Result<()> {
-    let hop = nanoseconds.saturating_mul(1000) / u64::from(depth.max(1));
-    let (pair, value) = median_bare(rt).ok_or(io::ErrorKind::Other)?;
-    let pairs = Hundredths(ratio(hop, pair));
-    println!(rt; "{name}: {hop} ps a hop, {pairs} bare pairs of {pair} ps; added {value}")
-}
-
-/// Measures the three ways in turn, and prints the median of each and of the ratios.
-pub fn measure_pairs<R: Clock + Wait + AllocGlobal + Print>(rt: &R) -> io::Result<()> {
-    let (mut sheet, added) = sheet_of(rt).ok_or(io::ErrorKind::Other)?;
-    sheet.print(rt, added)
-}
-
-/// The figures of all rounds, and what the bare pairs have added. `None` where memory is refused or the clock has a fault.
-fn sheet_of<R: Clock + Wait + AllocGlobal>(rt: &R) -> Option<(Sheet, u64)> {
-    let Ok(values) = [0u64].to_vec(rt.alloc()) else {
-        return None;
-    };
+/// Measures the three ways in turn. `None` where memory is refused or the clock has a fault.
+pub fn measure_pairs<R: Clock + Wait + AllocGlobal>(rt: &R) -> Option<Pairs> {
+    let values = [0u64].to_vec(rt.alloc()).ok()?;
     match Quick::open(rt.alloc(), values, 1) {
-        Ok((quick, passes)) => measure_last(rt, &quick, passes),
+        Ok((quick, mut passes)) => measure_last(rt, &quick, &mut passes),
         Err(_) => None,
     }
 }
@@ -216,32 +150,28 @@ fn sheet_of<R: Clock + Wait + AllocGlobal>(rt: &R) -> Option<(Sheet, u64)> {
 fn measure_last<R: Clock + Wait>(
     rt: &R,
     quick: &Quick<u64>,
-    passes: Vec<Pass<u64>>,
-) -> Option<(Sheet, u64)>
-    requires { All (IsPassOf quick.now) passes.items × (0 < word_count quick.now) }
+    passes: &mut Vec<Pass<u64>>,
+) -> Option<Pairs>
+    requires { All (IsPassOf quick.now) passes.old.items × (0 < word_count quick.now) }
 {
-    let mut passes = passes;
-    let mut pass = passes.pop()?;
-    measure_by(rt, quick, &mut pass)
+    match passes.pop() {
+        Some(mut pass) => measure_by(rt, quick, &mut pass),
+        None => None,
+    }
 }
 
 /// Measures with this pass.
-fn measure_by<R: Clock + Wait>(
-    rt: &R,
-    quick: &Quick<u64>,
-    pass: &mut Pass<u64>,
-) -> Option<(Sheet, u64)>
+fn measure_by<R: Clock + Wait>(rt: &R, quick: &Quick<u64>, pass: &mut Pass<u64>) -> Option<Pairs>
     requires { IsPassOf quick.now pass.old × (0 < word_count quick.now) }
 {
     let mut ways = Ways {
         word: AtomicU64::new(0),
         value: 0,
         mutex: Mutex::new(0),
+        to_bare: Comparison::new(),
+        to_mutex: Comparison::new(),
     };
-    match measure_rounds(rt, quick, pass, &mut ways) {
-        Some(sheet) => Some((sheet, ways.value)),
-        None => None,
-    }
+    measure_rounds(rt, quick, pass, &mut ways)
 }
 
 /// Measures all rounds of these ways.
@@ -250,12 +180,15 @@ fn measure_rounds<R: Clock + Wait>(
     quick: &Quick<u64>,
     pass: &mut Pass<u64>,
     ways: &mut Ways,
-) -> Option<Sheet>
+) -> Option<Pairs>
     requires { IsPassOf quick.now pass.old × (0 < word_count quick.now) }
 {
-    let mut sheet = Sheet::new();
     for round in 0..ROUNDS {
-        sheet.note(round, time_ways(rt, quick, pass, ways)?);
+        time_ways(rt, quick, pass, ways, round)?;
     }
-    Some(sheet)
+    Some(Pairs {
+        to_bare: ways.to_bare.medians(),
+        to_mutex: ways.to_mutex.medians(),
+        added: ways.value,
+    })
 }

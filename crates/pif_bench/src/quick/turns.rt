@@ -2,15 +2,15 @@
 ghost use Rattle.std.specs.Prelude.{◌≡◌, ◌<◌, ◌≤◌, All};
 ghost use Rattle.pif_quick.specs.Quick.{word_count, IsPassOf};
 
-use super::figures::{Figures, Hundredths, ROUNDS, ratio};
+use super::figures::{Comparison, Medians, ROUNDS};
 use crate::moments::{now, time_since};
 use pif_quick::{Pass, Quick};
 use std::alloc::{AllocError, Global};
 use std::rt::Clock;
 use std::sync::{Mutex, Wait};
+use std::thread;
 use std::thread::Threads;
 use std::time::Instant;
-use std::{io, thread};
 
 /// How many turns each thread takes.
 const TURNS: u32 = 500_000;
@@ -39,7 +39,7 @@ impl Words {
     }
 
     /// How the figures name them.
-    fn name(self) -> &'static str {
+    pub fn name(self) -> &'static str {
         match self {
             Words::One => "one word",
             Words::Own => "words of their own",
@@ -47,12 +47,27 @@ impl Words {
     }
 }
 
-/// Threads that take turns, and on which words.
+/// How many threads take turns.
 #[derive(Clone, Copy)]
-pub struct Crew {
-    pub words: Words,
-    pub threads: u32,
-    ghost few: { (1 ≤ threads) × (threads ≤ 64) },
+pub enum Team {
+    Two,
+    Four,
+    Eight,
+    Sixteen,
+}
+
+impl Team {
+    /// Their number.
+    pub fn size(self) -> u32
+        ensures { (1 ≤ result) × (result ≤ 64) }
+    {
+        match self {
+            Team::Two => 2,
+            Team::Four => 4,
+            Team::Eight => 8,
+            Team::Sixteen => 16,
+        }
+    }
 }
 
 /// A mutex on a line of its own.
@@ -155,11 +170,12 @@ fn time_quick<R: Clock + Threads + Wait + Sync>(
     rt: &R,
     quick: &Quick<u64>,
     passes: Vec<Pass<u64>>,
-    crew: Crew,
+    words: Words,
+    threads: u32,
 ) -> Option<u64>
-    requires { All (IsPassOf quick.now) passes.items × (4 ≤ word_count quick.now) }
+    requires passes { All (IsPassOf quick.now) passes.items × (4 ≤ word_count quick.now) }
+    requires threads { threads ≤ 64 }
 {
-    let Crew { words, threads } = crew;
     let start = now(rt)?;
     if quick_run(rt, quick, passes, words) {
         per_second(rt, threads, start)
@@ -168,25 +184,30 @@ fn time_quick<R: Clock + Threads + Wait + Sync>(
     }
 }
 
-/// The turns of a crew by the quick path: how many thousand a second.
-fn quick_round<R: Clock + Threads + Wait + Sync + AllocGlobal>(rt: &R, crew: Crew) -> Option<u64> {
-    let Crew { threads, .. } = crew;
-    let Ok(values) = [0u64; WORDS].to_vec(rt.alloc()) else {
-        return None;
-    };
+/// The turns of so many threads by the quick path: how many thousand a second.
+fn quick_round<R: Clock + Threads + Wait + Sync + AllocGlobal>(
+    rt: &R,
+    words: Words,
+    threads: u32,
+) -> Option<u64>
+    requires { (1 ≤ threads) × (threads ≤ 64) }
+{
+    let values = [0u64; WORDS].to_vec(rt.alloc()).ok()?;
     match Quick::open(rt.alloc(), values, threads) {
-        Ok((quick, passes)) => time_quick(rt, &quick, passes, crew),
+        Ok((quick, passes)) => time_quick(rt, &quick, passes, words, threads),
         Err(_) => None,
     }
 }
 
-/// The turns of a crew by these mutexes: how many thousand a second.
+/// The turns of so many threads by these mutexes: how many thousand a second.
 fn time_mutexes<R: Clock + Threads + Wait + Sync + AllocGlobal>(
     rt: &R,
     mutexes: &[Apart],
-    crew: Crew,
-) -> Option<u64> {
-    let Crew { words, threads } = crew;
+    words: Words,
+    threads: u32,
+) -> Option<u64>
+    requires { threads ≤ 64 }
+{
     let start = now(rt)?;
     if mutex_run(rt, rt.alloc(), mutexes, threads, words) {
         per_second(rt, threads, start)
@@ -195,66 +216,33 @@ fn time_mutexes<R: Clock + Threads + Wait + Sync + AllocGlobal>(
     }
 }
 
-/// The turns of a crew by std's `Mutex`: how many thousand a second.
-fn mutex_round<R: Clock + Threads + Wait + Sync + AllocGlobal>(rt: &R, crew: Crew) -> Option<u64> {
+/// The turns of so many threads by std's `Mutex`: how many thousand a second.
+fn mutex_round<R: Clock + Threads + Wait + Sync + AllocGlobal>(
+    rt: &R,
+    words: Words,
+    threads: u32,
+) -> Option<u64>
+    requires { threads ≤ 64 }
+{
     match mutexes(rt.alloc()) {
-        Ok(mutexes) => time_mutexes(rt, mutexes.as_slice(), crew),
+        Ok(mutexes) => time_mutexes(rt, mutexes.as_slice(), words, threads),
         Err(_) => None,
     }
 }
 
-/// The figures of the quick path and of std's `Mutex`, and the ratios of each round.
-#[derive(Clone, Copy)]
-struct Sheet {
-    quick: Figures,
-    mutex: Figures,
-    ratios: Figures,
-}
-
-impl Sheet {
-    /// Prints the medians, and the median and the least of the ratios.
-    fn print(&mut self, rt: &impl Print, threads: u32, name: &str) -> io::Result<()> {
-        let (quick, mutex) = (self.quick.median(), self.mutex.median());
-        println!(rt;
-            "{threads} threads, {name}: quick {quick}, Mutex {mutex} thousand turns a second"
-        )?;
-        self.print_ratios(rt, threads, name)
-    }
-
-    /// Prints the median and the least of the ratios.
-    fn print_ratios(&mut self, rt: &impl Print, threads: u32, name: &str) -> io::Result<()> {
-        let (median, least) = self.ratios.median_and_least();
-        let (median, least) = (Hundredths(median), Hundredths(least));
-        println!(rt; "{threads} threads, {name}: quick to Mutex {median}, least {least}")
-    }
-}
-
-/// Measures the turns of a crew by the quick path and by std's `Mutex`, in turn. `None` where memory is refused, a thread
-/// can't be started, or the clock has a fault.
-fn sheet_of<R: Clock + Threads + Wait + Sync + AllocGlobal>(rt: &R, crew: Crew) -> Option<Sheet> {
-    let none = Figures::new();
-    let mut sheet = Sheet {
-        quick: none,
-        mutex: none,
-        ratios: none,
-    };
-    for round in 0..ROUNDS {
-        let tried = quick_round(rt, crew)?;
-        let locked = mutex_round(rt, crew)?;
-        sheet.quick.note(round, tried);
-        sheet.mutex.note(round, locked);
-        sheet.ratios.note(round, ratio(tried, locked));
-    }
-    Some(sheet)
-}
-
-/// Measures the turns of some threads by the quick path and by std's `Mutex`, in turn, and prints the medians, and the
-/// median and the least of the ratios of the rounds.
-pub fn measure_turns<R: Clock + Threads + Wait + Sync + AllocGlobal + Print>(
+/// Measures the turns of some threads by the quick path and by std's `Mutex`, in turn. `None` where memory is refused,
+/// a thread can't be started, or the clock has a fault.
+pub fn measure_turns<R: Clock + Threads + Wait + Sync + AllocGlobal>(
     rt: &R,
-    crew: Crew,
-) -> io::Result<()> {
-    let mut sheet = sheet_of(rt, crew).ok_or(io::ErrorKind::Other)?;
-    let Crew { words, threads } = crew;
-    sheet.print(rt, threads, words.name())
+    words: Words,
+    team: Team,
+) -> Option<Medians> {
+    let threads = team.size();
+    let mut figures = Comparison::new();
+    for round in 0..ROUNDS {
+        let tried = quick_round(rt, words, threads)?;
+        let locked = mutex_round(rt, words, threads)?;
+        figures.note(round, tried, locked);
+    }
+    Some(figures.medians())
 }
