@@ -1,3 +1,4 @@
+pub mod CommandLemmas
 pub mod Driving
 pub mod FilesLemmas
 pub mod OptionsLemmas

@@ -1,11 +1,8 @@
 -- Options of commands, and the numbers that they give.
-use Rattle.std.proofs.Common.{◌≡◌, ◌∙◌, ℕ, ◌<◌, ◌≤◌, ◌^◌, ◌||◌, Bool, true, false, List, Option, Some, None, Result, Ok, Err, IfOk, ap, arith, refl, if◌then◌else◌}
+use Rattle.std.proofs.Common.{◌≡◌, ◌∙◌, ℕ, ◌<◌, ◌≤◌, ◌^◌, Bool, true, false, List, Option, Some, None, arith, refl, if◌then◌else◌}
 use Rattle.std.specs.Str.Parse.{IsNumeral, digits_value, without_leading_plus}
 use Rattle.clap.specs.ValueTests.{is_unsigned_in}
-use Rattle.clap.specs.Words.{AddsArg, IsUnsignedIn}
-use Rattle.clap.specs.declared.builder.arg.Arg.{Arg}
-use Rattle.clap.specs.declared.builder.command.Command.{Command}
-use Rattle.clap.specs.declared.builder.command.Command.TheViews.{out-Command}
+use Rattle.clap.specs.Words.{IsUnsignedIn}
 use Rattle.clap.specs.declared.builder.value_parser.ValueParser.TheVariants.{Unsigned}
 use Rattle.clap.proofs.ValueTestLemmas.{Accepts-accepts, accepts-Accepts}
 use Rattle.pif_cli.specs.Options.{number_between}
@@ -48,20 +45,3 @@ number_within low high (Some text) = by_test (is_unsigned_in low high text) refl
         let within : IsUnsignedIn low high text = accepts-Accepts false (Unsigned low high) text t in
         within.3
     by_test false t = omega arith
-
-nothing_more : (b : Bool) → (b || false) ≡ b
-nothing_more true = refl
-nothing_more false = refl
-
--- a command that got one more argument of its own has a global one where it had one
-pub added : (old new : Command) (a : Arg) → AddsArg old a new → a.global ≡ false
-    → (out-Command new).has_globals ≡ (out-Command old).has_globals
-added old new a adds local =
-    adds.globals ∙ ap (λ (b : Bool). (out-Command old).has_globals || b) local ∙ nothing_more (out-Command old).has_globals
-
--- the same of the last argument
-pub added_last : {E : Type 0} (result : Result Command E) (old : Command) (a : Arg) (before : Bool)
-    → IfOk result (λ new. AddsArg old a new) → a.global ≡ false → (out-Command old).has_globals ≡ before
-    → IfOk result (λ new. (out-Command new).has_globals ≡ before)
-added_last (Ok new) old a before adds local same = added old new a adds local ∙ same
-added_last (Err e) old a before adds local same = tt

@@ -1,3 +1,4 @@
+pub mod Commands
 pub mod Driving
 pub mod Messages
 pub mod Options

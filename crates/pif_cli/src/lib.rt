@@ -5,6 +5,7 @@
 #![tactic(auto)]
 
 mod causes;
+mod commands;
 mod drive;
 mod files;
 mod helps;

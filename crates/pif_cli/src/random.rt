@@ -1,18 +1,20 @@
 //! `random`: the words that ask for a random script, and its writing.
-ghost use Rattle.std.specs.Prelude.{◌≡◌, IfOk, codes, false};
-ghost use Rattle.clap.specs.Words.{app_of, found_of, rows_of, rule_of};
-ghost use Rattle.clap.specs.declared.builder.command.Command.TheViews.{out-Command};
+ghost use Rattle.std.specs.Prelude.{◌≡◌};
+ghost use Rattle.clap.specs.Words.{App, found_of, rows_of, with_rule};
+ghost use Rattle.pif_cli.specs.Commands.{IsApp};
+ghost use Rattle.pif_cli.specs.Options.{chosen_rule, needed_rule};
 ghost use Rattle.pif_cli.specs.Random.{WritesRandom, random_app, recipe_in, shape_in, with_counts, with_flags, with_size};
 
+use crate::commands::{Made, described, with_arg, with_flag};
 use crate::helps::{
     ABOUT_CONDS, ABOUT_ENDS, ABOUT_LINES, ABOUT_MUTEXES, ABOUT_RANDOM, ABOUT_ROBUST, ABOUT_SEED,
     ABOUT_THREADS, ABOUT_TIMES, MORE_RANDOM, USAGE_RANDOM,
 };
-use crate::options::{flag_given, is_given, number_between, number_given, small_number_between};
+use crate::options::{is_given, number_between, number_given, small_number_between};
 use crate::statuses::JobFault;
 use pif_random::{Shape, random_script};
 use pif_scripts::{CliFault, write_whole};
-use std::alloc::{AllocError, Global};
+use std::alloc::Global;
 use std::io::Write;
 
 /// Which random script is asked for.
@@ -26,61 +28,76 @@ pub struct Recipe {
     pub shape: Shape,
 }
 
-/// The command `random` with the options that must be given: the seed, and how many lines there are.
-fn with_size<'a>(alloc: Global, random: clap::Command<'a>) -> Result<clap::Command<'a>, AllocError>
-    ensures app { IfOk result (λ c. app_of c ≡ with_size (app_of random.entry)) }
-    ensures local { IfOk result (λ c. (out-Command c).has_globals ≡ (out-Command random.entry).has_globals) }
+/// A command with one more option, whose number must be given: from `low` to `high`, and help calls it `value`.
+fn with_needed<'a>(
+    alloc: Global,
+    made: Made<'a>,
+    name: &'a str,
+    value: &'a str,
+    low: u64,
+    high: u64,
+    help: &'a str,
+) -> Made<'a>
+    ensures { (app : App) → IsApp app made.entry → IsApp (with_rule app (needed_rule name.now low high)) result }
 {
-    let seed = number_given(
-        alloc,
-        "seed",
-        "N",
-        0,
-        18_446_744_073_709_551_615,
-        ABOUT_SEED,
-    );
-    let lines = number_given(alloc, "lines", "L", 1, 262_144, ABOUT_LINES);
-    random.arg(seed.required(true))?.arg(lines.required(true))
+    let number = number_given(alloc, name, value, low, high, help);
+    with_arg(made, number.required(true))
+}
+
+/// A command with one more option, whose number is `default` where none is given.
+fn with_chosen<'a>(
+    alloc: Global,
+    made: Made<'a>,
+    name: &'a str,
+    value: &'a str,
+    low: u64,
+    high: u64,
+    default: &'a str,
+    help: &'a str,
+) -> Made<'a>
+    ensures { (app : App) → IsApp app made.entry → IsApp (with_rule app (chosen_rule name.now low high default.now)) result }
+{
+    let number = number_given(alloc, name, value, low, high, help);
+    with_arg(made, number.default_value(default))
+}
+
+/// The highest seed.
+const MOST_SEED: u64 = 18_446_744_073_709_551_615;
+
+/// The command `random` with the options that must be given: the seed, and how many lines there are.
+fn with_size<'a>(alloc: Global, random: Made<'a>) -> Made<'a>
+    ensures { (app : App) → IsApp app random.entry → IsApp (with_size app) result }
+{
+    let seed = with_needed(alloc, random, "seed", "N", 0, MOST_SEED, ABOUT_SEED);
+    with_needed(alloc, seed, "lines", "L", 1, 262_144, ABOUT_LINES)
 }
 
 /// The same with the options that say how many threads, mutexes and condition variables there are.
-fn with_counts<'a>(
-    alloc: Global,
-    random: clap::Command<'a>,
-) -> Result<clap::Command<'a>, AllocError>
-    ensures app { IfOk result (λ c. app_of c ≡ with_counts (app_of random.entry)) }
-    ensures local { IfOk result (λ c. (out-Command c).has_globals ≡ (out-Command random.entry).has_globals) }
+fn with_counts<'a>(alloc: Global, random: Made<'a>) -> Made<'a>
+    ensures { (app : App) → IsApp app random.entry → IsApp (with_counts app) result }
 {
-    let threads = number_given(alloc, "threads", "T", 1, 1_024, ABOUT_THREADS);
-    let mutexes = number_given(alloc, "mutexes", "M", 0, 1_024, ABOUT_MUTEXES);
-    let conds = number_given(alloc, "conds", "C", 0, 256, ABOUT_CONDS);
-    random
-        .arg(threads.default_value("4"))?
-        .arg(mutexes.default_value("3"))?
-        .arg(conds.default_value("1"))
+    let threads = with_chosen(alloc, random, "threads", "T", 1, 1_024, "4", ABOUT_THREADS);
+    let mutexes = with_chosen(alloc, threads, "mutexes", "M", 0, 1_024, "3", ABOUT_MUTEXES);
+    with_chosen(alloc, mutexes, "conds", "C", 0, 256, "1", ABOUT_CONDS)
 }
 
 /// The same with the options that say what happens.
-fn with_flags<'a>(alloc: Global, random: clap::Command<'a>) -> Result<clap::Command<'a>, AllocError>
-    ensures app { IfOk result (λ c. app_of c ≡ with_flags (app_of random.entry)) }
-    ensures local { IfOk result (λ c. (out-Command c).has_globals ≡ (out-Command random.entry).has_globals) }
+fn with_flags<'a>(alloc: Global, random: Made<'a>) -> Made<'a>
+    ensures { (app : App) → IsApp app random.entry → IsApp (with_flags app) result }
 {
-    random
-        .arg(flag_given(alloc, "robust", ABOUT_ROBUST))?
-        .arg(flag_given(alloc, "ends", ABOUT_ENDS))?
-        .arg(flag_given(alloc, "times", ABOUT_TIMES))
+    let robust = with_flag(alloc, random, "robust", ABOUT_ROBUST);
+    let ends = with_flag(alloc, robust, "ends", ABOUT_ENDS);
+    with_flag(alloc, ends, "times", ABOUT_TIMES)
 }
 
 /// The command `random`.
-pub fn random_command<'a>(alloc: Global) -> Result<clap::Command<'a>, AllocError>
-    ensures app { IfOk result (λ c. app_of c ≡ random_app) }
-    ensures local { IfOk result (λ c. (out-Command c).has_globals ≡ false) }
+pub fn random_command<'a>(alloc: Global) -> Made<'a>
+    ensures { IsApp random_app result }
 {
-    let random = clap::Command::new(alloc, "random")
-        .about(ABOUT_RANDOM)
-        .override_usage(USAGE_RANDOM)
-        .after_help(MORE_RANDOM);
-    with_flags(alloc, with_counts(alloc, with_size(alloc, random)?)?)
+    let random = described(alloc, "random", ABOUT_RANDOM, USAGE_RANDOM, MORE_RANDOM);
+    let size = with_size(alloc, random);
+    let counts = with_counts(alloc, size);
+    with_flags(alloc, counts)
 }
 
 /// What a script is made of, by what was given to `random`.
@@ -102,7 +119,7 @@ pub fn recipe_in(given: &clap::ArgMatches) -> Recipe
     ensures { result ≡ recipe_in (rows_of (found_of given.now)) }
 {
     Recipe {
-        seed: number_between(given, "seed", 0, 18_446_744_073_709_551_615),
+        seed: number_between(given, "seed", 0, MOST_SEED),
         lines: small_number_between(given, "lines", 1, 262_144),
         shape: shape_in(given),
     }

@@ -1,27 +1,19 @@
-ghost use Rattle.std.specs.Prelude.{◌≡◌, ◌≤◌, ◌⊎◌, ℕ, List, [], ◌∷◌, IfOk, codes, map, false, option_map};
+ghost use Rattle.std.specs.Prelude.{◌≡◌, ◌≤◌, ◌⊎◌, ℕ, List, [], ◌∷◌, IfOk, codes, map, option_map};
 ghost use Rattle.std.specs.Io.KnownBytes.{Keeps};
-ghost use Rattle.clap.specs.Words.{app_of, FailsBy, found_of, kind_of, rows_of, rule_of};
-ghost use Rattle.clap.specs.declared.builder.command.Command.TheViews.{out-Command};
+ghost use Rattle.clap.specs.Words.{FailsBy, found_of, kind_of, rows_of};
 ghost use Rattle.clap.specs.declared.error.kind.ErrorKind.TheVariants.{DisplayHelp, DisplayVersion, InvalidSubcommand, MissingRequiredArgument, MissingSubcommand, ValueValidation};
 ghost use Rattle.pif_cli.specs.Messages.{TellsAt, TellsLine};
 ghost use Rattle.pif_cli.specs.Random.{plain_shape};
 ghost use Rattle.pif_cli.specs.Statuses.{fault_status};
-ghost use Rattle.pif_cli.specs.Words.{program, refusals_of, job_of, job_named, files_in, files_of, file_app, file_rule, files_rule, shell_app, show_app, shown_app, shown_in, check_app, first_name, name_of, clients_rule, drive_app, Did, Does, as_job, EndsBy, HadNoMemory, RefusedFor, Shows, ShowsHelp, bare_program, with_job, with_runs, with_states, with_traces};
+ghost use Rattle.pif_cli.specs.Words.{refusals_of, job_of, job_named, files_in, files_of, shown_in, first_name, name_of, Did, Does, as_job, EndsBy, HadNoMemory, RefusedFor, Shows, ShowsHelp};
 
 use crate::causes::{message_of, plain_message};
+use crate::commands::program;
 use crate::drive::drive;
-use crate::helps::{
-    ABOUT, ABOUT_ALL, ABOUT_CHECK, ABOUT_CLIENTS, ABOUT_DOT, ABOUT_DRAW, ABOUT_DRIVE, ABOUT_FILE,
-    ABOUT_FILES, ABOUT_JSON, ABOUT_MIGRATE, ABOUT_PRINT, ABOUT_REPLAY, ABOUT_RUN, ABOUT_SHELL,
-    ABOUT_SHOW, ABOUT_TRACE, EXAMPLE, MORE_CHECK, MORE_DRAW, MORE_DRIVE, MORE_MIGRATE, MORE_REPLAY,
-    MORE_RUN, MORE_SHELL, MORE_SHOW, MORE_TRACE, USAGE_CHECK, USAGE_DRAW, USAGE_DRIVE,
-    USAGE_MIGRATE, USAGE_REPLAY, USAGE_RUN, USAGE_SHELL, USAGE_SHOW, USAGE_TRACE, VERSION,
-};
-use crate::options::{flag_given, is_given, small_number_between};
+use crate::options::{is_given, small_number_between};
 use crate::pictures::{Picture, write_picture};
-use crate::random::{Recipe, random_command, recipe_in, write_random};
+use crate::random::{Recipe, recipe_in, write_random};
 use crate::statuses::{JobFault, fault_status, job_fault_status};
-use clap::builder::ValueParser;
 use clap::error::ErrorKind;
 use pif_scripts::{
     CliFault, Detail, Notice, migrate_noting, replay_noting, run_noting, write_whole,
@@ -64,188 +56,6 @@ pub enum Job {
     Random(Recipe),
     /// `drive`: let so many clients make calls in threads of their own.
     Drive(u32),
-}
-
-/// The program without its commands.
-fn bare_program<'a>(alloc: Global) -> clap::Command<'a>
-    ensures { app_of result ≡ bare_program }
-{
-    clap::Command::new(alloc, "pif")
-        .version(VERSION)
-        .about(ABOUT)
-        .after_help(EXAMPLE)
-        .subcommand_required(true)
-}
-
-/// The file of a command over one input.
-fn file_given<'a>(alloc: Global) -> clap::Arg<'a>
-    ensures rule { rule_of result ≡ file_rule }
-    ensures local { result.global ≡ false }
-{
-    clap::Arg::new(alloc, "FILE").help(ABOUT_FILE)
-}
-
-/// A command over one input, which has this name and these texts.
-fn file_command<'a>(
-    alloc: Global,
-    name: &'a str,
-    about: &'a str,
-    usage: &'a str,
-    more: &'a str,
-) -> Result<clap::Command<'a>, AllocError>
-    ensures app { IfOk result (λ c. app_of c ≡ file_app name.now) }
-    ensures local { IfOk result (λ c. (out-Command c).has_globals ≡ false) }
-{
-    clap::Command::new(alloc, name)
-        .about(about)
-        .override_usage(usage)
-        .after_help(more)
-        .arg(file_given(alloc))
-}
-
-/// The program with one more command over one input, which has this name and these texts.
-fn with_job<'a>(
-    alloc: Global,
-    pif: clap::Command<'a>,
-    name: &'a str,
-    about: &'a str,
-    usage: &'a str,
-    more: &'a str,
-) -> Result<clap::Command<'a>, AllocError>
-    ensures { IfOk result (λ c. app_of c ≡ with_job (app_of pif.entry) name.now) }
-{
-    pif.subcommand(file_command(alloc, name, about, usage, more)?)
-}
-
-/// The files of a command over any number of inputs.
-fn files_given<'a>(alloc: Global) -> clap::Arg<'a>
-    ensures rule { rule_of result ≡ files_rule }
-    ensures local { result.global ≡ false }
-{
-    clap::Arg::new(alloc, "FILE")
-        .num_args(0..)
-        .help(ABOUT_FILES)
-}
-
-/// The command `show` for a person, with its flag for all there is.
-fn shown_command<'a>(alloc: Global) -> Result<clap::Command<'a>, AllocError>
-    ensures app { IfOk result (λ c. app_of c ≡ shown_app) }
-    ensures local { IfOk result (λ c. (out-Command c).has_globals ≡ false) }
-{
-    clap::Command::new(alloc, "show")
-        .about(ABOUT_SHOW)
-        .override_usage(USAGE_SHOW)
-        .after_help(MORE_SHOW)
-        .arg(flag_given(alloc, "all", ABOUT_ALL))
-}
-
-/// The command `show`.
-fn show_command<'a>(alloc: Global) -> Result<clap::Command<'a>, AllocError>
-    ensures app { IfOk result (λ c. app_of c ≡ show_app) }
-    ensures local { IfOk result (λ c. (out-Command c).has_globals ≡ false) }
-{
-    shown_command(alloc)?
-        .arg(flag_given(alloc, "json", ABOUT_JSON))?
-        .arg(flag_given(alloc, "dot", ABOUT_DOT))?
-        .arg(file_given(alloc))
-}
-
-/// The command `shell`.
-fn shell_command<'a>(alloc: Global) -> clap::Command<'a>
-    ensures app { app_of result ≡ shell_app }
-    ensures local { (out-Command result).has_globals ≡ false }
-{
-    clap::Command::new(alloc, "shell")
-        .about(ABOUT_SHELL)
-        .override_usage(USAGE_SHELL)
-        .after_help(MORE_SHELL)
-}
-
-/// The command `check`.
-fn check_command<'a>(alloc: Global) -> Result<clap::Command<'a>, AllocError>
-    ensures app { IfOk result (λ c. app_of c ≡ check_app) }
-    ensures local { IfOk result (λ c. (out-Command c).has_globals ≡ false) }
-{
-    clap::Command::new(alloc, "check")
-        .about(ABOUT_CHECK)
-        .override_usage(USAGE_CHECK)
-        .after_help(MORE_CHECK)
-        .arg(flag_given(alloc, "print", ABOUT_PRINT))?
-        .arg(files_given(alloc))
-}
-
-/// The program with the commands that run a script and show its states.
-fn with_states<'a>(alloc: Global, pif: clap::Command<'a>) -> Result<clap::Command<'a>, AllocError>
-    ensures { IfOk result (λ c. app_of c ≡ with_states (app_of pif.entry)) }
-{
-    let pif = with_job(alloc, pif, "run", ABOUT_RUN, USAGE_RUN, MORE_RUN)?;
-    let pif = pif.subcommand(show_command(alloc)?)?;
-    with_job(alloc, pif, "draw", ABOUT_DRAW, USAGE_DRAW, MORE_DRAW)
-}
-
-/// The program with the commands over scripts and stories that show answers.
-fn with_runs<'a>(alloc: Global, pif: clap::Command<'a>) -> Result<clap::Command<'a>, AllocError>
-    ensures { IfOk result (λ c. app_of c ≡ with_runs (app_of pif.entry)) }
-{
-    let pif = with_states(alloc, pif)?;
-    let pif = pif.subcommand(shell_command(alloc))?;
-    pif.subcommand(check_command(alloc)?)
-}
-
-/// The program with the commands over traces.
-fn with_traces<'a>(alloc: Global, pif: clap::Command<'a>) -> Result<clap::Command<'a>, AllocError>
-    ensures { IfOk result (λ c. app_of c ≡ with_traces (app_of pif.entry)) }
-{
-    let pif = with_job(
-        alloc,
-        pif,
-        "replay",
-        ABOUT_REPLAY,
-        USAGE_REPLAY,
-        MORE_REPLAY,
-    )?;
-    let pif = with_job(alloc, pif, "trace", ABOUT_TRACE, USAGE_TRACE, MORE_TRACE)?;
-    with_job(
-        alloc,
-        pif,
-        "migrate",
-        ABOUT_MIGRATE,
-        USAGE_MIGRATE,
-        MORE_MIGRATE,
-    )
-}
-
-/// The program's commands.
-fn program<'a>(alloc: Global) -> Result<clap::Command<'a>, AllocError>
-    ensures { IfOk result (λ c. app_of c ≡ program) }
-{
-    let pif = with_runs(alloc, bare_program(alloc))?;
-    let pif = with_traces(alloc, pif)?;
-    let pif = pif.subcommand(random_command(alloc)?)?;
-    pif.subcommand(drive_command(alloc)?)
-}
-
-/// How many clients `drive` has.
-fn clients_given<'a>(alloc: Global) -> clap::Arg<'a>
-    ensures rule { rule_of result ≡ clients_rule }
-    ensures local { result.global ≡ false }
-{
-    clap::Arg::new(alloc, "N")
-        .required(true)
-        .value_parser(ValueParser::unsigned(1, 64))
-        .help(ABOUT_CLIENTS)
-}
-
-/// The command `drive`.
-fn drive_command<'a>(alloc: Global) -> Result<clap::Command<'a>, AllocError>
-    ensures app { IfOk result (λ c. app_of c ≡ drive_app) }
-    ensures local { IfOk result (λ c. (out-Command c).has_globals ≡ false) }
-{
-    clap::Command::new(alloc, "drive")
-        .about(ABOUT_DRIVE)
-        .override_usage(USAGE_DRIVE)
-        .after_help(MORE_DRIVE)
-        .arg(clients_given(alloc))
 }
 
 /// What the words ask for.

@@ -1,9 +1,4 @@
-use Rattle.std.proofs.Common.{◌∙◌, ap}
-use Rattle.clap.specs.declared.builder.arg.Arg.{Arg}
-use Rattle.pif_cli.proofs.OptionsLemmas.{added, added_last}
 use Rattle.pif_cli.proofs.random.with_size.Goals as goal
 
-pub returns-clause-local : goal.returns-clause-local
-returns-clause-local c =
-    added_last _ _ _ _ c.arg-2.ensures (ap (λ (a : Arg). a.global) c.required-2.ensures ∙ c.number_given-lines.ensures.local)
-    (added _ _ _ c.in_ok-arg.ensures (ap (λ (a : Arg). a.global) c.required.ensures ∙ c.number_given-seed.ensures.local))
+pub returns : goal.returns
+returns c = λ app is. c.with_needed.ensures _ (c.with_needed-seed.ensures app is)
