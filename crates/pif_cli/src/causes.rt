@@ -14,88 +14,100 @@ use std::str::from_utf8;
 ///
 /// There is no error, and nothing is written. What has no room in a message is left out.
 pub fn message_of(job: Job, name: &str, fault: JobFault, notice: &Notice) -> Message {
-    match fault {
-        JobFault::Cli(CliFault::Read) => unread(name),
-        JobFault::Cli(fault) => match job {
-            Job::Check | Job::Fill | Job::Picture(_) => story_message(name, fault, notice),
-            _ => text_message(job, fault, notice),
-        },
-        JobFault::Threads => said("a thread cannot be started"),
-        JobFault::Unsettled => said("the desk does not settle with its clients"),
-    }
+    let mut message = Message::new();
+    say_fault(job, name, fault, notice, &mut message);
+    message
 }
 
 /// What a person is told of an input of this name that cannot be read.
 pub fn unread(name: &str) -> Message {
-    if name == STANDARD_NAME {
-        return plain_message(CliFault::Read);
-    }
     let mut message = Message::new();
-    message.show(name.as_bytes());
-    message.say(": cannot be read");
+    say_unread(name, &mut message);
     message
-}
-
-/// A message of these words.
-fn said(words: &str) -> Message {
-    let mut message = Message::new();
-    message.say(words);
-    message
-}
-
-/// What a person is told of a fault of a script or a trace: of a line its number, the cause, and its text.
-fn text_message(job: Job, fault: CliFault, notice: &Notice) -> Message {
-    let message = Message::new();
-    match fault {
-        CliFault::Script(number, Cause::Command) => match job {
-            Job::Replay | Job::Migrate => no_traced(message, number, notice),
-            _ => no_command(message, number, notice.line()),
-        },
-        CliFault::Script(number, cause) => {
-            told(message, number, plain_cause(cause), notice.line())
-        }
-        CliFault::Differs(number) => difference(number, notice),
-        CliFault::Read | CliFault::Write | CliFault::NoMemory => plain_message(fault),
-    }
-}
-
-/// What a person is told of the line of this number: these words, and its text.
-fn told(message: Message, number: u64, words: &str, line: &[u8]) -> Message {
-    let mut message = message;
-    let _ = write!(message, "line {number}: {words}");
-    show_line(line, &mut message);
-    message
-}
-
-/// The front of what a person is told of an input of this name: its name, unless it is the standard input.
-fn message_on(name: &str) -> Message {
-    let mut message = Message::new();
-    if name != STANDARD_NAME {
-        message.show(name.as_bytes());
-        message.say(": ");
-    }
-    message
-}
-
-/// What a person is told of a fault of a story of this name: of a line its number, what is wrong with it, and the text of
-/// one that is no command. The line of another fault, and of a difference, stands in the output of `check`.
-fn story_message(name: &str, fault: CliFault, notice: &Notice) -> Message {
-    let (number, words) = match fault {
-        CliFault::Script(number, Cause::Command) => {
-            return no_command(message_on(name), number, notice.line());
-        }
-        CliFault::Script(number, cause) => (number, plain_cause(cause)),
-        CliFault::Differs(number) => (number, "the core gives another answer"),
-        CliFault::Read | CliFault::Write | CliFault::NoMemory => return plain_message(fault),
-    };
-    told(message_on(name), number, words, b"")
 }
 
 /// What a person is told of a fault by its own text alone.
 pub fn plain_message(fault: CliFault) -> Message {
     let mut message = Message::new();
-    let _ = write!(message, "{fault}");
+    say_plain(fault, &mut message);
     message
+}
+
+/// Says what a person is told of a fault of a job over an input of this name.
+fn say_fault(job: Job, name: &str, fault: JobFault, notice: &Notice, message: &mut Message) {
+    match fault {
+        JobFault::Cli(CliFault::Read) => say_unread(name, message),
+        JobFault::Cli(fault) => match job {
+            Job::Check | Job::Fill | Job::Picture(_) => say_story(name, fault, notice, message),
+            _ => say_text(job, fault, notice, message),
+        },
+        JobFault::Threads => message.say("a thread cannot be started"),
+        JobFault::Unsettled => message.say("the desk does not settle with its clients"),
+    }
+}
+
+/// Says that the input of this name cannot be read.
+fn say_unread(name: &str, message: &mut Message) {
+    if name == STANDARD_NAME {
+        say_plain(CliFault::Read, message);
+    } else {
+        message.show(name.as_bytes());
+        message.say(": cannot be read");
+    }
+}
+
+/// Says a fault by its own text alone.
+fn say_plain(fault: CliFault, message: &mut Message) {
+    let _ = write!(message, "{fault}");
+}
+
+/// Says a fault of a script or a trace: of a line its number, the cause, and its text.
+fn say_text(job: Job, fault: CliFault, notice: &Notice, message: &mut Message) {
+    match fault {
+        CliFault::Script(number, Cause::Command) => match job {
+            Job::Replay | Job::Migrate => no_traced(number, notice, message),
+            _ => no_command(number, notice.line(), message),
+        },
+        CliFault::Script(number, cause) => {
+            say_line(number, plain_cause(cause), notice.line(), message)
+        }
+        CliFault::Differs(number) => difference(number, notice, message),
+        CliFault::Read | CliFault::Write | CliFault::NoMemory => say_plain(fault, message),
+    }
+}
+
+/// Says of the line of this number these words, and its text.
+fn say_line(number: u64, words: &str, line: &[u8], message: &mut Message) {
+    let _ = write!(message, "line {number}: {words}");
+    show_line(line, message);
+}
+
+/// Says the name of an input, unless it is the standard input.
+fn say_name(name: &str, message: &mut Message) {
+    if name != STANDARD_NAME {
+        message.show(name.as_bytes());
+        message.say(": ");
+    }
+}
+
+/// Says a fault of a story of this name: of a line its number, what is wrong with it, and the text of one that is no
+/// command. The line of another fault, and of a difference, stands in the output of `check`.
+fn say_story(name: &str, fault: CliFault, notice: &Notice, message: &mut Message) {
+    match fault {
+        CliFault::Script(number, Cause::Command) => {
+            say_name(name, message);
+            no_command(number, notice.line(), message);
+        }
+        CliFault::Script(number, cause) => {
+            say_name(name, message);
+            say_line(number, plain_cause(cause), b"", message);
+        }
+        CliFault::Differs(number) => {
+            say_name(name, message);
+            say_line(number, "the core gives another answer", b"", message);
+        }
+        CliFault::Read | CliFault::Write | CliFault::NoMemory => say_plain(fault, message),
+    }
 }
 
 /// Appends the text of a line behind what was said of it; nothing where the line is empty.
@@ -106,18 +118,16 @@ fn show_line(line: &[u8], message: &mut Message) {
     }
 }
 
-/// What a person is told of the line of this number that differs.
-fn difference(number: u64, notice: &Notice) -> Message {
-    let mut message = Message::new();
+/// Says how the line of this number differs.
+fn difference(number: u64, notice: &Notice, message: &mut Message) {
     let _ = write!(message, "line {number}: recorded '");
     if let Some((_, recorded)) = notice.parts() {
-        show_answer(recorded, &mut message);
+        show_answer(recorded, message);
     }
     message.say("', but the core gives '");
-    show_answer(notice.given(), &mut message);
+    show_answer(notice.given(), message);
     message.say("'");
-    show_line(notice.line(), &mut message);
-    message
+    show_line(notice.line(), message);
 }
 
 /// Appends what a line is answered, with the name of an error behind its number.
@@ -149,10 +159,9 @@ fn plain_cause(cause: Cause) -> &'static str {
     }
 }
 
-/// What a person is told of a slip in the line of this number, behind the front of the message: its column, what is
-/// wrong, the nearest word and the form of the command, if there are such, and the text of the line.
-fn slip_message(message: Message, number: u64, slip: Slip, line: &[u8]) -> Message {
-    let mut message = message;
+/// Says what is wrong with the line of this number, behind the front of the message: its column, the slip, the nearest
+/// word and the form of the command, if there are such, and the text of the line.
+fn say_slip(number: u64, slip: Slip, line: &[u8], message: &mut Message) {
     let _ = write!(message, "line {number}");
     if slip.wrong != Wrong::Empty {
         let column = slip.column;
@@ -160,10 +169,9 @@ fn slip_message(message: Message, number: u64, slip: Slip, line: &[u8]) -> Messa
     }
     message.say(": ");
     message.say(slip.wrong.words());
-    say_hint(", perhaps '", slip.near, &mut message);
-    say_hint(", in '", slip.form, &mut message);
-    show_line(line, &mut message);
-    message
+    say_hint(", perhaps '", slip.near, message);
+    say_hint(", in '", slip.form, message);
+    show_line(line, message);
 }
 
 /// Appends words and a hint between quotes, if there is one.
@@ -175,22 +183,22 @@ fn say_hint(words: &str, hint: Option<&'static str>, message: &mut Message) {
     }
 }
 
-/// Why a line of a script is no command there, behind the front of the message.
-fn no_command(message: Message, number: u64, line: &[u8]) -> Message {
+/// Says why a line of a script is no command there, behind the front of the message.
+fn no_command(number: u64, line: &[u8], message: &mut Message) {
     if line.starts_with(b"pif-trace ") {
         let words = "a trace is no script: 'pif replay' takes it";
-        return told(message, number, words, line);
+        return say_line(number, words, line, message);
     }
     if is_answered(line) {
         let words = "a story is no script: 'pif check' takes it";
-        return told(message, number, words, line);
+        return say_line(number, words, line, message);
     }
     match read_command(line) {
         Ok(_) => {
             let words = "limits may stand on the first line only";
-            told(message, number, words, line)
+            say_line(number, words, line, message)
         }
-        Err(slip) => slip_message(message, number, slip, line),
+        Err(slip) => say_slip(number, slip, line, message),
     }
 }
 
@@ -214,21 +222,22 @@ fn without_blanks(text: &[u8]) -> &[u8] {
     front
 }
 
-/// Why a line of a trace is no command there, behind the front of the message.
-fn no_traced(message: Message, number: u64, notice: &Notice) -> Message {
+/// Says why a line of a trace is no command there, behind the front of the message.
+fn no_traced(number: u64, notice: &Notice, message: &mut Message) {
     let line = notice.line();
     if line.ends_with(b"\r") {
-        return told(message, number, Wrong::CarriageReturn.words(), line);
+        return say_line(number, Wrong::CarriageReturn.words(), line, message);
     }
     if number == 1 {
-        return told(message, number, no_header(line), line);
+        return say_line(number, no_header(line), line, message);
     }
     let Some((command, _)) = notice.parts() else {
-        return told(message, number, "no ' = ' with an answer behind it", line);
+        let words = "no ' = ' with an answer behind it";
+        return say_line(number, words, line, message);
     };
     match read_command(command) {
-        Ok(command) => told(message, number, not_traced(command), line),
-        Err(slip) => slip_message(message, number, slip, line),
+        Ok(command) => say_line(number, not_traced(command), line, message),
+        Err(slip) => say_slip(number, slip, line, message),
     }
 }
 

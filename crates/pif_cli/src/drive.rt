@@ -27,7 +27,7 @@ const TRIES: u32 = 1_000;
 const LINE_ROOM: usize = 40;
 
 /// Why a drive has no book.
-#[derive(Clone, Copy, Debug, PartialEq, Eq)]
+#[derive(Clone, Copy, Debug)]
 pub enum DriveFault {
     /// A growth of memory was refused.
     NoMemory,

@@ -7,7 +7,7 @@ use std::alloc::Global;
 use std::io::{Read, Write};
 
 /// A picture of a story.
-#[derive(Clone, Copy, Debug, PartialEq, Eq)]
+#[derive(Clone, Copy)]
 pub enum Picture {
     /// `draw`: a drawing with a lane for each thread, as SVG.
     Drawing,

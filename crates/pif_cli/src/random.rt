@@ -18,7 +18,7 @@ use std::alloc::Global;
 use std::io::Write;
 
 /// Which random script is asked for.
-#[derive(Clone, Copy, Debug, PartialEq, Eq)]
+#[derive(Clone, Copy)]
 pub struct Recipe {
     /// What is left to chance: each seed has a script of its own.
     pub seed: u64,

@@ -7,7 +7,7 @@ use std::marker::Model;
 use std::process::{ExitCode, Termination};
 
 /// Why a job was not done.
-#[derive(Clone, Copy, Debug, PartialEq, Eq)]
+#[derive(Clone, Copy)]
 pub enum JobFault {
     /// A fault of the script or trace, a read or a write that failed, or out of memory.
     Cli(CliFault),

@@ -31,7 +31,7 @@ use std::thread::Threads;
 pub const STANDARD_NAME: &str = "-";
 
 /// What the words ask the program to do.
-#[derive(Clone, Copy, Debug, PartialEq, Eq)]
+#[derive(Clone, Copy)]
 pub enum Job {
     /// `run`: run a script.
     Run,
