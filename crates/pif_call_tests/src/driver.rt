@@ -10,7 +10,7 @@ use pif_linked::LinkedChains;
 use pif_model::Line;
 use pif_mutex::{Parts, Progress};
 use pif_plain::PlainChains;
-use pif_types::{CondId, Health, Kind, Limits, MutexId, Prio, Request, Tid};
+use pif_types::{CondId, Errno, Health, Kind, Limits, MutexId, Prio, Request, Tid};
 use std::alloc::Global;
 use std::process::Abort;
 use std::test::Fail;
@@ -58,10 +58,16 @@ pub enum Wish {
     SetPrio(u32, u32),
 }
 
-/// What the parts answer.
+/// What the parts answer, or a kernel alone.
 #[derive(Clone, Copy, PartialEq, Eq)]
 pub enum Reply {
     Done,
+    // What a kernel alone answers: a lock owns or queues, so many threads were taken, the next ticket.
+    Owns,
+    Queued,
+    Refused(Errno),
+    Taken(u32),
+    Ticket(u64),
     Added(u32),
     Step(Progress),
     // The number of the last step, and what it came to.
@@ -237,14 +243,14 @@ fn status<K: PiKernel + Drop>(parts: &Parts<K>, t: Tid) -> Option<Reply> {
     })
 }
 
-fn who(read: Option<Tid>) -> Reply {
+pub fn who(read: Option<Tid>) -> Reply {
     match read {
         Some(t) => Reply::Thread(t.get()),
         None => Reply::Nobody,
     }
 }
 
-fn level(read: Option<Prio>) -> Reply {
+pub fn level(read: Option<Prio>) -> Reply {
     match read {
         Some(prio) => Reply::Prio(prio.get()),
         None => Reply::Nobody,
@@ -302,11 +308,16 @@ fn read<K: PiKernel + Drop>(parts: &Parts<K>, ask: Ask) -> Option<Reply> {
     })
 }
 
+/// Sees that what was answered at this place is this.
+pub fn see(rt: &impl Abort, read: Option<Reply>, reply: Option<Reply>, place: u32) {
+    assert!(rt; read == reply, "at place {place}");
+}
+
 /// Asks all this in turn, and sees that each answer is the one beside it.
 pub fn check<K: PiKernel + Drop>(rt: &impl Abort, parts: &mut Parts<K>, steps: &[(Ask, Reply)]) {
     let mut place = 0_u32;
     for (ask, reply) in steps {
-        assert!(rt; answer(parts, *ask) == Some(*reply), "at place {place}");
+        see(rt, answer(parts, *ask), Some(*reply), place);
         place = place.saturating_add(1);
     }
 }

@@ -1,8 +1,12 @@
-//! Tests of the calls on mutexes and condition variables, each on both kernels: that on linked lists and the plain one.
-//! Beside tests there is nothing in it.
+//! Tests of kernels, and of the calls on mutexes and condition variables above them, each on both kernels: that on
+//! linked lists and the plain one. Beside tests there is nothing in it.
 //!
 //! | Module | Tests of |
 //! |---|---|
+//! | `owner_states`, `walks` | `pif_plain`: its owner states, and its walk over them |
+//! | `linked_states`, `hops` | `pif_rtmutex` and `pif_boost`: owner states in one table, and how far a walk goes over them |
+//! | `seen` | none: it compares what was read with what is wanted |
+//! | `kernels` | both kernels: each call on any words, boosts, parked threads, deadlines and ends, and random calls |
 //! | `driver` | none: it makes calls step by step, over the parts with either kernel |
 //! | `mutexes` | `pif_mutex`: the calls on mutexes, changes of priority and ends |
 //! | `conditions` | `pif_cond`: waits, signals and broadcasts |
@@ -14,6 +18,18 @@ mod conditions;
 #[cfg(test)]
 mod driver;
 #[cfg(test)]
+mod hops;
+#[cfg(test)]
+mod kernels;
+#[cfg(test)]
+mod linked_states;
+#[cfg(test)]
 mod mutexes;
 #[cfg(test)]
+mod owner_states;
+#[cfg(test)]
 mod random_calls;
+#[cfg(test)]
+mod seen;
+#[cfg(test)]
+mod walks;

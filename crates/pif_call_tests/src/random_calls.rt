@@ -1,7 +1,7 @@
 //! Random events on both kernels: calls in any interleaving, one step at a time, the end of threads at any point, and
 //! time that goes on. Each event has the same answer on both, and leaves the same words, statuses, priorities and
 //! orders.
-use super::driver::{Ask, Reply, Wish, answer, new_parts};
+use super::driver::{Ask, Reply, Wish, answer, new_parts, see};
 use pif_kernel::KernelOn;
 use pif_linked::LinkedChains;
 use pif_mutex::Parts;
@@ -22,85 +22,70 @@ const LISTS: u32 = 400;
 
 const EVENTS: u32 = 200;
 
-/// The parts on either kernel, which are asked the same.
-#[derive(Drop)]
-struct Both {
-    plain: Parts<KernelOn<PlainChains>>,
-    linked: Parts<KernelOn<LinkedChains>>,
+type Plain = Parts<KernelOn<PlainChains>>;
+
+type Linked = Parts<KernelOn<LinkedChains>>;
+
+/// Asks both parts, and sees that they answer the same. Whether it could be asked.
+fn ask(rt: &impl Abort, plain: &mut Plain, linked: &mut Linked, ask: Ask) -> bool {
+    let reply = answer(plain, ask);
+    see(rt, answer(linked, ask), reply, 0);
+    reply.is_some()
 }
 
-impl Both {
-    /// A first ticket so late that tickets are numbered anew.
-    fn new(alloc: Global, rng: &mut SplitMix64) -> Result<Both, Fail> {
-        let limits = Limits::new(THREADS, 66, 2, 100).ok_or("limits")?;
-        let first = u64::MAX - u64::from(rng.next_u32() % 64);
-        let plain = new_parts(alloc, limits, first)?;
-        let linked = new_parts(alloc, limits, first)?;
-        Ok(Both { plain, linked })
+/// Adds mutexes of random kinds, two variables, and threads of random priorities, of which many are equal.
+fn fill(rt: &impl Abort, plain: &mut Plain, linked: &mut Linked, rng: &mut SplitMix64) {
+    for _ in 0..66 {
+        let robust = rng.next_u32() % 2 == 0;
+        ask(rt, plain, linked, Ask::AddMutex(kind(rng), robust));
     }
-
-    /// Adds mutexes of random kinds, two variables, and threads of random priorities, of which many are equal.
-    fn fill(&mut self, rt: &impl Abort, rng: &mut SplitMix64) {
-        for _ in 0..66 {
-            let robust = rng.next_u32() % 2 == 0;
-            self.ask(rt, Ask::AddMutex(kind(rng), robust));
-        }
-        self.ask(rt, Ask::AddCond(1));
-        self.ask(rt, Ask::AddCond(65));
-        for _ in 0..THREADS {
-            self.ask(rt, Ask::AddThread(level(rng)));
-        }
+    ask(rt, plain, linked, Ask::AddCond(1));
+    ask(rt, plain, linked, Ask::AddCond(65));
+    for _ in 0..THREADS {
+        ask(rt, plain, linked, Ask::AddThread(level(rng)));
     }
+}
 
-    /// Asks both, and sees that they answer the same. Whether it could be asked.
-    fn ask(&mut self, rt: &impl Abort, ask: Ask) -> bool {
-        let plain = answer(&mut self.plain, ask);
-        assert!(rt; answer(&mut self.linked, ask) == plain, "another answer");
-        plain.is_some()
+/// The owner of a mutex by its word, or nobody's number.
+fn owner(plain: &mut Plain, m: u32) -> u32 {
+    match answer(plain, Ask::Word(m)) {
+        Some(Reply::Bits(bits)) => bits & 0x3fff_ffff,
+        _ => 0,
     }
+}
 
-    /// The owner of a mutex by its word, or nobody's number.
-    fn owner(&mut self, m: u32) -> u32 {
-        match answer(&mut self.plain, Ask::Word(m)) {
-            Some(Reply::Bits(bits)) => bits & 0x3fff_ffff,
-            _ => 0,
+/// A random event.
+fn event(rng: &mut SplitMix64, plain: &mut Plain, time: &mut u32) -> Ask {
+    let m = LOCKED[(rng.next_u32() % 5) as usize];
+    let owner = owner(plain, m);
+    let t = 1 + rng.next_u32() % THREADS;
+    match rng.next_u32() % 64 {
+        0 => Ask::End(t),
+        1 | 2 => {
+            *time = time.saturating_add(1);
+            Ask::Tick(*time)
         }
+        3..=14 => Ask::Call(t, wish(rng, m, *time)),
+        15..=18 => Ask::Call(owner, Wish::Unlock(m)),
+        19..=30 => Ask::Begin(t, wish(rng, m, *time)),
+        _ => Ask::Go(t),
     }
+}
 
-    /// A random event. Whether it could happen.
-    fn happen(&mut self, rt: &impl Abort, rng: &mut SplitMix64, time: &mut u32) -> bool {
-        let m = LOCKED[(rng.next_u32() % 5) as usize];
-        let owner = self.owner(m);
-        let t = 1 + rng.next_u32() % THREADS;
-        let ask = match rng.next_u32() % 64 {
-            0 => Ask::End(t),
-            1 | 2 => {
-                *time = time.saturating_add(1);
-                Ask::Tick(*time)
-            }
-            3..=14 => Ask::Call(t, wish(rng, m, *time)),
-            15..=18 => Ask::Call(owner, Wish::Unlock(m)),
-            19..=30 => Ask::Begin(t, wish(rng, m, *time)),
-            _ => Ask::Go(t),
-        };
-        self.ask(rt, ask)
+/// Sees that both have the same words, statuses, priorities and orders.
+fn compare(rt: &impl Abort, plain: &mut Plain, linked: &mut Linked) {
+    ask(rt, plain, linked, Ask::Pick);
+    for m in LOCKED {
+        ask(rt, plain, linked, Ask::Word(m));
+        ask(rt, plain, linked, Ask::Waiter(m, 0));
+        ask(rt, plain, linked, Ask::Waiter(m, 1));
     }
-
-    /// Sees that both have the same words, statuses, priorities and orders.
-    fn compare(&mut self, rt: &impl Abort) {
-        self.ask(rt, Ask::Pick);
-        for m in LOCKED {
-            self.ask(rt, Ask::Word(m));
-            self.ask(rt, Ask::Waiter(m, 0));
-            self.ask(rt, Ask::Waiter(m, 1));
-        }
-        for number in 0..THREADS {
-            self.ask(rt, Ask::Status(1 + number));
-            self.ask(rt, Ask::Effective(1 + number));
-            self.ask(rt, Ask::Ready(number));
-            self.ask(rt, Ask::Parked(1, number));
-            self.ask(rt, Ask::Parked(2, number));
-        }
+    for number in 0..THREADS {
+        ask(rt, plain, linked, Ask::Status(1 + number));
+        ask(rt, plain, linked, Ask::Effective(1 + number));
+        ask(rt, plain, linked, Ask::Ready(number));
+        ask(rt, plain, linked, Ask::Parked(1, number));
+        ask(rt, plain, linked, Ask::Parked(2, number));
     }
 }
 
@@ -137,26 +122,37 @@ fn wish(rng: &mut SplitMix64, m: u32, time: u32) -> Wish {
     }
 }
 
-/// Plays a random list of events on new parts, and counts those that could happen.
+/// Plays a random list of events on new parts, and counts those that could happen. The first ticket is so late that
+/// tickets are numbered anew.
 fn play_list(
     rt: &impl Abort,
     alloc: Global,
     rng: &mut SplitMix64,
     events: &mut u32,
 ) -> Result<(), Fail> {
-    let mut both = Both::new(alloc, rng)?;
-    play_events(rt, rng, &mut both, events);
+    let limits = Limits::new(THREADS, 66, 2, 100).ok_or("limits")?;
+    let first = u64::MAX - u64::from(rng.next_u32() % 64);
+    let mut plain = new_parts(alloc, limits, first)?;
+    let mut linked = new_parts(alloc, limits, first)?;
+    play_events(rt, rng, &mut plain, &mut linked, events);
     Ok(())
 }
 
-fn play_events(rt: &impl Abort, rng: &mut SplitMix64, both: &mut Both, events: &mut u32) {
+fn play_events(
+    rt: &impl Abort,
+    rng: &mut SplitMix64,
+    plain: &mut Plain,
+    linked: &mut Linked,
+    events: &mut u32,
+) {
     let mut time = 0;
-    both.fill(rt, rng);
+    fill(rt, plain, linked, rng);
     for _ in 0..EVENTS {
-        if both.happen(rt, rng, &mut time) {
+        let event = event(rng, plain, &mut time);
+        if ask(rt, plain, linked, event) {
             *events = events.saturating_add(1);
         }
-        both.compare(rt);
+        compare(rt, plain, linked);
     }
 }
 

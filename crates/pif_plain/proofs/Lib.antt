@@ -1,11 +1,6 @@
 pub mod StateFieldsLemmas
 pub mod TopLemmas
 pub mod BehindLemmas
-pub mod StateTestLemmas
 pub mod Propagation
-pub mod WalkTestLemmas
 pub mod KeptChains
-pub mod HopLemmas
-pub mod LinkedStateLemmas
-pub mod TogetherLemmas
 pub mod RowLemmas

@@ -16,7 +16,7 @@ use std::marker::Model;
 const KEYS: usize = 1025;
 
 /// A thread that is parked on a condition variable.
-#[derive(Clone, Copy, Debug, PartialEq, Eq, Hash)]
+#[derive(Clone, Copy)]
 pub struct Parking {
     /// The thread.
     pub thread: Tid,

@@ -1,0 +1,5 @@
+pub mod StateTestLemmas
+pub mod LinkedStateLemmas
+pub mod TogetherLemmas
+pub mod WalkTestLemmas
+pub mod HopLemmas

@@ -1,0 +1,3 @@
+pub mod Together
+pub mod WalkExamples
+pub mod ChainExamples
