@@ -9,6 +9,7 @@
 //! | `sorted_lists` | `pif_plist`: the order of a list, and keys that change |
 //! | `run_queue` | `pif_runq`: who is picked |
 //! | `buckets` | `pif_queue`: words of one bucket, the order of parked threads, their targets and their tickets |
+//! | `seen` | none: it compares what was read with what is wanted |
 //! | `robust_lists` | `pif_robust`: each write of a lock and an unlock, and the walk at an end |
 #![tactic(auto)]
 
@@ -22,6 +23,8 @@ mod numbers;
 mod robust_lists;
 #[cfg(test)]
 mod run_queue;
+#[cfg(test)]
+mod seen;
 #[cfg(test)]
 mod sorted_lists;
 #[cfg(test)]

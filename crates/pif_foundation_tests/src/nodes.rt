@@ -1,6 +1,7 @@
 ghost use Rattle.std.specs.Prelude.{◌≡◌, ◌<◌, length, replicate, [], ◌∷◌, Some};
 ghost use Rattle.pif_lists.specs.Table.{no_key, holder};
 
+use super::seen::{see_at, see_number, see_word};
 use pif_nodes::{Key, List, Node, NodeTable};
 use std::process::Abort;
 use std::test::Fail;
@@ -15,11 +16,24 @@ fn keeps_lists_and_keys(rt: HostRuntime) -> Result<(), Fail> {
 
 // Sees that a list, or a node, that was read is this one.
 fn see_list(rt: &impl Abort, read: Option<List>, list: Option<List>) {
-    assert_eq!(rt; read, list);
+    see_number(rt, list_number(read), list_number(list));
 }
 
 fn see_node(rt: &impl Abort, read: Option<Node>, node: Option<Node>) {
-    assert_eq!(rt; read, node);
+    see_number(rt, node_number(read), node_number(node));
+}
+
+fn list_number(list: Option<List>) -> Option<u32> {
+    Some(list?.get())
+}
+
+fn node_number(node: Option<Node>) -> Option<u32> {
+    Some(node?.get())
+}
+
+fn see_key(rt: &impl Abort, read: Key, prio: u32, ticket: u64) {
+    see_word(rt, read.prio, prio);
+    see_at(rt, Some(read.ticket), Some(ticket), 0);
 }
 
 // Asserts in which list a node is, and between which nodes.
@@ -106,18 +120,16 @@ fn keep_keys(rt: &impl Abort, table: &mut NodeTable)
     see_keys(rt, table);
     move_to_head(table, left, right, b);
     see_moved(rt, table);
-    assert_eq!(rt; (left.get(), right.get(), Node::new(2).get()), (0, 1, 2));
+    see_word(rt, left.get(), 0);
+    see_word(rt, right.get(), 1);
+    see_word(rt, Node::new(2).get(), 2);
 }
 
 fn see_keys(rt: &impl Abort, table: &NodeTable)
     requires { 2 < length table.now.keys }
 {
-    let key = Key {
-        prio: 20,
-        ticket: 5,
-    };
-    assert_eq!(rt; table.key(Node::new(0)), Key { prio: 0, ticket: 0 });
-    assert_eq!(rt; table.key(Node::new(1)), key);
+    see_key(rt, table.key(Node::new(0)), 0, 0);
+    see_key(rt, table.key(Node::new(1)), 20, 5);
 }
 
 fn see_moved(rt: &impl Abort, table: &NodeTable)
@@ -131,11 +143,5 @@ fn see_moved(rt: &impl Abort, table: &NodeTable)
     expect_place(rt, table, c, Some(left), Some(a), None);
     expect_ends(rt, table, right, Some(b), Some(b));
     expect_place(rt, table, b, Some(right), None, None);
-    assert_eq!(rt;
-        table.key(b),
-        Key {
-            prio: 20,
-            ticket: 5
-        }
-    );
+    see_key(rt, table.key(b), 20, 5);
 }

@@ -1,3 +1,4 @@
+use super::seen::{see_flag, see_number, see_word};
 use pif_types::{
     AddFault, CondId, Errno, Limits, MutexId, NoMemory, Prio, Refusal, Tid, push_within, with_room,
 };
@@ -28,8 +29,10 @@ fn numbers_begin_at_one(rt: HostRuntime) {
 }
 
 fn see_numbers(rt: &impl Abort) {
-    assert_eq!(rt; (thread(7), thread(0)), (Some(7), None));
-    assert_eq!(rt; (mutex(1024), cond(1)), (Some(1024), Some(1)));
+    see_number(rt, thread(7), Some(7));
+    see_number(rt, thread(0), None);
+    see_number(rt, mutex(1024), Some(1024));
+    see_number(rt, cond(1), Some(1));
 }
 
 #[test]
@@ -38,27 +41,29 @@ fn priorities_are_1_to_99(rt: HostRuntime) {
 }
 
 fn see_priorities(rt: &impl Abort) {
-    for (level, read) in [(99, Some(99)), (0, None), (100, None)] {
-        assert_eq!(rt; priority(level), read, "at {level}");
-    }
+    see_number(rt, priority(99), Some(99));
+    see_number(rt, priority(0), None);
+    see_number(rt, priority(100), None);
 }
 
 #[test]
 fn limits_lie_in_their_ranges(rt: HostRuntime) -> Result<(), Fail> {
     let limits = Limits::new(1024, 0, 256, 4294967295).ok_or("limits")?;
-    see_limits(&rt, limits);
+    see_limits(&rt, &limits);
     see_refused(&rt);
     Ok(())
 }
 
-fn see_limits(rt: &impl Abort, limits: Limits) {
-    assert_eq!(rt; (limits.threads(), limits.mutexes()), (1024, 0));
-    assert_eq!(rt; (limits.conds(), limits.signals()), (256, 4294967295));
+fn see_limits(rt: &impl Abort, limits: &Limits) {
+    see_word(rt, limits.threads(), 1024);
+    see_word(rt, limits.mutexes(), 0);
+    see_word(rt, limits.conds(), 256);
+    see_word(rt, limits.signals(), 4294967295);
 }
 
 fn see_refused(rt: &impl Abort) {
-    assert!(rt; Limits::new(0, 1, 1, 1).is_none());
-    assert!(rt; Limits::new(1, 1, 1, 0).is_none());
+    see_flag(rt, Limits::new(0, 1, 1, 1).is_some(), false);
+    see_flag(rt, Limits::new(1, 1, 1, 0).is_some(), false);
 }
 
 /// Each error, with its number on Linux on x86-64 and the name that <errno.h> gives it.
@@ -84,8 +89,12 @@ fn check_printed<D: Display>(
     text: &str,
 ) -> Result<(), Fail> {
     let printed = error.to_string(alloc)?;
-    assert!(rt; printed.as_str() == text, "{text:?}");
+    see_text(rt, printed.as_str(), text);
     Ok(())
+}
+
+fn see_text(rt: &impl Abort, read: &str, text: &str) {
+    assert!(rt; read == text, "{text:?}");
 }
 
 #[test]
@@ -95,7 +104,7 @@ fn errors_have_the_numbers_and_names_of_errno_h(rt: HostRuntime) -> Result<(), F
 
 fn see_errors(rt: &impl Abort, alloc: Global) -> Result<(), Fail> {
     for (error, number, name) in ERRORS {
-        assert_eq!(rt; error.number(), number);
+        see_word(rt, error.number(), number);
         check_printed(rt, alloc, &error, name)?;
     }
     Ok(())
@@ -140,6 +149,12 @@ fn lists_have_the_room_that_was_asked_for(rt: HostRuntime) -> Result<(), Fail> {
     let mut items: Vec<u32> = with_room(rt.alloc(), 2)?;
     push_within(&mut items, 7);
     push_within(&mut items, 9);
-    assert_eq!(rt; items.as_slice(), [7, 9].as_slice());
+    see_items(&rt, items.as_slice());
     Ok(())
+}
+
+fn see_items(rt: &impl Abort, items: &[u32]) {
+    see_number(rt, items.first().copied(), Some(7));
+    see_number(rt, items.last().copied(), Some(9));
+    see_flag(rt, items.len() == 2, true);
 }

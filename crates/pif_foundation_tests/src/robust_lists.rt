@@ -1,6 +1,7 @@
 ghost use Rattle.std.specs.Prelude.{◌≡◌, ◌<◌, ◌≤◌, ℕ, length};
 ghost use Rattle.pif_model.specs.RobustList.{robust_at};
 
+use super::seen::{see_flag, see_number, see_word};
 use pif_robust::RobustLists;
 use pif_types::{Limits, MutexId, Tid};
 use std::process::Abort;
@@ -31,9 +32,9 @@ fn walks(rt: &impl Abort, lists: &RobustLists, t: Tid, expected: &[u32]) {
 }
 
 fn see_walk(rt: &impl Abort, found: &[MutexId], expected: &[u32]) {
-    assert_eq!(rt; found.len(), expected.len());
+    see_flag(rt, found.len() == expected.len(), true);
     for (m, number) in found.iter().zip(expected) {
-        assert_eq!(rt; m.get(), *number);
+        see_word(rt, m.get(), *number);
     }
 }
 
@@ -71,7 +72,15 @@ fn link(rt: &impl Abort, lists: &mut RobustLists, t: Tid, m: MutexId)
 
 /// A mutex that was read is this one.
 fn see_mutex(rt: &impl Abort, read: Option<MutexId>, m: Option<MutexId>) {
-    assert_eq!(rt; read, m);
+    see_number(rt, mutex_number(read), mutex_number(m));
+}
+
+fn mutex_number(m: Option<MutexId>) -> Option<u32> {
+    Some(m?.get())
+}
+
+fn thread_number(t: Option<Tid>) -> Option<u32> {
+    Some(t?.get())
 }
 
 /// How far a thread has linked a mutex.
@@ -84,7 +93,7 @@ fn see_link(
 ) {
     let (t, m) = of;
     see_mutex(rt, lists.half_linked(t), half_linked);
-    assert_eq!(rt; lists.holder(m), holder);
+    see_number(rt, thread_number(lists.holder(m)), thread_number(holder));
 }
 
 #[test]

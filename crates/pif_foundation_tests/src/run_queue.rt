@@ -2,6 +2,7 @@ ghost use Rattle.std.specs.Prelude.{◌≡◌, ◌≤◌, ℕ, None};
 ghost use Rattle.pif_lists.specs.Table.{holder};
 ghost use Rattle.pif_lists.specs.Levels.{Holds};
 
+use super::seen::{see_flag, see_number};
 use pif_nodes::NodeTable;
 use pif_runq::RunQueue;
 use pif_types::{Prio, Tid};
@@ -74,11 +75,19 @@ fn run_queue_picks_first_of_greatest(rt: HostRuntime) -> Result<(), Fail> {
 
 // Sees that a thread, or a level, that was read is this one.
 fn see_thread(rt: &impl Abort, read: Option<Tid>, t: Option<Tid>) {
-    assert_eq!(rt; read, t);
+    see_number(rt, thread_number(read), thread_number(t));
 }
 
 fn see_level(rt: &impl Abort, read: Option<Prio>, level: Option<Prio>) {
-    assert_eq!(rt; read, level);
+    see_number(rt, level_number(read), level_number(level));
+}
+
+fn thread_number(t: Option<Tid>) -> Option<u32> {
+    Some(t?.get())
+}
+
+fn level_number(level: Option<Prio>) -> Option<u32> {
+    Some(level?.get())
 }
 
 fn pick_greatest(rt: &impl Abort, queue: &mut RunQueue, table: &mut NodeTable)
@@ -88,7 +97,7 @@ fn pick_greatest(rt: &impl Abort, queue: &mut RunQueue, table: &mut NodeTable)
     let (t1, t2, t3) = (thread(1), thread(2), thread(3));
     see_thread(rt, queue.pick(table), Some(t3));
     see_level(rt, queue.level(table, t2), Some(priority(10)));
-    assert!(rt; take_out(queue, table, t3));
+    see_flag(rt, take_out(queue, table, t3), true);
     see_level(rt, queue.level(table, t3), None);
     see_thread(rt, queue.pick(table), Some(t1));
 }
@@ -98,10 +107,11 @@ fn pick_first(rt: &impl Abort, queue: &mut RunQueue, table: &mut NodeTable)
 {
     let (t1, t2) = (thread(1), thread(2));
     for (level, picked) in [(10, t1), (20, t1), (10, t2)] {
-        assert!(rt; move_to(queue, table, t1, level), "to {level}");
+        see_flag(rt, move_to(queue, table, t1, level), true);
         see_thread(rt, queue.pick(table), Some(picked));
     }
-    assert!(rt; take_out(queue, table, t2) && take_out(queue, table, t1));
+    see_flag(rt, take_out(queue, table, t2), true);
+    see_flag(rt, take_out(queue, table, t1), true);
     see_thread(rt, queue.pick(table), None);
 }
 

@@ -1,7 +1,8 @@
 ghost use Rattle.std.specs.Prelude.{◌≡◌, ◌<◌, length, replicate, []};
 ghost use Rattle.pif_lists.specs.Table.{no_key};
 
-use pif_nodes::{List, Node, NodeTable};
+use super::seen::{see_at, see_flag};
+use pif_nodes::{Key, List, Node, NodeTable};
 use pif_plist::PList;
 use std::process::Abort;
 use std::test::Fail;
@@ -31,7 +32,7 @@ fn keep_place_among_equals(rt: &impl Abort, table: &mut NodeTable)
 
 // Sees that a node that was read is this one.
 fn see_node(rt: &impl Abort, read: Option<Node>, node: Node) {
-    assert_eq!(rt; read, Some(node));
+    see_flag(rt, read == Some(node), true);
 }
 
 // Asserts that list 0 has these three nodes first.
@@ -52,6 +53,11 @@ fn set_ticket_changes_the_ticket_alone(rt: HostRuntime) -> Result<(), Fail> {
     Ok(())
 }
 
+fn see_key(rt: &impl Abort, key: Key) {
+    see_at(rt, Some(u64::from(key.prio)), Some(10), 0);
+    see_at(rt, Some(key.ticket), Some(7), 0);
+}
+
 fn change_the_ticket_alone(rt: &impl Abort, table: &mut NodeTable)
     requires { table.old ≡ record { lists = replicate 1 []; keys = replicate 1 no_key } }
 {
@@ -59,7 +65,6 @@ fn change_the_ticket_alone(rt: &impl Abort, table: &mut NodeTable)
     let node = Node::new(0);
     waiters.insert(table, node, 10, 1);
     waiters.set_ticket(table, node, 7);
-    let key = table.key(node);
-    assert_eq!(rt; (key.prio, key.ticket), (10, 7));
+    see_key(rt, table.key(node));
     see_node(rt, waiters.top(table), node);
 }

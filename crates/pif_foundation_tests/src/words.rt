@@ -1,5 +1,6 @@
 ghost use Rattle.std.specs.Prelude.{◌≤◌};
 
+use super::seen::{see_flag, see_number, see_word};
 use pif_types::{CondId, Limits, MutexId};
 use pif_word::{
     Cell, OWNER_DIED, Words, hand_word, has_waiters, mark_word, number, owner_died, release_word,
@@ -15,38 +16,32 @@ fn words_say_number_and_flags(rt: HostRuntime) {
     see_takes(&rt);
 }
 
+/// Words, and the number and the flags of each.
+static PARTS: [(u32, u32, bool, bool); 3] = [
+    (0x8000_0001, 1, true, false),
+    (0x4000_0000, 0, false, true),
+    (0xc000_0002, 2, true, true),
+];
+
 fn see_parts(rt: &impl Abort) {
-    for (word, owner, waiters, died) in [
-        (0x8000_0001, 1, true, false),
-        (0x4000_0000, 0, false, true),
-        (0xc000_0002, 2, true, true),
-    ] {
-        assert_eq!(rt; number(word), owner, "at {word:x}");
-        assert_eq!(rt;
-            (has_waiters(word), owner_died(word)),
-            (waiters, died),
-            "at {word:x}"
-        );
+    for (word, owner, waiters, died) in PARTS {
+        see_word(rt, number(word), owner);
+        see_flag(rt, has_waiters(word), waiters);
+        see_flag(rt, owner_died(word), died);
     }
 }
 
 fn see_changes(rt: &impl Abort) {
-    assert_eq!(rt;
-        (mark_word(0x4000_0001), hand_word(2)),
-        (0xc000_0001, 0x8000_0002)
-    );
-    assert_eq!(rt; taken_word(0x4000_0000, 3), 0x4000_0003);
+    see_word(rt, mark_word(0x4000_0001), 0xc000_0001);
+    see_word(rt, hand_word(2), 0x8000_0002);
+    see_word(rt, taken_word(0x4000_0000, 3), 0x4000_0003);
 }
 
 fn see_takes(rt: &impl Abort) {
-    assert_eq!(rt;
-        (take_word(0, 3), take_word(0x4000_0000, 3)),
-        (Some(3), None)
-    );
-    assert_eq!(rt;
-        (release_word(3, 3), release_word(0x8000_0003, 3)),
-        (Some(0), None)
-    );
+    see_number(rt, take_word(0, 3), Some(3));
+    see_number(rt, take_word(0x4000_0000, 3), None);
+    see_number(rt, release_word(3, 3), Some(0));
+    see_number(rt, release_word(0x8000_0003, 3), None);
 }
 
 #[test]
@@ -63,15 +58,23 @@ fn cell(mutex: u32) -> Cell
     Cell::Mutex(MutexId::new(mutex).unwrap())
 }
 
+// Sees whether a word was exchanged, and what it was before.
+fn see_exchange(rt: &impl Abort, read: Result<u32, u32>, done: bool, bits: u32) {
+    see_flag(rt, read.is_ok(), done);
+    match read {
+        Ok(found) | Err(found) => see_word(rt, found, bits),
+    }
+}
+
 fn touch_one_word_each(rt: &impl Abort, words: &mut Words) {
     let (one, two) = (cell(1), cell(2));
     assert!(rt; words.has(one) && words.has(two) && !words.has(cell(3)));
-    assert_eq!(rt; words.compare_exchange(one, 0, 1), Ok(0));
-    assert_eq!(rt; words.compare_exchange(one, 0, 2), Err(1));
+    see_exchange(rt, words.compare_exchange(one, 0, 1), true, 0);
+    see_exchange(rt, words.compare_exchange(one, 0, 2), false, 1);
     words.store(two, 0xc000_0002);
-    assert_eq!(rt; words.fetch_and(two, !OWNER_DIED), 0xc000_0002);
-    assert_eq!(rt; words.load(one), 1);
-    assert_eq!(rt; words.load(two), 0x8000_0002);
+    see_word(rt, words.fetch_and(two, !OWNER_DIED), 0xc000_0002);
+    see_word(rt, words.load(one), 1);
+    see_word(rt, words.load(two), 0x8000_0002);
 }
 
 #[test]
@@ -91,8 +94,8 @@ fn variable(cond: u32) -> Cell
 fn count_a_use(rt: &impl Abort, words: &mut Words) {
     let (one, two) = (variable(1), variable(2));
     assert!(rt; words.has(one) && words.has(two) && !words.has(variable(3)));
-    assert_eq!(rt; words.compare_exchange(two, 0, 1), Ok(0));
-    assert_eq!(rt; words.compare_exchange(two, 0, 1), Err(1));
-    assert_eq!(rt; words.load(two), 1);
-    assert_eq!(rt; words.load(one), 0);
+    see_exchange(rt, words.compare_exchange(two, 0, 1), true, 0);
+    see_exchange(rt, words.compare_exchange(two, 0, 1), false, 1);
+    see_word(rt, words.load(two), 1);
+    see_word(rt, words.load(one), 0);
 }
