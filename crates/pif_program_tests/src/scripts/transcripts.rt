@@ -1,4 +1,5 @@
-use crate::jobs::{Job, check_memory, check_read, check_slowly, check_write};
+use crate::jobs::{Job, check_job, check_memory, check_read, check_slowly, check_write};
+use pif_scripts::{Cause, CliFault};
 use std::io::ErrorKind;
 
 /// Each command once, additions and events that are refused, and each question.
@@ -16,6 +17,13 @@ const TRACE: &str =
     go t1 = went\ngo t1 = went\ngo t1 = went\ngo t1 = answer 0\n\
     begin t2 trylock m1 = begun\ngo t2 = went\ngo t2 = went\ngo t2 = went\ngo t2 = went\ngo t2 = answer 16\n\
     begin t2 lock m2 = refused nosuch\ngo t2 = refused idle\nend t2 = ended\ngo t2 = refused dead\n";
+
+/// The other ends are in crates/pif_transcripts/data/traces.txt, under the same name. The program ends a last line itself.
+#[test]
+fn trace_ends_where_the_script_does(rt: HostRuntime) {
+    let cut = Err(CliFault::Script(1, Cause::Cut));
+    check_job(&rt, rt.alloc(), Job::Trace, "thread 10", "", cut);
+}
 
 #[test]
 fn failing_reader_and_writer_of_a_trace(rt: HostRuntime) {
