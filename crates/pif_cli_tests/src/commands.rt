@@ -24,19 +24,20 @@ const BOOSTED_ANSWERS: &str =
     "t1\nt2\nm1\nanswer 0\nwaits\n0x80000001\n50\nanswer 0\n0x80000002\n10\nanswer 0\nanswer 0\n\
     0x00000000\n";
 
-/// Asks the program for a job with these words over an input. Answers the status, and what is written to the output and to
-/// the errors.
-fn asked(
+/// What the errors are told where memory is refused.
+const NO_MEMORY: &str = "pif: out of memory\n";
+
+/// Asks the program for a job with these words over an input. Answers the status.
+fn ask(
     rt: &(impl Threads + Wait + Sync),
     alloc: Global,
     words: &[&str],
     input: &[u8],
-) -> (u8, Kept, Kept) {
-    let mut output = Kept::new();
-    let mut errors = Kept::new();
+    output: &mut Kept,
+    errors: &mut Kept,
+) -> u8 {
     let mut bytes = input;
-    let status = command(alloc, rt, words, &mut bytes, &mut output, &mut errors);
-    (status, output, errors)
+    command(alloc, rt, words, &mut bytes, output, errors)
 }
 
 /// A status, and whether the errors are told of nothing, are as expected for this text.
@@ -71,18 +72,35 @@ pub(crate) fn check_cut(rt: &impl Abort, ended: u8, written: &[u8], expected: &[
     assert!(rt; ended == 3 && written == expected);
 }
 
+/// What a job writes to the output and to the errors, or that it is out of memory: then nothing is written but the message.
+fn check_written(
+    rt: &(impl Abort + Threads + Wait + Sync),
+    alloc: Global,
+    words: &[&str],
+    input: &[u8],
+    expected: &str,
+) {
+    let (mut output, mut errors) = (Kept::new(), Kept::new());
+    let ended = ask(rt, alloc, words, input, &mut output, &mut errors);
+    let (answers, message) = match ended {
+        4 => ("", NO_MEMORY),
+        _ => (expected, ""),
+    };
+    check_bytes(rt, output.as_slice(), answers.as_bytes(), "the output");
+    check_bytes(rt, errors.as_slice(), message.as_bytes(), "the errors");
+    check_end(rt, ended);
+}
+
 /// Each allocation of a run is refused in turn by `rt try --test --fail-alloc N`: then nothing is written but the message.
 #[test]
 fn out_of_memory_writes_nothing(rt: HostRuntime) {
-    let words = ["pif", "run"];
-    let (ended, output, errors) = asked(&rt, rt.alloc(), words.as_slice(), BOOSTED.as_bytes());
-    let (answers, message) = match ended {
-        4 => ("", "pif: out of memory\n"),
-        _ => (BOOSTED_ANSWERS, ""),
-    };
-    check_bytes(&rt, output.as_slice(), answers.as_bytes(), "the answers");
-    check_bytes(&rt, errors.as_slice(), message.as_bytes(), "the message");
-    check_end(&rt, ended);
+    check_written(
+        &rt,
+        rt.alloc(),
+        &["pif", "run"],
+        BOOSTED.as_bytes(),
+        BOOSTED_ANSWERS,
+    );
 }
 
 /// A job ends with status 0, or with 4 where it is out of memory.

@@ -10,11 +10,7 @@ use std::sync::Wait;
 use std::test::Fail;
 
 /// A mutex, and a condition variable that is bound to it.
-#[derive(Clone, Copy)]
-struct Scene {
-    mutex: MutexId,
-    cond: CondId,
-}
+type Scene = (MutexId, CondId);
 
 /// What a call of a client is answered.
 fn called<R: Wait>(
@@ -62,6 +58,11 @@ fn quit<R: Wait>(rt: &R, desk: &Desk<NoPause>, client: &mut Client) -> Result<()
     }
 }
 
+/// A call had this answer.
+fn check_answer(rt: &impl Abort, answered: Result<u32, DeskFault>, expected: u32) {
+    assert_eq!(rt; answered, Ok(expected));
+}
+
 /// A client makes these calls, and gets these answers.
 fn check_calls<R: Wait + Abort>(
     rt: &R,
@@ -70,8 +71,7 @@ fn check_calls<R: Wait + Abort>(
     calls: &[(Request, u32)],
 ) {
     for (request, expected) in calls {
-        let answered = answer(rt, desk, client, request);
-        assert_eq!(rt; answered, Ok(*expected));
+        check_answer(rt, answer(rt, desk, client, request), *expected);
     }
 }
 
@@ -83,17 +83,15 @@ fn pass_on<R: Wait + Abort>(
     two: &mut Client,
     scene: Scene,
 ) {
-    let first = [
-        (Request::Lock(scene.mutex), 0),
-        (Request::Signal(scene.cond), 0),
-    ];
+    let (mutex, cond) = scene;
+    let first = [(Request::Lock(mutex), 0), (Request::Signal(cond), 0)];
     let second = [
-        (Request::Lock(scene.mutex), 130),
-        (Request::Consistent(scene.mutex), 0),
-        (Request::Unlock(scene.mutex), 0),
+        (Request::Lock(mutex), 130),
+        (Request::Consistent(mutex), 0),
+        (Request::Unlock(mutex), 0),
     ];
     check_calls(rt, desk, one, first.as_slice());
-    assert_eq!(rt; quit(rt, desk, one), Ok(()));
+    went_well(rt, quit(rt, desk, one));
     check_calls(rt, desk, two, second.as_slice());
 }
 
@@ -107,7 +105,7 @@ fn make_scene<R: Wait>(rt: &R, desk: &Desk<NoPause>, robust: bool) -> Result<Sce
         Err(DeskFault::NoMemory) => desk.make_cond(rt, mutex)?,
         made => made?,
     };
-    Ok(Scene { mutex, cond })
+    Ok((mutex, cond))
 }
 
 /// A client of this priority.
@@ -229,6 +227,11 @@ fn tick<R: Wait>(rt: &R, desk: &Desk<NoPause>, time: u32) -> Result<(), DeskFaul
     }
 }
 
+/// A time was refused, since it is past.
+fn is_past(rt: &impl Abort, done: Result<(), DeskFault>) {
+    assert_eq!(rt; done, Err(DeskFault::Refused(Refusal::Past)));
+}
+
 /// A client waits for its own mutex and for a variable, each time up to a time that has come.
 fn run_out_of_time<R: Wait + Abort>(
     rt: &R,
@@ -236,7 +239,7 @@ fn run_out_of_time<R: Wait + Abort>(
     client: &mut Client,
     scene: Scene,
 ) {
-    let Scene { mutex, cond } = scene;
+    let (mutex, cond) = scene;
     let calls = [
         (Request::TimedLock(mutex, 5), 110),
         (Request::TimedWait(cond, mutex, 7), 110),
@@ -244,8 +247,8 @@ fn run_out_of_time<R: Wait + Abort>(
         (Request::TimedLock(mutex, 0), 0),
     ];
     check_calls(rt, desk, client, &[(Request::Lock(mutex), 0)]);
-    assert_eq!(rt; tick(rt, desk, 7), Ok(()));
-    assert_eq!(rt; tick(rt, desk, 6), Err(DeskFault::Refused(Refusal::Past)));
+    went_well(rt, tick(rt, desk, 7));
+    is_past(rt, tick(rt, desk, 6));
     check_calls(rt, desk, client, calls.as_slice());
 }
 

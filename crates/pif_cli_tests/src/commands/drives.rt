@@ -54,17 +54,19 @@ fn check_driven(rt: &impl Abort, driven: (u8, bool), status: u8) {
     assert_eq!(rt; driven, (status, true));
 }
 
+/// How many clients are asked for, the status, and what is written.
+const DRIVES: [(&str, u8, &str); 6] = [
+    ("1", 0, "answered 200\n"),
+    ("2", 0, "answered 400\n"),
+    ("64", 0, "answered 12800\n"),
+    ("0", 1, ""),
+    ("65", 1, ""),
+    ("two", 1, ""),
+];
+
 #[test]
 fn drive_runs_real_threads(rt: HostRuntime) {
-    let drives = [
-        ("1", 0, "answered 200\n"),
-        ("2", 0, "answered 400\n"),
-        ("64", 0, "answered 12800\n"),
-        ("0", 1, ""),
-        ("65", 1, ""),
-        ("two", 1, ""),
-    ];
-    for (clients, status, text) in drives {
+    for (clients, status, text) in DRIVES {
         check_drive(&rt, rt.alloc(), clients, status, text);
     }
 }
@@ -92,14 +94,8 @@ fn check_one_of_three(rt: &impl Abort, status: u8) {
 #[test]
 fn a_count_that_cannot_be_written_has_status_3(rt: HostRuntime) {
     let mut output = ArrayVec::<u8, 4>::new();
-    let words = ["pif", "drive", "1"];
-    let ended = fill(
-        &rt,
-        rt.alloc(),
-        words.as_slice(),
-        BOOSTED.as_bytes(),
-        &mut output,
-    );
+    let words = &["pif", "drive", "1"];
+    let ended = fill(&rt, rt.alloc(), words, BOOSTED.as_bytes(), &mut output);
     check_cut(&rt, ended, output.as_slice(), b"answ");
 }
 
@@ -178,16 +174,26 @@ fn begun_by(entry: &Entry, thread: u32) -> Option<Request> {
     }
 }
 
+/// A thread begins this call after so many others.
+fn check_request(rt: &impl Abort, request: Request, begun: u32) {
+    assert_eq!(rt; request, request_after(begun));
+}
+
+/// A thread began 200 calls.
+fn check_begun(rt: &impl Abort, begun: u32) {
+    assert_eq!(rt; begun, 200);
+}
+
 /// A thread begins 200 calls in these entries: in turn a lock and an unlock of the mutex.
 fn check_requests(rt: &impl Abort, entries: &[Entry], thread: u32) {
     let mut begun = 0u32;
     for entry in entries {
         if let Some(request) = begun_by(entry, thread) {
-            assert_eq!(rt; request, request_after(begun));
+            check_request(rt, request, begun);
             begun = begun.wrapping_add(1);
         }
     }
-    assert_eq!(rt; begun, 200);
+    check_begun(rt, begun);
 }
 
 /// Whether client 1 began a call, then one of the other client was answered, and only then client 1 took a step.
@@ -209,20 +215,35 @@ fn overlaps(entries: &[Entry]) -> bool {
     false
 }
 
+/// Client 1 was held while the other was answered.
+fn check_overlap(rt: &impl Abort, entries: &[Entry]) {
+    assert!(rt; overlaps(entries));
+}
+
 /// Checks the book of a drive of two clients that were held.
 fn check_book(rt: &impl Abort, book: &Book) {
     let entries = book.entries.as_slice();
     check_additions(rt, book);
     check_requests(rt, entries, 1);
     check_requests(rt, entries, 2);
-    assert!(rt; overlaps(entries));
+    check_overlap(rt, entries);
 }
 
 /// The book has the limits of a drive of two clients, and begins with what that adds.
 fn check_additions(rt: &impl Abort, book: &Book) {
+    check_limits(rt, book.limits);
+    check_added(rt, book.entries.as_slice());
+}
+
+/// These are the limits of a drive of two clients.
+fn check_limits(rt: &impl Abort, limits: Limits) {
+    assert_eq!(rt; Some(limits), Limits::new(2, 1, 0, 1));
+}
+
+/// The entries begin with what a drive of two clients adds.
+fn check_added(rt: &impl Abort, entries: &[Entry]) {
     let additions = added();
-    assert_eq!(rt; Some(book.limits), Limits::new(2, 1, 0, 1));
-    assert!(rt; book.entries.as_slice().starts_with(additions.as_slice()));
+    assert!(rt; entries.starts_with(additions.as_slice()));
 }
 
 #[test]

@@ -12,14 +12,16 @@ fn check_job(rt: &impl Abort, ended: u8, status: u8, message: &str) {
     assert_eq!(rt; ended, status, "{message:?}");
 }
 
+/// What is asked over a text, and its status.
+const FAULTS: [(&[&str], &str, u8); 2] = [
+    (&["pif", "run"], "pik\n", 2),
+    (&["pif", "replay"], "pif-trace 1\nthread 10 = t2\n", 5),
+];
+
 #[test]
 fn a_message_that_cannot_be_written_leaves_the_status(rt: HostRuntime) {
-    let jobs = [
-        ("run", "pik\n", 2),
-        ("replay", "pif-trace 1\nthread 10 = t2\n", 5),
-    ];
-    for (job, text, status) in jobs {
-        check_cut_message(&rt, rt.alloc(), job, text, status);
+    for (words, text, status) in FAULTS {
+        check_cut_message(&rt, rt.alloc(), words, text, status);
     }
 }
 
@@ -27,43 +29,41 @@ fn a_message_that_cannot_be_written_leaves_the_status(rt: HostRuntime) {
 fn check_cut_message(
     rt: &(impl Abort + Threads + Wait + Sync),
     alloc: Global,
-    job: &str,
+    words: &[&str],
     text: &str,
     status: u8,
 ) {
     let mut errors = ArrayVec::<u8, 4>::new();
-    let words = ["pif", job];
     let mut input = text.as_bytes();
-    let ended = command(
-        alloc,
-        rt,
-        words.as_slice(),
-        &mut input,
-        &mut Kept::new(),
-        &mut errors,
-    );
+    let ended = command(alloc, rt, words, &mut input, &mut Kept::new(), &mut errors);
     check_job(rt, ended, status, text);
     check_bytes(rt, errors.as_slice(), b"pif:", text);
 }
 
+/// The faults, and what is told of them.
+const TOLD: [(JobFault, &str); 4] = [
+    (
+        JobFault::Cli(CliFault::Script(18_446_744_073_709_551_615, Cause::Size)),
+        "pif: line 18446744073709551615: the input has more than 16777216 bytes\n",
+    ),
+    (JobFault::Cli(CliFault::NoMemory), "pif: out of memory\n"),
+    (JobFault::Threads, "pif: a thread cannot be started\n"),
+    (
+        JobFault::Unsettled,
+        "pif: the desk does not settle with its clients\n",
+    ),
+];
+
+/// This is told of a fault.
+fn check_told(rt: &impl Abort, fault: JobFault, message: &str) {
+    let mut errors = Kept::new();
+    message_of(Job::Run, "-", fault, &Notice::new()).tell(&mut errors);
+    check_bytes(rt, errors.as_slice(), message.as_bytes(), message);
+}
+
 #[test]
 fn faults_without_a_line_are_told_by_their_words(rt: HostRuntime) {
-    let size = CliFault::Script(18_446_744_073_709_551_615, Cause::Size);
-    let faults = [
-        (
-            JobFault::Cli(size),
-            "pif: line 18446744073709551615: the input has more than 16777216 bytes\n",
-        ),
-        (JobFault::Cli(CliFault::NoMemory), "pif: out of memory\n"),
-        (JobFault::Threads, "pif: a thread cannot be started\n"),
-        (
-            JobFault::Unsettled,
-            "pif: the desk does not settle with its clients\n",
-        ),
-    ];
-    for (fault, message) in faults {
-        let mut errors = Kept::new();
-        message_of(Job::Run, "-", fault, &Notice::new()).tell(&mut errors);
-        check_bytes(&rt, errors.as_slice(), message.as_bytes(), message);
+    for (fault, message) in TOLD {
+        check_told(&rt, fault, message);
     }
 }

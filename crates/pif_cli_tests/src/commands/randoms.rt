@@ -1,16 +1,20 @@
 //! Random scripts.
-use super::{Kept, asked, check_bytes, check_end, check_ended};
-use arrayvec::ArrayVec;
+use super::{Kept, NO_MEMORY, ask, check_bytes, check_end, check_ended};
 use std::alloc::Global;
 use std::process::Abort;
 use std::sync::Wait;
 use std::thread::Threads;
 
-/// The random script of these words; the program ends with status 0, and says nothing to the errors.
-fn script_of(rt: &(impl Abort + Threads + Wait + Sync), alloc: Global, words: &[&str]) -> Kept {
-    let (status, output, errors) = asked(rt, alloc, words, b"");
+/// Writes the random script of these words; the program ends with status 0, and says nothing to the errors.
+fn write_script(
+    rt: &(impl Abort + Threads + Wait + Sync),
+    alloc: Global,
+    words: &[&str],
+    script: &mut Kept,
+) {
+    let mut errors = Kept::new();
+    let status = ask(rt, alloc, words, b"", script, &mut errors);
     check_ended(rt, (status, errors.is_empty()), (0, true), "a script");
-    output
 }
 
 /// How many lines of a script begin so.
@@ -102,7 +106,9 @@ const COUNTED: [(&[&str], [usize; 4]); 5] = [
 #[test]
 fn the_counts_are_those_that_were_asked_for(rt: HostRuntime) {
     for (words, wanted) in COUNTED {
-        check_counts(&rt, &script_of(&rt, rt.alloc(), words), wanted);
+        let mut script = Kept::new();
+        write_script(&rt, rt.alloc(), words, &mut script);
+        check_counts(&rt, &script, wanted);
     }
 }
 
@@ -124,54 +130,88 @@ fn check_has(rt: &impl Abort, script: &Kept, wanted: [bool; 3]) {
     assert_eq!(rt; has(script), wanted);
 }
 
-/// Options, and whether their script has a robust mutex, an end and a tick.
+/// Words that ask for a script, and whether it has a robust mutex, an end and a tick.
 const PARTS: [(&[&str], [bool; 3]); 5] = [
-    (&["--times", "--ends", "--robust"], [true, true, true]),
-    (&["--robust"], [true, false, false]),
-    (&["--ends"], [false, true, false]),
-    (&["--times"], [false, false, true]),
-    (&[], [false, false, false]),
-];
-
-#[test]
-fn only_what_was_asked_for_is_there(rt: HostRuntime) {
-    for (options, wanted) in PARTS {
-        let mut words = ArrayVec::<&str, 9>::new();
-        let _ = words.try_extend_from_slice([
+    (
+        &[
             "pif",
             "random",
             "--seed=5",
             "--lines=200",
-        ].as_slice());
-        let _ = words.try_extend_from_slice(options);
-        check_has(&rt, &script_of(&rt, rt.alloc(), words.as_slice()), wanted);
+            "--times",
+            "--ends",
+            "--robust",
+        ],
+        [true, true, true],
+    ),
+    (
+        &["pif", "random", "--seed=5", "--lines=200", "--robust"],
+        [true, false, false],
+    ),
+    (
+        &["pif", "random", "--seed=5", "--lines=200", "--ends"],
+        [false, true, false],
+    ),
+    (
+        &["pif", "random", "--seed=5", "--lines=200", "--times"],
+        [false, false, true],
+    ),
+    (
+        &["pif", "random", "--seed=5", "--lines=200"],
+        [false, false, false],
+    ),
+];
+
+#[test]
+fn only_what_was_asked_for_is_there(rt: HostRuntime) {
+    for (words, wanted) in PARTS {
+        let mut script = Kept::new();
+        write_script(&rt, rt.alloc(), words, &mut script);
+        check_has(&rt, &script, wanted);
     }
 }
 
+/// Words that ask for a script, and whether it is that of the first.
+const SEEDS: [(&[&str], bool); 2] = [
+    (
+        &[
+            "pif",
+            "random",
+            "--seed=7",
+            "--lines=90",
+            "--ends",
+            "--times",
+        ],
+        true,
+    ),
+    (
+        &[
+            "pif",
+            "random",
+            "--seed=8",
+            "--lines=90",
+            "--ends",
+            "--times",
+        ],
+        false,
+    ),
+];
+
 #[test]
 fn a_seed_gives_one_script_that_has_no_fault(rt: HostRuntime) {
-    let words = [
-        "pif",
-        "random",
-        "--seed=7",
-        "--lines=90",
-        "--ends",
-        "--times",
-    ];
-    let other = [
-        "pif",
-        "random",
-        "--seed=8",
-        "--lines=90",
-        "--ends",
-        "--times",
-    ];
-    let script = script_of(&rt, rt.alloc(), words.as_slice());
-    for (asked_for, same) in [(words, true), (other, false)] {
-        let given = script_of(&rt, rt.alloc(), asked_for.as_slice());
+    let mut script = Kept::new();
+    write_script(&rt, rt.alloc(), SEEDS[0].0, &mut script);
+    for (words, same) in SEEDS {
+        let mut given = Kept::new();
+        write_script(&rt, rt.alloc(), words, &mut given);
         check_same(&rt, &given, &script, same);
     }
-    assert_eq!(rt; answered(&rt, rt.alloc(), &script), (0, 91));
+    check_answered(&rt, answered(&rt, rt.alloc(), &script));
+}
+
+/// A script of 90 lines was run, and each was answered.
+fn check_answered(rt: &impl Abort, answered: (u8, usize)) {
+    assert_eq!(rt; answered, (0, 91));
 }
 
 /// Two scripts are the same, or not.
@@ -181,18 +221,27 @@ fn check_same(rt: &impl Abort, one: &Kept, two: &Kept, same: bool) {
 
 /// Runs a script: the status, and how many lines are written.
 fn answered(rt: &(impl Threads + Wait + Sync), alloc: Global, script: &Kept) -> (u8, usize) {
-    let words = ["pif", "run"];
-    let (status, answers, _) = asked(rt, alloc, words.as_slice(), script.as_slice());
+    let mut answers = Kept::new();
+    let words = &["pif", "run"];
+    let status = ask(
+        rt,
+        alloc,
+        words,
+        script.as_slice(),
+        &mut answers,
+        &mut Kept::new(),
+    );
     (status, count(&answers, b""))
 }
 
 /// Each allocation is refused in turn by `rt try --test --fail-alloc N`: then nothing is written but the message.
 #[test]
 fn out_of_memory_no_script_is_written(rt: HostRuntime) {
-    let words = ["pif", "random", "--seed=1", "--lines=9"];
-    let (ended, output, errors) = asked(&rt, rt.alloc(), words.as_slice(), b"");
+    let words = &["pif", "random", "--seed=1", "--lines=9"];
+    let (mut output, mut errors) = (Kept::new(), Kept::new());
+    let ended = ask(&rt, rt.alloc(), words, b"", &mut output, &mut errors);
     let (lines, message) = match ended {
-        4 => (1, "pif: out of memory\n"),
+        4 => (1, NO_MEMORY),
         _ => (10, ""),
     };
     check_lines(&rt, &output, lines);

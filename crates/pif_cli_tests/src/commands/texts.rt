@@ -2,6 +2,7 @@ use super::BOOSTED;
 use arrayvec::ArrayVec;
 use pif_cli::command;
 use std::alloc::Global;
+use std::process::Abort;
 use std::sync::Wait;
 use std::thread::Threads;
 
@@ -21,9 +22,14 @@ fn cut(rt: &(impl Threads + Wait + Sync), alloc: Global, words: &[&str]) -> (u8,
     (status, output.len(), errors.len())
 }
 
+/// It was cut so.
+fn check_counts(rt: &impl Abort, counts: (u8, usize, usize), shown: usize) {
+    assert_eq!(rt; counts, (3, shown, 4), "{shown}");
+}
+
 #[test]
 fn a_failed_write_of_help_or_of_the_refusal_is_told(rt: HostRuntime) {
     for (words, shown) in UNWRITTEN {
-        assert_eq!(rt; cut(&rt, rt.alloc(), words), (3, shown, 4), "{shown}");
+        check_counts(&rt, cut(&rt, rt.alloc(), words), shown);
     }
 }
