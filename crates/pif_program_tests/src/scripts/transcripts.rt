@@ -1,4 +1,4 @@
-use crate::jobs::{Job, check_job, check_memory, check_read, check_slowly, check_write};
+use crate::jobs::{Ended, Job, check_job, check_memory, check_read, check_slowly, check_write};
 use pif_scripts::{Cause, CliFault};
 use std::io::ErrorKind;
 
@@ -18,11 +18,28 @@ const TRACE: &str =
     begin t2 trylock m1 = begun\ngo t2 = went\ngo t2 = went\ngo t2 = went\ngo t2 = went\ngo t2 = answer 16\n\
     begin t2 lock m2 = refused nosuch\ngo t2 = refused idle\nend t2 = ended\ngo t2 = refused dead\n";
 
-/// The other ends are in crates/pif_transcripts/data/traces.txt, under the same name. The program ends a last line itself.
+/// Scripts, what is written of them, and how that ends.
+static ENDS: [(&str, &str, Ended); 5] = [
+    ("", "", Ok(())),
+    ("pik\n", "", Err(CliFault::Script(1, Cause::Command))),
+    (
+        "limits 0 1 1 1\n",
+        "",
+        Err(CliFault::Script(1, Cause::Limits)),
+    ),
+    ("thread 10", "", Err(CliFault::Script(1, Cause::Cut))),
+    (
+        "limits 1 0 0 1\n",
+        "pif-trace 2\nlimits 1 0 0 1 = ok\n",
+        Ok(()),
+    ),
+];
+
 #[test]
 fn trace_ends_where_the_script_does(rt: HostRuntime) {
-    let cut = Err(CliFault::Script(1, Cause::Cut));
-    check_job(&rt, rt.alloc(), Job::Trace, "thread 10", "", cut);
+    for (script, written, ended) in &ENDS {
+        check_job(&rt, rt.alloc(), Job::Trace, script, written, *ended);
+    }
 }
 
 #[test]
