@@ -1,7 +1,7 @@
-//! Priority inheritance: three real threads of low, middle and high priority at one desk, of which
-//! low and high share a mutex while middle is busy with one of its own. In each round low holds the mutex until high
-//! waits for it. Then the journal is done again by a core, step by step, and shows with which priority low ran, and which
-//! thread was to run next. Without inheritance that would be middle while high waits, and high would wait for both.
+//! Priority inheritance: three real threads of low, middle and high priority at one desk, of which low and high share a
+//! mutex while middle is busy with one of its own. In each round low holds the mutex until high waits for it. Then the
+//! journal is done again by a core, step by step, and shows with which priority low ran, and which thread was to run
+//! next. Without inheritance that would be middle while high waits, and high would wait for both.
 mod course;
 mod parts;
 mod showing;
@@ -22,20 +22,6 @@ pub const ROUNDS: u32 = 100;
 
 /// The priorities of low, middle and high.
 pub const PRIORITIES: [u32; 3] = [10, 50, 90];
-
-/// Prints what is shown of a moment.
-fn print_moment<R: Print>(rt: &R, name: &str, moment: &Moment) -> io::Result<()> {
-    let (low, next) = (moment.first.low, moment.first.next());
-    let (same, came) = (moment.same, moment.came);
-    println!(rt; "{name}: low runs at {low}, next is {next} ({same} of {came} times)")
-}
-
-/// Prints what is shown of all moments.
-fn print_shown<R: Print>(rt: &R, shown: &Shown) -> io::Result<()> {
-    print_moment(rt, "low locks", &shown.locks)?;
-    print_moment(rt, "high waits", &shown.waits)?;
-    print_moment(rt, "low unlocks", &shown.unlocks)
-}
 
 /// Why there is nothing to show.
 #[derive(Clone, Copy)]
@@ -79,22 +65,40 @@ fn print_head<R: Print>(rt: &R) -> io::Result<()> {
     )
 }
 
+/// Prints what is shown of a moment.
+fn print_moment<R: Print>(rt: &R, name: &str, moment: &Moment) -> io::Result<()> {
+    let (low, next) = (moment.low, moment.next());
+    let (same, came) = (moment.same, moment.came);
+    println!(rt; "{name}: low runs at {low}, next is {next} ({same} of {came} times)")
+}
+
 /// Prints what is shown of all moments, and how many calls were answered.
-fn print_all<R: Print>(rt: &R, shown: &Shown, answered: u64) -> io::Result<()> {
-    print_shown(rt, shown)?;
+fn print_all<R: Print>(rt: &R, told: &Told) -> io::Result<()> {
+    print_moment(rt, "low locks", &told.shown.locks)?;
+    print_moment(rt, "high waits", &told.shown.waits)?;
+    print_moment(rt, "low unlocks", &told.shown.unlocks)?;
+    let answered = told.answered;
     println!(rt; "{answered} calls answered, as the journal has them")
 }
 
 /// What a book shows, and how many calls were answered.
-fn told_by(alloc: Global, book: &Book) -> Result<(Shown, u64), Failure> {
-    match shown_by(alloc, book) {
-        Ok(shown) => Ok((shown, book.answered)),
-        Err(failure) => Err(failure),
-    }
+#[derive(Clone, Copy)]
+struct Told {
+    shown: Shown,
+    answered: u64,
 }
 
-/// Runs the threads. Answers what their book shows, and how many calls were answered.
-fn run<R: Threads + Wait + Sync>(rt: &R, alloc: Global) -> Result<(Shown, u64), Failure> {
+/// What this book shows.
+fn told_by(alloc: Global, book: &Book) -> Result<Told, Failure> {
+    let shown = shown_by(alloc, book)?;
+    Ok(Told {
+        shown,
+        answered: book.answered,
+    })
+}
+
+/// Runs the threads. Answers what their book shows.
+fn run<R: Threads + Wait + Sync>(rt: &R, alloc: Global) -> Result<Told, Failure> {
     let course = Course::new();
     match run_desk(rt, alloc, &course) {
         Ok(book) => told_by(alloc, &book),
@@ -103,10 +107,17 @@ fn run<R: Threads + Wait + Sync>(rt: &R, alloc: Global) -> Result<(Shown, u64), 
 }
 
 /// Runs the threads, and prints what their book shows.
-pub fn show<R: Threads + Wait + Sync + Print>(rt: &R, alloc: Global) -> Result<()> {
-    printed(print_head(rt))?;
+fn show_run<R: Threads + Wait + Sync + Print>(rt: &R, alloc: Global) -> Result<()> {
     match run(rt, alloc) {
-        Ok((shown, answered)) => printed(print_all(rt, &shown, answered)),
+        Ok(told) => printed(print_all(rt, &told)),
         Err(failure) => Err(failure.error()),
+    }
+}
+
+/// Prints what is to be run, runs the threads, and prints what their book shows.
+pub fn show<R: Threads + Wait + Sync + Print>(rt: &R, alloc: Global) -> Result<()> {
+    match print_head(rt) {
+        Ok(()) => show_run(rt, alloc),
+        Err(error) => Err(Error::from(error)),
     }
 }

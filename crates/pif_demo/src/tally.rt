@@ -73,14 +73,19 @@ fn sum_by<R: Threads + Wait + Sync>(rt: &R, quick: &Quick<u64>, passes: Vec<Pass
     }
 }
 
+/// Runs the threads. Answers the sum, or `None` where memory is refused.
+fn sum<R: Threads + Wait + Sync>(rt: &R, alloc: Global) -> Option<u64> {
+    let values = [0].to_vec(alloc).ok()?;
+    match Quick::open(alloc, values, 2) {
+        Ok((quick, passes)) => Some(sum_by(rt, &quick, passes)),
+        Err(_) => None,
+    }
+}
+
 /// Runs the threads, and prints the sum.
 pub fn show<R: Threads + Wait + Sync + Print>(rt: &R, alloc: Global) -> io::Result<()> {
-    let values = [0].to_vec(alloc)?;
-    let Ok((quick, passes)) = Quick::open(alloc, values, 2) else {
-        return Err(io::Error::from(io::ErrorKind::OutOfMemory));
-    };
-    println!(rt;
-        "two threads add 1 to {LAST} each: {}",
-        sum_by(rt, &quick, passes)
-    )
+    match sum(rt, alloc) {
+        Some(sum) => println!(rt; "two threads add 1 to {LAST} each: {sum}"),
+        None => Err(io::Error::from(io::ErrorKind::OutOfMemory)),
+    }
 }

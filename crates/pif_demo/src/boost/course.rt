@@ -1,7 +1,8 @@
+use super::Failure;
 use pif_desk::{Pause, Seen};
 use pif_types::Tid;
-use std::sync::Wait;
 use std::sync::atomic::{AtomicBool, AtomicU64, Ordering};
+use std::sync::{Mutex, Wait};
 use std::thread::yield_now;
 
 /// How far the threads are.
@@ -15,6 +16,8 @@ pub struct Course {
     done: AtomicU64,
     /// Whether a thread has met a fault, or could not be started.
     stopped: AtomicBool,
+    /// What the first of these failures was.
+    failure: Mutex<Option<Failure>>,
 }
 
 impl Course {
@@ -25,12 +28,25 @@ impl Course {
             waited: AtomicU64::new(0),
             done: AtomicU64::new(0),
             stopped: AtomicBool::new(false),
+            failure: Mutex::new(None),
         }
     }
 
-    /// Lets all threads end.
-    pub fn stop(&self) {
+    /// Notes a failure, unless there was one before, and lets all threads end.
+    pub fn fail<R: Wait>(&self, rt: &R, failure: Failure) {
+        let mut first = self.failure.lock(rt);
+        if first.is_none() {
+            *first = Some(failure);
+        }
         self.stopped.store(true, Ordering::SeqCst);
+    }
+
+    /// Whether there was a failure, once all threads have ended, and which was the first.
+    pub fn outcome<R: Wait>(&self, rt: &R) -> Result<(), Failure> {
+        match *self.failure.lock(rt) {
+            None => Ok(()),
+            Some(failure) => Err(failure),
+        }
     }
 
     /// Low has got the mutex once more.

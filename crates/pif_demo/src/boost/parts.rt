@@ -5,36 +5,13 @@ use pif_types::{Kind, Limits, MutexId, Request};
 use std::alloc::{AllocError, Global};
 use std::sync::Wait;
 use std::thread;
-use std::thread::{JoinHandle, Threads};
+use std::thread::Threads;
 
 /// How often middle locks and unlocks its mutex in each round.
 pub const PAIRS: u32 = 5;
 
 /// How often a client asks to end while that is refused for memory.
 const TRIES: u32 = 1_000;
-
-/// What a thread does.
-#[derive(Clone, Copy)]
-enum Part {
-    Low,
-    Middle,
-    High,
-}
-
-/// A thread that is to run: its part, its client, and the mutex of its calls.
-#[derive(Drop)]
-struct Player {
-    part: Part,
-    client: Client,
-    mutex: MutexId,
-}
-
-/// A client whose thread has ended, and the fault that it met, if it met one.
-#[derive(Drop)]
-struct Ended {
-    client: Client,
-    fault: Option<DeskFault>,
-}
 
 /// Makes a call.
 fn make<R: Wait>(
@@ -47,17 +24,6 @@ fn make<R: Wait>(
         Ok(_) => Ok(()),
         Err(fault) => Err(fault),
     }
-}
-
-/// Locks and unlocks a mutex.
-fn make_pair<R: Wait>(
-    rt: &R,
-    desk: &Desk<Watch<'_>>,
-    client: &mut Client,
-    mutex: MutexId,
-) -> Result<(), DeskFault> {
-    make(rt, desk, client, Request::Lock(mutex))?;
-    make(rt, desk, client, Request::Unlock(mutex))
 }
 
 /// Low's part: it holds the mutex until high waits for it.
@@ -80,6 +46,21 @@ fn play_low<R: Wait>(
     Ok(())
 }
 
+/// Locks and unlocks a mutex so many times.
+fn make_pairs<R: Wait>(
+    rt: &R,
+    desk: &Desk<Watch<'_>>,
+    client: &mut Client,
+    mutex: MutexId,
+    pairs: u32,
+) -> Result<(), DeskFault> {
+    for _pair in 0..pairs {
+        make(rt, desk, client, Request::Lock(mutex))?;
+        make(rt, desk, client, Request::Unlock(mutex))?;
+    }
+    Ok(())
+}
+
 /// The part of middle and high: so many pairs in each round, while low holds its mutex.
 fn play_pairs<R: Wait>(
     rt: &R,
@@ -93,9 +74,7 @@ fn play_pairs<R: Wait>(
         if !course.is_held(rt, round) {
             break;
         }
-        for _pair in 0..pairs {
-            make_pair(rt, desk, client, mutex)?;
-        }
+        make_pairs(rt, desk, client, mutex, pairs)?;
         course.end_part();
     }
     Ok(())
@@ -111,55 +90,61 @@ fn leave<R: Wait>(rt: &R, desk: &Desk<Watch<'_>>, client: &mut Client) {
     }
 }
 
-/// Plays a part to its end. Where it meets a fault its thread ends, and all are to end.
-fn play<R: Wait>(rt: &R, course: &Course, desk: &Desk<Watch<'_>>, player: Player) -> Ended {
-    let Player {
-        part,
-        mut client,
-        mutex,
-    } = player;
-    let played = match part {
-        Part::Low => play_low(rt, course, desk, &mut client, mutex),
-        Part::Middle => play_pairs(rt, course, desk, &mut client, mutex, PAIRS),
-        Part::High => play_pairs(rt, course, desk, &mut client, mutex, 1),
-    };
-    if played.is_err() {
-        leave(rt, desk, &mut client);
-        course.stop();
-    }
-    Ended {
-        client,
-        fault: played.err(),
-    }
+/// Which mutex a thread has: low and high share one, and middle has one of its own.
+#[derive(Clone, Copy)]
+struct Mutexes {
+    shared: MutexId,
+    own: MutexId,
 }
 
-/// Adds a player to the others.
-fn add(players: &mut Vec<Player>, player: Player) -> Result<(), Failure> {
-    match players.push(player) {
-        Ok(()) => Ok(()),
-        Err(fault) => Err(Failure::Memory(AllocError::from(fault))),
-    }
-}
-
-/// A player enters the desk with this priority.
-fn enter_one<R: Wait>(
+/// Plays the part of the thread with this number: low is 1, middle 2, and high 3.
+fn play_part<R: Wait>(
     rt: &R,
+    course: &Course,
     desk: &Desk<Watch<'_>>,
-    (part, mutex): (Part, MutexId),
-    prio: u32,
-    players: &mut Vec<Player>,
-) -> Result<(), Failure> {
-    match desk.enter(rt, prio) {
-        Ok(client) => add(
-            players,
-            Player {
-                part,
-                client,
-                mutex,
-            },
-        ),
-        Err(fault) => Err(Failure::Desk(fault)),
+    client: &mut Client,
+    mutexes: &Mutexes,
+) -> Result<(), DeskFault> {
+    match client.thread().get() {
+        1 => play_low(rt, course, desk, client, mutexes.shared),
+        2 => play_pairs(rt, course, desk, client, mutexes.own, PAIRS),
+        _ => play_pairs(rt, course, desk, client, mutexes.shared, 1),
     }
+}
+
+/// Plays a part to its end. Where it meets a fault its thread ends, and all are to end.
+fn play<R: Wait>(
+    rt: &R,
+    course: &Course,
+    desk: &Desk<Watch<'_>>,
+    client: &mut Client,
+    mutexes: &Mutexes,
+) {
+    if let Err(fault) = play_part(rt, course, desk, client, mutexes) {
+        leave(rt, desk, client);
+        course.fail(rt, Failure::Thread(fault));
+    }
+}
+
+/// Each client plays in a thread of its own. All threads have ended when this returns.
+fn play_all<R: Threads + Wait + Sync>(
+    rt: &R,
+    course: &Course,
+    desk: &Desk<Watch<'_>>,
+    clients: &mut [Client],
+    mutexes: &Mutexes,
+) {
+    thread::scope(thread::scope_env(), rt, |scope| {
+        for client in clients {
+            if scope
+                .spawn(move || play(rt, course, desk, client, mutexes))
+                .is_err()
+            {
+                course.fail(rt, Failure::Start);
+                return;
+            }
+        }
+    });
 }
 
 /// A mutex of the desk.
@@ -170,80 +155,64 @@ fn make_mutex<R: Wait>(rt: &R, desk: &Desk<Watch<'_>>) -> Result<MutexId, Failur
     }
 }
 
-/// The three players enter: low and high share a mutex, middle has one of its own.
-fn enter_all<R: Wait>(
-    rt: &R,
-    desk: &Desk<Watch<'_>>,
-    players: &mut Vec<Player>,
-) -> Result<(), Failure> {
+/// The mutexes of the desk.
+fn make_mutexes<R: Wait>(rt: &R, desk: &Desk<Watch<'_>>) -> Result<Mutexes, Failure> {
     let shared = make_mutex(rt, desk)?;
     let own = make_mutex(rt, desk)?;
-    let [low, middle, high] = PRIORITIES;
-    enter_one(rt, desk, (Part::Low, shared), low, players)?;
-    enter_one(rt, desk, (Part::Middle, own), middle, players)?;
-    enter_one(rt, desk, (Part::High, shared), high, players)
+    Ok(Mutexes { shared, own })
 }
 
-/// Keeps the client of a thread that has ended with no fault.
-fn keep(ended: Ended, clients: &mut Vec<Client>) -> Result<(), Failure> {
-    let Ended { client, fault } = ended;
-    if let Some(fault) = fault {
-        return Err(Failure::Thread(fault));
-    }
+/// Adds a client to the others.
+fn add(clients: &mut Vec<Client>, client: Client) -> Result<(), Failure> {
     match clients.push(client) {
         Ok(()) => Ok(()),
         Err(fault) => Err(Failure::Memory(AllocError::from(fault))),
     }
 }
 
-/// The clients of the threads, once each has ended.
-fn join_all<R: Threads>(
+/// A client enters the desk with this priority.
+fn enter_one<R: Wait>(
     rt: &R,
-    alloc: Global,
-    threads: Vec<JoinHandle<Ended>>,
-) -> Result<Vec<Client>, Failure> {
-    let mut clients = Vec::new(alloc);
-    for thread in threads {
-        keep(thread.join(rt), &mut clients)?;
+    desk: &Desk<Watch<'_>>,
+    prio: u32,
+    clients: &mut Vec<Client>,
+) -> Result<(), Failure> {
+    match desk.enter(rt, prio) {
+        Ok(client) => add(clients, client),
+        Err(fault) => Err(Failure::Desk(fault)),
     }
-    Ok(clients)
 }
 
-/// Each player runs in a thread of its own, and gives its client back.
-fn play_all<R: Threads + Wait + Sync>(
+/// Low, middle and high enter the desk.
+fn enter_all<R: Wait>(
     rt: &R,
-    alloc: Global,
-    course: &Course,
     desk: &Desk<Watch<'_>>,
-    players: Vec<Player>,
-) -> Result<Vec<Client>, Failure> {
-    thread::scope(thread::scope_env(), rt, |scope| {
-        let mut threads = Vec::new(alloc);
-        for player in players {
-            let Ok(thread) = scope.spawn(move || play(rt, course, desk, player)) else {
-                course.stop();
-                return Err(Failure::Start);
-            };
-            if threads.push(thread).is_err() {
-                course.stop();
-                return Err(Failure::Desk(DeskFault::NoMemory));
-            }
-        }
-        join_all(rt, alloc, threads)
-    })
+    clients: &mut Vec<Client>,
+) -> Result<(), Failure> {
+    for prio in PRIORITIES {
+        enter_one(rt, desk, prio, clients)?;
+    }
+    Ok(())
 }
 
-/// The clients of the players, who enter a desk and play all rounds.
-fn clients_of<R: Threads + Wait + Sync>(
+/// Three clients enter a desk and play all rounds.
+fn play_at<R: Threads + Wait + Sync>(
     rt: &R,
-    alloc: Global,
     course: &Course,
     desk: &Desk<Watch<'_>>,
-) -> Result<Vec<Client>, Failure> {
-    let mut players = Vec::new(alloc);
-    match enter_all(rt, desk, &mut players) {
-        Ok(()) => play_all(rt, alloc, course, desk, players),
-        Err(failure) => Err(failure),
+    clients: &mut Vec<Client>,
+) -> Result<(), Failure> {
+    let mutexes = make_mutexes(rt, desk)?;
+    enter_all(rt, desk, clients)?;
+    play_all(rt, course, desk, clients.as_mut_slice(), &mutexes);
+    course.outcome(rt)
+}
+
+/// A desk settles with its clients.
+fn settle(desk: Desk<Watch<'_>>, clients: Vec<Client>) -> Result<Book, Failure> {
+    match desk.into_room().settle(clients) {
+        Ok(book) => Ok(book),
+        Err(_) => Err(Failure::Unsettled),
     }
 }
 
@@ -254,10 +223,10 @@ fn run_at<R: Threads + Wait + Sync>(
     course: &Course,
     desk: Desk<Watch<'_>>,
 ) -> Result<Book, Failure> {
-    let clients = clients_of(rt, alloc, course, &desk)?;
-    match desk.into_room().settle(clients) {
-        Ok(book) => Ok(book),
-        Err(_) => Err(Failure::Unsettled),
+    let mut clients = Vec::new(alloc);
+    match play_at(rt, course, &desk, &mut clients) {
+        Ok(()) => settle(desk, clients),
+        Err(failure) => Err(failure),
     }
 }
 

@@ -10,39 +10,12 @@ const LOW: u32 = 1;
 /// The number of middle, which enters next.
 const MIDDLE: u32 = 2;
 
-/// What a core shows: the priority with which low runs, and the number of the thread that runs next; 0 where there is
-/// none.
-#[derive(Clone, Copy, PartialEq, Eq)]
-pub struct View {
-    pub low: u32,
-    next: u32,
-}
-
-impl View {
-    /// What this core shows.
-    fn of(core: &Core, low: Tid) -> View {
-        View {
-            low: core.effective(low).map_or(0, |prio| prio.get()),
-            next: core.pick().map_or(0, |thread| thread.get()),
-        }
-    }
-
-    /// The name of the thread that runs next.
-    pub fn next(&self) -> &'static str {
-        match self.next {
-            0 => "none",
-            LOW => "low",
-            MIDDLE => "middle",
-            _ => "high",
-        }
-    }
-}
-
-/// A moment that comes in each round: what was shown when it came first, how often it came, and how often the same was
-/// shown.
+/// A moment that comes in each round: the priority with which low ran when it came first, and the number of the thread
+/// that ran next, each 0 where there was none; how often it came, and how often the same was shown.
 #[derive(Clone, Copy)]
 pub struct Moment {
-    pub first: View,
+    pub low: u32,
+    next: u32,
     pub came: u32,
     pub same: u32,
 }
@@ -51,64 +24,32 @@ impl Moment {
     /// A moment that has not come.
     fn new() -> Moment {
         Moment {
-            first: View { low: 0, next: 0 },
+            low: 0,
+            next: 0,
             came: 0,
             same: 0,
         }
     }
 
     /// It has come, and this was shown.
-    fn note(&mut self, view: View) {
+    fn note(&mut self, low: u32, next: u32) {
         if self.came == 0 {
-            self.first = view;
+            self.low = low;
+            self.next = next;
         }
         self.came = self.came.saturating_add(1);
-        if self.first == view {
+        if self.low == low && self.next == next {
             self.same = self.same.saturating_add(1);
         }
     }
-}
 
-/// What happens in an entry of the journal, as far as it is shown.
-#[derive(Clone, Copy)]
-enum Happening {
-    /// Low begins to lock its mutex.
-    LowLocks,
-    /// Low begins to unlock its mutex.
-    LowUnlocks,
-    /// A call of low is answered.
-    LowAnswered,
-    /// High begins to wait.
-    HighWaits,
-    /// Nothing that is shown.
-    Nothing,
-}
-
-impl Happening {
-    /// What low begins by this request.
-    fn begun(request: &Request) -> Happening {
-        match request {
-            Request::Lock(_) => Happening::LowLocks,
-            Request::Unlock(_) => Happening::LowUnlocks,
-            _ => Happening::Nothing,
-        }
-    }
-
-    /// What happens where this event was answered so.
-    fn of(event: &Event, seen: &Seen) -> Happening {
-        match (event, seen) {
-            (Event::Begin(t, request), Seen::Begun) => if t.get() == LOW {
-                Happening::begun(request)
-            } else {
-                Happening::Nothing
-            },
-            (Event::Go(t), Seen::Answered(0)) => if t.get() == LOW {
-                Happening::LowAnswered
-            } else {
-                Happening::Nothing
-            },
-            (Event::Go(_), Seen::Waits) => Happening::HighWaits,
-            _ => Happening::Nothing,
+    /// The name of the thread that ran next.
+    pub fn next(&self) -> &'static str {
+        match self.next {
+            0 => "none",
+            LOW => "low",
+            MIDDLE => "middle",
+            _ => "high",
         }
     }
 }
@@ -134,59 +75,111 @@ impl Shown {
         }
     }
 
-    /// Notes what is shown behind this.
-    fn note(&mut self, happening: Happening, view: View) {
-        match happening {
-            Happening::LowLocks => self.is_unlocking = false,
-            Happening::LowUnlocks => self.is_unlocking = true,
-            Happening::LowAnswered => if self.is_unlocking {
-                self.unlocks.note(view);
-            } else {
-                self.locks.note(view);
-            },
-            Happening::HighWaits => self.waits.note(view),
-            Happening::Nothing => {}
+    /// A call has begun.
+    fn begin(&mut self, event: &Event) {
+        if let Event::Begin(thread, request) = event {
+            if thread.get() == LOW {
+                self.is_unlocking = is_unlock(request);
+            }
+        }
+    }
+
+    /// A call was answered by 0, and this is shown behind it.
+    fn answer(&mut self, event: &Event, low: u32, next: u32) {
+        if !is_step_of_low(event) {
+            return;
+        }
+        if self.is_unlocking {
+            self.unlocks.note(low, next);
+        } else {
+            self.locks.note(low, next);
+        }
+    }
+
+    /// Notes what is shown behind an event that was answered so: with which priority low runs, and which thread is to
+    /// run next. Only high ever waits.
+    fn note(&mut self, event: &Event, seen: &Seen, low: u32, next: u32) {
+        match seen {
+            Seen::Begun => self.begin(event),
+            Seen::Waits => self.waits.note(low, next),
+            Seen::Answered(0) => self.answer(event, low, next),
+            _ => {}
         }
     }
 }
 
-/// The core does an entry of a journal again: what happens in it. `None` where the core answers otherwise.
-fn do_again(core: &mut Core, entry: &Entry) -> Option<Happening> {
-    let (same, happening) = match *entry {
-        Entry::Thread(t, prio) => (core.add_thread(prio.get()) == Ok(t), Happening::Nothing),
-        Entry::Mutex(m, kind, robust) => (
-            core.add_mutex(kind, robust) == Ok(m),
-            Happening::Nothing,
-        ),
-        Entry::Cond(c, m) => (core.add_cond(m) == Ok(c), Happening::Nothing),
-        Entry::Step(event, seen) => (core.step(event) == seen, Happening::of(&event, &seen)),
-    };
-    if same { Some(happening) } else { None }
+/// Whether a call unlocks.
+fn is_unlock(request: &Request) -> bool {
+    match request {
+        Request::Unlock(_) => true,
+        _ => false,
+    }
+}
+
+/// Whether an event is a step of low.
+fn is_step_of_low(event: &Event) -> bool {
+    match event {
+        Event::Go(thread) => thread.get() == LOW,
+        _ => false,
+    }
+}
+
+/// The priority with which low runs; 0 where there is none.
+fn level_of(core: &Core, low: Tid) -> u32 {
+    match core.effective(low) {
+        Some(prio) => prio.get(),
+        None => 0,
+    }
+}
+
+/// The number of the thread that runs next; 0 where there is none.
+fn next_of(core: &Core) -> u32 {
+    match core.pick() {
+        Some(thread) => thread.get(),
+        None => 0,
+    }
+}
+
+/// The core makes this event. Answers whether it answered so. What the core promises of it is not handed on.
+fn answers(core: &mut Core, event: &Event, seen: &Seen) -> bool {
+    core.step(*event) == *seen
+}
+
+/// The core makes this event, and what it then shows is noted. False where it answers otherwise.
+fn show_step(core: &mut Core, event: &Event, seen: &Seen, low: Tid, shown: &mut Shown) -> bool {
+    let same = answers(core, event, seen);
+    shown.note(event, seen, level_of(core, low), next_of(core));
+    same
+}
+
+/// The core does an entry of a journal again. False where it answers otherwise.
+fn show_entry(core: &mut Core, entry: &Entry, low: Tid, shown: &mut Shown) -> bool {
+    match entry {
+        Entry::Thread(thread, prio) => core.add_thread(prio.get()) == Ok(*thread),
+        Entry::Mutex(mutex, kind, robust) => core.add_mutex(*kind, *robust) == Ok(*mutex),
+        Entry::Cond(variable, mutex) => core.add_cond(*mutex) == Ok(*variable),
+        Entry::Step(event, seen) => show_step(core, event, seen, low, shown),
+    }
 }
 
 /// What a core shows that does these entries again.
-fn show_entries(
-    core: &mut Core,
-    entries: &[Entry],
-    low: Tid,
-    shown: &mut Shown,
-) -> Result<(), Failure> {
+fn show_entries(core: &mut Core, entries: &[Entry], shown: &mut Shown) -> Option<()> {
+    let low = Tid::new(LOW)?;
     for entry in entries {
-        match do_again(core, entry) {
-            Some(happening) => shown.note(happening, View::of(core, low)),
-            None => return Err(Failure::Differs),
+        if !show_entry(core, entry, low, shown) {
+            return None;
         }
     }
-    Ok(())
+    Some(())
 }
 
 /// What this core shows, once it has done these entries again.
 fn shown_in(core: &mut Core, entries: &[Entry]) -> Result<Shown, Failure> {
     let mut shown = Shown::new();
-    if let Some(low) = Tid::new(LOW) {
-        show_entries(core, entries, low, &mut shown)?;
+    match show_entries(core, entries, &mut shown) {
+        Some(()) => Ok(shown),
+        None => Err(Failure::Differs),
     }
-    Ok(shown)
 }
 
 /// What a core shows that does the entries of a book again.
