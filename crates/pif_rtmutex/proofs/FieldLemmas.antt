@@ -3,6 +3,7 @@ use Rattle.std.proofs.Common.{◌≡◌, ◌⊎◌, ℕ, ◌+◌, ◌<◌, ◌�
 use Rattle.std.proofs.lemmas.Bool.{cases_eq, cases_lt}
 use Rattle.std.proofs.lemmas.List.{get_or-map, get_or_past, length-map}
 use Rattle.std.proofs.lemmas.List.Sums.{sum_by-cons}
+use Rattle.std.proofs.lemmas.Option.{same_Some}
 use Rattle.std.specs.Ordering.{nat_cmp}
 use Rattle.std.specs.Cmp.{nat_cmp_total}
 use Rattle.std.specs.FinMap.{FinMap, get, insert, remove, len, len-insert, same_map, nat_cmp-IsAntisymmetric}
@@ -88,6 +89,19 @@ pub state-contains : (f : State → ℕ) (s : Slab State) (states : FinMap nat_c
     → owners_of (slab_with f s) ≡ states
     → j ≡ k → IsSome (get states k) → ContainsKey s j
 state-contains f s states j k e same some = some-state f s j (subst IsSome (λ i. get (sym e i) (sym same i)) some)
+
+-- a state that has this row is in the slab
+pub state-in_row : (s : Slab State) (places : FinMap nat_cmp ℕ) (j k r : ℕ)
+    → owners_of (slab_with (λ (x : State). x.row) s) ≡ places → j ≡ k → get places k ≡ Some r
+    → (y : State) × (value_at s j ≡ Some y) × (y.row ≡ r)
+state-in_row s places j k r e same row =
+    by_value (value_at s j) refl
+    (sym (get-states (λ (x : State). x.row) s j) ∙ (λ i. get (e i) (same i)) ∙ row)
+  where
+    by_value : (o : Option State) → value_at s j ≡ o → option_map (λ (x : State). x.row) o ≡ Some r
+        → (y : State) × (value_at s j ≡ Some y) × (y.row ≡ r)
+    by_value None at some = let wrong : None ≡ Some r = some in absurd cc
+    by_value (Some y) at some = (y, at, same_Some y.row r some)
 
 -- another state at a key that has one, with the same number
 insert-same : (m : FinMap nat_cmp ℕ) (k v : ℕ) → get m k ≡ Some v → insert m k v ≡ m

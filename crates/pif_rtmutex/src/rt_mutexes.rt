@@ -242,13 +242,13 @@ impl RtMutexes {
         ensures nodes { KeepsWaiterNodes self.old t table.old table.new }
         ensures holds { HoldsStates self.new table.new }
     {
-        let owner = self.owner(table, key);
-        let was = self.first(table, key);
+        let State { owner, row } = self.state(key);
+        let was = self.first_in(table, key, row);
         let node = self.wait_node(t);
-        self.waiters(table, key)
+        self.list_of_row(row)
             .insert(table, node, prio.get(), ticket);
         self.set_wait(t, Some(key));
-        self.settle(table, key, owner, was);
+        self.settle(table, key, row, owner, was);
     }
 
     /// Takes the thread `t` off the state on which it is queued. All other threads and all states stay as they were.
@@ -262,12 +262,12 @@ impl RtMutexes {
         ensures nodes { KeepsWaiterNodes self.old t table.old table.new }
         ensures holds { HoldsStates self.new table.new }
     {
-        let owner = self.owner(table, key);
-        let was = self.first(table, key);
+        let State { owner, row } = self.state(key);
+        let was = self.first_in(table, key, row);
         let node = self.wait_node(t);
-        self.waiters(table, key).remove(table, node);
+        self.list_of_row(row).remove(table, node);
         self.set_wait(t, None);
-        self.settle(table, key, owner, was);
+        self.settle(table, key, row, owner, was);
     }
 
     /// Gives the thread `t` another priority among the waiters of the state on which it is queued. It keeps its ticket,
@@ -281,11 +281,11 @@ impl RtMutexes {
         ensures nodes { KeepsWaiterNodes self.old t table.old table.new }
         ensures holds { HoldsStates self.new table.new }
     {
-        let owner = self.owner(table, key);
-        let was = self.first(table, key);
+        let State { owner, row } = self.state(key);
+        let was = self.first_in(table, key, row);
         let node = self.wait_node(t);
-        self.waiters(table, key).rekey(table, node, prio.get());
-        self.settle(table, key, owner, was);
+        self.list_of_row(row).rekey(table, node, prio.get());
+        self.settle(table, key, row, owner, was);
     }
 
     /// The ticket with which the thread `t` is queued. `None` if it waits for nothing.
@@ -329,13 +329,13 @@ impl RtMutexes {
         ensures nodes { KeepsWaiterNodes self.old result table.old table.new }
         ensures holds { HoldsStates self.new table.new }
     {
-        let owner = self.owner(table, key);
-        let next = self.first(table, key).unwrap();
+        let State { owner, row } = self.state(key);
+        let next = self.first_in(table, key, row).unwrap();
         let node = self.wait_node(next);
-        self.waiters(table, key).remove(table, node);
+        self.list_of_row(row).remove(table, node);
         self.set_wait(next, None);
-        self.set_owner(key, next);
-        self.retop(table, key, owner, Some(next));
+        self.set_owner(key, row, next);
+        self.retop(table, key, row, owner, Some(next), next);
         next
     }
 
@@ -371,6 +371,15 @@ impl RtMutexes {
         ensures { result ≡ first_waiter self.now table.now key }
     {
         let row = self.place(key)?;
+        self.first_in(table, key, row)
+    }
+
+    /// The first of the waiters of a state that has this row. `None` if nobody is queued on it.
+    fn first_in(&self, table: &NodeTable, key: Key, row: u32) -> Option<Tid>
+        requires holds { HoldsWaiters self.now table.now }
+        requires row { get self.now.places key ≡ Some row }
+        ensures { result ≡ first_waiter self.now table.now key }
+    {
         let node = self.list_of_row(row).top(table)?;
         Tid::new(node.get() - self.first_node + 1)
     }
@@ -383,6 +392,15 @@ impl RtMutexes {
     {
         let node = table.next(self.wait_node(t))?;
         Tid::new(node.get() - self.first_node + 1)
+    }
+
+    /// What is stored of a state, which has to be there.
+    fn state(&self, key: Key) -> State
+        requires { IsSome (get self.now.owners key) }
+        ensures owner { get self.now.owners key ≡ Some result.owner }
+        ensures row { get self.now.places key ≡ Some result.row }
+    {
+        self.states[key.get()]
     }
 
     /// The row of a state. `None` if it is not there.
@@ -433,12 +451,11 @@ impl RtMutexes {
         self.put(t, row.with_wait(wait));
     }
 
-    /// Makes `owner` the owner of a state.
-    fn set_owner(&mut self, key: Key, owner: Tid)
-        requires { IsSome (get self.old.owners key) }
+    /// Makes `owner` the owner of a state that has this row.
+    fn set_owner(&mut self, key: Key, row: u32, owner: Tid)
+        requires { get self.old.places key ≡ Some row }
         ensures { self.new ≡ with_owner_of key owner self.old }
     {
-        let row = self.states[key.get()].row;
         self.states[key.get()] = State { owner, row };
     }
 
@@ -486,19 +503,20 @@ impl RtMutexes {
         Node::new(self.first_node + self.threads + (t.get() - 1))
     }
 
-    /// Lets the top waiter of a state stand among those of its owner, after its waiters changed. Before that, `was` was
-    /// its top waiter, and stood there. Little is to do if it still is.
-    fn settle(&self, table: &mut NodeTable, key: Key, owner: Tid, was: Option<Tid>)
+    /// Lets the top waiter of a state that has this row stand among those of its owner, after its waiters changed.
+    /// Before that, `was` was its top waiter, and stood there. Little is to do if it still is.
+    fn settle(&self, table: &mut NodeTable, key: Key, row: u32, owner: Tid, was: Option<Tid>)
         requires waiters { HoldsWaiters self.now table.old }
+        requires row { get self.now.places key ≡ Some row }
         requires owner { get self.now.owners key ≡ Some owner }
         requires but { IsToppedBut self.now table.old key owner was }
         ensures changes { ChangesTops self.now table.old table.new }
         ensures tops { HoldsTops self.now table.new }
     {
-        if self.first(table, key) == was {
+        if self.first_in(table, key, row) == was {
             self.rerank(table, key, owner, was);
         } else {
-            self.retop(table, key, owner, was);
+            self.retop(table, key, row, owner, was, owner);
         }
     }
 
@@ -521,19 +539,28 @@ impl RtMutexes {
         }
     }
 
-    /// Takes `was`, which stands among the top waiters of `owner` for a state, out from there, and puts the top waiter
-    /// of the state among those of its owner.
-    fn retop(&self, table: &mut NodeTable, key: Key, owner: Tid, was: Option<Tid>)
+    /// Takes `was`, which stands among the top waiters of `owner` for a state that has this row, out from there, and
+    /// puts the top waiter of the state among those of `to`, which owns it now.
+    fn retop(
+        &self,
+        table: &mut NodeTable,
+        key: Key,
+        row: u32,
+        owner: Tid,
+        was: Option<Tid>,
+        to: Tid,
+    )
         requires waiters { HoldsWaiters self.now table.old }
-        requires state { IsSome (get self.now.owners key) }
+        requires row { get self.now.places key ≡ Some row }
+        requires to { get self.now.owners key ≡ Some to }
         requires owner { IsThread self.now owner }
         requires but { IsToppedBut self.now table.old key owner was }
         ensures changes { ChangesTops self.now table.old table.new }
         ensures tops { HoldsTops self.now table.new }
     {
         self.take_top(table, key, owner, was);
-        let first = self.first(table, key);
-        self.put_top(table, key, owner, first);
+        let first = self.first_in(table, key, row);
+        self.put_top(table, key, owner, to, first);
     }
 
     /// Takes `was`, which stands among the top waiters of `owner` for a state, out from there.
@@ -550,10 +577,11 @@ impl RtMutexes {
         }
     }
 
-    /// Puts the top waiter of a state among those of its owner.
-    fn put_top(&self, table: &mut NodeTable, key: Key, owner: Tid, first: Option<Tid>)
+    /// Puts the top waiter of a state among those of `to`, which owns it. Those of `owner`, which owned it before, have
+    /// nobody for it.
+    fn put_top(&self, table: &mut NodeTable, key: Key, owner: Tid, to: Tid, first: Option<Tid>)
         requires waiters { HoldsWaiters self.now table.old }
-        requires state { IsSome (get self.now.owners key) }
+        requires to { get self.now.owners key ≡ Some to }
         requires but { IsToppedBut self.now table.old key owner None }
         requires first { first ≡ first_waiter self.now table.old key }
         ensures changes { ChangesTops self.now table.old table.new }
@@ -562,8 +590,7 @@ impl RtMutexes {
         if let Some(t) = first {
             let prio = table.key(self.wait_node(t)).prio;
             let node = self.top_node(t);
-            let list = self.tops(self.owner(table, key));
-            list.insert(table, node, prio, 0);
+            self.tops(to).insert(table, node, prio, 0);
         }
     }
 }

@@ -1,8 +1,8 @@
-use Rattle.std.proofs.Common.{◌≡◌, ◌∙◌, ◌+◌, ◌<◌, ap, sym, subst, ℕ, Option, Some, None, set, arith}
+use Rattle.std.proofs.Common.{◌≡◌, ◌∙◌, ◌+◌, ◌<◌, ap, sym, subst, ℕ, Option, Some, None, set, arith, option_map}
 use Rattle.std.specs.FinMap.{get}
 use Rattle.pif_lists.specs.Table.{NodeLists, holder}
 use Rattle.pif_owners.specs.Owners.{with_wait}
-use Rattle.pif_owners.specs.States.{States, row_at, wait_of, wait_node, owners_in}
+use Rattle.pif_owners.specs.States.{States, row_at, wait_of, wait_node, owners_in, wait_list}
 use Rattle.pif_owners.specs.Holds.{HoldsWaiters, HoldsTops, HoldsStates, IsToppedBut}
 use Rattle.pif_owners.specs.Frames.{ChangesTops}
 use Rattle.pif_owners.proofs.ViewLemmas.{waits_on-owners_in}
@@ -10,7 +10,15 @@ use Rattle.pif_owners.proofs.WaiterLemmas.{waits-thread}
 use Rattle.pif_owners.proofs.ListChanges.{in-no_list}
 use Rattle.pif_rtmutex.proofs.StepLemmas.{row-list, WaitsAt, waits-at, IsStep, IsDone, done}
 use Rattle.pif_rtmutex.proofs.CallLemmas.{IsCall, dequeued}
+use Rattle.pif_rtmutex.proofs.ReadLemmas.{row-below}
+use Rattle.pif_rtmutex.specs.Fields.{State}
 use Rattle.pif_rtmutex.proofs.rt_mutexes.RtMutexes.dequeue.Goals as goal
+
+pub list_of_row-requires : goal.list_of_row-requires
+list_of_row-requires c =
+    let place : get c.args.self.now.places c.args.key ≡ Some c.owner.inside.row =
+    c.state.ensures.row ∙ ap (λ (x : State). Some x.row) (sym c.owner.view_is) in
+    row-below c.args.self.now c.args.table.now c.args.key c.owner.inside.row c.requires.holds.waiters place
 
 pub wait_node-node-requires : goal.wait_node-node-requires
 wait_node-node-requires c =
@@ -20,26 +28,38 @@ wait_node-node-requires c =
 
 pub remove-requires-clause-held : goal.remove-requires-clause-held
 remove-requires-clause-held c =
+    let place : get c.args.self.now.places c.args.key ≡ Some c.owner.inside.row =
+    c.state.ensures.row ∙ ap (λ (x : State). Some x.row) (sym c.owner.view_is) in
+    let list : option_map (wait_list c.args.self.now) (get c.args.self.now.places c.args.key)
+    ≡ Some c.list_of_row.result =
+    ap (option_map (wait_list c.args.self.now)) place ∙ ap Some (sym c.list_of_row.ensures) in
     let on : wait_of c.args.self.now c.args.t ≡ Some c.args.key =
     sym (waits_on-owners_in c.args.self.now c.args.table.now c.args.t) ∙ c.requires.queued in
     let m : States = c.args.self.now in
     let t : NodeLists = c.args.table.now in
     let at : WaitsAt m t c.args.key c.args.t = waits-at m t c.args.key c.args.t c.requires.holds.waiters on in
     ap (holder t) c.wait_node-node.ensures.node ∙ at.held
-    ∙ ap Some (sym (row-list m c.args.key at.row c.waiters.result at.place c.waiters.ensures))
+    ∙ ap Some (sym (row-list m c.args.key at.row c.list_of_row.result at.place list))
 
 pub settle-requires : goal.settle-requires
 settle-requires c =
+    let place : get c.args.self.now.places c.args.key ≡ Some c.owner.inside.row =
+    c.state.ensures.row ∙ ap (λ (x : State). Some x.row) (sym c.owner.view_is) in
+    let list : option_map (wait_list c.args.self.now) (get c.args.self.now.places c.args.key)
+    ≡ Some c.list_of_row.result =
+    ap (option_map (wait_list c.args.self.now)) place ∙ ap Some (sym c.list_of_row.ensures) in
+    let owned : get c.args.self.now.owners c.args.key ≡ Some c.owner.inside.owner =
+    c.state.ensures.owner ∙ ap (λ (x : State). Some x.owner) (sym c.owner.view_is) in
     let m : States = c.args.self.now in
     let t : NodeLists = c.args.table.now in
     let now : NodeLists = c.remove.new.table in
     let k : ℕ = c.args.key in
     let u : ℕ = c.args.t in
-    let o : ℕ = c.owner-owner.result in
-    let call : IsCall m t now k u o c.waiters.result c.wait_node-node.result = record {
+    let o : ℕ = c.owner.inside.owner in
+    let call : IsCall m t now k u o c.list_of_row.result c.wait_node-node.result = record {
       holds = c.requires.holds;
-      owner = c.owner-owner.ensures.value;
-      list = c.waiters.ensures;
+      owner = owned;
+      list = list;
       node = c.wait_node-node.ensures.node;
       own = c.remove.ensures.sorted;
       others = c.remove.ensures.others;
@@ -47,28 +67,36 @@ settle-requires c =
     } in
     let step : IsStep m (set m.rows u (record (row_at m u) { wait = None })) m.owners t now k o u
     (with_wait u None (owners_in m t)) =
-    dequeued m t now k u o c.waiters.result c.wait_node-node.result call c.requires.queued
+    dequeued m t now k u o c.list_of_row.result c.wait_node-node.result call c.requires.queued
     c.remove.ensures.taken c.remove.ensures.holders in
     record {
       waiters = subst (λ (n : States). HoldsWaiters n now) (sym c.set_wait.ensures) step.waiters;
-      owner = ap (λ (n : States). get n.owners k) c.set_wait.ensures ∙ c.owner-owner.ensures.value;
+      row = ap (λ (n : States). get n.places k) c.set_wait.ensures ∙ place;
+      owner = ap (λ (n : States). get n.owners k) c.set_wait.ensures ∙ owned;
       but =
           subst (λ (x : States × Option ℕ). IsToppedBut x.0 now k o x.1)
-          (λ i. (sym c.set_wait.ensures i, sym c.first-was.ensures i)) step.but;
+          (λ i. (sym c.set_wait.ensures i, sym c.first_in-was.ensures i)) step.but;
     }
 
 pub returns : goal.returns
 returns c =
+    let place : get c.args.self.now.places c.args.key ≡ Some c.owner.inside.row =
+    c.state.ensures.row ∙ ap (λ (x : State). Some x.row) (sym c.owner.view_is) in
+    let list : option_map (wait_list c.args.self.now) (get c.args.self.now.places c.args.key)
+    ≡ Some c.list_of_row.result =
+    ap (option_map (wait_list c.args.self.now)) place ∙ ap Some (sym c.list_of_row.ensures) in
+    let owned : get c.args.self.now.owners c.args.key ≡ Some c.owner.inside.owner =
+    c.state.ensures.owner ∙ ap (λ (x : State). Some x.owner) (sym c.owner.view_is) in
     let m : States = c.args.self.now in
     let t : NodeLists = c.args.table.now in
     let now : NodeLists = c.remove.new.table in
     let k : ℕ = c.args.key in
     let u : ℕ = c.args.t in
-    let o : ℕ = c.owner-owner.result in
-    let call : IsCall m t now k u o c.waiters.result c.wait_node-node.result = record {
+    let o : ℕ = c.owner.inside.owner in
+    let call : IsCall m t now k u o c.list_of_row.result c.wait_node-node.result = record {
       holds = c.requires.holds;
-      owner = c.owner-owner.ensures.value;
-      list = c.waiters.ensures;
+      owner = owned;
+      list = list;
       node = c.wait_node-node.ensures.node;
       own = c.remove.ensures.sorted;
       others = c.remove.ensures.others;
@@ -76,7 +104,7 @@ returns c =
     } in
     let step : IsStep m (set m.rows u (record (row_at m u) { wait = None })) m.owners t now k o u
     (with_wait u None (owners_in m t)) =
-    dequeued m t now k u o c.waiters.result c.wait_node-node.result call c.requires.queued
+    dequeued m t now k u o c.list_of_row.result c.wait_node-node.result call c.requires.queued
     c.remove.ensures.taken c.remove.ensures.holders in
     let last : NodeLists = c.settle.new.table in
     let end : IsDone m (set m.rows u (record (row_at m u) { wait = None })) m.owners t last u

@@ -7,7 +7,7 @@ use Rattle.std.proofs.lemmas.List.{get_or-set_same}
 use Rattle.pif_lists.specs.Table.{no_key}
 use Rattle.pif_lists.specs.Order.{IsSorted}
 use Rattle.pif_owners.specs.Frames.{ChangesList, ChangesTops}
-use Rattle.pif_owners.proofs.WaiterLemmas.{StandsFirst, stands-first}
+use Rattle.pif_owners.proofs.WaiterLemmas.{StandsFirst, stands-first, some_owner}
 use Rattle.pif_owners.proofs.ListChanges.{changes-inserted, changes-as, in-list, tops-changed}
 use Rattle.pif_rtmutex.proofs.TopLemmas.{tops-put, but_nobody, top-free}
 use Rattle.pif_rtmutex.proofs.rt_mutexes.RtMutexes.put_top.Goals as goal
@@ -18,7 +18,8 @@ wait_node-requires c =
     let t : NodeLists = c.args.table.now in
     let u : ℕ = c.in-Some.t in
     let first : first_waiter m t c.args.key ≡ Some u = sym c.requires.first ∙ c.in-Some.is in
-    let mine : StandsFirst m t c.args.key u = stands-first m t c.args.key u c.requires.waiters c.requires.state first in
+    let mine : StandsFirst m t c.args.key u = stands-first m t c.args.key u c.requires.waiters
+    (some_owner m c.args.key c.args.to c.requires.to) first in
     mine.is_thread.1
 
 pub key-prio-requires : goal.key-prio-requires
@@ -27,7 +28,8 @@ key-prio-requires c =
     let t : NodeLists = c.args.table.now in
     let u : ℕ = c.in-Some.t in
     let first : first_waiter m t c.args.key ≡ Some u = sym c.requires.first ∙ c.in-Some.is in
-    let mine : StandsFirst m t c.args.key u = stands-first m t c.args.key u c.requires.waiters c.requires.state first in
+    let mine : StandsFirst m t c.args.key u = stands-first m t c.args.key u c.requires.waiters
+    (some_owner m c.args.key c.args.to c.requires.to) first in
     omega (arith, mine.is_thread, c.wait_node.ensures.node, c.requires.waiters.nodes)
 
 pub top_node-node-requires : goal.top_node-node-requires
@@ -36,18 +38,20 @@ top_node-node-requires c =
     let t : NodeLists = c.args.table.now in
     let u : ℕ = c.in-Some.t in
     let first : first_waiter m t c.args.key ≡ Some u = sym c.requires.first ∙ c.in-Some.is in
-    let mine : StandsFirst m t c.args.key u = stands-first m t c.args.key u c.requires.waiters c.requires.state first in
+    let mine : StandsFirst m t c.args.key u = stands-first m t c.args.key u c.requires.waiters
+    (some_owner m c.args.key c.args.to c.requires.to) first in
     mine.is_thread.1
 
-pub tops-list-requires : goal.tops-list-requires
-tops-list-requires c =
+pub tops-requires : goal.tops-requires
+tops-requires c =
     let m : States = c.args.self.now in
     let t : NodeLists = c.args.table.now in
     let u : ℕ = c.in-Some.t in
     let first : first_waiter m t c.args.key ≡ Some u = sym c.requires.first ∙ c.in-Some.is in
-    let mine : StandsFirst m t c.args.key u = stands-first m t c.args.key u c.requires.waiters c.requires.state first in
-    let o : ℕ = c.owner.result in
-    let i : IsThread m o = c.requires.waiters.owned c.args.key o c.owner.ensures.value in
+    let mine : StandsFirst m t c.args.key u = stands-first m t c.args.key u c.requires.waiters
+    (some_owner m c.args.key c.args.to c.requires.to) first in
+    let o : ℕ = c.args.to in
+    let i : IsThread m o = c.requires.waiters.owned c.args.key o c.requires.to in
     i.1
 
 pub insert-requires-clause-list_in : goal.insert-requires-clause-list_in
@@ -56,10 +60,11 @@ insert-requires-clause-list_in c =
     let t : NodeLists = c.args.table.now in
     let u : ℕ = c.in-Some.t in
     let first : first_waiter m t c.args.key ≡ Some u = sym c.requires.first ∙ c.in-Some.is in
-    let mine : StandsFirst m t c.args.key u = stands-first m t c.args.key u c.requires.waiters c.requires.state first in
-    let o : ℕ = c.owner.result in
-    let i : IsThread m o = c.requires.waiters.owned c.args.key o c.owner.ensures.value in
-    omega (arith, i, c.tops-list.ensures.list, c.requires.waiters.lists)
+    let mine : StandsFirst m t c.args.key u = stands-first m t c.args.key u c.requires.waiters
+    (some_owner m c.args.key c.args.to c.requires.to) first in
+    let o : ℕ = c.args.to in
+    let i : IsThread m o = c.requires.waiters.owned c.args.key o c.requires.to in
+    omega (arith, i, c.tops.ensures.list, c.requires.waiters.lists)
 
 pub insert-requires-clause-node_in : goal.insert-requires-clause-node_in
 insert-requires-clause-node_in c =
@@ -67,7 +72,8 @@ insert-requires-clause-node_in c =
     let t : NodeLists = c.args.table.now in
     let u : ℕ = c.in-Some.t in
     let first : first_waiter m t c.args.key ≡ Some u = sym c.requires.first ∙ c.in-Some.is in
-    let mine : StandsFirst m t c.args.key u = stands-first m t c.args.key u c.requires.waiters c.requires.state first in
+    let mine : StandsFirst m t c.args.key u = stands-first m t c.args.key u c.requires.waiters
+    (some_owner m c.args.key c.args.to c.requires.to) first in
     omega (arith, mine.is_thread, c.top_node-node.ensures.node, c.requires.waiters.nodes)
 
 pub insert-requires-clause-free : goal.insert-requires-clause-free
@@ -76,9 +82,10 @@ insert-requires-clause-free c =
     let t : NodeLists = c.args.table.now in
     let u : ℕ = c.in-Some.t in
     let first : first_waiter m t c.args.key ≡ Some u = sym c.requires.first ∙ c.in-Some.is in
-    let mine : StandsFirst m t c.args.key u = stands-first m t c.args.key u c.requires.waiters c.requires.state first in
+    let mine : StandsFirst m t c.args.key u = stands-first m t c.args.key u c.requires.waiters
+    (some_owner m c.args.key c.args.to c.requires.to) first in
     ap (holder t) c.top_node-node.ensures.node
-    ∙ top-free m t c.args.key c.args.owner c.owner.result u c.requires.waiters c.owner.ensures.value first
+    ∙ top-free m t c.args.key c.args.owner c.args.to u c.requires.waiters c.requires.to first
     c.requires.but
 
 pub insert-requires-clause-sorted : goal.insert-requires-clause-sorted
@@ -87,10 +94,11 @@ insert-requires-clause-sorted c =
     let t : NodeLists = c.args.table.now in
     let u : ℕ = c.in-Some.t in
     let first : first_waiter m t c.args.key ≡ Some u = sym c.requires.first ∙ c.in-Some.is in
-    let mine : StandsFirst m t c.args.key u = stands-first m t c.args.key u c.requires.waiters c.requires.state first in
-    let o : ℕ = c.owner.result in
-    let i : IsThread m o = c.requires.waiters.owned c.args.key o c.owner.ensures.value in
-    subst (λ l. IsSorted t l) (sym c.tops-list.ensures.list) (c.requires.but.topped.sorted o i)
+    let mine : StandsFirst m t c.args.key u = stands-first m t c.args.key u c.requires.waiters
+    (some_owner m c.args.key c.args.to c.requires.to) first in
+    let o : ℕ = c.args.to in
+    let i : IsThread m o = c.requires.waiters.owned c.args.key o c.requires.to in
+    subst (λ l. IsSorted t l) (sym c.tops.ensures.list) (c.requires.but.topped.sorted o i)
 
 pub returns-in-Some-clause-changes : goal.returns-in-Some-clause-changes
 returns-in-Some-clause-changes c =
@@ -98,18 +106,19 @@ returns-in-Some-clause-changes c =
     let t : NodeLists = c.args.table.now in
     let u : ℕ = c.in-Some.t in
     let first : first_waiter m t c.args.key ≡ Some u = sym c.requires.first ∙ c.in-Some.is in
-    let mine : StandsFirst m t c.args.key u = stands-first m t c.args.key u c.requires.waiters c.requires.state first in
-    let o : ℕ = c.owner.result in
-    let i : IsThread m o = c.requires.waiters.owned c.args.key o c.owner.ensures.value in
+    let mine : StandsFirst m t c.args.key u = stands-first m t c.args.key u c.requires.waiters
+    (some_owner m c.args.key c.args.to c.requires.to) first in
+    let o : ℕ = c.args.to in
+    let i : IsThread m o = c.requires.waiters.owned c.args.key o c.requires.to in
     let now : NodeLists = c.insert.new.table in
     let changes : ChangesList (top_list m o) (top_node m u) t now =
-    changes-as t now c.tops-list.result c.top_node-node.result (top_list m o)
-    (top_node m u) c.tops-list.ensures.list c.top_node-node.ensures.node
-    (changes-inserted t now c.tops-list.result c.top_node-node.result c.requires.waiters.apart c.insert.ensures.apart
+    changes-as t now c.tops.result c.top_node-node.result (top_list m o)
+    (top_node m u) c.tops.ensures.list c.top_node-node.ensures.node
+    (changes-inserted t now c.tops.result c.top_node-node.result c.requires.waiters.apart c.insert.ensures.apart
     c.insert.ensures.sorted c.insert.ensures.others
     (record { prio = c.key-prio.result.prio; ticket = 0 }) c.insert.ensures.put c.insert.ensures.holders) in
     let free : holder t (top_node m u) ≡ None =
-    top-free m t c.args.key c.args.owner o u c.requires.waiters c.owner.ensures.value first c.requires.but in
+    top-free m t c.args.key c.args.owner o u c.requires.waiters c.requires.to first c.requires.but in
     let own : (l : ℕ) → holder t (top_node m u) ≡ Some l → IsOwnList m l = λ l e. let wrong : None ≡ Some l = sym free
     ∙ e in absurd cc in
     let frame : ChangesTops m t now = tops-changed m t now o u c.requires.waiters i mine.is_thread own changes in
@@ -121,25 +130,26 @@ returns-in-Some-clause-tops c =
     let t : NodeLists = c.args.table.now in
     let u : ℕ = c.in-Some.t in
     let first : first_waiter m t c.args.key ≡ Some u = sym c.requires.first ∙ c.in-Some.is in
-    let mine : StandsFirst m t c.args.key u = stands-first m t c.args.key u c.requires.waiters c.requires.state first in
-    let o : ℕ = c.owner.result in
-    let i : IsThread m o = c.requires.waiters.owned c.args.key o c.owner.ensures.value in
+    let mine : StandsFirst m t c.args.key u = stands-first m t c.args.key u c.requires.waiters
+    (some_owner m c.args.key c.args.to c.requires.to) first in
+    let o : ℕ = c.args.to in
+    let i : IsThread m o = c.requires.waiters.owned c.args.key o c.requires.to in
     let now : NodeLists = c.insert.new.table in
     let changes : ChangesList (top_list m o) (top_node m u) t now =
-    changes-as t now c.tops-list.result c.top_node-node.result (top_list m o)
-    (top_node m u) c.tops-list.ensures.list c.top_node-node.ensures.node
-    (changes-inserted t now c.tops-list.result c.top_node-node.result c.requires.waiters.apart c.insert.ensures.apart
+    changes-as t now c.tops.result c.top_node-node.result (top_list m o)
+    (top_node m u) c.tops.ensures.list c.top_node-node.ensures.node
+    (changes-inserted t now c.tops.result c.top_node-node.result c.requires.waiters.apart c.insert.ensures.apart
     c.insert.ensures.sorted c.insert.ensures.others
     (record { prio = c.key-prio.result.prio; ticket = 0 }) c.insert.ensures.put c.insert.ensures.holders) in
     let free : holder t (top_node m u) ≡ None =
-    top-free m t c.args.key c.args.owner o u c.requires.waiters c.owner.ensures.value first c.requires.but in
+    top-free m t c.args.key c.args.owner o u c.requires.waiters c.requires.to first c.requires.but in
     let own : (l : ℕ) → holder t (top_node m u) ≡ Some l → IsOwnList m l = λ l e. let wrong : None ≡ Some l = sym free
     ∙ e in absurd cc in
     let frame : ChangesTops m t now = tops-changed m t now o u c.requires.waiters i mine.is_thread own changes in
     let put : holder now (top_node m u) ≡ Some (top_list m o) =
     ap (holder now) (sym c.top_node-node.ensures.node)
-    ∙ in-list t now c.tops-list.result c.top_node-node.result c.insert.ensures.holders
-    ∙ ap Some c.tops-list.ensures.list in
+    ∙ in-list t now c.tops.result c.top_node-node.result c.insert.ensures.holders
+    ∙ ap Some c.tops.ensures.list in
     let key : (key_at now (top_node m u)).prio ≡ c.key-prio.result.prio =
     ap (λ n. (key_at now n).prio) (sym c.top_node-node.ensures.node)
     ∙ ap (λ (x : NodeLists). (key_at x c.top_node-node.result).prio) c.insert.ensures.put
@@ -149,6 +159,6 @@ returns-in-Some-clause-tops c =
     let rank : IsRankedTop m now u =
     key ∙ ap (λ (x : Key). x.prio) (c.key-prio.ensures ∙ ap (key_at t) c.wait_node.ensures.node
     ∙ sym (changes.keys (wait_node m u) (λ e. absurd (omega (arith, mine.is_thread, e))))) in
-    tops-put m t now c.args.key o u c.requires.waiters i mine.is_thread changes frame c.owner.ensures.value first put
+    tops-put m t now c.args.key o u c.requires.waiters i mine.is_thread changes frame c.requires.to first put
     rank
     (but_nobody m t c.args.key c.args.owner o c.requires.but)

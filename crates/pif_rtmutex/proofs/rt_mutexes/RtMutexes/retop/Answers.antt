@@ -1,8 +1,8 @@
 use Rattle.pif_rtmutex.proofs.ChangeLemmas.{waiters-stay}
 use Rattle.pif_rtmutex.proofs.rt_mutexes.RtMutexes.retop.Goals as goal
 
-pub first-first-requires : goal.first-first-requires
-first-first-requires c =
+pub first_in-first-requires-clause-holds : goal.first_in-first-requires-clause-holds
+first_in-first-requires-clause-holds c =
     waiters-stay c.args.self.now c.args.table.now c.take_top.new.table c.requires.waiters c.take_top.ensures.changes
 
 pub put_top-requires-clause-waiters : goal.put_top-requires-clause-waiters

@@ -1,0 +1,32 @@
+use Rattle.std.proofs.Common.{◌∙◌, ap, sym, arith}
+use Rattle.pif_lists.specs.Table.{list_at}
+use Rattle.pif_lists.specs.Lists.{first_of}
+use Rattle.pif_owners.specs.States.{States}
+use Rattle.pif_rtmutex.proofs.ReadLemmas.{first-node}
+use Rattle.pif_rtmutex.proofs.rt_mutexes.RtMutexes.first_in.Goals as goal
+
+pub overflow_sub-get : goal.overflow_sub-get
+overflow_sub-get c =
+    let at = first-node c.args.self.now c.args.table.now c.args.key c.args.row c.in_ok-node.node c.requires.holds
+    c.requires.row
+    (sym (c.top.ensures.first ∙ ap (λ l. first_of (list_at c.args.table.now l)) c.list_of_row.ensures)
+    ∙ c.in_ok-node.was) in
+    omega (arith, at.1, c.get.ensures, ap (λ (m : States). m.first_node) c.self.view_is)
+
+pub overflow_add-get : goal.overflow_add-get
+overflow_add-get c =
+    let at = first-node c.args.self.now c.args.table.now c.args.key c.args.row c.in_ok-node.node c.requires.holds
+    c.requires.row
+    (sym (c.top.ensures.first ∙ ap (λ l. first_of (list_at c.args.table.now l)) c.list_of_row.ensures)
+    ∙ c.in_ok-node.was) in
+    record {
+      fits =
+          omega (
+            arith,
+            at.2,
+            c.get.ensures,
+            c.self.invariant.most,
+            ap (λ (m : States). m.first_node) c.self.view_is,
+            ap (λ (m : States). m.threads) c.self.view_is,
+          );
+    }
