@@ -2,12 +2,7 @@
 //! names a file of transcripts. Printed are the names that stand in it, what differs, and how many jobs were done.
 #![tactic(auto)]
 
-mod block;
-mod marks;
-mod streams;
-
-use crate::block::Block;
-use crate::streams::{Kept, Sink, Source};
+use pif_blocks::{Block, Kept, Sink, Source};
 use pif_cli::command;
 use std::alloc::Global;
 use std::rt::Files;

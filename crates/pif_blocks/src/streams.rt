@@ -11,12 +11,14 @@ pub struct Kept {
 }
 
 impl Kept {
+    /// Keeps nothing yet.
     pub fn new() -> Kept {
         Kept {
             bytes: ArrayVec::new(),
         }
     }
 
+    /// What was kept.
     pub fn text(&self) -> &[u8] {
         self.bytes.as_slice()
     }
@@ -49,6 +51,7 @@ pub struct Source<'a> {
 }
 
 impl<'a> Source<'a> {
+    /// Gives this text, at most `each_read` bytes a read; if `breaks`, a read at its end fails.
     pub fn new(text: &'a [u8], each_read: usize, breaks: bool) -> Source<'a> {
         Source {
             text,
@@ -83,6 +86,7 @@ pub struct Sink {
 }
 
 impl Sink {
+    /// Keeps up to so many bytes.
     pub fn new(room: usize) -> Sink {
         Sink {
             kept: Kept::new(),
@@ -90,6 +94,7 @@ impl Sink {
         }
     }
 
+    /// What was kept.
     pub fn text(&self) -> &[u8] {
         self.kept.text()
     }

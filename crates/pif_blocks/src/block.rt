@@ -10,13 +10,19 @@ use std::str::from_utf8;
 #[derive(Drop)]
 pub struct Block<'a> {
     lines: &'a str,
+    /// The name of the job, or an empty text.
     pub name: &'a str,
+    /// The words that ask for the job, the program's name first; none if the block asks for no job.
     pub words: ArrayVec<&'a str, 12>,
+    /// What the job reads.
     pub input: Kept,
+    /// How many bytes a read gives at most.
     pub each_read: usize,
+    /// Whether a read fails at the end of the input.
     pub breaks: bool,
     is_unread: bool,
     has_other_mark: bool,
+    /// How many bytes the output takes before a write fails.
     pub room: usize,
     is_cut: bool,
     first: Kept,
