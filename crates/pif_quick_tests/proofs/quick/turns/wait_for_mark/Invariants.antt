@@ -1,5 +1,5 @@
 use Rattle.pif_quick.specs.Quick.{IsPassOf, IsUnchanged}
-use Rattle.pif_thread_tests.proofs.quick.turns.wait_for_mark.Given as goal
+use Rattle.pif_quick_tests.proofs.quick.turns.wait_for_mark.Given as goal
 
 abbrev pub invariant-loop : goal.invariant-loop
 invariant-loop g l = record {

@@ -1,6 +1,6 @@
 use Rattle.std.proofs.Common.{◌≡◌, All, vec_len}
 use Rattle.pif_quick.specs.Quick.{IsPassOf, IsIdle}
-use Rattle.pif_thread_tests.proofs.quick.stress.meet_all.Given as goal
+use Rattle.pif_quick_tests.proofs.quick.stress.meet_all.Given as goal
 
 abbrev pub invariant-loop-k : goal.invariant-loop-k
 invariant-loop-k l = record {

@@ -1,8 +1,8 @@
 use Rattle.std.proofs.Common.{◌<◌, arith, length, sym, subst}
 use Rattle.std.proofs.lemmas.List.Elements.{All-set}
 use Rattle.pif_quick.specs.Quick.{IsPassOf, IsIdle}
-use Rattle.pif_thread_tests.proofs.Passes.{unchanged_idle}
-use Rattle.pif_thread_tests.proofs.quick.stress.meet_all.Goals as goal
+use Rattle.pif_quick_tests.proofs.Passes.{unchanged_idle}
+use Rattle.pif_quick_tests.proofs.quick.stress.meet_all.Goals as goal
 
 pub loop-k-preserved : goal.loop-k-preserved
 loop-k-preserved c =

@@ -1,7 +1,7 @@
 use Rattle.std.proofs.Common.{Some}
 use Rattle.std.proofs.lemmas.List.Elements.{All-pop, All-push, All-same}
 use Rattle.pif_quick.specs.Quick.{IsPassOf, IsIdle}
-use Rattle.pif_thread_tests.proofs.quick.stress.settle.Goals as goal
+use Rattle.pif_quick_tests.proofs.quick.stress.settle.Goals as goal
 
 pub loop-one-preserved : goal.loop-one-preserved
 loop-one-preserved g c = record {

@@ -1,6 +1,6 @@
-use Rattle.pif_thread_tests.proofs.Passes.{same_turn}
+use Rattle.pif_quick_tests.proofs.Passes.{same_turn}
 use Rattle.std.proofs.Common.{refl}
-use Rattle.pif_thread_tests.proofs.quick.turns.hand_over.Goals as goal
+use Rattle.pif_quick_tests.proofs.quick.turns.hand_over.Goals as goal
 
 pub unlock_quiet-requires-clause-turn : goal.unlock_quiet-requires-clause-turn
 unlock_quiet-requires-clause-turn g c =

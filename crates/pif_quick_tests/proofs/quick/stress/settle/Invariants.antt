@@ -1,6 +1,6 @@
 use Rattle.std.proofs.Common.{All, vec_len}
 use Rattle.pif_quick.specs.Quick.{IsPassOf, IsIdle}
-use Rattle.pif_thread_tests.proofs.quick.stress.settle.Given as goal
+use Rattle.pif_quick_tests.proofs.quick.stress.settle.Given as goal
 
 abbrev pub invariant-loop-one : goal.invariant-loop-one
 invariant-loop-one g l = record {

@@ -1,5 +1,5 @@
 use Rattle.pif_quick.specs.Quick.{IsPassOf, IsIdle}
-use Rattle.pif_thread_tests.proofs.quick.tries.give_up_always.Given as goal
+use Rattle.pif_quick_tests.proofs.quick.tries.give_up_always.Given as goal
 
 abbrev pub invariant-loop-round : goal.invariant-loop-round
 invariant-loop-round g l = record {
