@@ -1,4 +1,4 @@
-use pif_scripts::write_whole;
+use pif_reading::write_whole;
 use pif_shell::{SaveFault, Shelf};
 use std::fs::File;
 use std::io::ErrorKind;

@@ -1,147 +1,28 @@
-ghost use Rattle.std.specs.Prelude.{◌≡◌, ◌≤◌, ◌⊎◌, ℕ, List, [], ◌∷◌, IfOk, codes, map, option_map};
-ghost use Rattle.std.specs.Io.KnownBytes.{Keeps};
-ghost use Rattle.clap.specs.Words.{FailsBy, found_of, kind_of, rows_of};
-ghost use Rattle.clap.specs.declared.error.kind.ErrorKind.TheVariants.{DisplayHelp, DisplayVersion, InvalidSubcommand, MissingRequiredArgument, MissingSubcommand, ValueValidation};
+ghost use Rattle.std.specs.Prelude.{◌≡◌, ◌⊎◌, map};
+ghost use Rattle.clap.specs.Words.{kind_of};
+ghost use Rattle.pif_arguments.specs.Words.{refusals_of, job_of, name_of};
 ghost use Rattle.pif_cli.specs.Messages.{TellsAt, TellsLine};
-ghost use Rattle.pif_cli.specs.Random.{plain_shape};
 ghost use Rattle.pif_cli.specs.Statuses.{fault_status};
-ghost use Rattle.pif_cli.specs.Words.{refusals_of, job_of, job_named, files_in, files_of, shown_in, first_name, name_of, Did, Does, as_job, EndsBy, HadNoMemory, RefusedFor, Shows, ShowsHelp};
+ghost use Rattle.pif_cli.specs.Words.{Did, Does, as_job, EndsBy, HadNoMemory, RefusedFor, Shows, ShowsHelp};
 
 use crate::causes::{message_of, plain_message};
-use crate::commands::program;
 use crate::drive::drive;
-use crate::options::{is_given, small_number_between};
-use crate::pictures::{Picture, write_picture};
-use crate::random::{Recipe, recipe_in, write_random};
+use crate::random::write_random;
 use crate::statuses::{JobFault, fault_status, job_fault_status};
 use clap::error::ErrorKind;
-use pif_scripts::{
-    CliFault, Detail, Notice, migrate_noting, replay_noting, run_noting, write_whole,
-};
+use pif_arguments::{Job, first_name, near_command, read_words};
+use pif_pictures::write_picture;
+use pif_reading::{CliFault, Notice, run_noting, write_whole};
+use pif_replays::{migrate_noting, replay_noting};
+use pif_scripts::trace_story;
 use pif_shell::{NoShelf, shell};
-use pif_slips::nearest_name;
-use pif_stories::{check_noting, fill_noting, show_story, trace_story};
+use pif_shows::show_story;
+use pif_stories::{check_noting, fill_noting};
 use std::alloc::{AllocError, Global};
 use std::convert::AsStr;
 use std::io::{Read, Write};
 use std::sync::Wait;
 use std::thread::Threads;
-
-/// The name of the standard input.
-pub const STANDARD_NAME: &str = "-";
-
-/// What the words ask the program to do.
-#[derive(Clone, Copy)]
-pub enum Job {
-    /// `run`: run a script.
-    Run,
-    /// `replay`: replay a trace.
-    Replay,
-    /// `trace`: write the trace of a script or a story.
-    Trace,
-    /// `migrate`: write a trace as one of version 2.
-    Migrate,
-    /// `show`: run a script or a story, and show it to a person, with what changes by each line, or by `--all` with all
-    /// there is.
-    Show(Detail),
-    /// `draw`, `show --json` and `show --dot`: make a picture of a story.
-    Picture(Picture),
-    /// `shell`: answer a script while a person types it.
-    Shell,
-    /// `check`: check a story.
-    Check,
-    /// `check --print`: fill a story in.
-    Fill,
-    /// `random`: write a random script.
-    Random(Recipe),
-    /// `drive`: let so many clients make calls in threads of their own.
-    Drive(u32),
-}
-
-/// What the words ask for.
-#[derive(Drop)]
-pub struct Asked<'a> {
-    /// The job.
-    pub job: Job,
-    /// The files over which it is to be done, in their order; none where it is the standard input.
-    pub files: Vec<&'a str>,
-}
-
-/// The files that are given to a command.
-fn files_in<'a>(alloc: Global, given: &clap::ArgMatches<'a>) -> Result<Vec<&'a str>, AllocError>
-    ensures { IfOk result (λ files. map (λ file. file.now) files.items ≡ files_in (rows_of (found_of given.now))) }
-{
-    match given.get_strs("FILE") {
-        Some(files) => Ok(Vec::from_slice(alloc, files)?),
-        None => Ok(Vec::new(alloc)),
-    }
-}
-
-/// The job that the words ask for, the program's name first, and the files over which it is to be done.
-pub fn read_words<'a, S: AsStr>(alloc: Global, words: &'a [S]) -> Result<Asked<'a>, clap::Error>
-    ensures refusals { FailsBy (refusals_of (map S.text words.now)) result }
-    ensures job { IfOk result (λ asked. asked.job ≡ job_of (map S.text words.now)) }
-    ensures files { IfOk result (λ asked. map (λ file. file.now) asked.files.items ≡ files_of (map S.text words.now)) }
-{
-    let matches = program(alloc)?.try_get_matches_from(words)?;
-    match matches.subcommand() {
-        Some((name, given)) => Ok(Asked {
-            job: job_named(name, given),
-            files: files_in(alloc, given)?,
-        }),
-        None => Ok(Asked {
-            job: Job::Run,
-            files: Vec::new(alloc),
-        }),
-    }
-}
-
-/// How `show` is to show a script: for a person, or as a picture that its flags name. Of several flags the first of `--json`,
-/// `--dot` and `--all` counts.
-fn shown_in(given: &clap::ArgMatches) -> Job
-    ensures { result ≡ shown_in (rows_of (found_of given.now)) }
-{
-    if is_given(given, "json") {
-        Job::Picture(Picture::States)
-    } else if is_given(given, "dot") {
-        Job::Picture(Picture::Graph)
-    } else if is_given(given, "all") {
-        Job::Show(Detail::All)
-    } else {
-        Job::Show(Detail::Changes)
-    }
-}
-
-/// The job of a command's name, with what was given to it.
-fn job_named(name: &str, given: &clap::ArgMatches) -> Job
-    ensures { result ≡ job_named name.now (rows_of (found_of given.now)) }
-{
-    if name == "replay" {
-        Job::Replay
-    } else if name == "trace" {
-        Job::Trace
-    } else if name == "migrate" {
-        Job::Migrate
-    } else if name == "show" {
-        shown_in(given)
-    } else if name == "draw" {
-        Job::Picture(Picture::Drawing)
-    } else if name == "shell" {
-        Job::Shell
-    } else if name == "check" {
-        if is_given(given, "print") {
-            Job::Fill
-        } else {
-            Job::Check
-        }
-    } else if name == "random" {
-        Job::Random(recipe_in(given))
-    } else if name == "drive" {
-        Job::Drive(small_number_between(given, "N", 1, 64))
-    } else {
-        Job::Run
-    }
-}
 
 /// The fault of a job over a script or a trace.
 fn as_job(done: Result<(), CliFault>) -> Result<(), JobFault>
@@ -234,27 +115,6 @@ pub fn show<W: Write>(text: &str, shown: u8, writer: &mut W) -> u8
     }
 }
 
-/// The commands of the program.
-const COMMANDS: [&str; 11] = [
-    "run", "show", "draw", "shell", "check", "replay", "trace", "migrate", "random", "drive",
-    "help",
-];
-
-/// The command that is near to the one that the words name, behind the program's name or behind `help`, if that is none.
-pub fn near_command<S: AsStr>(words: &[S]) -> Option<&'static str> {
-    match words {
-        [_, help, word, ..] if help.as_str() == "help" => near_name(word.as_str()),
-        [_, word, ..] => near_name(word.as_str()),
-        _ => None,
-    }
-}
-
-/// The command that is near to this one, if this one is none.
-fn near_name(word: &str) -> Option<&'static str> {
-    let near = nearest_name(word.as_bytes(), COMMANDS.as_slice())?;
-    if near == word { None } else { Some(near) }
-}
-
 /// Why the words ask for no job. Behind a command that there is not stands the nearest one, if there is one, and `clap`
 /// names none.
 fn refusal_text(
@@ -298,16 +158,6 @@ pub fn refuse<W: Write, E: Write>(
             _ => show(text.as_str(), 1, errors),
         },
         Err(_) => fail(CliFault::NoMemory, errors),
-    }
-}
-
-/// The name of the one input: that of the first file, if there is one.
-fn first_name<'a>(files: &[&'a str]) -> &'a str
-    ensures { result.now ≡ first_name (map (λ file. file.now) files.now) }
-{
-    match files {
-        [] => STANDARD_NAME,
-        [file, ..] => *file,
     }
 }
 
@@ -355,53 +205,3 @@ pub fn command<T: Threads + Wait + Sync, S: AsStr, R: Read, W: Write, E: Write>(
         Err(error) => refuse(alloc, error, near_command(words), output, errors),
     }
 }
-
-/// Which words ask for which job: `run`, `show`, `draw`, `shell`, `replay`, `trace` and `migrate` alone, `show` with each of its
-/// flags, `run` with a file, `check` alone, with `--print` and with two files, `random` with a seed and from 1 to 262,144 lines, and `drive` with a number from 1
-/// to 64 do; no word, `--help` and `--version` don't.
-#[tactic(auto, unfolding(clap::proofs::OnLiterals::clap_on_literals))]
-pub fn words_of_the_program()
-    ensures run { (name : List ℕ) → (refusals_of (name ∷ codes "run" ∷ []) ≡ []) × (job_of (name ∷ codes "run" ∷ []) ≡ Job.Run) }
-    ensures replay { (name : List ℕ) → (refusals_of (name ∷ codes "replay" ∷ []) ≡ []) × (job_of (name ∷ codes "replay" ∷ []) ≡ Job.Replay) }
-    ensures trace { (name : List ℕ) → (refusals_of (name ∷ codes "trace" ∷ []) ≡ []) × (job_of (name ∷ codes "trace" ∷ []) ≡ Job.Trace) }
-    ensures migrate { (name : List ℕ) → (refusals_of (name ∷ codes "migrate" ∷ []) ≡ []) × (job_of (name ∷ codes "migrate" ∷ []) ≡ Job.Migrate) }
-    ensures show { (name : List ℕ) → (refusals_of (name ∷ codes "show" ∷ []) ≡ []) × (job_of (name ∷ codes "show" ∷ []) ≡ Job.Show Detail.Changes) }
-    ensures all { (name : List ℕ) → (refusals_of (name ∷ codes "show" ∷ codes "--all" ∷ []) ≡ [])
-        × (job_of (name ∷ codes "show" ∷ codes "--all" ∷ []) ≡ Job.Show Detail.All) }
-    ensures draw { (name : List ℕ) → (refusals_of (name ∷ codes "draw" ∷ []) ≡ [])
-        × (job_of (name ∷ codes "draw" ∷ []) ≡ Job.Picture Picture.Drawing) }
-    ensures json { (name : List ℕ) → (refusals_of (name ∷ codes "show" ∷ codes "--json" ∷ []) ≡ [])
-        × (job_of (name ∷ codes "show" ∷ codes "--json" ∷ []) ≡ Job.Picture Picture.States) }
-    ensures dot { (name : List ℕ) → (refusals_of (name ∷ codes "show" ∷ codes "--dot" ∷ []) ≡ [])
-        × (job_of (name ∷ codes "show" ∷ codes "--dot" ∷ []) ≡ Job.Picture Picture.Graph) }
-    ensures shell { (name : List ℕ) → (refusals_of (name ∷ codes "shell" ∷ []) ≡ []) × (job_of (name ∷ codes "shell" ∷ []) ≡ Job.Shell) }
-    ensures check { (name : List ℕ) → (refusals_of (name ∷ codes "check" ∷ []) ≡ [])
-        × (job_of (name ∷ codes "check" ∷ []) ≡ Job.Check) }
-    ensures fill { (name : List ℕ) → (refusals_of (name ∷ codes "check" ∷ codes "--print" ∷ []) ≡ [])
-        × (job_of (name ∷ codes "check" ∷ codes "--print" ∷ []) ≡ Job.Fill) }
-    ensures file { (name : List ℕ) → (refusals_of (name ∷ codes "run" ∷ codes "a" ∷ []) ≡ [])
-        × (files_of (name ∷ codes "run" ∷ codes "a" ∷ []) ≡ codes "a" ∷ []) }
-    ensures files { (name : List ℕ) → (refusals_of (name ∷ codes "check" ∷ codes "a" ∷ codes "b" ∷ []) ≡ [])
-        × (files_of (name ∷ codes "check" ∷ codes "a" ∷ codes "b" ∷ []) ≡ codes "a" ∷ codes "b" ∷ []) }
-    ensures random { (name : List ℕ) → (refusals_of (name ∷ codes "random" ∷ codes "--seed=7" ∷ codes "--lines=1" ∷ []) ≡ [])
-        × (job_of (name ∷ codes "random" ∷ codes "--seed=7" ∷ codes "--lines=1" ∷ [])
-        ≡ Job.Random (record { seed = 7; lines = 1; shape = plain_shape })) }
-    ensures longest { (name : List ℕ) → refusals_of (name ∷ codes "random" ∷ codes "--seed=7" ∷ codes "--lines=262144" ∷ []) ≡ [] }
-    ensures no_lines { (name : List ℕ) → refusals_of (name ∷ codes "random" ∷ codes "--seed=7" ∷ codes "--lines=0" ∷ []) ≡ ValueValidation ∷ [] }
-    ensures too_long { (name : List ℕ) → refusals_of (name ∷ codes "random" ∷ codes "--seed=7" ∷ codes "--lines=262145" ∷ []) ≡ ValueValidation ∷ [] }
-    ensures no_seed { (name : List ℕ) → refusals_of (name ∷ codes "random" ∷ codes "--lines=1" ∷ []) ≡ MissingRequiredArgument ∷ [] }
-    ensures least { (name : List ℕ) → (refusals_of (name ∷ codes "drive" ∷ codes "1" ∷ []) ≡ []) × (job_of (name ∷ codes "drive" ∷ codes "1" ∷ []) ≡ Job.Drive 1) }
-    ensures most { (name : List ℕ) → (refusals_of (name ∷ codes "drive" ∷ codes "64" ∷ []) ≡ []) × (job_of (name ∷ codes "drive" ∷ codes "64" ∷ []) ≡ Job.Drive 64) }
-    ensures too_few { (name : List ℕ) → refusals_of (name ∷ codes "drive" ∷ codes "0" ∷ []) ≡ ValueValidation ∷ [] }
-    ensures too_many { (name : List ℕ) → refusals_of (name ∷ codes "drive" ∷ codes "65" ∷ []) ≡ ValueValidation ∷ [] }
-    ensures no_number { (name : List ℕ) → refusals_of (name ∷ codes "drive" ∷ []) ≡ MissingRequiredArgument ∷ [] }
-    ensures help { (name : List ℕ) → refusals_of (name ∷ codes "--help" ∷ []) ≡ DisplayHelp ∷ [] }
-    ensures help_command { (name : List ℕ) → refusals_of (name ∷ codes "help" ∷ []) ≡ DisplayHelp ∷ InvalidSubcommand ∷ [] }
-    ensures version { (name : List ℕ) → refusals_of (name ∷ codes "--version" ∷ []) ≡ DisplayVersion ∷ [] }
-    ensures none { (name : List ℕ) → refusals_of (name ∷ []) ≡ MissingSubcommand ∷ [] }
-{}
-
-/// Whatever the words are, a random script that they ask for has 262,144 lines at most, so that a run of it has no fault.
-pub fn random_lines_have_a_bound()
-    ensures { (words : List (List ℕ)) (recipe : Recipe) → (job_of words ≡ Job.Random recipe) → recipe.lines ≤ 262144 }
-{}

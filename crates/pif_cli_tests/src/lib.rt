@@ -4,7 +4,6 @@
 //! | Module | Tests of |
 //! |---|---|
 //! | `commands` | `pif_cli`: words of a process, files, random scripts, memory and writes that fail, clients in threads |
-//! | `desks` | `pif_desk` and `pif_scripts`: the journal of a desk as a trace that replays the same |
 //! | `processes` | none: the processes that the others share |
 //!
 //! What words and an input can ask is a transcript (docs/TRANSCRIPTS.md).
@@ -12,7 +11,5 @@
 
 #[cfg(test)]
 mod commands;
-#[cfg(test)]
-mod desks;
 #[cfg(test)]
 mod processes;

@@ -5,7 +5,7 @@ use Rattle.pif_script_model.specs.declared.faults.CliFault.{CliFault}
 use Rattle.pif_script_model.specs.declared.faults.CliFault.TheVariants.{Differs, NoMemory, Read, Script, Write}
 use Rattle.pif_script_model.specs.Migrating.{IsAllRead}
 use Rattle.pif_script_model.specs.Runs.{WritesPart}
-use Rattle.pif_stories.specs.Checks.{fill_telling}
+use Rattle.pif_story_model.specs.Checks.{fill_telling}
 
 -- how filling in a story ends, if memory and reads allow: with no fault, or with its first
 abbrev pub end_of_filling : List ℕ → Result (Unit {0}) CliFault

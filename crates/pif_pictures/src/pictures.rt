@@ -1,25 +1,12 @@
 ghost use Rattle.pif_pictures.specs.Pictures.{FillsStoryTo, PicturesTo, WritesText};
 
-use crate::drawing::drawing_of;
-use crate::graphs::graph_of;
-use crate::rows::places_of;
-use crate::states::states_of;
-use pif_scripts::{CliFault, Notice, write_whole};
+use pif_drawing::picture_of;
+use pif_reading::{CliFault, Notice, write_whole};
+use pif_script_model::Picture;
 use pif_stories::fill_noting;
 use pif_types::NoMemory;
 use std::alloc::Global;
 use std::io::{Read, Write};
-
-/// What is made of a story.
-#[derive(Clone, Copy)]
-enum Picture {
-    /// A drawing, as SVG.
-    Drawing,
-    /// The states after each command, as JSON.
-    States,
-    /// Who waits for whom at the end, in the language of Graphviz.
-    Graph,
-}
 
 /// Draws a story, or a script, as an SVG image: a lane for each thread over the commands, with what the thread does, the
 /// mutexes that it holds, and its effective priority above its base priority; and arrows, if a mutex is handed over or a
@@ -39,7 +26,7 @@ pub fn draw<R: Read, W: Write>(
 ) -> Result<(), CliFault>
     ensures { PicturesTo (R.remaining reader.old) (R.remaining reader.new) (W.contents writer.old) (W.contents writer.new) result }
 {
-    write_picture(alloc, Picture::Drawing, reader, writer, notice)
+    write_picture(Picture::Drawing, alloc, reader, writer, notice)
 }
 
 /// Writes the states of a story, or a script: for each command a line with one JSON object, of the command, its answer,
@@ -57,7 +44,7 @@ pub fn write_states<R: Read, W: Write>(
 ) -> Result<(), CliFault>
     ensures { PicturesTo (R.remaining reader.old) (R.remaining reader.new) (W.contents writer.old) (W.contents writer.new) result }
 {
-    write_picture(alloc, Picture::States, reader, writer, notice)
+    write_picture(Picture::States, alloc, reader, writer, notice)
 }
 
 /// Writes who waits for whom, through which mutex, at the end of a story, or a script: a graph in the language of
@@ -75,13 +62,18 @@ pub fn write_graph<R: Read, W: Write>(
 ) -> Result<(), CliFault>
     ensures { PicturesTo (R.remaining reader.old) (R.remaining reader.new) (W.contents writer.old) (W.contents writer.new) result }
 {
-    write_picture(alloc, Picture::Graph, reader, writer, notice)
+    write_picture(Picture::Graph, alloc, reader, writer, notice)
 }
 
-/// Writes a picture of a story.
-fn write_picture<R: Read, W: Write>(
-    alloc: Global,
+/// Writes this picture of a story, or a script. The story is read to its end before anything is written, and it and the
+/// picture are kept in memory. `notice` is as of `draw`.
+///
+/// # Errors
+///
+/// Those of `draw`.
+pub fn write_picture<R: Read, W: Write>(
     picture: Picture,
+    alloc: Global,
     reader: &mut R,
     writer: &mut W,
     notice: &mut Notice,
@@ -109,18 +101,6 @@ fn answered<R: Read>(
         Ok(()) => Ok(story),
         Err(CliFault::Write) => Err(CliFault::NoMemory),
         Err(fault) => Err(fault),
-    }
-}
-
-/// A picture of a story that was filled in.
-fn picture_of(alloc: Global, picture: Picture, story: &[u8]) -> Result<String, NoMemory> {
-    let Ok(places) = places_of(alloc, story) else {
-        return Err(NoMemory);
-    };
-    match picture {
-        Picture::Drawing => drawing_of(alloc, story, places.as_slice()),
-        Picture::States => states_of(alloc, story, places.as_slice()),
-        Picture::Graph => graph_of(alloc, story, places.as_slice()),
     }
 }
 

@@ -1,6 +1,6 @@
 //! Random scripts, by a seed.
 use pif_random::{Shape, random_script};
-use pif_scripts::{CliFault, run};
+use pif_reading::{CliFault, run};
 use pif_types::NoMemory;
 use std::alloc::Global;
 use std::process::Abort;

@@ -2,8 +2,8 @@ mod failures;
 mod saving;
 mod sessions;
 
-use crate::streams::Stream;
 use pif_shell::{NoShelf, shell};
+use pif_test_streams::Stream;
 use std::alloc::Global;
 use std::process::Abort;
 

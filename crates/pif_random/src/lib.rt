@@ -3,10 +3,12 @@
 //! woken, chains grow and cycles are refused, and if asked for, threads end between two steps of a call.
 #![tactic(auto)]
 
+mod laws;
 mod player;
 mod scripts;
 mod shapes;
 mod written;
 
+pub use laws::commands_have_no_fault;
 pub use scripts::{MOST_LINES, random_script};
 pub use shapes::Shape;

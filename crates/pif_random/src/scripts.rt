@@ -3,9 +3,9 @@ ghost use Rattle.pif_random.specs.Lines.{AddsLines};
 ghost use Rattle.pif_script_model.specs.CommandLines.{command_line, HasNoFault, IsNoLimits, IsOfCommands, StandsAnywhere};
 
 use crate::Shape;
+use crate::laws::commands_have_no_fault;
 use crate::player::Player;
 use crate::written::see_written;
-use pif_scripts::commands_have_no_fault;
 use pif_text::{Command, Text, command_text};
 use pif_types::NoMemory;
 use std::alloc::Global;

@@ -7,6 +7,7 @@
 //! | `scanner` | bytes as lines |
 //! | `script` | a whole script, read and answered |
 //! | `running` | what a core answers a command; a core as a listener |
+//! | `runs` | a script that a core runs |
 //! | `notices` | what is kept of the line that ends a script |
 //! | `whole` | all the bytes of an input |
 //! | `writing` | bytes that are written to the last |
@@ -15,6 +16,7 @@
 mod listener;
 mod notices;
 mod running;
+mod runs;
 mod scanner;
 mod script;
 mod whole;
@@ -27,6 +29,7 @@ pub use listener::{
 pub use notices::Notice;
 pub use pif_script_model::{CliFault, End, Ending, OpenFault, Stop};
 pub use running::{default_limits, first_limits, obey, open_core, tell};
+pub use runs::{run, run_noting};
 pub use scanner::{MOST_BYTES, MOST_LINE, Scanner};
 pub use script::{read_script, stop};
 pub use whole::read_all;

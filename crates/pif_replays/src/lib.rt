@@ -5,4 +5,4 @@ mod migrating;
 mod replaying;
 
 pub use migrating::{migrate, migrate_noting, migrated_trace_has_its_verdict};
-pub use replaying::Replayed;
+pub use replaying::{replay, replay_noting};

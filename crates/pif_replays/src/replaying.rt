@@ -1,15 +1,19 @@
 ghost use Rattle.std.specs.Prelude.{◌≡◌, Option, Some, None, Ok, Err, MatchOption, option_map, bytes_eq, if◌then◌else◌};
 ghost use Rattle.pif_text_model.specs.Replies.{text_of};
 ghost use Rattle.pif_text_model.specs.Traces.{version_in};
-ghost use Rattle.pif_script_model.specs.Traces.{Replay, traced_in, trace_hearing};
+ghost use Rattle.pif_script_model.specs.Traces.{Replay, ReplaysTo, traced_in, trace_hearing};
 
 use pif_core::Core;
-use pif_reading::{End, Ending, Listener, OpenFault, Output, append, append_end, obey, open_core};
+use pif_reading::{
+    CliFault, End, Ending, Listener, Notice, OpenFault, Output, append, append_end, obey,
+    open_core, read_script,
+};
 use pif_text::{
     Cause, Command, Reply, Text, Version, command_of, if_traced, reply_text, same_text,
     split_answer, version_of,
 };
 use std::alloc::Global;
+use std::io::{Read, Write};
 use std::marker::Model;
 
 /// A core that is given the commands of a trace of a version, and whose answers are compared with the recorded ones.
@@ -116,4 +120,41 @@ impl Listener for Replayed {
     fn report(end: End, output: &mut Output) {
         append_end(end, output);
     }
+}
+
+/// Replays a trace of version 1 or 2: gives its commands to a fresh core, and compares each answer with the recorded one. At
+/// its end `same N` is written, with the number of lines after the first; at the first difference `differs L X`, with
+/// the number of the line and what the core gives there, and at the first fault the line of the fault. Nothing is read
+/// behind the chunk in which that is found.
+///
+/// # Errors
+///
+/// `Script` with the first fault of the trace, and `Differs` with the line of the first difference, which were written
+/// then; `Read`, where the reader fails, and nothing was written; `Write`, where the writer fails or takes no byte; and
+/// `NoMemory`, where the core cannot be made, and nothing was written.
+pub fn replay<R: Read, W: Write>(
+    alloc: Global,
+    reader: &mut R,
+    writer: &mut W,
+) -> Result<(), CliFault>
+    ensures { ReplaysTo (R.remaining reader.old) (R.remaining reader.new) (W.contents writer.old) (W.contents writer.new) result }
+{
+    replay_noting(alloc, reader, writer, &mut Notice::new())
+}
+
+/// Replays a trace as `replay` does, and has `notice` keep the line of the fault or of the difference; where there is
+/// none, `notice` is left as it is.
+///
+/// # Errors
+///
+/// Those of `replay`.
+pub fn replay_noting<R: Read, W: Write>(
+    alloc: Global,
+    reader: &mut R,
+    writer: &mut W,
+    notice: &mut Notice,
+) -> Result<(), CliFault>
+    ensures { ReplaysTo (R.remaining reader.old) (R.remaining reader.new) (W.contents writer.old) (W.contents writer.new) result }
+{
+    read_script::<Replayed, R, W>(alloc, reader, writer, notice)
 }

@@ -3,8 +3,12 @@
 //! that they and the code speak of. `proofs/` has the lemmas on them, which `pif_reading` and the crates above cite.
 #![tactic(auto)]
 
+mod details;
 mod ending;
 mod faults;
+mod pictures;
 
+pub use details::Detail;
 pub use ending::{End, Ending, OpenFault, Stop};
 pub use faults::CliFault;
+pub use pictures::Picture;

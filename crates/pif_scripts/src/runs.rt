@@ -1,81 +1,9 @@
-ghost use Rattle.pif_script_model.specs.Running.{RunsTo};
-ghost use Rattle.pif_script_model.specs.Traces.{ReplaysTo};
 ghost use Rattle.pif_script_model.specs.Transcripts.{SameAsTraced, TracesTo};
 
 use crate::transcribing::Transcribing;
-use pif_core::Core;
 use pif_reading::{CliFault, Notice, read_script};
-use pif_replays::Replayed;
 use std::alloc::Global;
 use std::io::{Read, Write};
-
-/// Runs a script: reads its bytes to its end or its first fault, and writes what its lines are answered, chunk by
-/// chunk, before more is read, and at last the line of the fault.
-///
-/// # Errors
-///
-/// `Script` with the first fault of the script, whose line was written then; `Read`, where the reader fails, and the
-/// whole lines read so far were answered; `Write`, where the writer fails or takes no byte; and `NoMemory`, where the
-/// core cannot be made, and nothing was written.
-pub fn run<R: Read, W: Write>(alloc: Global, reader: &mut R, writer: &mut W) -> Result<(), CliFault>
-    ensures { RunsTo (R.remaining reader.old) (R.remaining reader.new) (W.contents writer.old) (W.contents writer.new) result }
-{
-    run_noting(alloc, reader, writer, &mut Notice::new())
-}
-
-/// Runs a script as `run` does, and has `notice` keep the line of the fault; where there is none, `notice` is left as
-/// it is.
-///
-/// # Errors
-///
-/// Those of `run`.
-pub fn run_noting<R: Read, W: Write>(
-    alloc: Global,
-    reader: &mut R,
-    writer: &mut W,
-    notice: &mut Notice,
-) -> Result<(), CliFault>
-    ensures { RunsTo (R.remaining reader.old) (R.remaining reader.new) (W.contents writer.old) (W.contents writer.new) result }
-{
-    read_script::<Core, R, W>(alloc, reader, writer, notice)
-}
-
-/// Replays a trace of version 1 or 2: gives its commands to a fresh core, and compares each answer with the recorded one. At
-/// its end `same N` is written, with the number of lines after the first; at the first difference `differs L X`, with
-/// the number of the line and what the core gives there, and at the first fault the line of the fault. Nothing is read
-/// behind the chunk in which that is found.
-///
-/// # Errors
-///
-/// `Script` with the first fault of the trace, and `Differs` with the line of the first difference, which were written
-/// then; `Read`, where the reader fails, and nothing was written; `Write`, where the writer fails or takes no byte; and
-/// `NoMemory`, where the core cannot be made, and nothing was written.
-pub fn replay<R: Read, W: Write>(
-    alloc: Global,
-    reader: &mut R,
-    writer: &mut W,
-) -> Result<(), CliFault>
-    ensures { ReplaysTo (R.remaining reader.old) (R.remaining reader.new) (W.contents writer.old) (W.contents writer.new) result }
-{
-    replay_noting(alloc, reader, writer, &mut Notice::new())
-}
-
-/// Replays a trace as `replay` does, and has `notice` keep the line of the fault or of the difference; where there is
-/// none, `notice` is left as it is.
-///
-/// # Errors
-///
-/// Those of `replay`.
-pub fn replay_noting<R: Read, W: Write>(
-    alloc: Global,
-    reader: &mut R,
-    writer: &mut W,
-    notice: &mut Notice,
-) -> Result<(), CliFault>
-    ensures { ReplaysTo (R.remaining reader.old) (R.remaining reader.new) (W.contents writer.old) (W.contents writer.new) result }
-{
-    read_script::<Replayed, R, W>(alloc, reader, writer, notice)
-}
 
 /// Writes the trace of a script, of version 1: runs the script as `run` does, and writes in place of its answers the
 /// header, the line of the limits, and a line for each entry that the script makes, in their order, with what the core

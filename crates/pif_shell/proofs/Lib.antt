@@ -1,3 +1,2 @@
-pub mod RunLemmas
-pub mod SessionLemmas
+pub mod StoryLemmas
 pub mod TalkLemmas

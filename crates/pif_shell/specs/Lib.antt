@@ -1,3 +1,3 @@
 pub mod Replies
-pub mod Sessions
+pub mod Stories
 pub mod Talks

@@ -1,19 +1,9 @@
 -- What a shell does over a reader and a writer.
-use Rattle.std.specs.Prelude.{ℕ, ◌≡◌, List, Bool, true, false, Option, Result, Ok, Err}
-use Rattle.std.specs.Io.KnownBytes.{Consumes, IsAtEnd}
+use Rattle.std.specs.Prelude.{ℕ, List, Bool, false, Option, Result, Ok, Err}
 use Rattle.pif_text_model.specs.Extends.{Stays}
 use Rattle.pif_script_model.specs.declared.faults.CliFault.{CliFault}
 use Rattle.pif_script_model.specs.declared.faults.CliFault.TheVariants.{Differs, NoMemory, Read, Script, Write}
-
--- some bytes were read
-abbrev pub Reads : (before after : Option (List ℕ)) → Type 0
-Reads before after = (read : List ℕ) × Consumes before after read
-
--- a line was read, and the input goes on if this is true, or else has ended; or a read failed
-abbrev pub ReadsOn : {E : Type 0} → (before after : Option (List ℕ)) → Result Bool E → Type 0
-ReadsOn before after (Ok true) = Reads before after
-ReadsOn before after (Ok false) = Reads before after × IsAtEnd after
-ReadsOn before after (Err e) = Reads before after
+use Rattle.pif_sessions.specs.Lines.{Reads, ReadsOn}
 
 -- a part of a conversation, which goes on if this is true
 abbrev pub TurnsTo : (before after held holds : Option (List ℕ)) → Result Bool CliFault → Type 0

@@ -2,15 +2,12 @@
 //! command changes nothing, the last command can be taken back, and the script so far is saved as a story.
 #![tactic(auto)]
 
-mod helps;
-mod lines;
-mod remarks;
 mod replies;
-mod sessions;
 mod shells;
 mod shelves;
-mod wishes;
+mod stories;
 
-pub use sessions::{MOST_COMMANDS, NotUndone, Refusal, Session, Unplayed, sessions_are_runs};
+pub use pif_sessions::{MOST_COMMANDS, NotUndone, Refusal, Session, Unplayed, sessions_are_runs};
 pub use shells::shell;
 pub use shelves::{NoShelf, SaveFault, Shelf};
+pub use stories::story_of;

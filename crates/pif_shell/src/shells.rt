@@ -1,16 +1,15 @@
 ghost use Rattle.pif_text_model.specs.Extends.{Stays};
 ghost use Rattle.pif_shell.specs.Talks.{TalksTo, TurnsTo};
 
-use crate::helps::help_of;
-use crate::lines::{Found, Lines};
-use crate::remarks::{Remark, say_refusal, say_unsaved, too_many, undone_words};
 use crate::replies::reply_line;
-use crate::sessions::Session;
-use crate::shelves::Shelf;
-use crate::wishes::{Wish, name_of, wish_of};
-use pif_scripts::{CliFault, write_whole};
+use crate::shelves::{SaveFault, Shelf};
+use crate::stories::story_of;
+use pif_reading::{CliFault, write_whole};
+use pif_sessions::{
+    Found, Lines, Remark, Session, Wish, help_of, name_of, say_refusal, too_many, undone_words,
+    wish_of,
+};
 use pif_show::{Unwritten, write_state};
-use pif_stories::fill;
 use pif_text::{Command, Text, command_text};
 use pif_types::NoMemory;
 use std::alloc::Global;
@@ -89,10 +88,20 @@ fn undo<W: Write>(alloc: Global, session: &mut Session, writer: &mut W) -> Resul
     }
 }
 
+/// Says why a file of this name was not saved.
+fn say_unsaved(name: &str, why: SaveFault, remark: &mut Remark) {
+    remark.show(name.as_bytes());
+    remark.say(match why {
+        SaveFault::Taken => " is there already, and is left as it is",
+        SaveFault::Refused => " cannot be made",
+        SaveFault::Cut => " cannot be written whole",
+    });
+}
+
 /// Saves the script so far as a story under this name. Answers what is to be said.
 fn save_as<S: Shelf>(alloc: Global, shelf: &S, session: &Session, name: &str) -> Remark {
     let mut remark = Remark::new();
-    match session.story(alloc) {
+    match story_of(alloc, session) {
         Ok(story) => match shelf.save(name, story.as_slice()) {
             Ok(()) => {
                 remark.say("saved ");

@@ -1,19 +1,15 @@
-ghost use Rattle.std.specs.Prelude.{◌≡◌, ◌+◌, ◌≤◌, [], Err, IfErr, IfOk, length, option_copied};
-ghost use Rattle.pif_stories.specs.Lines.{lines, lines_behind};
-ghost use Rattle.pif_stories.specs.Checks.{IsUntold, OkExactly, TellsTo, WritesTelling, check_telling, check_end, fill_telling, verdict_beside, text_of_run, script_fault, verdict_telling};
-ghost use Rattle.pif_stories.specs.Stories.{script_of};
-ghost use Rattle.pif_stories.specs.Verdicts.{verdict_of};
+ghost use Rattle.std.specs.Prelude.{◌≡◌, IfErr, IfOk, option_copied};
+ghost use Rattle.pif_story_model.specs.Checks.{IsUntold, OkExactly, TellsTo, WritesTelling, check_telling, check_end, fill_telling, verdict_beside, text_of_run, script_fault, verdict_telling};
+ghost use Rattle.pif_story_model.specs.Lines.{lines_behind};
+ghost use Rattle.pif_story_model.specs.Stories.{script_of};
+ghost use Rattle.pif_story_model.specs.Verdicts.{verdict_of};
 
-use crate::comparing::{Flaw, compare};
-use crate::filling::filled_text;
-use crate::scripts::script_of;
-use crate::verdicts::verdict_line;
-use pif_scripts::{Cause, CliFault, MOST_BYTES, Notice, read_all, run, write_whole};
+use pif_reading::{CliFault, Notice, read_all, run, write_whole};
+use pif_story_model::Flaw;
+use pif_story_texts::{MOST, compare, filled_text, line_at_end, script_of, verdict_line};
+use pif_text::Cause;
 use std::alloc::Global;
 use std::io::{Read, Write};
-
-/// The most bytes of a story.
-pub const MOST: usize = MOST_BYTES as usize;
 
 /// What is written for a story, and how that ends.
 type Telling = (Vec<u8>, Result<(), CliFault>);
@@ -41,21 +37,6 @@ fn run_story(alloc: Global, story: &[u8]) -> Result<Ran, CliFault>
         Err(CliFault::Write) => Err(CliFault::NoMemory),
         Err(fault) => Err(fault),
     }
-}
-
-/// In which line of a text the byte stands that comes next, from 1.
-#[tactic(auto, using(crate::proofs::LinesLemmas::count_lines))]
-pub fn line_at_end(text: &[u8]) -> u64
-    requires { length text.now ≤ 16777216 }
-    ensures { result ≡ length (lines text.now) }
-{
-    let mut number = 1;
-    for byte in text {
-        if *byte == b'\n' {
-            number += 1;
-        }
-    }
-    number
 }
 
 /// How a check ends that comes to this.
@@ -95,7 +76,7 @@ fn tell(
 }
 
 /// What a story comes to that may be too large.
-#[tactic(auto, unfolding(crate::specs::Checks::verdict_beside))]
+#[tactic(auto, unfolding(pif_story_model::specs::Checks::verdict_beside))]
 fn judge<'a>(
     story: &'a [u8],
     answers: Option<&'a [u8]>,
@@ -111,7 +92,7 @@ fn judge<'a>(
 }
 
 /// What a check tells of a story of this name.
-#[tactic(auto, unfolding(crate::specs::Checks::check_telling, crate::specs::Checks::story_verdict))]
+#[tactic(auto, unfolding(pif_story_model::specs::Checks::check_telling, pif_story_model::specs::Checks::story_verdict))]
 fn check_text(
     alloc: Global,
     name: &[u8],
@@ -131,7 +112,7 @@ fn check_text(
 }
 
 /// What is told of a story of this name that is filled in.
-#[tactic(auto, unfolding(crate::specs::Checks::fill_telling))]
+#[tactic(auto, unfolding(pif_story_model::specs::Checks::fill_telling))]
 fn fill_text(
     alloc: Global,
     name: &[u8],

@@ -1,17 +1,9 @@
 //! Stories: scripts for people, with comments and with the answers beside the commands, which check themselves.
 //!
-//! A line of a story is a command of scripts, with ` = ` and its answer behind it or without; or it begins with `#`; or
-//! it is empty. Blanks before ` = ` line the answers up. A CR at the end of a line and a byte order mark at the front
-//! are passed over, and the last line needs no LF.
+//! `pif_story_texts` says what a line of a story is, and which script is left of one. Here that script is run, and the
+//! answers are checked, or filled in.
 #![tactic(auto)]
 
 mod checking;
-mod comparing;
-mod filling;
-mod lines;
-mod scripts;
-mod showing;
-mod verdicts;
 
 pub use checking::{check, check_noting, fill, fill_noting, ok_is_exact};
-pub use showing::{show_story, trace_story};

@@ -1,7 +1,7 @@
 use super::{Kept, check_bytes};
 use arrayvec::ArrayVec;
-use pif_cli::{Job, JobFault, command, message_of};
-use pif_scripts::{Cause, CliFault, Notice};
+use pif_cli::{Cause, CliFault, Job, JobFault, command, message_of};
+use pif_reading::Notice;
 use std::alloc::Global;
 use std::process::Abort;
 use std::sync::Wait;

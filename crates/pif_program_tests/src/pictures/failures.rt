@@ -1,9 +1,9 @@
 //! Where a write or a growth of memory fails: what is written then.
 
 use super::BOOSTED;
-use crate::jobs::{Ended, Job, check_memory, check_write, do_job};
-use crate::streams::Stream;
-use pif_scripts::{CliFault, Notice};
+use crate::jobs::{Job, do_job};
+use pif_reading::{CliFault, Notice};
+use pif_test_streams::{Ended, Stream, check_memory, check_write};
 use std::alloc::Global;
 use std::io::ErrorKind;
 use std::process::Abort;

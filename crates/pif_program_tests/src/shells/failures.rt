@@ -1,8 +1,8 @@
 //! Where a read, a write or a growth of memory fails.
 
-use crate::jobs::{Ended, Job, check_write, do_job};
-use crate::streams::Stream;
-use pif_scripts::{CliFault, Notice};
+use crate::jobs::{Job, do_job};
+use pif_reading::{CliFault, Notice};
+use pif_test_streams::{Ended, Stream, check_write};
 use std::alloc::Global;
 use std::io::ErrorKind;
 use std::process::Abort;

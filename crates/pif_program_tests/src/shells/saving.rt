@@ -1,7 +1,7 @@
 //! Stories that are saved.
 
-use crate::streams::Stream;
 use pif_shell::{SaveFault, Shelf, shell};
+use pif_test_streams::Stream;
 use std::alloc::Global;
 use std::process::Abort;
 

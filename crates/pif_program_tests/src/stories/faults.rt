@@ -1,6 +1,7 @@
-use crate::jobs::{Job, check_parts};
-use crate::streams::Part;
-use pif_scripts::{Cause, CliFault};
+use crate::jobs::Job;
+use pif_reading::CliFault;
+use pif_test_streams::{Part, check_parts};
+use pif_text::Cause;
 
 /// 16,777,216 bytes in comments of 16.
 const COMMENTS: [Part<'_>; 1] = [("# sixteen bytes\n", 1_048_576)];

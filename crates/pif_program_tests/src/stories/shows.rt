@@ -1,10 +1,13 @@
 //! Stories that are shown, and whose traces are written, as `pif_scripts` does it of the scripts that are left of them.
 
 use super::BOOSTED;
-use crate::jobs::{
-    Ended, Job, Telling, check_job, check_memory, check_parts, check_read, check_write,
-};
-use pif_scripts::{Cause, CliFault, Detail, Notice, show_noting, trace_noting};
+use crate::jobs::{Job, Telling};
+use pif_reading::{CliFault, Notice};
+use pif_script_model::Detail;
+use pif_scripts::trace_noting;
+use pif_shows::show_noting;
+use pif_test_streams::{Ended, check_job, check_memory, check_parts, check_read, check_write};
+use pif_text::Cause;
 use std::alloc::Global;
 use std::io::ErrorKind;
 use std::process::Abort;

@@ -1,4 +1,4 @@
-use Rattle.pif_stories.proofs.ChecksLemmas.{checked_told}
+use Rattle.pif_story_model.proofs.ChecksLemmas.{checked_told}
 use Rattle.pif_stories.proofs.checking.check_noting.Goals as goal
 
 pub returns : goal.returns

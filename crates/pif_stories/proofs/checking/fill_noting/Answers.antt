@@ -1,4 +1,4 @@
-use Rattle.pif_stories.proofs.ChecksLemmas.{filled_told}
+use Rattle.pif_story_model.proofs.ChecksLemmas.{filled_told}
 use Rattle.pif_stories.proofs.checking.fill_noting.Goals as goal
 
 pub returns : goal.returns

@@ -1,5 +1,5 @@
-use Rattle.pif_stories.specs.Stories.{script_of}
-use Rattle.pif_stories.proofs.ChecksLemmas.{ran_to_fault, ran_well}
+use Rattle.pif_story_model.specs.Stories.{script_of}
+use Rattle.pif_story_model.proofs.ChecksLemmas.{ran_to_fault, ran_well}
 use Rattle.pif_stories.proofs.checking.run_story.Goals as goal
 
 pub returns-in-Ok-run-clause-printed : goal.returns-in-Ok-run-clause-printed

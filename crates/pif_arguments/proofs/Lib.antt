@@ -1,0 +1,4 @@
+pub mod CommandLemmas
+pub mod OptionsLemmas
+pub mod RandomLemmas
+pub mod WordsLemmas

@@ -1,0 +1,26 @@
+//! The arguments of the program `pif`: which job its words ask for, over which files, and why they are refused if they
+//! ask for none. What the program does then, and what it writes, is `pif_cli`'s.
+//!
+//! | Module | What it has |
+//! |---|---|
+//! | `jobs` | words as a job and its files |
+//! | `commands` | the commands, as `clap` takes them |
+//! | `random` | the command `random`, and the script that it asks for |
+//! | `options` | flags and numbers |
+//! | `helps` | the texts of help |
+//! | `near` | the command that is meant where there is none of its name |
+//! | `laws` | which words ask for which job |
+#![tactic(auto)]
+
+mod commands;
+mod helps;
+mod jobs;
+mod laws;
+mod near;
+mod options;
+mod random;
+
+pub use jobs::{Asked, Job, STANDARD_NAME, first_name, read_words};
+pub use laws::{random_lines_have_a_bound, words_of_the_program};
+pub use near::near_command;
+pub use random::Recipe;

@@ -1,0 +1,28 @@
+//! Pictures of stories as texts: a drawing for people, and the states after each line and a graph of who waits for whom
+//! for programs.
+//!
+//! A story has had its answers filled in, and so has no fault. A core plays its commands again, one by one, and what it
+//! shows behind each is written down. Each picture is kept in memory.
+#![tactic(auto)]
+
+mod arrows;
+mod bars;
+mod chains;
+mod drawing;
+mod graphs;
+mod heads;
+mod lanes;
+mod levels;
+mod looks;
+mod objects;
+mod owners;
+mod pages;
+mod pictures;
+mod plans;
+mod plays;
+mod rows;
+mod sheets;
+mod states;
+mod styles;
+
+pub use pictures::picture_of;

@@ -1,0 +1,8 @@
+/// How much `show` tells of the core behind each line.
+#[derive(Clone, Copy, Debug, PartialEq, Eq)]
+pub enum Detail {
+    /// What has changed by the line.
+    Changes,
+    /// All of it.
+    All,
+}

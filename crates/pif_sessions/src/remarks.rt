@@ -1,0 +1,137 @@
+use crate::sessions::{NotUndone, Refusal, Unplayed};
+use arrayvec::ArrayVec;
+use itoa::Buffer;
+use pif_slips::{Slip, Wrong, nearest_name};
+use pif_text::Cause;
+
+/// The most bytes of a remark.
+const REMARK_ROOM: usize = 512;
+
+/// A line that a shell says to a person, while it is made. It stands on the stack; what has no room is left out.
+#[derive(Drop)]
+pub struct Remark {
+    bytes: ArrayVec<u8, REMARK_ROOM>,
+}
+
+impl Remark {
+    /// An empty remark.
+    pub fn new() -> Remark {
+        Remark {
+            bytes: ArrayVec::new(),
+        }
+    }
+
+    /// The text of the remark.
+    pub fn as_slice(&self) -> &[u8] {
+        self.bytes.as_slice()
+    }
+
+    /// Appends a byte.
+    fn put(&mut self, byte: u8) {
+        let _ = self.bytes.try_push(byte);
+    }
+
+    /// Appends a text.
+    pub fn say(&mut self, text: &str) {
+        for byte in text.as_bytes() {
+            self.put(*byte);
+        }
+    }
+
+    /// Appends a number in decimal digits.
+    pub fn number(&mut self, number: u64) {
+        let mut buffer = Buffer::new();
+        self.say(buffer.format(number));
+    }
+
+    /// Appends bytes that somebody typed; what is no printable ASCII as a question mark.
+    pub fn show(&mut self, text: &[u8]) {
+        for byte in text {
+            match *byte {
+                b' '..=b'~' => self.put(*byte),
+                _ => self.put(b'?'),
+            }
+        }
+    }
+}
+
+/// Appends words and a hint between quotes, if there is one.
+fn say_hint(words: &str, hint: Option<&'static str>, remark: &mut Remark) {
+    if let Some(text) = hint {
+        remark.say(words);
+        remark.say(text);
+        remark.say("'");
+    }
+}
+
+/// What is wrong with a line, in words. Here a line may be a comment, as in a story.
+fn wrong_words(wrong: Wrong) -> &'static str {
+    match wrong {
+        Wrong::Comment => "a comment is a line that begins with '#'",
+        _ => wrong.words(),
+    }
+}
+
+/// What a line of the shell begins with that is no command of scripts.
+const OWN_WORDS: [&str; 4] = ["help", "state", "undo", "save"];
+
+/// The right word that is nearest to what is wrong, if one is near. A word that no command begins with may be meant as
+/// one of the shell's own.
+fn near_of(slip: &Slip<'_>) -> Option<&'static str> {
+    match slip.near {
+        None if slip.wrong == Wrong::NoCommand => { nearest_name(slip.word, OWN_WORDS.as_slice()) }
+        near => near,
+    }
+}
+
+/// Says why a line is no command: the column, what is wrong, the nearest word and the form of the command, if there are
+/// such.
+fn say_slip(slip: &Slip<'_>, remark: &mut Remark) {
+    remark.say("column ");
+    remark.number(slip.column as u64);
+    remark.say(": ");
+    remark.say(wrong_words(slip.wrong));
+    let near = near_of(slip);
+    say_hint(", perhaps '", near, remark);
+    say_hint(", in '", slip.form, remark);
+    if slip.wrong == Wrong::NoCommand && near.is_none() {
+        remark.say("; 'help' names them all");
+    }
+}
+
+/// Why a command is not accepted, in words.
+fn unplayed_words(why: Unplayed) -> &'static str {
+    match why {
+        Unplayed::Fault(Cause::Limits) => {
+            "a limit is out of range (threads 1 to 1024, mutexes 0 to 1024, variables 0 to 256, \
+            signals 1 to 4294967295)"
+        }
+        Unplayed::Fault(_) => "limits may stand on the first line only",
+        Unplayed::Full => "the script has 131072 commands, and takes no more",
+        Unplayed::NoMemory => "out of memory: nothing has changed",
+    }
+}
+
+/// Says why a line is not accepted.
+pub fn say_refusal(refusal: &Refusal<'_>, remark: &mut Remark) {
+    match refusal {
+        Refusal::Slip(slip) => say_slip(slip, remark),
+        Refusal::Unplayed(why) => remark.say(unplayed_words(*why)),
+    }
+}
+
+/// What is said of one of the shell's words that has more behind it.
+pub fn too_many(word: &'static str) -> Remark {
+    let mut remark = Remark::new();
+    remark.say(Wrong::TooMany.words());
+    say_hint(", in '", Some(word), &mut remark);
+    remark
+}
+
+/// Why nothing was taken back, in words.
+pub fn undone_words(why: NotUndone) -> &'static str {
+    match why {
+        NotUndone::Nothing => "there is nothing to undo",
+        NotUndone::NoMemory => "out of memory: nothing has changed",
+    }
+}

@@ -1,0 +1,30 @@
+//! The texts of stories: their lines, the script that is left of one, its answers beside the lines that a run prints,
+//! filling in, and the line that says what a story comes to.
+//!
+//! A line of a story is a command of scripts, with ` = ` and its answer behind it or without; or it begins with `#`; or
+//! it is empty. Blanks before ` = ` line the answers up. A CR at the end of a line and a byte order mark at the front
+//! are passed over, and the last line needs no LF.
+//!
+//! | Module | What it has |
+//! |---|---|
+//! | `lines` | a text as lines, and what a line says |
+//! | `scripts` | the script that is left of a story |
+//! | `reading` | that script, of a story that is read |
+//! | `comparing` | the answers that are written, beside the lines that are printed |
+//! | `filling` | a story with the lines that are printed as its answers |
+//! | `verdicts` | what a story comes to, as a line |
+#![tactic(auto)]
+
+mod comparing;
+mod filling;
+mod lines;
+mod reading;
+mod scripts;
+mod verdicts;
+
+pub use comparing::compare;
+pub use filling::filled_text;
+pub use lines::line_at_end;
+pub use reading::{MOST, read_script_of_story};
+pub use scripts::script_of;
+pub use verdicts::verdict_line;

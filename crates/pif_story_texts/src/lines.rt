@@ -1,0 +1,115 @@
+ghost use Rattle.std.specs.Prelude.{◌≡◌, ◌≢◌, ◌<◌, ◌≤◌, ◌∷◌, ℕ, length, slice_index, IfSome, option_copied, option_map};
+ghost use Rattle.std.specs.Str.Lines.{strip_carriage_return};
+ghost use Rattle.pif_story_model.specs.Lines.{without_mark, lines, lines_behind, without_blanks, is_passed, row_in};
+
+use pif_text::split_answer;
+
+/// A command of a story, and the answer that is written behind it, if there is one.
+pub type Row<'a> = (&'a [u8], Option<&'a [u8]>);
+
+/// A text without a byte order mark at its front.
+#[tactic(auto, unfolding(pif_story_model::specs::Lines::without_mark))]
+pub fn without_mark(text: &[u8]) -> &[u8]
+    ensures text { result.now ≡ without_mark text.now }
+    ensures shorter { length result.now ≤ length text.now }
+{
+    if text.starts_with(b"\xef\xbb\xbf") {
+        &text[3..]
+    } else {
+        text
+    }
+}
+
+/// The place of the first LF of a text, or the text's length if it has none.
+fn first_end(text: &[u8]) -> usize
+    ensures within { result ≤ length text.now }
+    ensures before { (k : ℕ) → k < result → slice_index text.now k ≢ 10 }
+    ensures found { result < length text.now → slice_index text.now result ≡ 10 }
+{
+    for (place, byte) in text.iter().enumerate() {
+        if *byte == b'\n' {
+            return place;
+        }
+    }
+    text.len()
+}
+
+/// The first line of a text without its LF, and what stands behind that, or `None` if the line has no LF.
+#[tactic(auto, using(pif_story_model::proofs::LinesLemmas::split_at_end, pif_story_model::proofs::LinesLemmas::split_nowhere))]
+pub fn split_line(text: &[u8]) -> (&[u8], Option<&[u8]>)
+    ensures split { lines text.now ≡ result.0.now ∷ lines_behind (option_copied result.1) }
+    ensures shorter { IfSome result.1 (λ behind. length behind.now < length text.now) }
+{
+    let end = first_end(text);
+    if end < text.len() {
+        (&text[..end], Some(&text[end + 1..]))
+    } else {
+        (text, None)
+    }
+}
+
+/// A line without a CR at its end.
+pub fn without_return(line: &[u8]) -> &[u8]
+    ensures { result.now ≡ strip_carriage_return line.now }
+{
+    let end = line.len();
+    if end > 0 && line[end - 1] == b'\r' {
+        &line[..end - 1]
+    } else {
+        line
+    }
+}
+
+/// A text without the spaces at its end.
+#[tactic(auto, using(pif_story_model::proofs::LinesLemmas::blanks_none, pif_story_model::proofs::LinesLemmas::blanks_step, pif_story_model::proofs::LinesLemmas::blanks_stop))]
+fn without_blanks(text: &[u8]) -> &[u8]
+    ensures { result.now ≡ without_blanks text.now }
+{
+    for place in (0..text.len()).rev() {
+        if text[place] != b' ' {
+            return &text[..place + 1];
+        }
+    }
+    &text[..0]
+}
+
+/// Whether a line is empty or a comment.
+fn is_passed(text: &[u8]) -> bool
+    ensures { result ≡ is_passed text.now }
+{
+    match text {
+        [] => true,
+        [first, ..] => *first == b'#',
+    }
+}
+
+/// What a line of a story says: a command and the answer that is written behind it, if there is one; `None` if the
+/// line is empty or a comment. A CR at its end is no part of it, and neither are spaces before ` = `.
+#[tactic(auto, unfolding(pif_story_model::specs::Lines::row_in))]
+pub fn row_of(line: &[u8]) -> Option<Row<'_>>
+    ensures { option_map (λ row. (row.0.now, option_copied row.1)) result ≡ row_in line.now }
+{
+    let text = without_return(line);
+    if is_passed(text) {
+        return None;
+    }
+    match split_answer(text) {
+        Some((command, written)) => Some((without_blanks(command), Some(written))),
+        None => Some((text, None)),
+    }
+}
+
+/// In which line of a text the byte stands that comes next, from 1.
+#[tactic(auto, using(pif_story_model::proofs::LinesLemmas::count_lines))]
+pub fn line_at_end(text: &[u8]) -> u64
+    requires { length text.now ≤ 16777216 }
+    ensures { result ≡ length (lines text.now) }
+{
+    let mut number = 1;
+    for byte in text {
+        if *byte == b'\n' {
+            number += 1;
+        }
+    }
+    number
+}

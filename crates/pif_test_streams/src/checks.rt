@@ -1,0 +1,129 @@
+//! Jobs that are done between two streams, and the checks of them.
+
+use crate::streams::{Part, Stream};
+use pif_script_model::CliFault;
+use std::alloc::Global;
+use std::io::ErrorKind;
+
+/// How a job ends.
+pub type Ended = Result<(), CliFault>;
+
+/// A job that reads and writes, of a crate of tests. Only tests may end the process, so it asserts itself, by a handle
+/// of type `R`.
+pub trait Task<R> {
+    /// Does the job.
+    fn do_it(self, alloc: Global, reader: &mut Stream<'_>, writer: &mut Stream<'_>) -> Ended;
+
+    /// Asserts that a job has done what is wanted: with this to read, it has ended so, and written so many bytes.
+    fn assert_done(rt: &R, is_wanted: bool, read: &[Part<'_>], ended: Ended, count: usize);
+
+    /// Asserts that a job has done what is wanted of one that may run out of memory. It has ended so.
+    fn assert_ended(rt: &R, is_wanted: bool, ended: Ended);
+}
+
+/// Has a job done, and checks that it writes what is wanted, up to the write that fails if one does, and how it ends.
+pub fn check_streams<R, T: Task<R>>(
+    rt: &R,
+    alloc: Global,
+    job: T,
+    input: &mut Stream<'_>,
+    output: &mut Stream<'_>,
+    ended: Ended,
+) {
+    let result = job.do_it(alloc, input, output);
+    let is_wanted = result == ended && output.is_met();
+    T::assert_done(rt, is_wanted, input.parts(), result, output.done());
+}
+
+/// The same of texts in parts.
+pub fn check_parts<R, T: Task<R>>(
+    rt: &R,
+    alloc: Global,
+    job: T,
+    read: &[Part<'_>],
+    written: &[Part<'_>],
+    ended: Ended,
+) {
+    let mut input = Stream::new(&*read);
+    let mut output = Stream::new(&*written);
+    check_streams(rt, alloc, job, &mut input, &mut output, ended);
+}
+
+/// The same of two texts.
+pub fn check_job<R, T: Task<R>>(
+    rt: &R,
+    alloc: Global,
+    job: T,
+    read: &str,
+    written: &str,
+    ended: Ended,
+) {
+    check_parts(rt, alloc, job, &[(read, 1)], &[(written, 1)], ended);
+}
+
+/// Has a job done whose writes take so many bytes a call, and checks that it writes all the same.
+pub fn check_slowly<R, T: Task<R>>(rt: &R, alloc: Global, job: T, read: &str, written: &str) {
+    let (read, written) = ([(read, 1)], [(written, 1)]);
+    let mut input = Stream::new(&read);
+    let mut output = Stream::new(&written);
+    output.pace(1, 0, 1);
+    check_streams(rt, alloc, job, &mut input, &mut output, Ok(()));
+}
+
+/// Has a job done that reads so many bytes of a text, behind which a read fails, and checks what it has written.
+pub fn check_read<R, T: Task<R>>(
+    rt: &R,
+    alloc: Global,
+    job: T,
+    read: &str,
+    most: usize,
+    failure: ErrorKind,
+    written: &str,
+) {
+    let (read, written) = ([(read, 1)], [(written, 1)]);
+    let mut input = Stream::failing(&read, most, Some(failure));
+    let mut output = Stream::new(&written);
+    check_streams(rt, alloc, job, &mut input, &mut output, Err(CliFault::Read));
+}
+
+/// Has a job done that writes so many bytes of a text, at most `each` a call, behind which a write fails.
+pub fn check_write<R, T: Task<R>>(
+    rt: &R,
+    alloc: Global,
+    job: T,
+    read: &str,
+    written: &str,
+    each: usize,
+    most: usize,
+    failure: Option<ErrorKind>,
+) {
+    let (read, written) = ([(read, 1)], [(written, 1)]);
+    let mut input = Stream::new(&read);
+    let mut output = Stream::failing(&written, most, failure);
+    output.pace(each, 0, each);
+    check_streams(
+        rt,
+        alloc,
+        job,
+        &mut input,
+        &mut output,
+        Err(CliFault::Write),
+    );
+}
+
+/// Whether a job has ended with all that is wanted, or out of memory with nothing.
+fn is_all_or_nothing(ended: Ended, output: &Stream<'_>) -> bool {
+    match ended {
+        Ok(()) => output.is_met(),
+        Err(fault) => fault == CliFault::NoMemory && output.done() == 0,
+    }
+}
+
+/// Has a job done that writes this text, or nothing if it runs out of memory.
+pub fn check_memory<R, T: Task<R>>(rt: &R, alloc: Global, job: T, read: &str, written: &str) {
+    let (read, written) = ([(read, 1)], [(written, 1)]);
+    let mut input = Stream::new(&read);
+    let mut output = Stream::new(&written);
+    let ended = job.do_it(alloc, &mut input, &mut output);
+    T::assert_ended(rt, is_all_or_nothing(ended, &output), ended);
+}
