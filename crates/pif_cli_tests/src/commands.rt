@@ -7,9 +7,10 @@ mod texts;
 mod words_of_processes;
 
 use arrayvec::ArrayVec;
-use pif_cli::{Status, command};
+use pif_cli::{Status, command, command_of_process};
 use std::alloc::Global;
 use std::process::{Abort, ExitCode};
+use std::rt::{Env, Files};
 use std::sync::Wait;
 use std::thread::Threads;
 
@@ -53,6 +54,24 @@ fn check_bytes(rt: &impl Abort, written: &[u8], expected: &[u8], text: &str) {
 /// A process ends with this status.
 fn check_status(rt: &impl Abort, ended: Status, status: u8) {
     assert!(rt; ended.exit_code() == ExitCode::from(status));
+}
+
+/// The program over the words of a process and this input ends with a status, and writes this to the output and to the
+/// errors.
+fn check_process<P: Env + AllocGlobal + Files + Threads + Wait + Sync>(
+    rt: &impl Abort,
+    process: &P,
+    input: &str,
+    status: u8,
+    output: &str,
+    errors: &str,
+) {
+    let (mut written, mut told) = (Kept::new(), Kept::new());
+    let mut bytes = input.as_bytes();
+    let ended = command_of_process(process, &mut bytes, &mut written, &mut told);
+    check_status(rt, ended, status);
+    check_bytes(rt, written.as_slice(), output.as_bytes(), "the output");
+    check_bytes(rt, told.as_slice(), errors.as_bytes(), "the errors");
 }
 
 /// Does what these words ask for, at an output that takes four bytes: the status.

@@ -12,9 +12,16 @@ use std::thread::Threads;
 /// and opens files as `rt` does.
 #[derive(Drop)]
 pub struct Process<'a, R> {
-    pub words: &'a [&'a str],
-    pub last: Option<&'a [u8]>,
-    pub rt: &'a R,
+    words: &'a [&'a str],
+    last: Option<&'a [u8]>,
+    rt: &'a R,
+}
+
+impl<'a, R> Process<'a, R> {
+    /// A process of these words, and of the last one.
+    pub fn of(words: &'a [&'a str], last: Option<&'a [u8]>, rt: &'a R) -> Process<'a, R> {
+        Process { words, last, rt }
+    }
 }
 
 impl<'a, R: Threads> Threads for Process<'a, R> {}

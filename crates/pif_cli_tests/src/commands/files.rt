@@ -1,17 +1,7 @@
-use super::{Kept, check_bytes, check_status};
+use super::check_process;
 use crate::processes::Process;
-use pif_cli::command_of_process;
 
-const STORY: &[u8] = b"thread 10 = t1\n";
-
-/// A process of these words.
-fn process_of<'a, R>(rt: &'a R, words: &'a [&'a str]) -> Process<'a, R> {
-    Process {
-        words,
-        last: None,
-        rt,
-    }
-}
+const STORY: &str = "thread 10 = t1\n";
 
 const UNREAD: &str = "pif: no/such: cannot be read\n";
 
@@ -64,12 +54,7 @@ const ASKED: [(&[&str], u8, (&str, &str)); 15] = [
 #[test]
 fn files_are_read_in_turn(rt: HostRuntime) {
     for (words, status, written) in ASKED {
-        let process = (process_of(&rt, words), rt.alloc());
-        let (mut output, mut errors) = (Kept::new(), Kept::new());
-        let mut input = STORY;
-        let ended = command_of_process(&process, &mut input, &mut output, &mut errors);
-        check_status(&rt, ended, status);
-        check_bytes(&rt, output.as_slice(), written.0.as_bytes(), "the output");
-        check_bytes(&rt, errors.as_slice(), written.1.as_bytes(), "the errors");
+        let process = (Process::of(words, None, &rt), rt.alloc());
+        check_process(&rt, &process, STORY, status, written.0, written.1);
     }
 }

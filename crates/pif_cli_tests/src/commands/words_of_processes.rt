@@ -1,4 +1,4 @@
-use super::{BOOSTED, BOOSTED_ANSWERS, Kept, check_bytes, check_status};
+use super::{BOOSTED, BOOSTED_ANSWERS, Kept, check_bytes, check_process, check_status};
 use crate::processes::Process;
 use arrayvec::ArrayVec;
 use pif_cli::command_of_process;
@@ -6,36 +6,19 @@ use std::process::{Abort, ExitCode, Termination};
 use std::str::from_utf8;
 use std::test::Fail;
 
-/// A process of the words `pif`, `run`, and a third one if there is one.
-fn run_with<'a, R>(rt: &'a R, third: Option<&'a [u8]>) -> Process<'a, R> {
-    Process {
-        words: ["pif", "run"].as_slice(),
-        last: third,
-        rt,
-    }
-}
+/// The words `pif`, `run`, and a third one if there is one, which may be no text.
+const WORDS: &[&str] = &["pif", "run"];
 
 #[test]
 fn words_of_a_process_ask_for_a_job(rt: HostRuntime) {
-    let third = None;
-    let process = (run_with(&rt, third), rt.alloc());
-    let (mut output, mut errors) = (Kept::new(), Kept::new());
-    let mut input = BOOSTED.as_bytes();
-    let ended = command_of_process(&process, &mut input, &mut output, &mut errors);
-    check_status(&rt, ended, 0);
-    check_bytes(&rt, errors.as_slice(), b"", "the errors");
-    check_bytes(
-        &rt,
-        output.as_slice(),
-        BOOSTED_ANSWERS.as_bytes(),
-        "the output",
-    );
+    let process = (Process::of(WORDS, None, &rt), rt.alloc());
+    check_process(&rt, &process, BOOSTED, 0, BOOSTED_ANSWERS, "");
 }
 
 #[test]
 fn each_word_of_a_process_counts(rt: HostRuntime) -> Result<(), Fail> {
     let third = Some(b"--fast".as_slice());
-    let process = (run_with(&rt, third), rt.alloc());
+    let process = (Process::of(WORDS, third, &rt), rt.alloc());
     let (mut output, mut errors) = (Kept::new(), Kept::new());
     let mut input = BOOSTED.as_bytes();
     let ended = command_of_process(&process, &mut input, &mut output, &mut errors);
@@ -53,58 +36,36 @@ fn is_told_of_fast(rt: &impl Abort, errors: &[u8]) -> Result<(), Fail> {
 #[test]
 fn a_word_of_a_process_may_name_a_file(rt: HostRuntime) {
     let third = Some(b"no/such file\x07".as_slice());
-    let process = (run_with(&rt, third), rt.alloc());
-    let (mut output, mut errors) = (Kept::new(), Kept::new());
-    let mut input = BOOSTED.as_bytes();
-    let ended = command_of_process(&process, &mut input, &mut output, &mut errors);
-    check_status(&rt, ended, 3);
-    check_bytes(&rt, output.as_slice(), b"", "the output");
-    check_bytes(
-        &rt,
-        errors.as_slice(),
-        b"pif: no/such file\\x07: cannot be read\n",
-        "the errors",
-    );
+    let process = (Process::of(WORDS, third, &rt), rt.alloc());
+    let told = "pif: no/such file\\x07: cannot be read\n";
+    check_process(&rt, &process, BOOSTED, 3, "", told);
 }
 
 #[test]
 fn a_dash_names_the_standard_input(rt: HostRuntime) {
     let third = Some(b"-".as_slice());
-    let process = (run_with(&rt, third), rt.alloc());
-    let (mut output, mut errors) = (Kept::new(), Kept::new());
-    let mut input = BOOSTED.as_bytes();
-    let ended = command_of_process(&process, &mut input, &mut output, &mut errors);
-    check_status(&rt, ended, 0);
-    check_bytes(&rt, errors.as_slice(), b"", "the errors");
-    check_bytes(
-        &rt,
-        output.as_slice(),
-        BOOSTED_ANSWERS.as_bytes(),
-        "the output",
-    );
+    let process = (Process::of(WORDS, third, &rt), rt.alloc());
+    check_process(&rt, &process, BOOSTED, 0, BOOSTED_ANSWERS, "");
 }
 
 #[test]
 fn a_word_that_is_no_text_is_refused(rt: HostRuntime) {
     let third = Some(b"\xff".as_slice());
-    let process = (run_with(&rt, third), rt.alloc());
-    let (mut output, mut errors) = (Kept::new(), Kept::new());
-    let mut input = BOOSTED.as_bytes();
-    let ended = command_of_process(&process, &mut input, &mut output, &mut errors);
-    check_status(&rt, ended, 1);
-    check_bytes(&rt, output.as_slice(), b"", "the output");
-    check_bytes(
+    let process = (Process::of(WORDS, third, &rt), rt.alloc());
+    check_process(
         &rt,
-        errors.as_slice(),
-        b"error: a word is not UTF-8\n",
-        "the errors",
+        &process,
+        BOOSTED,
+        1,
+        "",
+        "error: a word is not UTF-8\n",
     );
 }
 
 #[test]
 fn the_status_is_that_of_the_process(rt: HostRuntime) {
     let third = Some(b"\xff".as_slice());
-    let process = (run_with(&rt, third), rt.alloc());
+    let process = (Process::of(WORDS, third, &rt), rt.alloc());
     let mut errors = ArrayVec::<u8, 4>::new();
     let mut input = BOOSTED.as_bytes();
     let ended = command_of_process(&process, &mut input, &mut Kept::new(), &mut errors);
