@@ -3,12 +3,12 @@
 run, a run that is shown, a replay, a trace, help, a wrong word and two clients in real threads. Each time the status must
 be 4, with nothing on standard output and one line on standard error, or, of the clients, 6 with `fault threads`; or all
 must be as with no refusal, since the standard library asks again for some. And the same of the test `desk_keeps_receipts`
-of pif_drive_tests, which asks again for what was refused, by `resume` where a call is open, and fails where any answer,
+of pif_test_drive, which asks again for what was refused, by `resume` where a call is open, and fails where any answer,
 the book or its replayed trace changes. And of the benchmark `new_core` of pif_bench, which makes cores: there the status
 must be 1, whichever request of `Core::new`, and of `LinkedKernel::new` in it, is refused. The status is 0 where all is
 so. It needs a C compiler, and is no part of the gate.
 
-    bench/refused_requests.py       once they are built: by ./pif, in crates/pif_drive_tests by `rt test`, and in
+    bench/refused_requests.py       once they are built: by ./pif, in crates/pif_test_drive by `rt test`, and in
                                     crates/pif_bench by `rt run`
 """
 
@@ -21,7 +21,7 @@ from pathlib import Path
 
 TOP = Path(__file__).resolve().parent.parent
 PROGRAM = TOP / "crates/pif/out/pif"
-TESTS = TOP / "crates/pif_drive_tests/out/pif_drive_tests_tests"
+TESTS = TOP / "crates/pif_test_drive/out/pif_drive_tests_tests"
 BENCH = TOP / "crates/pif_bench/out/pif_bench"
 SCRIPT = TOP / "examples/holder_is_boosted_until_it_unlocks.pif"
 

@@ -1,7 +1,7 @@
 -- What a benchmark's table keeps: one list, sorted, and its nodes.
 use Rattle.std.specs.Prelude.{ℕ, ◌≡◌, ◌<◌, ◌≤◌, length, nat_eq, if◌then◌else◌, Option, Some, None}
-use Rattle.pif_lists.specs.Table.{NodeLists, holder, key_at}
-use Rattle.pif_lists.specs.Order.{IsSorted}
+use Rattle.pif_nodes_model.specs.Table.{NodeLists, holder, key_at}
+use Rattle.pif_nodes_model.specs.Order.{IsSorted}
 use Rattle.pif_bench.specs.declared.layers.lists.Priorities.{Priorities}
 use Rattle.pif_bench.specs.declared.layers.lists.Priorities.TheVariants.{Equal, Distinct}
 

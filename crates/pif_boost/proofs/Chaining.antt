@@ -1,16 +1,16 @@
 -- The chain from a thread, followed hop by hop, up to another thread.
 use Rattle.std.proofs.Common.{◌≡◌, ◌⊎◌, ℕ, ◌<◌, ◌≤◌, ◌+◌, List, [], ◌∷◌, length, Some, None, refl, sym, ap, ◌∙◌, subst, inl, inr, arith}
 use Rattle.std.proofs.lemmas.Bool.{cases_eq, cases_lt}
-use Rattle.pif_lists.specs.Table.{NodeLists}
+use Rattle.pif_nodes_model.specs.Table.{NodeLists}
 use Rattle.pif_model.specs.Graph.{Reaches}
 use Rattle.pif_model.specs.Graph.Reaches.{here, hop}
-use Rattle.pif_chains.proofs.Hops.{alone}
-use Rattle.pif_owners.specs.Owners.{Owners, owner_at, waits_on, waits_for, WaitsFor, AreSoundOwners}
-use Rattle.pif_owners.specs.States.{States, owners_in}
-use Rattle.pif_owners.specs.Holds.{HoldsStates}
-use Rattle.pif_owners.proofs.ViewLemmas.{length-seats}
-use Rattle.pif_owners.specs.Boosts.{IsThread}
-use Rattle.pif_owners.proofs.Greatest.{nobody_waits, out_waits, waits_for-none, waits_for-owner}
+use Rattle.pif_model_lemmas.proofs.Hops.{alone}
+use Rattle.pif_kernel_model.specs.Owners.{Owners, owner_at, waits_on, waits_for, WaitsFor, AreSoundOwners}
+use Rattle.pif_kernel_model.specs.States.{States, owners_in}
+use Rattle.pif_kernel_model.specs.Holds.{HoldsStates}
+use Rattle.pif_kernel_model.proofs.ViewLemmas.{length-seats}
+use Rattle.pif_kernel_model.specs.Boosts.{IsThread}
+use Rattle.pif_kernel_model.proofs.Greatest.{nobody_waits, out_waits, waits_for-none, waits_for-owner}
 use Rattle.pif_boost.proofs.Hops.{IsOnWay, onway-start, onway-hop, onway-few}
 
 -- so many threads of the chain from `owner` are not `t`, and `at` is next: it reaches `t` just where `owner` does

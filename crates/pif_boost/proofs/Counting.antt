@@ -2,8 +2,8 @@
 use Rattle.std.proofs.Common.{◌≡◌, ◌≢◌, ◌⊎◌, ℕ, ◌<◌, ◌≤◌, ◌+◌, ◌-◌, true, false, eqb, List, [], ◌∷◌, length, refl, sym, ap, ◌∙◌, subst, inl, inr, arith}
 use Rattle.std.specs.List.{list_any}
 use Rattle.std.proofs.lemmas.Bool.{cases_eq, cases_lt, eqb-true, eq-eqb, or_cases, or_left, or_right, false_from_ne_true, true≢false}
-use Rattle.pif_owners.specs.Owners.{Owners, waits_for, AreSoundOwners}
-use Rattle.pif_owners.specs.Boosts.{local_of, greatest_base}
+use Rattle.pif_kernel_model.specs.Owners.{Owners, waits_for, AreSoundOwners}
+use Rattle.pif_kernel_model.specs.Boosts.{local_of, greatest_base}
 use Rattle.pif_boost.specs.Hops.{after_hops, IsHopCount}
 use Rattle.pif_boost.proofs.Hops.{IsWalked, walked-local, IsOnWay, onway-apart}
 

@@ -8,17 +8,17 @@ use Rattle.std.proofs.lemmas.Bool.{cases_eq, eqb-true, eq-eqb, or_cases, false_f
 use Rattle.std.proofs.lemmas.List.{get_or-set_same, get_or-set_other}
 use Rattle.std.proofs.lemmas.Map.Keys.{IsDistinct-cons}
 use Rattle.std.proofs.lemmas.Map.Steps.{length-le_from_distinct_below}
-use Rattle.pif_lists.specs.declared.keys.Key.{Key}
+use Rattle.pif_nodes_model.specs.declared.keys.Key.{Key}
 use Rattle.pif_model.specs.Graph.{greatest_where, Reaches}
 use Rattle.pif_model.specs.Graph.Reaches.{here}
-use Rattle.pif_chains.proofs.Following.{all_apart, no_repeats, greatest_where_above}
-use Rattle.pif_chains.proofs.Greatest.{greatest_where_most}
-use Rattle.pif_chains.proofs.Hops.{Reaches-then, alone}
-use Rattle.pif_owners.specs.Owners.{Owners, Task, Wait, no_task, task_at, owner_at, waits_on, waits_for, rank_of, WaitsFor, with_task, AreSoundOwners}
-use Rattle.pif_owners.specs.Boosts.{IsThread, base_of, local_of, greatest_base, greatest_waiting, with_rank_priority, with_effective, IsRepaired, IsRepairedBut}
-use Rattle.pif_owners.proofs.Repairs.{ranked-state}
-use Rattle.pif_owners.proofs.Settled.{ranked-prio}
-use Rattle.pif_owners.proofs.Greatest.{greatest_base-same, greatest_base-nobody, local_is_greatest, nobody_waits}
+use Rattle.pif_model_lemmas.proofs.Following.{all_apart, no_repeats, greatest_where_above}
+use Rattle.pif_model_lemmas.proofs.Greatest.{greatest_where_most}
+use Rattle.pif_model_lemmas.proofs.Hops.{Reaches-then, alone}
+use Rattle.pif_kernel_model.specs.Owners.{Owners, Task, Wait, no_task, task_at, owner_at, waits_on, waits_for, rank_of, WaitsFor, with_task, AreSoundOwners}
+use Rattle.pif_kernel_model.specs.Boosts.{IsThread, base_of, local_of, greatest_base, greatest_waiting, with_rank_priority, with_effective, IsRepaired, IsRepairedBut}
+use Rattle.pif_kernel_model.proofs.Repairs.{ranked-state}
+use Rattle.pif_kernel_model.proofs.Settled.{ranked-prio}
+use Rattle.pif_kernel_model.proofs.Greatest.{greatest_base-same, greatest_base-nobody, local_is_greatest, nobody_waits}
 
 -- the greatest value is the same where two functions agree on those that pass
 pub greatest_where_on : (test : ℕ → Bool) (f g : ℕ → ℕ) (n : ℕ) → ((u : ℕ) → u < n → test u ≡ true → f u ≡ g u)

@@ -3,32 +3,32 @@ use Rattle.std.proofs.Common.{◌≡◌, ◌≢◌, ◌⊎◌, ℕ, ◌<◌, ◌
 use Rattle.std.specs.Prelude.{option_map, option_and_then, unwrap_or}
 use Rattle.std.specs.Option.{is_some}
 use Rattle.std.proofs.lemmas.Bool.{eqb-true, cases_eq}
-use Rattle.pif_lists.specs.declared.keys.Key.{Key}
-use Rattle.pif_lists.specs.Lists.{has}
-use Rattle.pif_lists.specs.Table.{NodeLists, holder}
-use Rattle.pif_lists.specs.Levels.{Queue, IsLevel, level_of, level_with, level_for, node_for, level_after_move, Holds, IsQueued, SameOutside}
-use Rattle.pif_lists.proofs.KeptLemmas.{levels-framed, queue-framed}
-use Rattle.pif_owners.specs.Owners.{Owners, Task, Wait, task_at, owner_at, waits_on, waits_for, with_task, AreSoundOwners}
-use Rattle.pif_owners.proofs.OwnersLemmas.{task_at-with_task_same}
-use Rattle.pif_owners.specs.States.{States, owners_in}
-use Rattle.pif_owners.specs.Holds.{HoldsStates}
-use Rattle.pif_owners.specs.Frames.{KeepsOwn}
-use Rattle.pif_owners.specs.Frames.{SameOutsideStates}
+use Rattle.pif_nodes_model.specs.declared.keys.Key.{Key}
+use Rattle.pif_nodes_model.specs.Lists.{has}
+use Rattle.pif_nodes_model.specs.Table.{NodeLists, holder}
+use Rattle.pif_nodes_model.specs.Levels.{Queue, IsLevel, level_of, level_with, level_for, node_for, level_after_move, Holds, IsQueued, SameOutside}
+use Rattle.pif_nodes_model.proofs.KeptLemmas.{levels-framed, queue-framed}
+use Rattle.pif_kernel_model.specs.Owners.{Owners, Task, Wait, task_at, owner_at, waits_on, waits_for, with_task, AreSoundOwners}
+use Rattle.pif_kernel_model.proofs.OwnersLemmas.{task_at-with_task_same}
+use Rattle.pif_kernel_model.specs.States.{States, owners_in}
+use Rattle.pif_kernel_model.specs.Holds.{HoldsStates}
+use Rattle.pif_kernel_model.specs.Frames.{KeepsOwn}
+use Rattle.pif_kernel_model.specs.Frames.{SameOutsideStates}
 use Rattle.pif_rtmutex.specs.Maximum.{rank_priority, maximum_of}
-use Rattle.pif_owners.proofs.ViewLemmas.{length-seats}
-use Rattle.pif_owners.proofs.FrameLemmas.{holds-framed, owners-framed}
-use Rattle.pif_owners.specs.Boosts.{IsThread, base_of, local_of, greatest_base, greatest_waiting, with_effective, IsRepaired, IsRepairedBut, level_after_move_if_queued, level_after_walk}
-use Rattle.pif_owners.specs.BoostFrames.{StandsBefore, SameBeyond}
+use Rattle.pif_kernel_model.proofs.ViewLemmas.{length-seats}
+use Rattle.pif_kernel_model.proofs.FrameLemmas.{holds-framed, owners-framed}
+use Rattle.pif_kernel_model.specs.Boosts.{IsThread, base_of, local_of, greatest_base, greatest_waiting, with_effective, IsRepaired, IsRepairedBut, level_after_move_if_queued, level_after_walk}
+use Rattle.pif_kernel_model.specs.BoostFrames.{StandsBefore, SameBeyond}
 use Rattle.pif_boost.specs.Done.{IsDone}
 use Rattle.pif_boost.specs.Hops.{after_hops, IsHopCount}
-use Rattle.pif_owners.proofs.Greatest.{nobody_base, waits_for-none}
+use Rattle.pif_kernel_model.proofs.Greatest.{nobody_base, waits_for-none}
 use Rattle.pif_boost.proofs.Hops.{greatest_where_on, IsWalked, walked-start, walked-waits, walked-stop, walked-hop, walked-local, walked-done, walked-settled, ends-hop, most-hop, IsOnWay, onway-start, onway-hop, onway-few}
 use Rattle.pif_boost.proofs.Counting.{IsCounted, counted-start, counted-here, counted-hop, counted-done}
 use Rattle.pif_boost.proofs.Ends.{AllBut, stop_levels, end_levels}
-use Rattle.pif_owners.proofs.BoostFrameLemmas.{states-leave, queue-leaves, beyond-queue, beyond-states, beyond-both, outside-none, outside-both, outside-rows}
-use Rattle.pif_owners.proofs.Walks.{admitted_row, repaired-greatest}
-use Rattle.pif_owners.proofs.Settled.{top_is_next, walked-level}
-use Rattle.pif_owners.proofs.Joining.{one_joins}
+use Rattle.pif_kernel_model.proofs.BoostFrameLemmas.{states-leave, queue-leaves, beyond-queue, beyond-states, beyond-both, outside-none, outside-both, outside-rows}
+use Rattle.pif_kernel_model.proofs.Walks.{admitted_row, repaired-greatest}
+use Rattle.pif_kernel_model.proofs.Settled.{top_is_next, walked-level}
+use Rattle.pif_kernel_model.proofs.Joining.{one_joins}
 
 -- what a thread has by those that wait for it, where these stand with their effective priorities
 pub maximum_is : (v : Owners) (start t : ℕ) → IsRepairedBut start v → 1 ≤ t

@@ -1,14 +1,14 @@
 -- What a walk has done when it ends, of owner states and a run queue that stand in one table.
 use Rattle.std.specs.Prelude.{◌≡◌, ℕ, ◌<◌, true, length}
 use Rattle.pif_model.specs.Graph.{IsEffective}
-use Rattle.pif_lists.specs.Lists.{has}
-use Rattle.pif_lists.specs.Table.{NodeLists}
-use Rattle.pif_lists.specs.Levels.{Queue, IsLevel, level_of, Holds}
-use Rattle.pif_owners.specs.Owners.{WaitsFor, IsTop}
-use Rattle.pif_owners.specs.States.{States, owners_in}
-use Rattle.pif_owners.specs.Holds.{HoldsStates}
-use Rattle.pif_owners.specs.Boosts.{IsThread, base_of, local_of, IsRepaired, IsRepairedBut, IsNext, joins, level_after_walk}
-use Rattle.pif_owners.specs.BoostFrames.{SameBeyond}
+use Rattle.pif_nodes_model.specs.Lists.{has}
+use Rattle.pif_nodes_model.specs.Table.{NodeLists}
+use Rattle.pif_nodes_model.specs.Levels.{Queue, IsLevel, level_of, Holds}
+use Rattle.pif_kernel_model.specs.Owners.{WaitsFor, IsTop}
+use Rattle.pif_kernel_model.specs.States.{States, owners_in}
+use Rattle.pif_kernel_model.specs.Holds.{HoldsStates}
+use Rattle.pif_kernel_model.specs.Boosts.{IsThread, base_of, local_of, IsRepaired, IsRepairedBut, IsNext, joins, level_after_walk}
+use Rattle.pif_kernel_model.specs.BoostFrames.{SameBeyond}
 
 -- so many hops of a walk led from the owner states m0 and the run queue q0 in the table t0 to these
 pub record IsDone (m0 : States) (t0 : NodeLists) (q0 : Queue) (hops : ℕ) (m : States) (t : NodeLists) (q : Queue) : Type 0 where

@@ -1,7 +1,7 @@
 -- How many hops a walk makes, by the owner states before it.
 use Rattle.std.specs.Prelude.{◌≡◌, ◌≢◌, ◌⊎◌, ℕ, zero, suc, ◌+◌, ◌-◌, ◌<◌, ◌≤◌}
-use Rattle.pif_owners.specs.Owners.{Owners, waits_for}
-use Rattle.pif_owners.specs.Boosts.{local_of, greatest_base}
+use Rattle.pif_kernel_model.specs.Owners.{Owners, waits_for}
+use Rattle.pif_kernel_model.specs.Boosts.{local_of, greatest_base}
 
 -- the thread reached from t by following so many times for whom each thread waits
 unfoldable pub after_hops : (ℕ → ℕ) → ℕ → ℕ → ℕ

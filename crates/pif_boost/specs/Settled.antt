@@ -1,10 +1,10 @@
 -- What holds of owner states and a run queue between two walks.
 use Rattle.std.specs.Prelude.{◌≡◌, ℕ, ◌≤◌, true, None}
-use Rattle.pif_lists.specs.Lists.{has}
-use Rattle.pif_lists.specs.Table.{NodeLists}
-use Rattle.pif_lists.specs.Levels.{Queue, IsLevel, level_of, Holds, IsQueued}
-use Rattle.pif_owners.specs.Owners.{Owners, waits_on}
-use Rattle.pif_owners.specs.Boosts.{base_of, local_of, IsRepairedBut}
+use Rattle.pif_nodes_model.specs.Lists.{has}
+use Rattle.pif_nodes_model.specs.Table.{NodeLists}
+use Rattle.pif_nodes_model.specs.Levels.{Queue, IsLevel, level_of, Holds, IsQueued}
+use Rattle.pif_kernel_model.specs.Owners.{Owners, waits_on}
+use Rattle.pif_kernel_model.specs.Boosts.{base_of, local_of, IsRepairedBut}
 
 -- nothing is left to repair, the queue stands in its table, and who is on it was admitted, waits for nobody and is on
 -- the level of its effective priority

@@ -17,15 +17,15 @@
 //!
 //! The answer is 2 hops. A hop whose thread has its priority already is the last one.
 ghost use Rattle.std.specs.Prelude.{◌≡◌, ◌≢◌, ℕ, ◌-◌, ◌<◌, ◌≤◌, ◌==◌, not, length, None, true, unwrap_or, max};
-ghost use Rattle.pif_lists.specs.Lists.{has};
-ghost use Rattle.pif_lists.specs.Levels.{IsLevel, level_of, Holds, IsQueued, SameOutside};
+ghost use Rattle.pif_nodes_model.specs.Lists.{has};
+ghost use Rattle.pif_nodes_model.specs.Levels.{IsLevel, level_of, Holds, IsQueued, SameOutside};
 ghost use Rattle.pif_model.specs.Graph.{IsEffective};
-ghost use Rattle.pif_owners.specs.Owners.{task_at, waits_on, waits_for, WaitsFor, with_task, IsTop};
-ghost use Rattle.pif_owners.specs.States.{owners_in};
-ghost use Rattle.pif_owners.specs.Holds.{HoldsStates};
-ghost use Rattle.pif_owners.specs.Frames.{SameOutsideStates};
-ghost use Rattle.pif_owners.specs.Boosts.{IsThread, base_of, local_of, greatest_base, greatest_waiting, with_effective, IsRepaired, IsRepairedBut, IsNext, joins, level_after_move_if_queued, level_after_walk};
-ghost use Rattle.pif_owners.specs.BoostFrames.{StandsBefore};
+ghost use Rattle.pif_kernel_model.specs.Owners.{task_at, waits_on, waits_for, WaitsFor, with_task, IsTop};
+ghost use Rattle.pif_kernel_model.specs.States.{owners_in};
+ghost use Rattle.pif_kernel_model.specs.Holds.{HoldsStates};
+ghost use Rattle.pif_kernel_model.specs.Frames.{SameOutsideStates};
+ghost use Rattle.pif_kernel_model.specs.Boosts.{IsThread, base_of, local_of, greatest_base, greatest_waiting, with_effective, IsRepaired, IsRepairedBut, IsNext, joins, level_after_move_if_queued, level_after_walk};
+ghost use Rattle.pif_kernel_model.specs.BoostFrames.{StandsBefore};
 ghost use Rattle.pif_boost.specs.Done.{IsDone};
 ghost use Rattle.pif_boost.specs.Hops.{after_hops, IsHopCount};
 

@@ -1,8 +1,8 @@
 ghost use Rattle.std.specs.Prelude.{◌↔◌, IsTrue};
 ghost use Rattle.pif_model.specs.Graph.{Reaches};
-ghost use Rattle.pif_owners.specs.Owners.{WaitsFor};
-ghost use Rattle.pif_owners.specs.States.{owners_in};
-ghost use Rattle.pif_owners.specs.Holds.{HoldsStates};
+ghost use Rattle.pif_kernel_model.specs.Owners.{WaitsFor};
+ghost use Rattle.pif_kernel_model.specs.States.{owners_in};
+ghost use Rattle.pif_kernel_model.specs.Holds.{HoldsStates};
 
 use pif_nodes::NodeTable;
 use pif_rtmutex::RtMutexes;

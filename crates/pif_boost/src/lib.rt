@@ -1,5 +1,5 @@
 //! Priority inheritance over chains of owner states: the walk that gives each thread the greatest priority of it and of
-//! all that wait for it (`Boosts.antt` of `pif_owners`), and the cycle test.
+//! all that wait for it (`Boosts.antt` of `pif_kernel_model`), and the cycle test.
 #![tactic(auto)]
 
 mod chain_walk;

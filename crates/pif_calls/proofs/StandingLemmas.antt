@@ -10,7 +10,7 @@ use Rattle.pif_model.specs.Posix.{World}
 use Rattle.pif_model.specs.Standing.{Stands}
 use Rattle.pif_model.specs.Table.{Table}
 use Rattle.pif_model.specs.Lines.{Outcome, event_outcome, goes_on}
-use Rattle.pif_simulation.proofs.StandingLaws.{event_stands}
+use Rattle.pif_model_simulation.proofs.StandingLaws.{event_stands}
 use Rattle.pif_calls.specs.Calls.{StandsOn, call_outcome, after_call, after_finish, after_going, steps_before, went}
 use Rattle.pif_calls.proofs.CallLemmas.{call_other, call_refused, called-other, called-refused, goes_on-other, goes_on-went, after_going-other, after_going-went, is_refused, is_went}
 

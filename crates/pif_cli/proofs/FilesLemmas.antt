@@ -2,7 +2,7 @@
 use Rattle.std.proofs.Common.{◌≡◌, ◌+◌, ℕ, ◌<◌, ◌≤◌, ◌==◌, Bool, true, false, cond, List, [], ◌∷◌, ◌++◌, Option, get_or, length, map, refl, sym, take, ap, ◌∙◌, subst, eqb-true}
 use Rattle.std.proofs.lemmas.List.{map_push, take_all, take_more}
 use Rattle.clap.specs.Words.{Text}
-use Rattle.pif_arguments.specs.declared.jobs.Job.{Job}
+use Rattle.pif_cli_words.specs.declared.jobs.Job.{Job}
 use Rattle.pif_cli.specs.Words.{DidAll, DidOver, first_status}
 
 zero-behind : (s : ℕ) → s ≡ first_status s 0

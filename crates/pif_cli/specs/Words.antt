@@ -13,11 +13,11 @@ use Rattle.pif_script_model.specs.Traces.{ReplaysTo}
 use Rattle.pif_script_model.specs.Runs.{WritesPart}
 use Rattle.pif_story_model.specs.Showing.{ShowsStoryTo, TracesStoryTo}
 use Rattle.pif_story_model.specs.Checks.{TellsTo, check_telling, fill_telling}
-use Rattle.pif_pictures.specs.Pictures.{PicturesTo}
-use Rattle.pif_shell.specs.Talks.{TalksTo}
-use Rattle.pif_arguments.specs.declared.jobs.Job.{Job}
-use Rattle.pif_arguments.specs.declared.jobs.Job.TheVariants.{Run, Replay, Trace, Migrate, Show, Picture, Shell, Check, Fill, Random, Drive}
-use Rattle.pif_arguments.specs.Words.{files_of, inputs_of, job_of, refusals_of, standard_name}
+use Rattle.pif_job_draw.specs.Pictures.{PicturesTo}
+use Rattle.pif_job_shell.specs.Talks.{TalksTo}
+use Rattle.pif_cli_words.specs.declared.jobs.Job.{Job}
+use Rattle.pif_cli_words.specs.declared.jobs.Job.TheVariants.{Run, Replay, Trace, Migrate, Show, Picture, Shell, Check, Fill, Random, Drive}
+use Rattle.pif_cli_words.specs.Words.{files_of, inputs_of, job_of, refusals_of, standard_name}
 use Rattle.pif_cli.specs.declared.statuses.JobFault.{JobFault}
 use Rattle.pif_cli.specs.declared.statuses.JobFault.TheVariants.{Cli}
 use Rattle.pif_cli.specs.Messages.{TellsLine, TellsOf}

@@ -1,10 +1,10 @@
 use crate::messages::Message;
 use crate::statuses::JobFault;
-use pif_arguments::{Job, STANDARD_NAME};
-use pif_reading::{CliFault, Notice};
-use pif_show::{errno_name, errno_of};
-use pif_slips::{Slip, Wrong, read_command};
+use pif_cli_words::{Job, STANDARD_NAME};
+use pif_script::{CliFault, Notice};
 use pif_text::{Cause, Command, split_answer};
+use pif_text_core::{errno_name, errno_of};
+use pif_text_errors::{Slip, Wrong, read_command};
 use pif_types::Errno;
 use std::fmt::Write;
 use std::str::from_utf8;

@@ -1,5 +1,5 @@
 ghost use Rattle.std.specs.Prelude.{◌≡◌, ℕ, List, map};
-ghost use Rattle.pif_arguments.specs.Words.{files_of, inputs_of, job_of, refusals_of};
+ghost use Rattle.pif_cli_words.specs.Words.{files_of, inputs_of, job_of, refusals_of};
 ghost use Rattle.pif_cli.specs.Messages.{TellsLine, TellsOf};
 ghost use Rattle.pif_cli.specs.Statuses.{job_status};
 ghost use Rattle.pif_cli.specs.Words.{Did, DidAll, DidFile, DidOver, EndsIf, as_job, first_status};
@@ -7,9 +7,9 @@ ghost use Rattle.pif_cli.specs.Words.{Did, DidAll, DidFile, DidOver, EndsIf, as_
 use crate::causes::unread;
 use crate::shelves::FileShelf;
 use crate::words::{do_and_tell, fail, refuse};
-use pif_arguments::{Job, STANDARD_NAME, near_command, read_words};
-use pif_reading::CliFault;
-use pif_shell::shell;
+use pif_cli_words::{Job, STANDARD_NAME, near_command, read_words};
+use pif_job_shell::shell;
+use pif_script::CliFault;
 use std::convert::AsStr;
 use std::fs;
 use std::io::{Read, Write};

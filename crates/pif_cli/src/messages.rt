@@ -3,7 +3,7 @@ ghost use Rattle.arrayvec.specs.ArrayVec.{array_vec_len};
 ghost use Rattle.pif_cli.specs.Messages.{is_shown};
 
 use arrayvec::ArrayVec;
-use pif_reading::{MOST_LINE, write_whole};
+use pif_script::{MOST_LINE, write_whole};
 use std::fmt::Write;
 use std::{fmt, io};
 

@@ -6,7 +6,7 @@ use crate::files::command_over_files;
 use crate::messages::Message;
 use crate::statuses::Status;
 use crate::words::{fail, show};
-use pif_reading::CliFault;
+use pif_script::CliFault;
 use std::io::{ErrorKind, Read, Write};
 use std::rt::{Env, Files};
 use std::sync::Wait;

@@ -2,9 +2,9 @@
 ghost use Rattle.pif_cli.specs.Random.{WritesRandom};
 
 use crate::statuses::JobFault;
-use pif_arguments::Recipe;
-use pif_random::random_script;
-use pif_reading::{CliFault, write_whole};
+use pif_cli_words::Recipe;
+use pif_job_random::random_script;
+use pif_script::{CliFault, write_whole};
 use std::alloc::Global;
 use std::io::Write;
 

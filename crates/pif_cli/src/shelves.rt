@@ -1,5 +1,5 @@
-use pif_reading::write_whole;
-use pif_shell::{SaveFault, Shelf};
+use pif_job_shell::{SaveFault, Shelf};
+use pif_script::write_whole;
 use std::fs::File;
 use std::io::ErrorKind;
 use std::rt::Files;

@@ -2,7 +2,7 @@ ghost use Rattle.std.specs.Prelude.{◌≡◌, ℕ};
 ghost use Rattle.std.specs.Process.{exit_status};
 ghost use Rattle.pif_cli.specs.Statuses.{fault_status, job_fault_status};
 
-use pif_reading::CliFault;
+use pif_script::CliFault;
 use std::marker::Model;
 use std::process::{ExitCode, Termination};
 

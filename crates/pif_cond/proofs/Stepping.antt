@@ -11,9 +11,9 @@ use Rattle.pif_model.specs.PiKernel.{is_living}
 use Rattle.pif_model.specs.Table.{Table, line_at}
 use Rattle.pif_model.specs.Lines.{line_of, go_outcome}
 use Rattle.pif_model.specs.Soundness.{belongs, CallIsSound, LineIsSound, IsSound}
-use Rattle.pif_simulation.proofs.Facts.{call_limited}
-use Rattle.pif_simulation.proofs.Hole.{each_thread}
-use Rattle.pif_simulation.proofs.Undue.{goes_by_line}
+use Rattle.pif_model_simulation.proofs.Facts.{call_limited}
+use Rattle.pif_model_simulation.proofs.Hole.{each_thread}
+use Rattle.pif_model_simulation.proofs.Undue.{goes_by_line}
 use Rattle.pif_mutex.specs.Mutexes.{is_on_mutex, is_of_mutexes}
 use Rattle.pif_cond.specs.Conditions.{is_of_conditions, is_of_wait, is_own}
 

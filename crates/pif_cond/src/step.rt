@@ -8,7 +8,7 @@ ghost use Rattle.pif_model.specs.Table.{line_at, cell_at, has_thread, has_cond};
 ghost use Rattle.pif_model.specs.Lines.{line_of, use_line, go_outcome};
 ghost use Rattle.pif_mutex.specs.Mutexes.{is_of_mutexes};
 ghost use Rattle.pif_mutex.specs.Outcomes.{outcome_of};
-ghost use Rattle.pif_simulation.specs.Steppable.{CallMayStep};
+ghost use Rattle.pif_model_simulation.specs.Steppable.{CallMayStep};
 ghost use Rattle.pif_cond.specs.Conditions.{is_of_conditions, is_of_wait, is_own};
 
 use crate::uses::{use_exchange, use_load, use_reload, use_requeue};

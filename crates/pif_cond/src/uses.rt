@@ -84,7 +84,7 @@ pub(crate) fn use_exchange<K: PiKernel + Drop>(
 /// Where the variable was used since the word is loaded again. It is a function of its own, so that its locals cost the
 /// other steps nothing.
 #[inline(never)]
-#[tactic(auto, unfolding(pif_model::specs::Lines::use_requeue, pif_model::specs::Lines::use_by), using(pif_simulation::proofs::events::KernelLeaves::requeue_keeps_threads))]
+#[tactic(auto, unfolding(pif_model::specs::Lines::use_requeue, pif_model::specs::Lines::use_by), using(pif_model_simulation::proofs::events::KernelLeaves::requeue_keeps_threads))]
 pub(crate) fn use_requeue<K: PiKernel + Drop>(
     state: &mut State<K>,
     request: Request,

@@ -65,7 +65,7 @@ pub(crate) fn wait_uses<K: PiKernel + Drop>(
 /// before the mutex was given up. Where the variable was used since the thread is not parked, and locks the mutex
 /// again. It is a function of its own, so that its locals cost the other steps nothing.
 #[inline(never)]
-#[tactic(auto, unfolding(pif_model::specs::Lines::wait_park, pif_model::specs::Lines::wait_by), using(pif_simulation::proofs::events::KernelLeaves::wait_requeue_keeps_threads))]
+#[tactic(auto, unfolding(pif_model::specs::Lines::wait_park, pif_model::specs::Lines::wait_by), using(pif_model_simulation::proofs::events::KernelLeaves::wait_requeue_keeps_threads))]
 pub(crate) fn wait_park<K: PiKernel + Drop>(
     state: &mut State<K>,
     uses: u32,
@@ -109,7 +109,7 @@ pub(crate) fn wait_parked<K: PiKernel + Drop>(
 /// again, for which no deadline counts (POSIX, pthread_cond_timedwait).
 #[cold]
 #[inline(never)]
-#[tactic(auto, unfolding(pif_model::specs::Lines::expires_at, pif_model::specs::Lines::expired_in), using(pif_simulation::proofs::events::KernelLeaves::expire_keeps_threads))]
+#[tactic(auto, unfolding(pif_model::specs::Lines::expires_at, pif_model::specs::Lines::expired_in), using(pif_model_simulation::proofs::events::KernelLeaves::expire_keeps_threads))]
 pub(crate) fn wait_expire<K: PiKernel + Drop>(
     state: &mut State<K>,
     c: CondId,

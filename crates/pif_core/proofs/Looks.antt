@@ -12,10 +12,10 @@ use Rattle.pif_model.specs.PiKernel.{is_living, is_ready, has_seat, seat_at, is_
 use Rattle.pif_model.specs.Table.{Table, cell_at, has_thread, has_mutex, has_cond, status_at, bound_to}
 use Rattle.pif_model.specs.Calls.{base_answer, status_answer, open_call_answer, owner_answer, kind_answer, bound_answer, waiter_answer, parked_answer, ready_answer}
 use Rattle.pif_model.specs.Standing.{Stands, IsDoing, IsPick, call_of, owner_of, waiters_of}
-use Rattle.pif_simulation.proofs.Shown.{mutexes_shown, variables_shown, base_seen, mutex_seen, variable_seen}
-use Rattle.pif_simulation.proofs.Looks.{doing_seen, open_seen, owner_seen, waiters_seen, parked_seen, ready_seen}
-use Rattle.pif_chains.proofs.kernel.KernelSettled.{effective_range}
-use Rattle.pif_chains.proofs.kernel.Orders.{first-levels_below}
+use Rattle.pif_model_simulation.proofs.Shown.{mutexes_shown, variables_shown, base_seen, mutex_seen, variable_seen}
+use Rattle.pif_model_simulation.proofs.Looks.{doing_seen, open_seen, owner_seen, waiters_seen, parked_seen, ready_seen}
+use Rattle.pif_model_lemmas.proofs.kernel.Settled.{effective_range}
+use Rattle.pif_model_lemmas.proofs.kernel.Orders.{first-levels_below}
 use Rattle.pif_core.proofs.StandsAfter.{said_by, pick_stands}
 
 -- what holds of whatever an option holds

@@ -3,7 +3,7 @@ use Rattle.std.proofs.Common.{◌≡◌, ℕ, ◌≤◌, Bool, true, false, leng
 use Rattle.std.proofs.lemmas.Bool.Decides.{nat_tests}
 use Rattle.pif_model.specs.Graph.{is_priority}
 use Rattle.pif_model.specs.Table.{Table, has_thread_room, has_mutex_room, has_cond_room}
-use Rattle.pif_chains.proofs.Numbers.{from_within}
+use Rattle.pif_model_lemmas.proofs.Numbers.{from_within}
 
 -- numbers that fail a test of order stand the other way round
 not_lt : (a b : ℕ) → b ≤ a → nat_lt a b ≡ false

@@ -2,8 +2,8 @@
 use Rattle.std.proofs.Common.{◌≡◌, ◌≢◌, ℕ, ◌≤◌, ◌==◌, Bool, true, false, List, ◌∷◌, length, Option, Some, None, IfSome, unwrap_or, refl, sym, ap, ap₂, ◌∙◌, subst, eqb-true, if◌then◌else◌}
 use Rattle.std.specs.Option.{is_some}
 use Rattle.std.proofs.lemmas.Bool.{eqb-false}
-use Rattle.pif_chains.proofs.kernel.KernelFacts.{living-added}
-use Rattle.pif_chains.proofs.Waiting.{by_test}
+use Rattle.pif_model_lemmas.proofs.kernel.Facts.{living-added}
+use Rattle.pif_model_lemmas.proofs.Waiting.{by_test}
 use Rattle.pif_types.specs.declared.requests.Kind.{Kind}
 use Rattle.pif_types.specs.declared.requests.Health.{Health}
 use Rattle.pif_types.specs.declared.requests.Health.TheVariants.{Fine, Inconsistent, Unusable}
@@ -21,14 +21,14 @@ use Rattle.pif_model.specs.Calls.{effective_answer, word_answer, health_answer, 
 use Rattle.pif_model.specs.Word.{word_of, bits_of, health_in, health_word}
 use Rattle.pif_model.specs.Lines.{is_open, is_due_in, event_outcome}
 use Rattle.pif_model.specs.Standing.{Stands, HasEffective, IsPick, IsPossible, IsPossibleHealth, IsPossibleUses, ArePossible}
-use Rattle.pif_simulation.proofs.StandingLaws.{event_stands, thread_added_stands, mutex_added_stands, cond_added_stands}
-use Rattle.pif_simulation.proofs.runs.Holders.{one_holder}
-use Rattle.pif_simulation.proofs.Shown.{threads_shown, is_thread_seen, is_mutex_seen, is_variable_seen, living_seen, busy_seen}
-use Rattle.pif_simulation.proofs.deadlines.Due.{due_seen}
-use Rattle.pif_simulation.proofs.Steps.{rests_ready, rests_not_ready}
-use Rattle.pif_simulation.proofs.Effective.{effective_seen}
-use Rattle.pif_simulation.proofs.Picks.{pick_runs, word_is_possible, health_is_possible, died_behind_inconsistent, uses_are_possible}
-use Rattle.pif_simulation.proofs.runs.Priority.{effective_is_greatest}
+use Rattle.pif_model_simulation.proofs.StandingLaws.{event_stands, thread_added_stands, mutex_added_stands, cond_added_stands}
+use Rattle.pif_model_simulation.proofs.runs.Holders.{one_holder}
+use Rattle.pif_model_simulation.proofs.Shown.{threads_shown, is_thread_seen, is_mutex_seen, is_variable_seen, living_seen, busy_seen}
+use Rattle.pif_model_simulation.proofs.deadlines.Due.{due_seen}
+use Rattle.pif_model_simulation.proofs.Steps.{rests_ready, rests_not_ready}
+use Rattle.pif_model_simulation.proofs.Effective.{effective_seen}
+use Rattle.pif_model_simulation.proofs.Picks.{pick_runs, word_is_possible, health_is_possible, died_behind_inconsistent, uses_are_possible}
+use Rattle.pif_model_simulation.proofs.runs.Priority.{effective_is_greatest}
 use Rattle.pif_core.proofs.Rooms.{thread_room, mutex_room, cond_room, priority}
 
 -- AFTER A CALL

@@ -13,9 +13,9 @@ use Rattle.pif_model.specs.PiKernel.{is_living}
 use Rattle.pif_model.specs.Deadlines.{plain}
 use Rattle.pif_model.specs.Table.{Table, has_thread, line_at}
 use Rattle.pif_model.specs.Lines.{Outcome, first_place, begun_table, is_open, table_refusal, accepted_outcome, by_refusal, event_outcome, goes_on}
-use Rattle.pif_chains.proofs.kernel.KernelFacts.{living-added}
-use Rattle.pif_simulation.proofs.Bound.{ends_within_24}
-use Rattle.pif_simulation.proofs.Shown.{begin_allowed}
+use Rattle.pif_model_lemmas.proofs.kernel.Facts.{living-added}
+use Rattle.pif_model_simulation.proofs.Bound.{ends_within_24}
+use Rattle.pif_model_simulation.proofs.Shown.{begin_allowed}
 use Rattle.pif_calls.specs.Calls.{call_outcome}
 use Rattle.pif_calls.proofs.CallLemmas.{goes_on-other, goes_on-last, call_other}
 

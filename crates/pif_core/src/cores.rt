@@ -12,7 +12,7 @@ ghost use Rattle.pif_model.specs.Calls.{add_thread_answer, add_thread_after, add
 ghost use Rattle.pif_mutex.specs.Outcomes.{outcome_of};
 ghost use Rattle.pif_calls.specs.Calls.{finish_outcome};
 
-use pif_linked::LinkedKernel;
+use pif_kernel_linked::LinkedKernel;
 use pif_model::{Entry, Event, Line, Place, Seen, Status};
 use pif_mutex::{Parts, Progress};
 use pif_types::{

@@ -19,8 +19,8 @@ use Rattle.pif_model.specs.History.{open_call, open_after}
 use Rattle.pif_model.specs.Posix.{Call as MachineCall, World, is_thread, is_living, thread_at, refusal_of, Step, IsRun}
 use Rattle.pif_model.specs.Posix.Step.{thread_added, mutex_added, cond_added, refused, begun, went, waits, answered as step_answered, ended, ticked}
 use Rattle.pif_model.specs.Posix.IsRun.{start, next}
-use Rattle.pif_simulation.proofs.runs.Holding.{request_of}
-use Rattle.pif_simulation.proofs.runs.Holders.{IsHeld-IsRun}
+use Rattle.pif_model_simulation.proofs.runs.Holding.{request_of}
+use Rattle.pif_model_simulation.proofs.runs.Holders.{IsHeld-IsRun}
 use Rattle.pif_desk.specs.declared.log.Mark.{Mark}
 use Rattle.pif_desk.specs.declared.log.Mark.TheVariants.{Begun as MarkBegun, Answered as MarkAnswered, Ended as MarkEnded, Nothing}
 use Rattle.pif_desk.specs.declared.log.Reply.{Reply}

@@ -10,9 +10,9 @@ use Rattle.pif_model.specs.declared.events.Entry.{Entry}
 use Rattle.pif_model.specs.PiKernel.{is_among, is_living, is_ready}
 use Rattle.pif_model.specs.Table.{Table, line_at, status_at}
 use Rattle.pif_model.specs.Lines.{is_open, is_due_in}
-use Rattle.pif_chains.proofs.kernel.KernelFacts.{living-added}
-use Rattle.pif_chains.proofs.Numbers.{within}
-use Rattle.pif_chains.proofs.kernel.KernelNumbers.{among-filter, among-push, distinct-filter, distinct-none, distinct-push}
+use Rattle.pif_model_lemmas.proofs.kernel.Facts.{living-added}
+use Rattle.pif_model_lemmas.proofs.Numbers.{within}
+use Rattle.pif_model_lemmas.proofs.kernel.Numbers.{among-filter, among-push, distinct-filter, distinct-none, distinct-push}
 use Rattle.pif_desk.specs.Rooms.{StandsAfter}
 use Rattle.pif_desk.specs.Sleeping.{AreSleepers, rests_in}
 

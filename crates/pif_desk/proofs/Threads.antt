@@ -26,7 +26,7 @@ use Rattle.pif_model.specs.Posix.Moves.{expires, acts}
 use Rattle.pif_model.specs.Posix.Releases.{none_left, one_more}
 use Rattle.pif_model.specs.Posix.Step.{thread_added, mutex_added, cond_added, refused, begun, went, waits, answered, ended, ticked}
 use Rattle.pif_model.specs.Posix.IsRun.{start, next}
-use Rattle.pif_chains.proofs.Numbers.{within, from_within}
+use Rattle.pif_model_lemmas.proofs.Numbers.{within, from_within}
 use Rattle.pif_desk.specs.Settling.{adds}
 
 -- THE NUMBER OF THREADS

@@ -1,5 +1,5 @@
 //! The kernel's calls on chains: `KernelOn` meets the trait `PiKernel` of `pif_kernel_calls`, where the calls are
-//! described, over any `Chains`. `pif_linked` has those over lists linked by index in one table of nodes, and
+//! described, over any `Chains`. `pif_kernel_linked` has those over lists linked by index in one table of nodes, and
 //! `pif_plain` others.
 //!
 //! A call is a test and then steps. The tests are in `pif_kernel_refusals`, and the steps, over the parts that they
@@ -14,4 +14,4 @@ mod requeueing;
 pub use kernel_on::KernelOn;
 pub use pif_kernel_calls::{PiKernel, Status, Took, Woken};
 pub use pif_kernel_chains::Chains;
-pub use pif_owners::Key;
+pub use pif_kernel_model::Key;

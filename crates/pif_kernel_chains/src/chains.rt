@@ -2,17 +2,17 @@ ghost use Rattle.std.specs.Prelude.{◌≡◌, ℕ, ◌+◌, ◌<◌, ◌≤◌,
 ghost use Rattle.std.specs.List.{slice_get};
 ghost use Rattle.pif_model.specs.Graph.{Reaches, waiting_order};
 ghost use Rattle.pif_model.specs.PiKernel.{parked_pairs, parkings_without};
-ghost use Rattle.pif_lists.specs.Lists.{has, list_without};
-ghost use Rattle.pif_lists.specs.declared.keys.Key.{Key as RankSeen};
-ghost use Rattle.pif_lists.specs.Levels.{Holds, IsLevel, IsQueued, IsEmpty, IsFirstOfGreatest, all_below, level_of, level_after_add};
-ghost use Rattle.pif_owners.specs.Owners.{task_at, owner_at, count, waits_on, rank_of, WaitsFor, IsTop, HasNoWaiter, KeepsOrder, with_task, with_base, with_wait, with_ticket, with_owner, without_state};
-ghost use Rattle.pif_owners.specs.Behind.{IsLast, IsBehind};
-ghost use Rattle.pif_owners.specs.Boosts.{IsRepaired, IsRepairedBut, base_of, local_of, level_after_walk};
+ghost use Rattle.pif_nodes_model.specs.Lists.{has, list_without};
+ghost use Rattle.pif_nodes_model.specs.declared.keys.Key.{Key as RankSeen};
+ghost use Rattle.pif_nodes_model.specs.Levels.{Holds, IsLevel, IsQueued, IsEmpty, IsFirstOfGreatest, all_below, level_of, level_after_add};
+ghost use Rattle.pif_kernel_model.specs.Owners.{task_at, owner_at, count, waits_on, rank_of, WaitsFor, IsTop, HasNoWaiter, KeepsOrder, with_task, with_base, with_wait, with_ticket, with_owner, without_state};
+ghost use Rattle.pif_kernel_model.specs.Behind.{IsLast, IsBehind};
+ghost use Rattle.pif_kernel_model.specs.Boosts.{IsRepaired, IsRepairedBut, base_of, local_of, level_after_walk};
 ghost use Rattle.pif_kernel_state.specs.Chained.{Chained, IsUnused, KeepsLevels};
 ghost use Rattle.pif_kernel_state.specs.Takings.{first_parked, have_target};
 ghost use Rattle.pif_kernel_state.specs.Tickets.{is_named};
 
-use pif_owners::Key;
+use pif_kernel_model::Key;
 use pif_types::{CondId, MutexId, NoMemory, Prio, Tid};
 use std::alloc::Global;
 

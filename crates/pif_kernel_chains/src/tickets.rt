@@ -1,5 +1,5 @@
 ghost use Rattle.std.specs.Prelude.{◌≡◌, ◌≤◌, ◌+◌, if◌then◌else◌, length, Some};
-ghost use Rattle.pif_lists.specs.Levels.{Holds};
+ghost use Rattle.pif_nodes_model.specs.Levels.{Holds};
 ghost use Rattle.pif_kernel_state.specs.Tickets.{IsRenumbered, IsRenumberable, IsNumbered, IsFirstFrom, is_sooner};
 ghost use Rattle.pif_kernel_state.specs.Chained.{KeepsLevels};
 ghost use Rattle.pif_kernel_state.specs.Inside.{arrivals_in};

@@ -1,6 +1,6 @@
 ghost use Rattle.std.specs.Prelude.{ℕ, ◌≡◌, ◌==◌, ◌<◌, ◌≤◌, true, false, IsTrue, length, if◌then◌else◌, IfOk, OnOk, IsSome};
 ghost use Rattle.std.specs.Option.{ForSome};
-ghost use Rattle.pif_owners.specs.Owners.{owner_at};
+ghost use Rattle.pif_kernel_model.specs.Owners.{owner_at};
 ghost use Rattle.pif_model.specs.Word.{has_word, has_cond_word};
 ghost use Rattle.pif_model.specs.PiKernel.{lock_answer, wait_answer, try_lock_answer, unlock_answer, set_prio_answer, state_at, has_parked, has_other_target, fits_state, wait_requeue_answer, requeue_answer};
 ghost use Rattle.pif_word.specs.declared.cells.Cell.TheVariants.{Mutex, Cond};
@@ -13,8 +13,8 @@ ghost use Rattle.pif_kernel_state.specs.Systems.{system_of};
 ghost use Rattle.pif_kernel_state.specs.Takings.{FitsWord, requeue_test_answer};
 
 use pif_kernel_chains::Chains;
+use pif_kernel_model::Key;
 use pif_kernel_steps::Parts;
-use pif_owners::Key;
 use pif_types::{CondId, Errno, MutexId, Prio, Tid};
 use pif_word::{Cell, Words, number};
 

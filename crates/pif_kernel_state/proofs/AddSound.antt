@@ -4,21 +4,21 @@ use Rattle.std.proofs.Math.Path.{fun_ext}
 use Rattle.std.proofs.lemmas.Bool.{cases_eq}
 use Rattle.std.proofs.lemmas.List.{get_or-set_same, get_or-set_other, length_push}
 use Rattle.pif_types.specs.Bounds.{Bounds}
-use Rattle.pif_lists.specs.declared.keys.Key.{Key}
-use Rattle.pif_lists.specs.Table.{NodeLists}
-use Rattle.pif_lists.specs.Levels.{Queue, Holds, IsLevel, level_of}
-use Rattle.pif_lists.specs.Levels.{level_after_add}
+use Rattle.pif_nodes_model.specs.declared.keys.Key.{Key}
+use Rattle.pif_nodes_model.specs.Table.{NodeLists}
+use Rattle.pif_nodes_model.specs.Levels.{Queue, Holds, IsLevel, level_of}
+use Rattle.pif_nodes_model.specs.Levels.{level_after_add}
 use Rattle.pif_model.specs.declared.lines.Status.{Status}
 use Rattle.pif_model.specs.declared.lines.Status.TheVariants.{Ready}
 use Rattle.pif_model.specs.declared.lines.Woken.TheVariants.{Fresh}
 use Rattle.pif_model.specs.PiKernel.{Kernel, IsKernel, queued_on, effective_in, level_at, levels_with, kernel_after_add}
-use Rattle.pif_owners.specs.Owners.{Task, Wait, task_at, rank_of, no_task, with_task}
-use Rattle.pif_chains.proofs.kernel.KernelSettled.{priority-from_range}
-use Rattle.pif_chains.proofs.Places.{kept_at}
+use Rattle.pif_kernel_model.specs.Owners.{Task, Wait, task_at, rank_of, no_task, with_task}
+use Rattle.pif_model_lemmas.proofs.kernel.Settled.{priority-from_range}
+use Rattle.pif_model_lemmas.proofs.Places.{kept_at}
 use Rattle.pif_kernel_state.specs.Inside.{Inside, IsPlaced, IsSoundInside, kernel_of, status_at, state_key_at, ticket_of}
-use Rattle.pif_owners.specs.Arrivals.{Rise}
-use Rattle.pif_chains.proofs.kernel.KernelAdded.{effective-added_other, effective-added_same}
-use Rattle.pif_chains.proofs.kernel.KernelKept.{add_kept}
+use Rattle.pif_kernel_model.specs.Arrivals.{Rise}
+use Rattle.pif_model_lemmas.proofs.kernel.Added.{effective-added_other, effective-added_same}
+use Rattle.pif_model_lemmas.proofs.kernel.Kept.{add_kept}
 use Rattle.pif_kernel_state.proofs.Seats.{IsFitted, seats_length, limits_seen, kernel_by_parts, seats_of-push}
 use Rattle.pif_kernel_state.proofs.Picked.{levels_joined, length-joined}
 use Rattle.pif_kernel_state.proofs.Standing.{fits, listed_kept}

@@ -12,12 +12,12 @@ use Rattle.pif_model.specs.Word.{Word, Words, word_of, word_at, has_word, set_wo
 use Rattle.pif_model.specs.PiKernel.{Kernel, state_at, is_living, waits_for, wait_answer, lock_answer, try_lock_answer, unlock_answer, set_prio_answer}
 use Rattle.pif_word.specs.declared.cells.Cell.TheVariants.{Mutex}
 use Rattle.pif_word.specs.WordMap.{WordMap, HasCell, bits_at, with_bits, words_of}
-use Rattle.pif_owners.specs.Owners.{WaitsFor}
-use Rattle.pif_chains.proofs.kernel.KernelFacts.{living-added}
-use Rattle.pif_chains.proofs.kernel.KernelSettled.{priority-from_range}
-use Rattle.pif_chains.proofs.Places.{mapped_at}
-use Rattle.pif_chains.proofs.Numbers.{from_within, within}
-use Rattle.pif_chains.proofs.Following.{Follows, reaches-from_within, within-from_reaches}
+use Rattle.pif_kernel_model.specs.Owners.{WaitsFor}
+use Rattle.pif_model_lemmas.proofs.kernel.Facts.{living-added}
+use Rattle.pif_model_lemmas.proofs.kernel.Settled.{priority-from_range}
+use Rattle.pif_model_lemmas.proofs.Places.{mapped_at}
+use Rattle.pif_model_lemmas.proofs.Numbers.{from_within, within}
+use Rattle.pif_model_lemmas.proofs.Following.{Follows, reaches-from_within, within-from_reaches}
 use Rattle.pif_kernel_state.specs.Inside.{Inside, IsSoundInside, kernel_of}
 use Rattle.pif_kernel_state.proofs.Seats.{added_seen, seats_length, owners_waits, waits_below}
 use Rattle.pif_kernel_state.proofs.Standing.{fits}

@@ -3,18 +3,18 @@ use Rattle.std.proofs.Common.{◌≡◌, ◌≢◌, ◌⊎◌, ℕ, ◌<◌, ◌
 use Rattle.std.proofs.Math.Path.{fun_ext}
 use Rattle.std.proofs.lemmas.Bool.{cases_eq}
 use Rattle.std.proofs.lemmas.List.{get_or-set_same, get_or-set_other}
-use Rattle.pif_lists.specs.declared.keys.Key.{Key}
+use Rattle.pif_nodes_model.specs.declared.keys.Key.{Key}
 use Rattle.pif_model.specs.PiKernel.{is_among, is_living, has_seat, with_effective_levels, kernel_after_set_prio}
 use Rattle.pif_model.specs.PiKernel.{seat_at as kernel_seat_at, with_seat as kernel_with_seat}
-use Rattle.pif_owners.specs.Owners.{Task, Wait, task_at, owner_at, waits_on, rank_of, no_task, with_base}
-use Rattle.pif_owners.specs.Owners.{waits_for as owners_wait_for}
-use Rattle.pif_owners.specs.Boosts.{IsRepairedBut}
-use Rattle.pif_chains.proofs.kernel.KernelFacts.{living-added}
-use Rattle.pif_chains.proofs.kernel.KernelSettled.{priority-from_range}
-use Rattle.pif_chains.proofs.kernel.KernelKept.{set_prio_kept}
-use Rattle.pif_chains.proofs.Places.{kept_at}
+use Rattle.pif_kernel_model.specs.Owners.{Task, Wait, task_at, owner_at, waits_on, rank_of, no_task, with_base}
+use Rattle.pif_kernel_model.specs.Owners.{waits_for as owners_wait_for}
+use Rattle.pif_kernel_model.specs.Boosts.{IsRepairedBut}
+use Rattle.pif_model_lemmas.proofs.kernel.Facts.{living-added}
+use Rattle.pif_model_lemmas.proofs.kernel.Settled.{priority-from_range}
+use Rattle.pif_model_lemmas.proofs.kernel.Kept.{set_prio_kept}
+use Rattle.pif_model_lemmas.proofs.Places.{kept_at}
 use Rattle.pif_kernel_state.specs.Inside.{Inside, IsListed, IsPlaced, IsSoundInside, kernel_of, ticket_of}
-use Rattle.pif_owners.specs.Arrivals.{Rise}
+use Rattle.pif_kernel_model.specs.Arrivals.{Rise}
 use Rattle.pif_kernel_state.proofs.Seats.{IsFitted, added_seen, kernel_by_parts, seats_of-set_base, same_seats}
 use Rattle.pif_kernel_state.proofs.Picked.{levels_seen}
 use Rattle.pif_kernel_state.proofs.Standing.{fits}

@@ -7,8 +7,8 @@ use Rattle.pif_model.specs.declared.lines.Took.TheVariants.{Owns as TookOwns, Qu
 use Rattle.pif_model.specs.Graph.{next_waiter}
 use Rattle.pif_model.specs.Word.{Words, word_of, word_at, set_word, free_word, taken_word, mark_word, hand_word}
 use Rattle.pif_model.specs.PiKernel.{Kernel, has_seat, state_at as kernel_state_at, effective_in, next_in, words_after_lock, kernel_after_lock, kernel_after_queueing, words_after_try_lock, words_after_unlock, kernel_after_unlock, kernel_after_hand_over}
-use Rattle.pif_owners.specs.Owners.{owner_at}
-use Rattle.pif_chains.proofs.Waiting.{names, named-from_pair, next-is_waiter}
+use Rattle.pif_kernel_model.specs.Owners.{owner_at}
+use Rattle.pif_model_lemmas.proofs.Waiting.{names, named-from_pair, next-is_waiter}
 use Rattle.pif_kernel_state.specs.Inside.{Inside, IsSoundInside, kernel_of, state_key_at, owner_under}
 use Rattle.pif_kernel_state.proofs.Seats.{added_seen, states_seen, waiters_seen}
 use Rattle.pif_kernel_state.proofs.Standing.{fits}

@@ -2,12 +2,12 @@
 -- effective priorities of those that wait for it has nothing else to repair.
 use Rattle.std.proofs.Common.{◌≡◌, ◌≢◌, ℕ, ◌==◌, max, length, Some, sym, ap₂, ◌∙◌, arith}
 use Rattle.std.proofs.Math.Path.{fun_ext}
-use Rattle.pif_lists.specs.declared.keys.Key.{Key}
+use Rattle.pif_nodes_model.specs.declared.keys.Key.{Key}
 use Rattle.pif_model.specs.Graph.{greatest_where}
-use Rattle.pif_owners.specs.Owners.{Owners, rank_of, waits_for}
-use Rattle.pif_chains.proofs.Greatest.{effective_step}
-use Rattle.pif_owners.specs.Boosts.{IsRepairedBut, base_of, local_of, greatest_base}
-use Rattle.pif_owners.proofs.Greatest.{out_waits}
+use Rattle.pif_kernel_model.specs.Owners.{Owners, rank_of, waits_for}
+use Rattle.pif_model_lemmas.proofs.Greatest.{effective_step}
+use Rattle.pif_kernel_model.specs.Boosts.{IsRepairedBut, base_of, local_of, greatest_base}
+use Rattle.pif_kernel_model.proofs.Greatest.{out_waits}
 
 -- owner states whose threads have the effective priorities that they had, and in which those that wait for a thread and
 -- its base priority are as they were for each thread but one, are left to repair at that one alone

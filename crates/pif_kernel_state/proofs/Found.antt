@@ -4,14 +4,14 @@ use Rattle.std.proofs.lemmas.Bool.{true≢false}
 use Rattle.pif_model.specs.declared.lines.Status.TheVariants.{Queued}
 use Rattle.pif_model.specs.Graph.{has_waiter}
 use Rattle.pif_model.specs.PiKernel.{Kernel, queued_on}
-use Rattle.pif_chains.proofs.Among.{is_among as is_waiter}
-use Rattle.pif_chains.proofs.Waiting.{named-from_pair, has_waiter-from_pair}
-use Rattle.pif_chains.proofs.kernel.KernelFacts.{queued-from_number}
+use Rattle.pif_model_lemmas.proofs.Among.{is_among as is_waiter}
+use Rattle.pif_model_lemmas.proofs.Waiting.{named-from_pair, has_waiter-from_pair}
+use Rattle.pif_model_lemmas.proofs.kernel.Facts.{queued-from_number}
 use Rattle.pif_kernel_state.specs.Inside.{Inside, IsSoundInside, kernel_of, status_at, state_at, owner_under, ticket_of, arrivals_in}
 use Rattle.pif_kernel_state.proofs.Seats.{status_seen, waiters_seen}
 use Rattle.pif_kernel_state.proofs.Standing.{fits}
 use Rattle.pif_kernel_state.proofs.Waiters.{named_known, no_key-no_waiter}
-use Rattle.pif_owners.proofs.InOrder.{in_order-is}
+use Rattle.pif_kernel_model.proofs.InOrder.{in_order-is}
 
 -- what is kept soundly has the waiters that are found
 pub waiters_found : (p : Inside) → IsSoundInside p → arrivals_in p.statuses p.owners ≡ p.arrivals

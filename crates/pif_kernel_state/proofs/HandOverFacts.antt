@@ -3,7 +3,7 @@ use Rattle.std.proofs.Common.{◌≡◌, ◌≢◌, ℕ, ◌+◌, true, if◌the
 use Rattle.pif_model.specs.Graph.{has_waiter, without}
 use Rattle.pif_model.specs.PiKernel.{queued_on}
 use Rattle.pif_model.specs.PiKernel.{seat_at as kernel_seat_at}
-use Rattle.pif_owners.specs.Owners.{Owners, task_at, owner_at, count, IsTop}
+use Rattle.pif_kernel_model.specs.Owners.{Owners, task_at, owner_at, count, IsTop}
 use Rattle.pif_kernel_state.specs.Inside.{Inside, IsSoundInside, kernel_of, state_key_at, state_at}
 
 -- the keys and owner states in which m was handed to u, its next waiter: where others still wait for m, u is the owner

@@ -5,39 +5,39 @@ use Rattle.std.specs.FinMap.{len-insert}
 use Rattle.std.proofs.lemmas.Bool.{cases_eq, cases_lt, true≢false}
 use Rattle.std.proofs.lemmas.Bool.Decides.{nat_tests}
 use Rattle.std.proofs.lemmas.List.{get_or-set_same, get_or-set_other, get_or_past}
-use Rattle.pif_lists.specs.declared.keys.Key.{Key}
-use Rattle.pif_lists.specs.Table.{NodeLists}
-use Rattle.pif_lists.specs.Levels.{Queue, Holds, IsLevel, IsQueued, level_of}
-use Rattle.pif_lists.specs.Levels.{level_after_add}
+use Rattle.pif_nodes_model.specs.declared.keys.Key.{Key}
+use Rattle.pif_nodes_model.specs.Table.{NodeLists}
+use Rattle.pif_nodes_model.specs.Levels.{Queue, Holds, IsLevel, IsQueued, level_of}
+use Rattle.pif_nodes_model.specs.Levels.{level_after_add}
 use Rattle.pif_model.specs.declared.lines.Status.{Status}
 use Rattle.pif_model.specs.declared.lines.Status.TheVariants.{Ready, Queued}
 use Rattle.pif_model.specs.declared.lines.Woken.TheVariants.{Fresh, Owns}
 use Rattle.pif_model.specs.Graph.{has_waiter, without}
 use Rattle.pif_model.specs.PiKernel.{Kernel, IsKernel, queued_on, is_ready, effective_in, has_seat, is_among, level_at, next_in, with_effective_levels, waits_for, levels_with, kernel_after_hand_over}
 use Rattle.pif_model.specs.PiKernel.{state_at as kernel_state_at, with_status, with_state}
-use Rattle.pif_owners.specs.Owners.{Owners, Task, Wait, task_at, owner_at, count, waits_on, rank_of, no_task, with_base, with_wait, with_owner, without_state, IsTop, HasNoWaiter}
-use Rattle.pif_owners.specs.Owners.{waits_for as owners_wait_for}
-use Rattle.pif_owners.proofs.MapLemmas.{get-insert_same, get-insert_other, get-remove_other}
-use Rattle.pif_owners.proofs.OwnersLemmas.{some_rank}
-use Rattle.pif_owners.specs.Boosts.{IsRepairedBut, base_of, local_of, greatest_base}
-use Rattle.pif_chains.proofs.Places.{kept_at}
-use Rattle.pif_chains.proofs.Among.{is_among as is_waiter}
-use Rattle.pif_chains.proofs.Waiting.{Once, has_waiter-from_pair}
-use Rattle.pif_chains.proofs.Greatest.{effective_same}
-use Rattle.pif_chains.proofs.Handed.{effective_handed, effective_lifted}
-use Rattle.pif_chains.proofs.kernel.KernelFacts.{queued-from_number}
-use Rattle.pif_chains.proofs.kernel.KernelKept.{hand_over_kept}
-use Rattle.pif_chains.proofs.kernel.KernelLevels.{level-joined_same, level-joined_other}
-use Rattle.pif_chains.proofs.kernel.KernelNumbers.{among-push_other}
+use Rattle.pif_kernel_model.specs.Owners.{Owners, Task, Wait, task_at, owner_at, count, waits_on, rank_of, no_task, with_base, with_wait, with_owner, without_state, IsTop, HasNoWaiter}
+use Rattle.pif_kernel_model.specs.Owners.{waits_for as owners_wait_for}
+use Rattle.pif_kernel_model.proofs.MapLemmas.{get-insert_same, get-insert_other, get-remove_other}
+use Rattle.pif_kernel_model.proofs.OwnersLemmas.{some_rank}
+use Rattle.pif_kernel_model.specs.Boosts.{IsRepairedBut, base_of, local_of, greatest_base}
+use Rattle.pif_model_lemmas.proofs.Places.{kept_at}
+use Rattle.pif_model_lemmas.proofs.Among.{is_among as is_waiter}
+use Rattle.pif_model_lemmas.proofs.Waiting.{Once, has_waiter-from_pair}
+use Rattle.pif_model_lemmas.proofs.Greatest.{effective_same}
+use Rattle.pif_model_lemmas.proofs.Handed.{effective_handed, effective_lifted}
+use Rattle.pif_model_lemmas.proofs.kernel.Facts.{queued-from_number}
+use Rattle.pif_model_lemmas.proofs.kernel.Kept.{hand_over_kept}
+use Rattle.pif_model_lemmas.proofs.kernel.Levels.{level-joined_same, level-joined_other}
+use Rattle.pif_model_lemmas.proofs.kernel.Numbers.{among-push_other}
 use Rattle.pif_kernel_state.specs.Inside.{Inside, IsListed, IsPlaced, IsSoundInside, kernel_of, status_at, state_key_at, state_at, ticket_of}
-use Rattle.pif_owners.specs.Arrivals.{mutexes_of}
-use Rattle.pif_owners.proofs.WaitersWithout.{rise_without, waiter_kept, mutexes_without}
+use Rattle.pif_kernel_model.specs.Arrivals.{mutexes_of}
+use Rattle.pif_kernel_model.proofs.WaitersWithout.{rise_without, waiter_kept, mutexes_without}
 use Rattle.pif_kernel_state.proofs.HandOverFacts.{IsHanded, IsGiven, IsHandable, IsHanding, IsHandedOn}
 use Rattle.pif_kernel_state.proofs.Seats.{IsFitted, same_seats, seats_length, status_seen, waits_seen, waits_below, owners_waits, added_back, waiters_seen, states_seen, states_length, kernel_by_parts, seats_of-set_status, seats_of-same_base}
 use Rattle.pif_kernel_state.proofs.Picked.{levels_count, levels_joined, length-joined}
 use Rattle.pif_kernel_state.proofs.Standing.{fits, effective_level, off_queue}
 use Rattle.pif_kernel_state.proofs.ChainLaws.{repaired_but}
-use Rattle.pif_owners.proofs.ArrivalLaws.{rise_once}
+use Rattle.pif_kernel_model.proofs.ArrivalLaws.{rise_once}
 use Rattle.pif_kernel_state.proofs.TopLaws.{waits_under, priority_below, top_is_next}
 use Rattle.pif_kernel_state.proofs.WalkSound.{IsWalkable, owners_effective}
 

@@ -2,30 +2,30 @@
 use Rattle.std.proofs.Common.{◌≡◌, ◌≢◌, ◌⊎◌, ℕ, ◌+◌, ◌<◌, ◌≤◌, Bool, true, false, if◌then◌else◌, List, length, set, Option, Some, None, IsSome, is_some, option_map, option_and_then, unwrap_or, refl, sym, ap, subst, ◌∙◌, inl, inr, arith, length-set}
 use Rattle.std.proofs.lemmas.Bool.{cases_eq, cases_lt, true≢false, false≢true}
 use Rattle.std.proofs.lemmas.List.{get_or-set_same, get_or-set_other, get_or_past}
-use Rattle.pif_lists.specs.Lists.{list_without}
-use Rattle.pif_lists.specs.Table.{NodeLists}
-use Rattle.pif_lists.proofs.ListLemmas.{without_absent}
-use Rattle.pif_lists.specs.Levels.{Queue, Holds, IsLevel, level_of}
+use Rattle.pif_nodes_model.specs.Lists.{list_without}
+use Rattle.pif_nodes_model.specs.Table.{NodeLists}
+use Rattle.pif_nodes_model.proofs.ListLemmas.{without_absent}
+use Rattle.pif_nodes_model.specs.Levels.{Queue, Holds, IsLevel, level_of}
 use Rattle.pif_model.specs.declared.lines.Status.{Status}
 use Rattle.pif_model.specs.declared.lines.Status.TheVariants.{Queued}
 use Rattle.pif_model.specs.Graph.{has_waiter, without}
 use Rattle.pif_model.specs.PiKernel.{queued_on, is_ready, is_parked, has_seat, is_among, waits_for, Parking, parkings_without}
 use Rattle.pif_model.specs.PiKernel.{seat_at as kernel_seat_at}
-use Rattle.pif_owners.specs.Owners.{Owners, Task, Wait, task_at, owner_at, count, waits_on, no_task, with_wait, without_state, HasNoWaiter}
-use Rattle.pif_owners.proofs.MapLemmas.{get-remove_other}
-use Rattle.pif_chains.proofs.Among.{is_among as is_waiter}
-use Rattle.pif_chains.proofs.Waiting.{names, Once, without-unnamed, has_waiter-from_pair, has_waiter-without_other, waited-from_pair}
+use Rattle.pif_kernel_model.specs.Owners.{Owners, Task, Wait, task_at, owner_at, count, waits_on, no_task, with_wait, without_state, HasNoWaiter}
+use Rattle.pif_kernel_model.proofs.MapLemmas.{get-remove_other}
+use Rattle.pif_model_lemmas.proofs.Among.{is_among as is_waiter}
+use Rattle.pif_model_lemmas.proofs.Waiting.{names, Once, without-unnamed, has_waiter-from_pair, has_waiter-without_other, waited-from_pair}
 use Rattle.pif_kernel_state.specs.Inside.{Inside, IsSoundInside, kernel_of, status_at, state_key_at, state_at, ticket_of}
-use Rattle.pif_owners.specs.Arrivals.{mutexes_of}
+use Rattle.pif_kernel_model.specs.Arrivals.{mutexes_of}
 use Rattle.pif_kernel_state.specs.Leaving.{IsLeft}
 use Rattle.pif_kernel_state.proofs.Seats.{status_seen, waits_seen, added_seen, waiters_seen}
 use Rattle.pif_kernel_state.proofs.ParkingFacts.{unparked_absent}
 use Rattle.pif_kernel_state.proofs.Picked.{among_has}
 use Rattle.pif_kernel_state.proofs.Standing.{fits, level_same}
-use Rattle.pif_owners.proofs.ArrivalLaws.{rise_once}
+use Rattle.pif_kernel_model.proofs.ArrivalLaws.{rise_once}
 use Rattle.pif_kernel_state.proofs.TopLaws.{waits_under}
 use Rattle.pif_kernel_state.proofs.Waiters.{has_waiter-key, no_key-no_waiter, waits_some}
-use Rattle.pif_owners.proofs.WaitersWithout.{waiter_kept, mutexes_without}
+use Rattle.pif_kernel_model.proofs.WaitersWithout.{waiter_kept, mutexes_without}
 
 -- a seat that waits for nothing
 no_wait : (s : Task) → option_map (λ (w : Wait). w.state) s.wait ≡ None → s ≡ record s { wait = None }

@@ -3,31 +3,31 @@ use Rattle.std.proofs.Common.{◌≡◌, ◌≢◌, ◌⊎◌, ℕ, ◌<◌, ◌
 use Rattle.std.specs.List.{filter}
 use Rattle.std.proofs.lemmas.Bool.{cases_eq, true≢false}
 use Rattle.std.proofs.lemmas.List.{get_or-set_same, get_or-set_other}
-use Rattle.pif_lists.specs.Levels.{Queue}
-use Rattle.pif_lists.specs.declared.keys.Key.{Key}
+use Rattle.pif_nodes_model.specs.Levels.{Queue}
+use Rattle.pif_nodes_model.specs.declared.keys.Key.{Key}
 use Rattle.pif_model.specs.declared.lines.Status.{Status}
 use Rattle.pif_model.specs.declared.lines.Status.TheVariants.{Ready}
 use Rattle.pif_model.specs.declared.lines.Woken.TheVariants.{Fresh}
 use Rattle.pif_model.specs.Graph.{has_waiter, without}
 use Rattle.pif_model.specs.PiKernel.{Kernel, queued_on, is_ready, effective_in, has_seat, is_among, is_living, level_at, with_effective_levels, waits_for, is_out, kernel_left_as, parkings_without}
 use Rattle.pif_model.specs.PiKernel.{state_at as kernel_state_at}
-use Rattle.pif_owners.specs.Owners.{Task, Wait, task_at, owner_at, waits_on, rank_of}
-use Rattle.pif_owners.specs.Owners.{waits_for as owners_wait_for}
-use Rattle.pif_owners.specs.Boosts.{IsRepairedBut}
-use Rattle.pif_chains.proofs.kernel.KernelFacts.{living-added, queued-from_number}
-use Rattle.pif_chains.proofs.kernel.KernelLeft.{kernel_with_leaving, left_is, state-left, waits-left_other, waits-left_same, kernel-left}
-use Rattle.pif_chains.proofs.kernel.KernelLevels.{level-left}
-use Rattle.pif_chains.proofs.kernel.KernelNumbers.{is_other, among-left_same, among-left_other}
-use Rattle.pif_chains.proofs.kernel.Statuses.{out-queued_on_nothing}
-use Rattle.pif_chains.proofs.Waiting.{has_waiter-from_pair}
-use Rattle.pif_chains.proofs.Among.{is_among as is_waiter}
+use Rattle.pif_kernel_model.specs.Owners.{Task, Wait, task_at, owner_at, waits_on, rank_of}
+use Rattle.pif_kernel_model.specs.Owners.{waits_for as owners_wait_for}
+use Rattle.pif_kernel_model.specs.Boosts.{IsRepairedBut}
+use Rattle.pif_model_lemmas.proofs.kernel.Facts.{living-added, queued-from_number}
+use Rattle.pif_model_lemmas.proofs.kernel.Left.{kernel_with_leaving, left_is, state-left, waits-left_other, waits-left_same, kernel-left}
+use Rattle.pif_model_lemmas.proofs.kernel.Levels.{level-left}
+use Rattle.pif_model_lemmas.proofs.kernel.Numbers.{is_other, among-left_same, among-left_other}
+use Rattle.pif_model_lemmas.proofs.kernel.Statuses.{out-queued_on_nothing}
+use Rattle.pif_model_lemmas.proofs.Waiting.{has_waiter-from_pair}
+use Rattle.pif_model_lemmas.proofs.Among.{is_among as is_waiter}
 use Rattle.pif_kernel_state.specs.Inside.{Inside, IsListed, IsPlaced, IsSoundInside, kernel_of, status_at, state_key_at, state_at, ticket_of}
 use Rattle.pif_kernel_state.specs.Leaving.{IsLeft}
 use Rattle.pif_kernel_state.proofs.Seats.{IsFitted, same_seats, status_seen, owners_waits, added_seen, waiters_seen, states_seen, states_length, kernel_by_parts, seats_of-set_status, seats_of-same_base}
 use Rattle.pif_kernel_state.proofs.Picked.{levels_left, length-left}
 use Rattle.pif_kernel_state.proofs.Standing.{fits}
 use Rattle.pif_kernel_state.proofs.ChainLaws.{repaired_but}
-use Rattle.pif_owners.proofs.WaitersWithout.{rise_without, waiter_kept}
+use Rattle.pif_kernel_model.proofs.WaitersWithout.{rise_without, waiter_kept}
 use Rattle.pif_kernel_state.proofs.WalkSound.{IsWalkable, owners_effective}
 
 module _ (p x : Inside) (next : Status) (t start : ℕ) (h : IsSoundInside p) (lives : is_living (kernel_of p) t ≡ true)

@@ -5,17 +5,17 @@ use Rattle.std.specs.List.{filter, list_any}
 use Rattle.std.proofs.lemmas.Bool.{cases_eq, true≢false}
 use Rattle.std.proofs.lemmas.Bool.Decides.{nat_tests}
 use Rattle.std.proofs.lemmas.List.Elements.{filter-append}
-use Rattle.pif_lists.specs.Lists.{has}
-use Rattle.pif_lists.specs.Table.{NodeLists}
-use Rattle.pif_lists.specs.Levels.{Queue, Holds, IsLevel, level_of, level_with}
-use Rattle.pif_lists.proofs.LevelWithLemmas.{level_with-from_listed, listed-from_level_with}
-use Rattle.pif_owners.specs.Owners.{Owners}
-use Rattle.pif_owners.specs.Boosts.{greatest_base, is_other, joins}
-use Rattle.pif_owners.specs.Boosts.{level_after_walk}
+use Rattle.pif_nodes_model.specs.Lists.{has}
+use Rattle.pif_nodes_model.specs.Table.{NodeLists}
+use Rattle.pif_nodes_model.specs.Levels.{Queue, Holds, IsLevel, level_of, level_with}
+use Rattle.pif_nodes_model.proofs.LevelWithLemmas.{level_with-from_listed, listed-from_level_with}
+use Rattle.pif_kernel_model.specs.Owners.{Owners}
+use Rattle.pif_kernel_model.specs.Boosts.{greatest_base, is_other, joins}
+use Rattle.pif_kernel_model.specs.Boosts.{level_after_walk}
 use Rattle.pif_model.specs.Graph.{is_priority}
 use Rattle.pif_model.specs.PiKernel.{is_among, numbers, level_at, moves_to, effective_levels}
-use Rattle.pif_chains.proofs.kernel.KernelSettled.{priority-range}
-use Rattle.pif_chains.proofs.kernel.KernelNumbers.{any_number, no_number, numbers-more}
+use Rattle.pif_model_lemmas.proofs.kernel.Settled.{priority-range}
+use Rattle.pif_model_lemmas.proofs.kernel.Numbers.{any_number, no_number, numbers-more}
 use Rattle.pif_kernel_state.proofs.Levels.{range_numbers, level-levels_by}
 use Rattle.pif_kernel_state.proofs.Picked.{levels_of, among_has, level_seen}
 

@@ -5,8 +5,8 @@ use Rattle.std.proofs.lemmas.Bool.{cases_eq, cases_lt}
 use Rattle.std.proofs.lemmas.Bool.Decides.{nat_tests}
 use Rattle.pif_model.specs.Graph.{is_priority}
 use Rattle.pif_model.specs.PiKernel.{numbers, levels_by, level_at, levels_with}
-use Rattle.pif_chains.proofs.kernel.KernelNumbers.{numbers-none, numbers-more}
-use Rattle.pif_chains.proofs.kernel.KernelLevels.{level-by, level-by_none, level-by_past, level-joined_same, level-joined_other}
+use Rattle.pif_model_lemmas.proofs.kernel.Numbers.{numbers-none, numbers-more}
+use Rattle.pif_model_lemmas.proofs.kernel.Levels.{level-by, level-by_none, level-by_past, level-joined_same, level-joined_other}
 
 range_more : (a n : ℕ) → range_with_len a (suc n) ≡ range_with_len a n ++ (a + n) ∷ []
 range_more a zero = let e : a ≡ a + 0 = omega arith in ap (λ (x : ℕ). x ∷ []) e

@@ -1,16 +1,16 @@
 -- What is kept stays sound where a thread that waits for nothing gets another status, by which it waits for nothing
 -- either, whatever becomes of its place in the run queue and among the parked threads.
 use Rattle.std.proofs.Common.{◌≡◌, ℕ, List, length, set, sym, ap, ◌∙◌, arith, length-set}
-use Rattle.pif_lists.specs.Table.{NodeLists}
-use Rattle.pif_lists.specs.Levels.{Queue, Holds}
+use Rattle.pif_nodes_model.specs.Table.{NodeLists}
+use Rattle.pif_nodes_model.specs.Levels.{Queue, Holds}
 use Rattle.pif_model.specs.declared.lines.Status.{Status}
 use Rattle.pif_model.specs.declared.lines.Status.TheVariants.{Ready}
 use Rattle.pif_model.specs.declared.lines.Woken.TheVariants.{Fresh}
 use Rattle.pif_model.specs.PiKernel.{IsKernel, queued_on, effective_in, waits_for, Parking}
 use Rattle.pif_model.specs.PiKernel.{seat_at as kernel_seat_at}
-use Rattle.pif_owners.specs.Owners.{task_at}
-use Rattle.pif_chains.proofs.Greatest.{effective_same}
-use Rattle.pif_chains.proofs.Places.{kept_at}
+use Rattle.pif_kernel_model.specs.Owners.{task_at}
+use Rattle.pif_model_lemmas.proofs.Greatest.{effective_same}
+use Rattle.pif_model_lemmas.proofs.Places.{kept_at}
 use Rattle.pif_kernel_state.specs.Inside.{Inside, IsPlaced, IsSoundInside, kernel_of, status_at, state_key_at, state_at}
 use Rattle.pif_kernel_state.proofs.Seats.{IsFitted, base_seen, waits_seen, seats_length}
 use Rattle.pif_kernel_state.proofs.Standing.{fits, listed_kept}

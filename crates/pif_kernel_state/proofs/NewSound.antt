@@ -4,19 +4,19 @@ use Rattle.std.proofs.lemmas.List.{length-replicate}
 use Rattle.std.specs.Ordering.{nat_cmp}
 use Rattle.std.specs.FinMap.{len-empty}
 use Rattle.pif_types.specs.Bounds.{Bounds, IsWithin}
-use Rattle.pif_lists.specs.Table.{NodeLists}
-use Rattle.pif_lists.specs.Levels.{Queue, Holds, IsLevel, level_of}
+use Rattle.pif_nodes_model.specs.Table.{NodeLists}
+use Rattle.pif_nodes_model.specs.Levels.{Queue, Holds, IsLevel, level_of}
 use Rattle.pif_model.specs.declared.lines.Status.TheVariants.{Ready}
 use Rattle.pif_model.specs.declared.lines.Woken.TheVariants.{Fresh}
 use Rattle.pif_model.specs.Graph.{is_priority}
 use Rattle.pif_model.specs.PiKernel.{IsKernel, queued_on, new_kernel, effective_in}
 use Rattle.pif_model.specs.PiKernel.{Seat as KernelSeat, no_seat as no_kernel_seat}
-use Rattle.pif_owners.specs.Owners.{Task, Wait, task_at, no_task, no_owners}
-use Rattle.pif_chains.proofs.Greatest.{effective_most}
-use Rattle.pif_chains.proofs.kernel.KernelKept.{new_kernel_kept}
-use Rattle.pif_chains.proofs.kernel.KernelLevels.{length-levels_by}
-use Rattle.pif_chains.proofs.kernel.KernelSettled.{priority-range}
-use Rattle.pif_chains.proofs.kernel.KernelNew.{no_state, length-no_states, no_level}
+use Rattle.pif_kernel_model.specs.Owners.{Task, Wait, task_at, no_task, no_owners}
+use Rattle.pif_model_lemmas.proofs.Greatest.{effective_most}
+use Rattle.pif_model_lemmas.proofs.kernel.Kept.{new_kernel_kept}
+use Rattle.pif_model_lemmas.proofs.kernel.Levels.{length-levels_by}
+use Rattle.pif_model_lemmas.proofs.kernel.Settled.{priority-range}
+use Rattle.pif_model_lemmas.proofs.kernel.New.{no_state, length-no_states, no_level}
 use Rattle.pif_kernel_state.proofs.Found.{found_so}
 use Rattle.pif_kernel_state.specs.Inside.{Inside, IsPlaced, IsSoundInside, kernel_of, no_keys, state_key_at, state_at, status_at, owner_under, seats_of}
 use Rattle.pif_kernel_state.specs.Chained.{Chained, IsUnused}

@@ -7,10 +7,10 @@ use Rattle.std.proofs.lemmas.Bool.Decides.{nat_tests}
 use Rattle.std.proofs.lemmas.List.{map-append, append-nil, take_more, take_all}
 use Rattle.std.proofs.lemmas.List.Elements.{filter-append}
 use Rattle.pif_model.specs.Graph.{has_waiter, first_greatest, waiters_with, next_waiter}
-use Rattle.pif_chains.proofs.Waiting.{by_test, has_waiter-push, or_true, or_false}
+use Rattle.pif_model_lemmas.proofs.Waiting.{by_test, has_waiter-push, or_true, or_false}
 use Rattle.pif_model.specs.PiKernel.{Parking, parked_pairs, has_parked, top_parked, has_other_target}
-use Rattle.pif_owners.specs.Boosts.{local_of}
-use Rattle.pif_chains.proofs.kernel.KernelParks.{parked_pairs-push}
+use Rattle.pif_kernel_model.specs.Boosts.{local_of}
+use Rattle.pif_model_lemmas.proofs.kernel.Parks.{parked_pairs-push}
 use Rattle.pif_kernel_state.specs.Inside.{Inside, IsSoundInside, kernel_of}
 use Rattle.pif_kernel_state.specs.Takings.{first_parked, goes_before, have_target}
 use Rattle.pif_kernel_state.proofs.Seats.{parked_seen}

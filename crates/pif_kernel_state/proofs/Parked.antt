@@ -2,7 +2,7 @@
 use Rattle.std.proofs.Common.{◌≡◌, ℕ, ◌==◌, ◌||◌, true, false, cond, List, [], ◌∷◌, refl, ap}
 use Rattle.std.proofs.lemmas.Bool.{true≢false}
 use Rattle.pif_model.specs.PiKernel.{Parking, parked_pairs, parkings_without}
-use Rattle.pif_chains.proofs.Waiting.{by_test, names}
+use Rattle.pif_model_lemmas.proofs.Waiting.{by_test, names}
 
 -- they are all but one who is not parked
 pub parkings_without-unnamed : (ps : List Parking) (t : ℕ) → names t (parked_pairs ps) ≡ false → ps ≡ parkings_without ps t

@@ -4,8 +4,8 @@ use Rattle.std.proofs.lemmas.List.{get_or_past}
 use Rattle.pif_model.specs.declared.lines.Status.TheVariants.{Ready}
 use Rattle.pif_model.specs.declared.lines.Woken.TheVariants.{Fresh}
 use Rattle.pif_model.specs.PiKernel.{seat_at as kernel_seat_at, is_parked, parked_pairs, parkings_without}
-use Rattle.pif_chains.proofs.kernel.Statuses.{not_parked}
-use Rattle.pif_chains.proofs.Waiting.{names, pair-from_named}
+use Rattle.pif_model_lemmas.proofs.kernel.Statuses.{not_parked}
+use Rattle.pif_model_lemmas.proofs.Waiting.{names, pair-from_named}
 use Rattle.pif_kernel_state.specs.Inside.{Inside, IsSoundInside, kernel_of}
 use Rattle.pif_kernel_state.proofs.Seats.{parked_seen, status_seen}
 use Rattle.pif_kernel_state.proofs.Standing.{fits}

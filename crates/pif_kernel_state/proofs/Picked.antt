@@ -4,16 +4,16 @@ use Rattle.std.proofs.lemmas.List.{length-map}
 use Rattle.std.specs.List.{filter}
 use Rattle.std.proofs.lemmas.Bool.{cases_eq, false≢true}
 use Rattle.std.proofs.lemmas.Bool.Decides.{nat_tests}
-use Rattle.pif_lists.specs.Lists.{has, first_of, list_without}
-use Rattle.pif_lists.specs.Table.{NodeLists, list_at}
-use Rattle.pif_lists.specs.Levels.{Queue, IsLevel, level_of, list_for, IsFirstOfGreatest, IsEmpty}
-use Rattle.pif_lists.specs.Levels.{level_after_add}
-use Rattle.pif_lists.proofs.LevelLemmas.{threads-some}
+use Rattle.pif_nodes_model.specs.Lists.{has, first_of, list_without}
+use Rattle.pif_nodes_model.specs.Table.{NodeLists, list_at}
+use Rattle.pif_nodes_model.specs.Levels.{Queue, IsLevel, level_of, list_for, IsFirstOfGreatest, IsEmpty}
+use Rattle.pif_nodes_model.specs.Levels.{level_after_add}
+use Rattle.pif_nodes_model.proofs.LevelLemmas.{threads-some}
 use Rattle.pif_model.specs.Graph.{is_priority}
 use Rattle.pif_model.specs.PiKernel.{is_among, level_at, first_from, pick_in, levels_without, levels_with}
 use Rattle.pif_kernel_state.specs.Inside.{Inside, kernel_of}
-use Rattle.pif_chains.proofs.kernel.KernelSettled.{priority-range, priority-from_range}
-use Rattle.pif_chains.proofs.kernel.KernelLevels.{length-levels_by, level-left}
+use Rattle.pif_model_lemmas.proofs.kernel.Settled.{priority-range, priority-from_range}
+use Rattle.pif_model_lemmas.proofs.kernel.Levels.{length-levels_by, level-left}
 use Rattle.pif_kernel_state.proofs.Levels.{level-levels_by, level-joined}
 
 -- the levels of a run queue

@@ -4,10 +4,10 @@ use Rattle.std.specs.List.{filter}
 use Rattle.std.proofs.lemmas.Bool.{cases_eq, true≢false, false≢true}
 use Rattle.std.proofs.lemmas.Bool.Decides.{nat_tests}
 use Rattle.std.proofs.lemmas.List.{get_or-set_same, get_or-set_other}
-use Rattle.pif_lists.specs.declared.keys.Key.{Key}
-use Rattle.pif_lists.specs.Lists.{list_without}
-use Rattle.pif_lists.specs.Table.{NodeLists}
-use Rattle.pif_lists.specs.Levels.{Queue, Holds, IsLevel, level_of}
+use Rattle.pif_nodes_model.specs.declared.keys.Key.{Key}
+use Rattle.pif_nodes_model.specs.Lists.{list_without}
+use Rattle.pif_nodes_model.specs.Table.{NodeLists}
+use Rattle.pif_nodes_model.specs.Levels.{Queue, Holds, IsLevel, level_of}
 use Rattle.pif_types.specs.Bounds.{Bounds}
 use Rattle.pif_model.specs.declared.lines.Status.{Status}
 use Rattle.pif_model.specs.declared.lines.Status.TheVariants.{Ready, Queued}
@@ -15,19 +15,19 @@ use Rattle.pif_model.specs.declared.lines.Woken.TheVariants.{Fresh}
 use Rattle.pif_model.specs.Graph.{reaches_within, has_waiter}
 use Rattle.pif_model.specs.PiKernel.{queued_on, is_ready, effective_in, has_seat, is_among, is_living, level_at, with_effective_levels, waits_for, levels_without, kernel_after_queueing}
 use Rattle.pif_model.specs.PiKernel.{seat_at as kernel_seat_at, state_at as kernel_state_at, with_status, with_state}
-use Rattle.pif_owners.specs.Owners.{Owners, Task, Wait, task_at, owner_at, count, waits_on, rank_of, no_task, with_wait, with_owner}
-use Rattle.pif_owners.specs.Owners.{waits_for as owners_wait_for}
-use Rattle.pif_owners.proofs.MapLemmas.{get-insert_same, get-insert_other}
-use Rattle.pif_owners.specs.Boosts.{IsRepairedBut}
-use Rattle.pif_chains.proofs.kernel.KernelFacts.{living-added, queued-from_number}
-use Rattle.pif_chains.proofs.kernel.KernelKept.{queueing_kept}
-use Rattle.pif_chains.proofs.kernel.KernelLevels.{level-left}
-use Rattle.pif_chains.proofs.kernel.KernelNumbers.{is_other, among-left_same, among-left_other}
-use Rattle.pif_chains.proofs.Waiting.{has_waiter-from_pair}
-use Rattle.pif_chains.proofs.Places.{kept_at}
-use Rattle.pif_chains.proofs.Among.{is_among as is_waiter}
+use Rattle.pif_kernel_model.specs.Owners.{Owners, Task, Wait, task_at, owner_at, count, waits_on, rank_of, no_task, with_wait, with_owner}
+use Rattle.pif_kernel_model.specs.Owners.{waits_for as owners_wait_for}
+use Rattle.pif_kernel_model.proofs.MapLemmas.{get-insert_same, get-insert_other}
+use Rattle.pif_kernel_model.specs.Boosts.{IsRepairedBut}
+use Rattle.pif_model_lemmas.proofs.kernel.Facts.{living-added, queued-from_number}
+use Rattle.pif_model_lemmas.proofs.kernel.Kept.{queueing_kept}
+use Rattle.pif_model_lemmas.proofs.kernel.Levels.{level-left}
+use Rattle.pif_model_lemmas.proofs.kernel.Numbers.{is_other, among-left_same, among-left_other}
+use Rattle.pif_model_lemmas.proofs.Waiting.{has_waiter-from_pair}
+use Rattle.pif_model_lemmas.proofs.Places.{kept_at}
+use Rattle.pif_model_lemmas.proofs.Among.{is_among as is_waiter}
 use Rattle.pif_kernel_state.specs.Inside.{Inside, IsListed, IsPlaced, IsSoundInside, kernel_of, status_at, state_key_at, state_at, ticket_of, arrivals_in}
-use Rattle.pif_owners.specs.Arrivals.{Rise}
+use Rattle.pif_kernel_model.specs.Arrivals.{Rise}
 use Rattle.pif_kernel_state.specs.Chained.{Chained, KeepsLevels}
 use Rattle.pif_kernel_state.specs.Fields.{inside_from, chains_of}
 use Rattle.pif_kernel_state.specs.Opened.{IsOpened}
@@ -36,7 +36,7 @@ use Rattle.pif_kernel_state.proofs.Seats.{IsFitted, same_seats, status_seen, wai
 use Rattle.pif_kernel_state.proofs.Picked.{levels_left, length-left}
 use Rattle.pif_kernel_state.proofs.Standing.{fits}
 use Rattle.pif_kernel_state.proofs.ChainLaws.{repaired_but}
-use Rattle.pif_owners.proofs.ArrivalLaws.{rise_push, mutexes_push}
+use Rattle.pif_kernel_model.proofs.ArrivalLaws.{rise_push, mutexes_push}
 use Rattle.pif_kernel_state.proofs.Waiters.{has_waiter-key, no_key-no_waiter, ready_idle, ready_unnamed}
 use Rattle.pif_kernel_state.proofs.TableMoved.{levels_kept_beside}
 use Rattle.pif_kernel_state.proofs.WalkSound.{IsWalkable, owners_effective}

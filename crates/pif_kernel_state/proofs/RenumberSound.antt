@@ -3,17 +3,17 @@ use Rattle.std.proofs.Common.{◌≡◌, ◌≢◌, ◌⊎◌, ℕ, ◌+◌, ◌
 use Rattle.std.proofs.Math.Path.{fun_ext}
 use Rattle.std.proofs.lemmas.Bool.{false≢true}
 use Rattle.std.proofs.lemmas.Bool.Decides.{nat_tests}
-use Rattle.pif_lists.specs.declared.keys.Key.{Key}
-use Rattle.pif_lists.specs.Order.{comes_before}
+use Rattle.pif_nodes_model.specs.declared.keys.Key.{Key}
+use Rattle.pif_nodes_model.specs.Order.{comes_before}
 use Rattle.pif_model.specs.PiKernel.{Kernel, IsKernel, effective_in}
-use Rattle.pif_owners.specs.Owners.{Owners, Task, Wait, task_at, owner_at, count, waits_on, rank_of, no_task, KeepsOrder}
-use Rattle.pif_chains.proofs.Waiting.{names}
+use Rattle.pif_kernel_model.specs.Owners.{Owners, Task, Wait, task_at, owner_at, count, waits_on, rank_of, no_task, KeepsOrder}
+use Rattle.pif_model_lemmas.proofs.Waiting.{names}
 use Rattle.pif_kernel_state.specs.Inside.{Inside, IsPlaced, IsSoundInside, kernel_of, state_key_at, state_at, ticket_of}
-use Rattle.pif_owners.specs.Arrivals.{Rise}
+use Rattle.pif_kernel_model.specs.Arrivals.{Rise}
 use Rattle.pif_kernel_state.specs.Tickets.{renumbered_ticket, seat_with_ticket, IsRenumbered, IsRenumberable}
 use Rattle.pif_kernel_state.proofs.Seats.{IsFitted, states_seen, states_length, kernel_by_parts, seats_of-same_base}
 use Rattle.pif_kernel_state.proofs.Standing.{listed_kept, fits}
-use Rattle.pif_owners.proofs.ArrivalLaws.{rise_once}
+use Rattle.pif_kernel_model.proofs.ArrivalLaws.{rise_once}
 use Rattle.pif_kernel_state.proofs.TicketLaws.{order, ticket_before, rise_renumbered, named_at}
 use Rattle.pif_kernel_state.proofs.Waiters.{waits_some, waits_named, named_known, arrivals_few}
 

@@ -9,9 +9,9 @@ use Rattle.pif_model.specs.Word.{Words, word_at, has_word, cond_word_at, has_con
 use Rattle.pif_model.specs.PiKernel.{Kernel, System, Parking, state_at, has_parked, has_other_target, parked_count, parked_pairs, fits_state, is_living, wait_requeue_answer, requeue_answer}
 use Rattle.pif_word.specs.declared.cells.Cell.TheVariants.{Cond}
 use Rattle.pif_word.specs.WordMap.{WordMap, HasCell, words_of}
-use Rattle.pif_chains.proofs.Numbers.{from_within, within}
-use Rattle.pif_chains.proofs.Waiting.{by_test}
-use Rattle.pif_chains.proofs.kernel.KernelTaken.{fits-from_test}
+use Rattle.pif_model_lemmas.proofs.Numbers.{from_within, within}
+use Rattle.pif_model_lemmas.proofs.Waiting.{by_test}
+use Rattle.pif_model_lemmas.proofs.kernel.Taken.{fits-from_test}
 use Rattle.pif_kernel_state.specs.Takings.{FitsWord}
 
 -- a condition word is there where its cell is

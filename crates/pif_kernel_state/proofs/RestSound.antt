@@ -1,15 +1,15 @@
 -- What is kept stays sound where a ready thread rests: it leaves its level for another status, and waits for nothing.
 use Rattle.std.proofs.Common.{◌≡◌, ℕ, true, ◌++◌, List, [], ◌∷◌, set, refl, sym, ap, ◌∙◌, subst}
-use Rattle.pif_lists.specs.Lists.{list_without}
-use Rattle.pif_lists.specs.Table.{NodeLists}
-use Rattle.pif_lists.specs.Levels.{Queue, Holds, IsLevel, level_of}
+use Rattle.pif_nodes_model.specs.Lists.{list_without}
+use Rattle.pif_nodes_model.specs.Table.{NodeLists}
+use Rattle.pif_nodes_model.specs.Levels.{Queue, Holds, IsLevel, level_of}
 use Rattle.pif_model.specs.declared.lines.Status.{Status}
 use Rattle.pif_model.specs.declared.lines.Status.TheVariants.{Parked, Stopped}
 use Rattle.pif_model.specs.PiKernel.{Kernel, IsKernel, queued_on, has_seat, is_ready, levels_without, with_status, kernel_after_stop, kernel_after_parking, Parking}
 use Rattle.pif_model.specs.PiKernel.{seat_at as kernel_seat_at}
-use Rattle.pif_chains.proofs.kernel.KernelKept.{stop_kept}
-use Rattle.pif_chains.proofs.kernel.KernelRested.{kernel-parked}
-use Rattle.pif_chains.proofs.kernel.Statuses.{ready-queued_on_nothing}
+use Rattle.pif_model_lemmas.proofs.kernel.Kept.{stop_kept}
+use Rattle.pif_model_lemmas.proofs.kernel.Rested.{kernel-parked}
+use Rattle.pif_model_lemmas.proofs.kernel.Statuses.{ready-queued_on_nothing}
 use Rattle.pif_kernel_state.specs.Inside.{Inside, IsSoundInside, kernel_of, status_at}
 use Rattle.pif_kernel_state.proofs.Seats.{status_seen, kernel_by_parts, seats_of-set_status}
 use Rattle.pif_kernel_state.proofs.Picked.{levels_left, length-left}

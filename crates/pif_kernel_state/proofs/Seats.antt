@@ -7,10 +7,10 @@ use Rattle.pif_model.specs.declared.lines.Status.TheVariants.{Ready, Queued, Par
 use Rattle.pif_model.specs.declared.lines.Woken.TheVariants.{Fresh}
 use Rattle.pif_model.specs.PiKernel.{Kernel, queued_on, has_ended, has_seat, is_living, level_at, waits_for}
 use Rattle.pif_model.specs.PiKernel.{Seat as KernelSeat, seat_at as kernel_seat_at, no_seat as no_kernel_seat, state_at as kernel_state_at}
-use Rattle.pif_chains.proofs.Numbers.{from_within, within}
-use Rattle.pif_chains.proofs.Places.{mapped_at}
-use Rattle.pif_owners.specs.Owners.{Task, task_at, owner_at, no_task, waits_on}
-use Rattle.pif_owners.specs.Owners.{waits_for as owners_wait_for}
+use Rattle.pif_model_lemmas.proofs.Numbers.{from_within, within}
+use Rattle.pif_model_lemmas.proofs.Places.{mapped_at}
+use Rattle.pif_kernel_model.specs.Owners.{Task, task_at, owner_at, no_task, waits_on}
+use Rattle.pif_kernel_model.specs.Owners.{waits_for as owners_wait_for}
 use Rattle.pif_kernel_state.specs.Inside.{Inside, IsPlaced, kernel_of, owner_under, seat_of, seats_of, status_at, state_key_at, state_at}
 
 pub length-seats_of : (xs : List Status) (rows : List Task) → length xs ≤ length rows

@@ -2,13 +2,13 @@
 use Rattle.std.proofs.Common.{◌≡◌, ◌↔◌, ℕ, ◌≤◌, ◌==◌, Bool, true, false, if◌then◌else◌, nat_lt, length, Option, Some, None, IsSome, IfSome, refl, sym, ap, ◌∙◌, eqb-true, arith}
 use Rattle.std.proofs.lemmas.Bool.{true≢false}
 use Rattle.std.proofs.lemmas.Bool.Decides.{nat_tests}
-use Rattle.pif_lists.specs.Lists.{has}
-use Rattle.pif_lists.specs.Levels.{IsQueued, IsLevel, level_of}
+use Rattle.pif_nodes_model.specs.Lists.{has}
+use Rattle.pif_nodes_model.specs.Levels.{IsQueued, IsLevel, level_of}
 use Rattle.pif_model.specs.PiKernel.{IsKernel, effective_in, is_among, is_living, is_ready, has_seat, level_at}
 use Rattle.pif_model.specs.PiKernel.{seat_at as kernel_seat_at}
-use Rattle.pif_owners.specs.Owners.{task_at}
-use Rattle.pif_chains.proofs.kernel.KernelFacts.{living-added}
-use Rattle.pif_chains.proofs.kernel.KernelSettled.{effective_range}
+use Rattle.pif_kernel_model.specs.Owners.{task_at}
+use Rattle.pif_model_lemmas.proofs.kernel.Facts.{living-added}
+use Rattle.pif_model_lemmas.proofs.kernel.Settled.{effective_range}
 use Rattle.pif_kernel_state.specs.Inside.{Inside, IsListed, IsSoundInside, kernel_of}
 use Rattle.pif_kernel_state.proofs.Seats.{IsFitted, fitted, seats_length, status_seen}
 use Rattle.pif_kernel_state.proofs.Picked.{levels_seen, level_seen, among_has}

@@ -3,15 +3,15 @@ use Rattle.std.proofs.Common.{◌≡◌, ◌≢◌, ◌⊎◌, ℕ, ◌<◌, ◌
 use Rattle.std.proofs.lemmas.Bool.{cases_eq, cases_lt}
 use Rattle.std.proofs.lemmas.List.{get_or-set_same, get_or-set_other, get_or_past}
 use Rattle.pif_model.specs.Graph.{has_waiter, without, next_waiter}
-use Rattle.pif_owners.specs.Owners.{Owners, Task, Wait, no_task, task_at, waits_on, IsTop, HasNoWaiter}
-use Rattle.pif_chains.proofs.Among.{is_among-without}
-use Rattle.pif_chains.proofs.Among.{is_among as is_waiter}
-use Rattle.pif_chains.proofs.Next.{next_is_next}
-use Rattle.pif_chains.proofs.Waiting.{has_waiter-from_pair}
+use Rattle.pif_kernel_model.specs.Owners.{Owners, Task, Wait, no_task, task_at, waits_on, IsTop, HasNoWaiter}
+use Rattle.pif_model_lemmas.proofs.Among.{is_among-without}
+use Rattle.pif_model_lemmas.proofs.Among.{is_among as is_waiter}
+use Rattle.pif_model_lemmas.proofs.Next.{next_is_next}
+use Rattle.pif_model_lemmas.proofs.Waiting.{has_waiter-from_pair}
 use Rattle.pif_kernel_state.specs.Inside.{Inside, IsSoundInside, state_key_at}
-use Rattle.pif_owners.proofs.ArrivalLaws.{waiter_middle}
+use Rattle.pif_kernel_model.proofs.ArrivalLaws.{waiter_middle}
 use Rattle.pif_kernel_state.proofs.TopLaws.{waits_under, under_waits}
-use Rattle.pif_owners.proofs.WaitersWithout.{waiter_kept}
+use Rattle.pif_kernel_model.proofs.WaitersWithout.{waiter_kept}
 
 -- a mutex that has a waiter has one by name
 waiter_named : (ws : List (ℕ × ℕ)) (m : ℕ) → has_waiter ws m ≡ true → (u : ℕ) × (is_waiter ws u m ≡ true)

@@ -1,11 +1,11 @@
 -- What is kept is as sound, and stands for the same, where its table became another one with the same levels.
 use Rattle.std.proofs.Common.{◌≡◌, ℕ, Bool, true, false, List, Option, refl, sym, ap, subst, ◌∙◌}
-use Rattle.pif_lists.specs.Lists.{list_without}
-use Rattle.pif_lists.specs.Levels.{Queue}
+use Rattle.pif_nodes_model.specs.Lists.{list_without}
+use Rattle.pif_nodes_model.specs.Levels.{Queue}
 use Rattle.pif_model.specs.Graph.{is_priority}
 use Rattle.pif_model.specs.PiKernel.{Kernel, IsKernel, Parking, has_seat, queued_on, effective_in, is_among, level_at, waits_for}
 use Rattle.pif_model.specs.PiKernel.{seat_at as kernel_seat_at}
-use Rattle.pif_chains.proofs.kernel.KernelSettled.{priority-range}
+use Rattle.pif_model_lemmas.proofs.kernel.Settled.{priority-range}
 use Rattle.pif_kernel_state.specs.Inside.{Inside, IsListed, IsPlaced, IsSoundInside, kernel_of}
 use Rattle.pif_kernel_state.specs.Chained.{Chained, KeepsLevels}
 use Rattle.pif_kernel_state.specs.Fields.{chains_of}

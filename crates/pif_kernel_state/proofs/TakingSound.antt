@@ -9,13 +9,13 @@ use Rattle.pif_model.specs.Word.{Words, word_at}
 use Rattle.pif_model.specs.PiKernel.{Kernel, Seat as KernelSeat, System, Parking, IsKernel, seat_at as kernel_seat_at, has_seat, is_living, is_ready, state_at as kernel_state_at, waits_for, may_queue, queued_on, parkings_without, parked_pairs, parked_count, has_parked, top_parked, without_parking, kernel_after_queueing, kernel_after_waking, after_taking, after_takings, after_requeue}
 use Rattle.pif_word.specs.declared.cells.Cell.TheVariants.{Mutex}
 use Rattle.pif_word.specs.WordMap.{WordMap, HasCell}
-use Rattle.pif_chains.proofs.Among.{is_among_cons}
-use Rattle.pif_chains.proofs.Greatest.{reaches_same}
-use Rattle.pif_chains.proofs.Waiting.{by_test, names, pairs, Once, once_head, once_tail, named-from_pair}
-use Rattle.pif_chains.proofs.kernel.KernelWoken.{added-from_parked, woken_length, woken_has, woken_state, woken_waits, woken_seat_same, requeued_as_woken, top-parked}
-use Rattle.pif_chains.proofs.kernel.KernelTaken.{FitsState, owned, requeued, woken_again, woken_living, taking_fits}
-use Rattle.pif_chains.proofs.kernel.KernelRequeued.{taking-parked, taking-has_word}
-use Rattle.pif_chains.proofs.kernel.KernelAllTaken.{parked-few}
+use Rattle.pif_model_lemmas.proofs.Among.{is_among_cons}
+use Rattle.pif_model_lemmas.proofs.Greatest.{reaches_same}
+use Rattle.pif_model_lemmas.proofs.Waiting.{by_test, names, pairs, Once, once_head, once_tail, named-from_pair}
+use Rattle.pif_model_lemmas.proofs.kernel.Woken.{added-from_parked, woken_length, woken_has, woken_state, woken_waits, woken_seat_same, requeued_as_woken, top-parked}
+use Rattle.pif_model_lemmas.proofs.kernel.Taken.{FitsState, owned, requeued, woken_again, woken_living, taking_fits}
+use Rattle.pif_model_lemmas.proofs.kernel.Requeued.{taking-parked, taking-has_word}
+use Rattle.pif_model_lemmas.proofs.kernel.AllTaken.{parked-few}
 use Rattle.pif_kernel_state.specs.Inside.{Inside, IsSoundInside, kernel_of, state_at}
 use Rattle.pif_kernel_state.specs.Systems.{system_of}
 use Rattle.pif_kernel_state.specs.Takings.{FitsWord}

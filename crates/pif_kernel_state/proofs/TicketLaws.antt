@@ -3,13 +3,13 @@ use Rattle.std.proofs.Common.{◌≡◌, ◌≢◌, ◌⊎◌, ℕ, zero, suc, �
 use Rattle.std.proofs.lemmas.Bool.{cases_eq, true≢false}
 use Rattle.std.proofs.lemmas.Bool.Decides.{nat_tests}
 use Rattle.std.proofs.lemmas.List.{get_or-set_same, get_or-set_other}
-use Rattle.pif_lists.specs.declared.keys.Key.{Key}
-use Rattle.pif_owners.specs.Owners.{Owners, Task, Wait, task_at, no_task, with_ticket}
-use Rattle.pif_chains.proofs.Waiting.{names, Once, once_head, once_tail}
-use Rattle.pif_owners.specs.Arrivals.{Rise}
+use Rattle.pif_nodes_model.specs.declared.keys.Key.{Key}
+use Rattle.pif_kernel_model.specs.Owners.{Owners, Task, Wait, task_at, no_task, with_ticket}
+use Rattle.pif_model_lemmas.proofs.Waiting.{names, Once, once_head, once_tail}
+use Rattle.pif_kernel_model.specs.Arrivals.{Rise}
 use Rattle.pif_kernel_state.specs.Inside.{ticket_of}
 use Rattle.pif_kernel_state.specs.Tickets.{renumbered_ticket, seat_with_ticket, IsRenumbered}
-use Rattle.pif_owners.proofs.ArrivalLaws.{rise_above}
+use Rattle.pif_kernel_model.proofs.ArrivalLaws.{rise_above}
 
 pub named_at : (ws : List (ℕ × ℕ)) (i t : ℕ) (d : ℕ × ℕ) → i < length ws → (get_or ws i d).0 ≡ t → names t ws ≡ true
 named_at [] i t d l e = absurd (omega arith)

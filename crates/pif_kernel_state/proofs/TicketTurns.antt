@@ -2,13 +2,13 @@
 use Rattle.std.proofs.Common.{◌≡◌, ◌≢◌, ◌⊎◌, ℕ, zero, suc, ◌+◌, ◌<◌, ◌≤◌, ◌==◌, nat_lt, Bool, true, false, if◌then◌else◌, List, [], ◌∷◌, length, get_or, Option, Some, None, is_some, option_map, unwrap_or, refl, sym, ap, subst, ◌∙◌, inl, inr, arith}
 use Rattle.std.proofs.lemmas.Bool.{cases_eq, cases_lt, true≢false, false≢true}
 use Rattle.std.proofs.lemmas.Bool.Decides.{nat_tests}
-use Rattle.pif_lists.specs.declared.keys.Key.{Key}
-use Rattle.pif_owners.specs.Owners.{Owners, Task, Wait, task_at}
-use Rattle.pif_chains.proofs.Waiting.{names}
+use Rattle.pif_nodes_model.specs.declared.keys.Key.{Key}
+use Rattle.pif_kernel_model.specs.Owners.{Owners, Task, Wait, task_at}
+use Rattle.pif_model_lemmas.proofs.Waiting.{names}
 use Rattle.pif_kernel_state.specs.Inside.{Inside, IsSoundInside, ticket_of}
-use Rattle.pif_owners.specs.Arrivals.{Rise}
+use Rattle.pif_kernel_model.specs.Arrivals.{Rise}
 use Rattle.pif_kernel_state.specs.Tickets.{renumbered_ticket, seat_with_ticket, IsRenumbered, IsRenumberable, IsNumbered, IsFirstFrom, is_sooner}
-use Rattle.pif_owners.proofs.ArrivalLaws.{rise_once}
+use Rattle.pif_kernel_model.proofs.ArrivalLaws.{rise_once}
 use Rattle.pif_kernel_state.proofs.TicketLaws.{named_at, ticket_before, at_least, order, rise_renumbered}
 use Rattle.pif_kernel_state.proofs.Waiters.{waits_named, named_known}
 

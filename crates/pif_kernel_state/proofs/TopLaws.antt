@@ -1,24 +1,24 @@
 -- The top waiter by priority and ticket is the next waiter: the first in arrival among those of greatest priority.
 use Rattle.std.proofs.Common.{◌≡◌, ◌⊎◌, ℕ, ◌<◌, ◌≤◌, true, false, List, ◌∷◌, Option, Some, None, option_map, unwrap_or, refl, sym, ap, subst, ◌∙◌, inl, inr, arith}
 use Rattle.std.proofs.lemmas.Bool.Decides.{nat_tests}
-use Rattle.pif_lists.specs.declared.keys.Key.{Key}
-use Rattle.pif_lists.specs.Order.{comes_before}
+use Rattle.pif_nodes_model.specs.declared.keys.Key.{Key}
+use Rattle.pif_nodes_model.specs.Order.{comes_before}
 use Rattle.pif_model.specs.declared.lines.Status.{Status}
 use Rattle.pif_model.specs.declared.lines.Status.TheVariants.{Ready, Queued, Parked, Stopped, Ended}
 use Rattle.pif_model.specs.Graph.{next_waiter, IsNextWaiter}
 use Rattle.pif_model.specs.PiKernel.{queued_on, effective_in, next_in}
-use Rattle.pif_owners.specs.Owners.{task_at, waits_on, rank_of, IsTop}
-use Rattle.pif_owners.proofs.OwnersLemmas.{some_rank}
-use Rattle.pif_chains.proofs.Among.{is_among_cons}
-use Rattle.pif_chains.proofs.Among.{is_among as is_waiter}
-use Rattle.pif_chains.proofs.Next.{next_is_next}
-use Rattle.pif_chains.proofs.Waiting.{named-from_pair}
+use Rattle.pif_kernel_model.specs.Owners.{task_at, waits_on, rank_of, IsTop}
+use Rattle.pif_kernel_model.proofs.OwnersLemmas.{some_rank}
+use Rattle.pif_model_lemmas.proofs.Among.{is_among_cons}
+use Rattle.pif_model_lemmas.proofs.Among.{is_among as is_waiter}
+use Rattle.pif_model_lemmas.proofs.Next.{next_is_next}
+use Rattle.pif_model_lemmas.proofs.Waiting.{named-from_pair}
 use Rattle.pif_kernel_state.specs.Inside.{Inside, IsSoundInside, kernel_of, status_at, state_key_at, ticket_of}
-use Rattle.pif_owners.specs.Arrivals.{Rise}
+use Rattle.pif_kernel_model.specs.Arrivals.{Rise}
 use Rattle.pif_kernel_state.proofs.Seats.{status_seen, waiters_seen}
 use Rattle.pif_kernel_state.proofs.Standing.{fits}
 use Rattle.pif_kernel_state.proofs.Waiters.{has_waiter-key}
-use Rattle.pif_owners.proofs.ArrivalLaws.{rise_behind, waiter_middle, waiter_split}
+use Rattle.pif_kernel_model.proofs.ArrivalLaws.{rise_behind, waiter_middle, waiter_split}
 
 -- who waits under the key of m is queued on m
 pub waits_under : (p : Inside) → IsSoundInside p → (u m key : ℕ) → state_key_at p m ≡ Some key → waits_on p.owners u ≡ Some key

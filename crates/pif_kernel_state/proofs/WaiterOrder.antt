@@ -2,16 +2,16 @@
 use Rattle.std.proofs.Common.{◌≡◌, ◌⊎◌, ℕ, suc, ◌<◌, ◌≤◌, Bool, true, List, length, Option, Some, None, option_map, unwrap_or, sym, ap, subst, ◌∙◌, inl, inr, arith}
 use Rattle.std.specs.List.{slice_get}
 use Rattle.std.proofs.lemmas.Bool.{cases_eq, cases_lt}
-use Rattle.pif_lists.specs.declared.keys.Key.{Key}
-use Rattle.pif_lists.specs.Order.{comes_before}
+use Rattle.pif_nodes_model.specs.declared.keys.Key.{Key}
+use Rattle.pif_nodes_model.specs.Order.{comes_before}
 use Rattle.pif_model.specs.Graph.{waiting_order}
 use Rattle.pif_model.specs.PiKernel.{effective_in, is_among, waiters_in}
-use Rattle.pif_owners.specs.Owners.{Task, no_task, task_at, waits_on, rank_of, IsTop, HasNoWaiter}
-use Rattle.pif_owners.proofs.OwnersLemmas.{some_rank}
-use Rattle.pif_owners.specs.Behind.{IsLast, IsBehind}
-use Rattle.pif_chains.proofs.kernel.Orders.{order-none, ordered-is_waiter}
+use Rattle.pif_kernel_model.specs.Owners.{Task, no_task, task_at, waits_on, rank_of, IsTop, HasNoWaiter}
+use Rattle.pif_kernel_model.proofs.OwnersLemmas.{some_rank}
+use Rattle.pif_kernel_model.specs.Behind.{IsLast, IsBehind}
+use Rattle.pif_model_lemmas.proofs.kernel.Orders.{order-none, ordered-is_waiter}
 use Rattle.pif_kernel_state.specs.Inside.{Inside, IsSoundInside, kernel_of, state_key_at, owner_under, ticket_of}
-use Rattle.pif_owners.proofs.WaiterRows.{InRow, key_by, among_at, row_first, row_last, row_next, in_row, all_ordered}
+use Rattle.pif_kernel_model.proofs.WaiterRows.{InRow, key_by, among_at, row_first, row_last, row_next, in_row, all_ordered}
 use Rattle.pif_kernel_state.proofs.Seats.{waiters_seen, added_back}
 use Rattle.pif_kernel_state.proofs.Standing.{fits, effective_level}
 use Rattle.pif_kernel_state.proofs.TopLaws.{waits_under, under_waits, some_waiter}

@@ -7,15 +7,15 @@ use Rattle.pif_model.specs.declared.lines.Status.TheVariants.{Ready, Queued, Par
 use Rattle.pif_model.specs.Graph.{has_waiter}
 use Rattle.pif_model.specs.PiKernel.{queued_on, is_ready, has_seat}
 use Rattle.pif_model.specs.PiKernel.{seat_at as kernel_seat_at, state_at as kernel_state_at}
-use Rattle.pif_owners.specs.Owners.{Task, Wait, owner_at, count, waits_on}
-use Rattle.pif_chains.proofs.kernel.Statuses.{ready-queued_on_nothing}
-use Rattle.pif_chains.proofs.Waiting.{names, named-from_pair, has_waiter-from_pair}
-use Rattle.pif_chains.proofs.Among.{is_among_here, is_among_there}
-use Rattle.pif_chains.proofs.Among.{is_among as is_waiter}
+use Rattle.pif_kernel_model.specs.Owners.{Task, Wait, owner_at, count, waits_on}
+use Rattle.pif_model_lemmas.proofs.kernel.Statuses.{ready-queued_on_nothing}
+use Rattle.pif_model_lemmas.proofs.Waiting.{names, named-from_pair, has_waiter-from_pair}
+use Rattle.pif_model_lemmas.proofs.Among.{is_among_here, is_among_there}
+use Rattle.pif_model_lemmas.proofs.Among.{is_among as is_waiter}
 use Rattle.pif_kernel_state.specs.Inside.{Inside, IsSoundInside, kernel_of, status_at, state_key_at, state_at, ticket_of}
 use Rattle.pif_kernel_state.proofs.Seats.{added_seen, status_seen, waiters_seen, states_seen}
 use Rattle.pif_kernel_state.proofs.Standing.{fits}
-use Rattle.pif_owners.proofs.ArrivalLaws.{rise_once, few_waiters, few_named, mutexes_few}
+use Rattle.pif_kernel_model.proofs.ArrivalLaws.{rise_once, few_waiters, few_named, mutexes_few}
 
 -- a mutex has a key exactly where it has a waiter
 pub has_waiter-key : (p : Inside) → IsSoundInside p → (m : ℕ) → state_at p m ≢ 0 → has_waiter p.arrivals m ≡ true

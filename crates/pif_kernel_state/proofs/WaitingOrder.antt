@@ -4,9 +4,9 @@ use Rattle.std.specs.List.{slice_get}
 use Rattle.std.proofs.Math.Path.{fun_ext}
 use Rattle.pif_model.specs.Graph.{by_greatest, waiting_order}
 use Rattle.pif_model.specs.PiKernel.{level_at, levels_below, parked_pairs, parked_in}
-use Rattle.pif_lists.specs.Levels.{all_below}
-use Rattle.pif_lists.proofs.Places.{slice_get-front, slice_get-behind, all_below-none, all_below-more}
-use Rattle.pif_owners.specs.Boosts.{local_of}
+use Rattle.pif_nodes_model.specs.Levels.{all_below}
+use Rattle.pif_nodes_model.proofs.Places.{slice_get-front, slice_get-behind, all_below-none, all_below-more}
+use Rattle.pif_kernel_model.specs.Boosts.{local_of}
 use Rattle.pif_kernel_state.specs.Inside.{Inside, IsSoundInside, kernel_of}
 use Rattle.pif_kernel_state.proofs.Picked.{levels_seen}
 use Rattle.pif_kernel_state.proofs.Seats.{parked_seen}

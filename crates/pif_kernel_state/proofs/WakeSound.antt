@@ -1,16 +1,16 @@
 -- What is kept stays sound where a thread that is parked or stopped is woken.
 use Rattle.std.proofs.Common.{◌≡◌, ◌≢◌, ℕ, ◌<◌, ◌≤◌, Bool, true, false, if◌then◌else◌, length, set, refl, sym, ap, ◌∙◌, subst, arith}
 use Rattle.std.proofs.lemmas.Bool.{true≢false}
-use Rattle.pif_lists.specs.Table.{NodeLists}
-use Rattle.pif_lists.specs.Levels.{Queue, Holds, IsLevel, IsQueued, level_of}
-use Rattle.pif_lists.specs.Levels.{level_after_add}
+use Rattle.pif_nodes_model.specs.Table.{NodeLists}
+use Rattle.pif_nodes_model.specs.Levels.{Queue, Holds, IsLevel, IsQueued, level_of}
+use Rattle.pif_nodes_model.specs.Levels.{level_after_add}
 use Rattle.pif_model.specs.declared.lines.Status.{Status}
 use Rattle.pif_model.specs.declared.lines.Status.TheVariants.{Ready, Queued, Parked, Stopped, Ended}
 use Rattle.pif_model.specs.declared.lines.Woken.{Woken}
 use Rattle.pif_model.specs.PiKernel.{IsKernel, queued_on, has_seat, is_ready, is_parked, level_at, effective_in, levels_with, kernel_after_waking, parkings_without}
 use Rattle.pif_model.specs.PiKernel.{seat_at as kernel_seat_at}
-use Rattle.pif_owners.specs.Owners.{task_at}
-use Rattle.pif_chains.proofs.kernel.KernelWoken.{added-from_parked, kernel-roused}
+use Rattle.pif_kernel_model.specs.Owners.{task_at}
+use Rattle.pif_model_lemmas.proofs.kernel.Woken.{added-from_parked, kernel-roused}
 use Rattle.pif_kernel_state.specs.Inside.{Inside, IsSoundInside, kernel_of, status_at}
 use Rattle.pif_kernel_state.proofs.Seats.{status_seen, added_seen, kernel_by_parts, seats_of-set_status}
 use Rattle.pif_kernel_state.proofs.Picked.{levels_joined, length-joined}

@@ -3,24 +3,24 @@ use Rattle.std.proofs.Common.{◌≡◌, ◌⊎◌, ℕ, ◌-◌, ◌<◌, ◌�
 use Rattle.std.proofs.Math.Path.{fun_ext}
 use Rattle.std.proofs.lemmas.Bool.{cases_lt}
 use Rattle.std.proofs.lemmas.List.{get_or_past}
-use Rattle.pif_lists.specs.declared.keys.Key.{Key}
-use Rattle.pif_lists.specs.Lists.{has}
-use Rattle.pif_lists.specs.Table.{NodeLists}
-use Rattle.pif_lists.specs.Levels.{Queue, Holds, IsLevel, IsQueued, level_of}
+use Rattle.pif_nodes_model.specs.declared.keys.Key.{Key}
+use Rattle.pif_nodes_model.specs.Lists.{has}
+use Rattle.pif_nodes_model.specs.Table.{NodeLists}
+use Rattle.pif_nodes_model.specs.Levels.{Queue, Holds, IsLevel, IsQueued, level_of}
 use Rattle.pif_model.specs.PiKernel.{Kernel, IsKernel, effective_in, is_among, level_at, with_effective_levels, waits_for}
 use Rattle.pif_model.specs.PiKernel.{seat_at as kernel_seat_at}
-use Rattle.pif_owners.specs.Owners.{Owners, Task, Wait, task_at, owner_at, count, waits_on, rank_of, no_task}
-use Rattle.pif_owners.specs.Boosts.{IsRepaired, IsRepairedBut, base_of, local_of, greatest_base}
-use Rattle.pif_owners.specs.Boosts.{with_effective, with_rank_priority}
-use Rattle.pif_owners.specs.Boosts.{level_after_walk}
-use Rattle.pif_chains.proofs.Following.{reaches-from_within}
-use Rattle.pif_chains.proofs.Hops.{nobody, reach_below}
-use Rattle.pif_chains.proofs.Numbers.{within}
-use Rattle.pif_chains.proofs.kernel.Statuses.{ready-queued_on_nothing}
-use Rattle.pif_chains.proofs.Greatest.{effective_most, effective_wider, effective_same}
-use Rattle.pif_chains.proofs.kernel.KernelLevels.{length-levels_by}
+use Rattle.pif_kernel_model.specs.Owners.{Owners, Task, Wait, task_at, owner_at, count, waits_on, rank_of, no_task}
+use Rattle.pif_kernel_model.specs.Boosts.{IsRepaired, IsRepairedBut, base_of, local_of, greatest_base}
+use Rattle.pif_kernel_model.specs.Boosts.{with_effective, with_rank_priority}
+use Rattle.pif_kernel_model.specs.Boosts.{level_after_walk}
+use Rattle.pif_model_lemmas.proofs.Following.{reaches-from_within}
+use Rattle.pif_model_lemmas.proofs.Hops.{nobody, reach_below}
+use Rattle.pif_model_lemmas.proofs.Numbers.{within}
+use Rattle.pif_model_lemmas.proofs.kernel.Statuses.{ready-queued_on_nothing}
+use Rattle.pif_model_lemmas.proofs.Greatest.{effective_most, effective_wider, effective_same}
+use Rattle.pif_model_lemmas.proofs.kernel.Levels.{length-levels_by}
 use Rattle.pif_kernel_state.specs.Inside.{Inside, IsPlaced, IsSoundInside, kernel_of, state_key_at, state_at, ticket_of, IsListed, status_at}
-use Rattle.pif_owners.specs.Arrivals.{Rise}
+use Rattle.pif_kernel_model.specs.Arrivals.{Rise}
 use Rattle.pif_kernel_state.proofs.Seats.{IsFitted, fitted, seats_length, base_seen, owners_waits, waits_below, kernel_by_parts, added_seen, states_seen, states_length, seats_of-same_base}
 use Rattle.pif_kernel_state.proofs.Picked.{levels_seen, levels_count, among_has}
 use Rattle.pif_kernel_state.proofs.Standing.{listed_kept, level_same}

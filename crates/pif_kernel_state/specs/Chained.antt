@@ -2,10 +2,10 @@
 -- keys of the mutexes, and who is parked.
 use Rattle.std.specs.Prelude.{◌≡◌, ℕ, List, [], Option, refl}
 use Rattle.std.specs.Coded.{Coded, code_by, coded×, coded_ℕ, coded_list, coded_option}
-use Rattle.pif_lists.specs.Table.{NodeLists}
-use Rattle.pif_lists.specs.Levels.{Queue, IsLevel, level_of, Holds}
+use Rattle.pif_nodes_model.specs.Table.{NodeLists}
+use Rattle.pif_nodes_model.specs.Levels.{Queue, IsLevel, level_of, Holds}
 use Rattle.pif_model.specs.PiKernel.{Parking}
-use Rattle.pif_owners.specs.Owners.{Owners, owners_code, no_owners}
+use Rattle.pif_kernel_model.specs.Owners.{Owners, owners_code, no_owners}
 use Rattle.pif_kernel_state.specs.Codes.{queue_code, table_code, parking_code}
 use Rattle.pif_kernel_state.specs.Inside.{no_keys}
 

@@ -5,10 +5,10 @@ use Rattle.pif_types.specs.Bounds.{Bounds}
 use Rattle.pif_model.specs.declared.lines.Status.{Status}
 use Rattle.pif_model.specs.declared.lines.Status.TheVariants.{Ready, Queued, Parked, Stopped, Ended}
 use Rattle.pif_model.specs.declared.lines.Woken.TheVariants.{Fresh, Owns, Again, Expired}
-use Rattle.pif_lists.specs.declared.keys.Key.{Key}
-use Rattle.pif_lists.specs.Table.{NodeLists}
-use Rattle.pif_lists.specs.Levels.{Queue}
-use Rattle.pif_owners.specs.Owners.{Owners, owners_code, rank_code}
+use Rattle.pif_nodes_model.specs.declared.keys.Key.{Key}
+use Rattle.pif_nodes_model.specs.Table.{NodeLists}
+use Rattle.pif_nodes_model.specs.Levels.{Queue}
+use Rattle.pif_kernel_model.specs.Owners.{Owners, owners_code, rank_code}
 use Rattle.pif_model.specs.PiKernel.{Parking}
 use Rattle.pif_kernel_state.specs.Inside.{Inside}
 

@@ -6,12 +6,12 @@ use Rattle.pif_model.specs.declared.lines.Status.TheVariants.{Ready}
 use Rattle.pif_model.specs.declared.lines.Woken.TheVariants.{Fresh}
 use Rattle.pif_model.specs.PiKernel.{Kernel, IsKernel, queued_on, is_ready, has_seat, is_among, level_at, levels_by, effective_in}
 use Rattle.pif_model.specs.PiKernel.{Seat as KernelSeat, Parking}
-use Rattle.pif_lists.specs.declared.keys.Key.{Key}
-use Rattle.pif_lists.specs.Table.{NodeLists}
-use Rattle.pif_lists.specs.Levels.{Queue, Holds, level_of}
-use Rattle.pif_owners.specs.Arrivals.{in_order}
-use Rattle.pif_owners.specs.Owners.{Owners, Task, task_at, owner_at, count, waits_on, rank_of, no_task}
-use Rattle.pif_owners.specs.Arrivals.{Rise, mutexes_of}
+use Rattle.pif_nodes_model.specs.declared.keys.Key.{Key}
+use Rattle.pif_nodes_model.specs.Table.{NodeLists}
+use Rattle.pif_nodes_model.specs.Levels.{Queue, Holds, level_of}
+use Rattle.pif_kernel_model.specs.Arrivals.{in_order}
+use Rattle.pif_kernel_model.specs.Owners.{Owners, Task, task_at, owner_at, count, waits_on, rank_of, no_task}
+use Rattle.pif_kernel_model.specs.Arrivals.{Rise, mutexes_of}
 
 -- what a kernel keeps
 pub record Inside : Type 0 where

@@ -1,12 +1,12 @@
 -- What is kept once a thread has left what it waited for and its level, before the others have their priorities.
 use Rattle.std.specs.Prelude.{◌≡◌, ◌≢◌, ℕ, ◌<◌, true, if◌then◌else◌, length, Some, None}
-use Rattle.pif_lists.specs.Lists.{list_without}
-use Rattle.pif_lists.specs.Levels.{Holds, IsLevel, level_of}
+use Rattle.pif_nodes_model.specs.Lists.{list_without}
+use Rattle.pif_nodes_model.specs.Levels.{Holds, IsLevel, level_of}
 use Rattle.pif_model.specs.Graph.{has_waiter, without}
 use Rattle.pif_model.specs.PiKernel.{waits_for, parkings_without}
-use Rattle.pif_owners.specs.Owners.{task_at, owner_at, count}
+use Rattle.pif_kernel_model.specs.Owners.{task_at, owner_at, count}
 use Rattle.pif_kernel_state.specs.Inside.{Inside, kernel_of, state_key_at}
-use Rattle.pif_owners.specs.Arrivals.{mutexes_of}
+use Rattle.pif_kernel_model.specs.Arrivals.{mutexes_of}
 
 -- t has left: it waits for nothing, is not parked, and is on no level, and an owner state stays exactly where others
 -- are queued. Nobody but `start` had it as a waiter. Its status, by which the waiters are found, is still the old one

@@ -1,6 +1,6 @@
 -- What is kept once a mutex has an owner state.
 use Rattle.std.specs.Prelude.{◌≡◌, ℕ, ◌+◌, set, Some, None}
-use Rattle.pif_owners.specs.Owners.{owner_at, count, with_owner}
+use Rattle.pif_kernel_model.specs.Owners.{owner_at, count, with_owner}
 use Rattle.pif_kernel_state.specs.Inside.{Inside, state_key_at}
 use Rattle.pif_kernel_state.specs.Chained.{KeepsLevels}
 use Rattle.pif_kernel_state.specs.Fields.{chains_of}

@@ -1,8 +1,8 @@
 -- Tickets that are numbered anew in their order.
 use Rattle.std.specs.Prelude.{◌≡◌, ◌≢◌, ℕ, zero, suc, ◌+◌, ◌<◌, ◌≤◌, ◌==◌, eqb, nat_lt, Bool, true, false, if◌then◌else◌, List, [], ◌∷◌, length, map, get_or, Option, Some, None, IsSome, option_map}
 use Rattle.std.specs.List.{list_any, IsDistinct}
-use Rattle.pif_owners.specs.Owners.{Owners, Task, Wait, task_at, waits_on, KeepsOrder}
-use Rattle.pif_owners.specs.Arrivals.{Rise}
+use Rattle.pif_kernel_model.specs.Owners.{Owners, Task, Wait, task_at, waits_on, KeepsOrder}
+use Rattle.pif_kernel_model.specs.Arrivals.{Rise}
 use Rattle.pif_kernel_state.specs.Inside.{ticket_of}
 
 -- the tickets once those of the first `count` of these threads are the numbers from n on

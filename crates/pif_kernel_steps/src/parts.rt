@@ -3,8 +3,8 @@ ghost use Rattle.pif_model.specs.PiKernel.{seat_at, has_seat, is_living, effecti
 ghost use Rattle.pif_kernel_state.specs.Inside.{IsSoundInside, kernel_of, state_key_at};
 
 use pif_kernel_chains::Chains;
+use pif_kernel_model::Key;
 use pif_model::{Status, Woken};
-use pif_owners::Key;
 use pif_types::{Limits, MutexId, NoMemory, Prio, Tid, push_within, with_room};
 use std::alloc::Global;
 use std::marker::Model;

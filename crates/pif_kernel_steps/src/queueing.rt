@@ -1,5 +1,5 @@
 ghost use Rattle.std.specs.Prelude.{◌≡◌, ◌≢◌, ◌<◌, ◌+◌, true, false, length, Some, None};
-ghost use Rattle.pif_owners.specs.Owners.{count};
+ghost use Rattle.pif_kernel_model.specs.Owners.{count};
 ghost use Rattle.pif_model.specs.Graph.{reaches_within};
 ghost use Rattle.pif_model.specs.PiKernel.{seat_at, has_seat, is_living, is_ready, queued_on, kernel_after_queueing, kernel_after_hand_over, next_in, waits_for};
 ghost use Rattle.pif_kernel_state.specs.Inside.{IsSoundInside, kernel_of, state_key_at, state_at};
@@ -7,8 +7,8 @@ ghost use Rattle.pif_kernel_state.specs.Opened.{IsOpened};
 
 use crate::parts::Parts;
 use pif_kernel_chains::Chains;
+use pif_kernel_model::Key;
 use pif_model::{Status, Woken};
-use pif_owners::Key;
 use pif_types::{MutexId, Tid};
 
 impl<C: Chains + Drop> Parts<C> {

@@ -1,6 +1,6 @@
 ghost use Rattle.std.specs.Prelude.{◌≡◌, ◌<◌, ◌+◌, length};
 ghost use Rattle.pif_kernel_state.specs.Inside.{IsSoundInside, kernel_of, ticket_of};
-ghost use Rattle.pif_owners.specs.Arrivals.{Rise};
+ghost use Rattle.pif_kernel_model.specs.Arrivals.{Rise};
 
 use crate::parts::Parts;
 use pif_kernel_chains::{Chains, number_anew};

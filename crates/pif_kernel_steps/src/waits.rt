@@ -1,13 +1,13 @@
 ghost use Rattle.std.specs.Prelude.{◌≡◌, ◌==◌, ◌<◌, true, length, if◌then◌else◌, IsSome, Some};
 ghost use Rattle.std.specs.Option.{ForSome};
-ghost use Rattle.pif_owners.specs.Owners.{owner_at};
+ghost use Rattle.pif_kernel_model.specs.Owners.{owner_at};
 ghost use Rattle.pif_model.specs.PiKernel.{wait_answer, state_at, has_other_target, fits_state, may_queue};
 ghost use Rattle.pif_kernel_steps.specs.Answers.{wait_test_answer};
 ghost use Rattle.pif_kernel_state.specs.Inside.{IsSoundInside, kernel_of, owner_under};
 
 use crate::parts::Parts;
 use pif_kernel_chains::Chains;
-use pif_owners::Key;
+use pif_kernel_model::Key;
 use pif_types::{CondId, Errno, MutexId, Tid};
 
 impl<C: Chains + Drop> Parts<C> {

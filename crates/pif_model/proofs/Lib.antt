@@ -1,7 +1,7 @@
 pub mod Asked
 pub mod Worked
-pub mod EndsWorked
+pub mod WorkedHistoryOfAnEnd
 pub mod WorkedRobust
 pub mod WorkedConditions
 pub mod WorkedDeadlines
-pub mod ConditionsWorked
+pub mod WorkedHistoryOfABroadcast

@@ -9,12 +9,12 @@ use Rattle.pif_model.specs.Word.{free_words as words_free}
 use Rattle.pif_model.specs.PiKernel.{Kernel, System, IsKernel, has_seat, seat_at, has_ended, is_living, state_at, next_in, words_after_lock, kernel_after_lock, words_after_try_lock, words_after_unlock, kernel_after_hand_over, kernel_after_unlock, kernel_after_set_prio, kernel_after_stop, kernel_after_expire, kernel_after_wait_requeue, after_requeue, kernel_after_leaving, after_death, after_deaths, after_exit}
 use Rattle.pif_model.specs.RobustList.{Robust, RobustRow, no_robust_row, with_robust, without_robust}
 use Rattle.pif_model.specs.Table.{Table, has_mutex, with_kernel, with_lists}
-use Rattle.pif_chains.proofs.Numbers.{below}
-use Rattle.pif_chains.proofs.kernel.KernelRequeued.{takings-words, takings-healths, takings-conds}
+use Rattle.pif_model_lemmas.proofs.Numbers.{below}
+use Rattle.pif_model_lemmas.proofs.kernel.Requeued.{takings-words, takings-healths, takings-conds}
 use Rattle.pif_word.specs.WordMap.{words_of, free_words}
-use Rattle.pif_chains.proofs.WordBits.{word_of-number}
+use Rattle.pif_model_lemmas.proofs.WordBits.{word_of-number}
 use Rattle.pif_mutex.specs.Assembled.{IsAssembled}
-use Rattle.pif_simulation.proofs.events.KernelLeaves.{IsAlike, alike, alike_twice, alike_keeps_threads, lock_alike, hand_over_alike, unlock_alike, set_prio_alike, stop_alike, expire_alike, wait_requeue_alike, requeue_alike, leaving_alike}
+use Rattle.pif_model_simulation.proofs.events.KernelLeaves.{IsAlike, alike, alike_twice, alike_keeps_threads, lock_alike, hand_over_alike, unlock_alike, set_prio_alike, stop_alike, expire_alike, wait_requeue_alike, requeue_alike, leaving_alike}
 
 -- THE WORDS
 

@@ -12,7 +12,7 @@ use Rattle.pif_model.specs.Table.{Table, cell_at, with_word}
 use Rattle.pif_model.specs.Lines.{Outcome, goes_to, ends_by, after_exchange, own_exchange, given_up, give_exchange}
 use Rattle.pif_word.specs.declared.cells.Cell.TheVariants.{Mutex, Cond}
 use Rattle.pif_word.specs.WordMap.{WordMap, words_of, bits_at, with_bits}
-use Rattle.pif_chains.proofs.WordBits.{word_of-without_died}
+use Rattle.pif_model_lemmas.proofs.WordBits.{word_of-without_died}
 
 -- to write bits is to write the word that they are
 write_bits : (ws : WordMap) (m bits : ℕ)

@@ -9,8 +9,8 @@ use Rattle.pif_model.specs.declared.lines.Place.{Place}
 use Rattle.pif_model.specs.declared.lines.Place.TheVariants.{Load, StayQueued, StayStopped, LoadUses, Park, StayParked}
 use Rattle.pif_model.specs.Table.{Table, status_at}
 use Rattle.pif_model.specs.Lines.{locking_line, line_of, counts_at, go_outcome}
-use Rattle.pif_simulation.specs.Steppable.{may_wait_at}
-use Rattle.pif_simulation.proofs.Undue.{goes_by_line}
+use Rattle.pif_model_simulation.specs.Steppable.{may_wait_at}
+use Rattle.pif_model_simulation.proofs.Undue.{goes_by_line}
 use Rattle.pif_mutex.specs.Mutexes.{is_on_mutex, is_of_mutexes}
 
 -- at a place where it takes a step on its mutex its line is that of who may queue

@@ -115,7 +115,7 @@ impl<K: PiKernel + Drop> State<K> {
     /// The kernel call unlock_pi.
     #[cold]
     #[inline(never)]
-    #[tactic(auto, unfolding(pif_model::specs::Lines::gives_up, pif_model::specs::Lines::given_up_by), using(pif_simulation::proofs::events::KernelLeaves::unlock_keeps_threads))]
+    #[tactic(auto, unfolding(pif_model::specs::Lines::gives_up, pif_model::specs::Lines::given_up_by), using(pif_model_simulation::proofs::events::KernelLeaves::unlock_keeps_threads))]
     pub(crate) fn give_kernel(
         &mut self,
         request: Request,

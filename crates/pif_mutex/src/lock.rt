@@ -36,7 +36,7 @@ impl<K: PiKernel + Drop> State<K> {
     /// the owner has ended, the thread goes on to stop.
     #[cold]
     #[inline(never)]
-    #[tactic(auto, unfolding(pif_model::specs::Lines::lock_kernel, pif_model::specs::Lines::lock_by), using(pif_simulation::proofs::events::KernelLeaves::lock_keeps_threads))]
+    #[tactic(auto, unfolding(pif_model::specs::Lines::lock_kernel, pif_model::specs::Lines::lock_by), using(pif_model_simulation::proofs::events::KernelLeaves::lock_keeps_threads))]
     pub(crate) fn lock_kernel(&mut self, request: Request, t: Tid, m: MutexId) -> Progress
         requires known { has_thread self.old t ≡ true }
         requires mutex { has_mutex self.old m ≡ true }
@@ -83,7 +83,7 @@ impl<K: PiKernel + Drop> State<K> {
     /// ETIMEDOUT, and of a robust one the pending field is cleared next.
     #[cold]
     #[inline(never)]
-    #[tactic(auto, unfolding(pif_model::specs::Lines::expires_at, pif_model::specs::Lines::expired_in), using(pif_simulation::proofs::events::KernelLeaves::expire_keeps_threads))]
+    #[tactic(auto, unfolding(pif_model::specs::Lines::expires_at, pif_model::specs::Lines::expired_in), using(pif_model_simulation::proofs::events::KernelLeaves::expire_keeps_threads))]
     pub(crate) fn lock_expire(&mut self, place: Place, t: Tid, m: MutexId) -> Progress
         requires known { has_thread self.old t ≡ true }
         requires mutex { has_mutex self.old m ≡ true }
@@ -103,7 +103,7 @@ impl<K: PiKernel + Drop> State<K> {
     /// Stops for good.
     #[cold]
     #[inline(never)]
-    #[tactic(auto, unfolding(pif_model::specs::Lines::lock_stop), using(pif_simulation::proofs::events::KernelLeaves::stop_keeps_threads))]
+    #[tactic(auto, unfolding(pif_model::specs::Lines::lock_stop), using(pif_model_simulation::proofs::events::KernelLeaves::stop_keeps_threads))]
     pub(crate) fn lock_stop(&mut self, request: Request, t: Tid) -> Progress
         requires known { has_thread self.old t ≡ true }
         requires ready { is_ready (status_at self.old t) ≡ true }

@@ -11,7 +11,7 @@ use pif_types::Tid;
 /// The line of a change of priority.
 impl<K: PiKernel + Drop> State<K> {
     /// The kernel call set_prio, for the thread `other`.
-    #[tactic(auto, unfolding(pif_model::specs::Lines::set_priority), using(pif_simulation::proofs::events::KernelLeaves::set_prio_keeps_threads))]
+    #[tactic(auto, unfolding(pif_model::specs::Lines::set_priority), using(pif_model_simulation::proofs::events::KernelLeaves::set_prio_keeps_threads))]
     pub(crate) fn set_priority(&mut self, t: Tid, other: Tid, prio: u32) -> Progress
         requires { has_thread self.old t ≡ true }
         ensures { outcome_of result self.new ≡ set_priority t other prio self.old }

@@ -5,7 +5,7 @@ ghost use Rattle.pif_model.specs.Soundness.{is_half_linked};
 ghost use Rattle.pif_model.specs.Table.{has_thread, has_mutex, status_at};
 ghost use Rattle.pif_model.specs.Lines.{line_of, locking_line, shared_line, giving_line, take_line, give_line, counts_at, expires_at, go_outcome};
 ghost use Rattle.pif_mutex.specs.Outcomes.{outcome_of};
-ghost use Rattle.pif_simulation.specs.Steppable.{CallMayStep, may_wait_at, is_link_next, is_unlink_step, is_unlink};
+ghost use Rattle.pif_model_simulation.specs.Steppable.{CallMayStep, may_wait_at, is_link_next, is_unlink_step, is_unlink};
 ghost use Rattle.pif_mutex.specs.Mutexes.{is_of_mutexes};
 
 use crate::deadlines::told;

@@ -1,8 +1,8 @@
 -- Lemmas on which of some lists has a number, after one list has changed.
 use Rattle.std.proofs.Common.{◌≡◌, ℕ, zero, suc, ◌+◌, ◌<◌, true, false, cond, List, [], ◌∷◌, Option, Some, None, option_map, refl, sym, ◌∙◌, ap, subst, ⊎_elim, arith, length, get_or, set, add-one}
 use Rattle.std.proofs.lemmas.Bool.{cases_Bool, false_from_ne_true}
-use Rattle.pif_lists.specs.Lists.{has}
-use Rattle.pif_lists.specs.Table.{list_with}
+use Rattle.pif_nodes_model.specs.Lists.{has}
+use Rattle.pif_nodes_model.specs.Table.{list_with}
 
 -- a found list, counted from one list earlier
 counted : (o : Option ℕ) (l : ℕ) → option_map (λ k. k + 1) o ≡ Some l → (k : ℕ) × (o ≡ Some k) × (l ≡ k + 1)

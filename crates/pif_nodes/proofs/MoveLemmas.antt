@@ -5,10 +5,10 @@ use Rattle.std.proofs.lemmas.Option.{same_Some}
 use Rattle.std.proofs.lemmas.List.{append_assoc, get_or-set_same, get_or-set_other}
 use Rattle.pif_nodes.specs.declared.slots.Slot.{Slot}
 use Rattle.pif_nodes.specs.declared.slots.Ends.{Ends}
-use Rattle.pif_lists.specs.Lists.{has, first_of, last_of, next_in_list, prev_in_list, insert_after, list_without, HasNoRepeats}
-use Rattle.pif_lists.specs.Table.{list_with}
+use Rattle.pif_nodes_model.specs.Lists.{has, first_of, last_of, next_in_list, prev_in_list, insert_after, list_without, HasNoRepeats}
+use Rattle.pif_nodes_model.specs.Table.{list_with}
 use Rattle.pif_nodes.specs.Links.{slot_at, follower_of, slots_after_link, ends_after_link, slots_after_unlink, ends_after_unlink, Ties}
-use Rattle.pif_lists.proofs.ListLemmas.{put_move, take_move, has_split, has-right, has-head, HasNoRepeats-put, HasNoRepeats-taken, has-neither, next_in_list-split, prev_from-split, put_after-split, list_without-split, last_or-append, has-put}
+use Rattle.pif_nodes_model.proofs.ListLemmas.{put_move, take_move, has_split, has-right, has-head, HasNoRepeats-put, HasNoRepeats-taken, has-neither, next_in_list-split, prev_from-split, put_after-split, list_without-split, last_or-append, has-put}
 use Rattle.pif_nodes.proofs.HolderLemmas.{list_with-put, list_with-none, list_with-has, list_with-absent, list_with-within, list_with-same}
 use Rattle.pif_nodes.proofs.TiesLemmas.{Ties-moved}
 

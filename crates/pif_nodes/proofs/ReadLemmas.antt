@@ -1,10 +1,10 @@
 -- What a value's fields, read in bounds, say of the table that they show.
 use Rattle.std.proofs.Common.{◌≡◌, ℕ, ◌<◌, List, ◌∙◌, ap, arith, length, get_or}
-use Rattle.pif_lists.specs.declared.keys.Key.{Key}
+use Rattle.pif_nodes_model.specs.declared.keys.Key.{Key}
 use Rattle.pif_nodes.specs.declared.slots.Slot.{Slot}
 use Rattle.pif_nodes.specs.declared.slots.Ends.{Ends}
-use Rattle.pif_lists.specs.Lists.{first_of, last_of}
-use Rattle.pif_lists.specs.Table.{NodeLists, list_at, key_at, holder, next_node, prev_node, IsApart}
+use Rattle.pif_nodes_model.specs.Lists.{first_of, last_of}
+use Rattle.pif_nodes_model.specs.Table.{NodeLists, list_at, key_at, holder, next_node, prev_node, IsApart}
 use Rattle.pif_nodes.specs.Links.{slot_at, ends_at, lists_of, Ties}
 use Rattle.pif_nodes.proofs.SeenLemmas.{seen, Shows, Shows-from, length_nodes, length_ends, apart_shown, key_shown, slot_read, ends_read}
 

@@ -1,13 +1,13 @@
 -- Lemmas on a table that its fields show.
 use Rattle.std.proofs.Common.{◌≡◌, ℕ, ◌<◌, cond, eqb, List, [], Option, Some, None, option_and_then, refl, sym, ◌∙◌, ap, subst, arith, length, get_or, set, true, take, drop, ◌++◌}
-use Rattle.pif_lists.specs.declared.keys.Key.{Key}
+use Rattle.pif_nodes_model.specs.declared.keys.Key.{Key}
 use Rattle.pif_nodes.specs.declared.slots.Slot.{Slot}
 use Rattle.pif_nodes.specs.declared.slots.Ends.{Ends}
-use Rattle.pif_lists.specs.Lists.{has, next_in_list, prev_in_list, insert_after, list_without}
+use Rattle.pif_nodes_model.specs.Lists.{has, next_in_list, prev_in_list, insert_after, list_without}
 use Rattle.std.proofs.Math.Seq.{take-append_seam}
 use Rattle.std.proofs.lemmas.List.{get_or_default}
-use Rattle.pif_lists.proofs.ListLemmas.{first_of-has, next_in_list-has, prev_in_list-has}
-use Rattle.pif_lists.specs.Table.{NodeLists, list_at, key_at, list_with, holder, with_list, with_key, IsApart}
+use Rattle.pif_nodes_model.proofs.ListLemmas.{first_of-has, next_in_list-has, prev_in_list-has}
+use Rattle.pif_nodes_model.specs.Table.{NodeLists, list_at, key_at, list_with, holder, with_list, with_key, IsApart}
 use Rattle.pif_nodes.specs.Links.{free_slot, empty_ends, slot_at, ends_at, follower_of, lists_of, keys_of, slots_after_link, ends_after_link, slots_after_unlink, ends_after_unlink, with_slot_key, Ties}
 use Rattle.pif_nodes.proofs.TiesLemmas.{within_from_Ties}
 use Rattle.pif_nodes.proofs.MoveLemmas.{Holds-put, Holds-taken}

@@ -6,10 +6,10 @@ use Rattle.std.proofs.lemmas.Option.{same_Some}
 use Rattle.std.proofs.lemmas.List.{get_or-set_same, get_or-set_other, get_or_past, length-set}
 use Rattle.pif_nodes.specs.declared.slots.Slot.{Slot}
 use Rattle.pif_nodes.specs.declared.slots.Ends.{Ends}
-use Rattle.pif_lists.specs.Lists.{has, first_of, last_of, next_in_list, prev_in_list, HasNoRepeats}
-use Rattle.pif_lists.specs.Table.{list_with}
+use Rattle.pif_nodes_model.specs.Lists.{has, first_of, last_of, next_in_list, prev_in_list, HasNoRepeats}
+use Rattle.pif_nodes_model.specs.Table.{list_with}
 use Rattle.pif_nodes.specs.Links.{free_slot, empty_ends, slot_at, ends_at, with_next, with_prev, with_first, with_last, with_place, Ties}
-use Rattle.pif_lists.proofs.ListLemmas.{Move}
+use Rattle.pif_nodes_model.proofs.ListLemmas.{Move}
 use Rattle.pif_nodes.proofs.HolderLemmas.{list_with-same}
 
 -- a write of an element that f can't tell from the old one leaves f of each element

@@ -6,13 +6,13 @@ use Rattle.std.proofs.lemmas.Bool.{or_parts, cases_lt}
 use Rattle.std.proofs.lemmas.List.{append_assoc, ext_get_or, get_or-map, length-map, map-set, get_or-replicate, get_or_past, length-replicate}
 use Rattle.std.proofs.lemmas.Map.Keys.{IsDistinct-cons}
 use Rattle.std.proofs.lemmas.Map.Steps.{length-le_from_distinct_below}
-use Rattle.pif_lists.specs.declared.keys.Key.{Key}
+use Rattle.pif_nodes_model.specs.declared.keys.Key.{Key}
 use Rattle.pif_nodes.specs.declared.slots.Slot.{Slot}
 use Rattle.pif_nodes.specs.declared.slots.Ends.{Ends}
-use Rattle.pif_lists.specs.Lists.{has, first_of, last_of, next_in_list, prev_in_list, HasNoRepeats}
-use Rattle.pif_lists.specs.Table.{list_with, IsApart}
+use Rattle.pif_nodes_model.specs.Lists.{has, first_of, last_of, next_in_list, prev_in_list, HasNoRepeats}
+use Rattle.pif_nodes_model.specs.Table.{list_with, IsApart}
 use Rattle.pif_nodes.specs.Links.{free_slot, empty_ends, slot_at, walk, lists_of, keys_of, with_next, with_prev, with_place, slots_after_link, slots_after_unlink, with_slot_key, Ties}
-use Rattle.pif_lists.proofs.ListLemmas.{next_in_list-split, HasNoRepeats-taken, has-right, has-head}
+use Rattle.pif_nodes_model.proofs.ListLemmas.{next_in_list-split, HasNoRepeats-taken, has-right, has-head}
 use Rattle.pif_nodes.proofs.HolderLemmas.{list_with-has, list_with-within}
 use Rattle.pif_nodes.proofs.TiesLemmas.{within_from_Ties, kept}
 

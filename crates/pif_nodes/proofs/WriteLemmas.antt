@@ -3,8 +3,8 @@
 use Rattle.std.proofs.Common.{◌≡◌, ℕ, ◌<◌, List, [], Option, Some, None, IsSome, sym, ◌∙◌, ap, arith, length, get_or, take, drop, ◌++◌, replicate}
 use Rattle.pif_nodes.specs.declared.slots.Slot.{Slot}
 use Rattle.pif_nodes.specs.declared.slots.Ends.{Ends}
-use Rattle.pif_lists.specs.Lists.{insert_after, list_without}
-use Rattle.pif_lists.specs.Table.{NodeLists, no_key, list_at, holder, with_list, with_key}
+use Rattle.pif_nodes_model.specs.Lists.{insert_after, list_without}
+use Rattle.pif_nodes_model.specs.Table.{NodeLists, no_key, list_at, holder, with_list, with_key}
 use Rattle.pif_nodes.specs.Links.{free_slot, empty_ends, slot_at, follower_of, lists_of, slots_after_link, ends_after_link, slots_after_unlink, ends_after_unlink, with_slot_key, Ties}
 use Rattle.pif_nodes.proofs.TiesLemmas.{some_of}
 use Rattle.pif_nodes.proofs.SeenLemmas.{seen, Shows, Shows-from, shows_lists, Shows-put, Shows-taken, Shows-renamed, Shows-same, Shows-closed, Shows-closed-nodes, prev_in_fields, next_in_fields}

@@ -1,10 +1,10 @@
 -- How the fields of a table hold its lists: each node has its neighbours and its list, each list its two ends.
 use Rattle.std.specs.Prelude.{◌≡◌, ℕ, suc, zero, true, List, [], ◌∷◌, length, map, Option, Some, None, slice_index_or, slice_set, option_and_then}
-use Rattle.pif_lists.specs.declared.keys.Key.{Key}
+use Rattle.pif_nodes_model.specs.declared.keys.Key.{Key}
 use Rattle.pif_nodes.specs.declared.slots.Slot.{Slot}
 use Rattle.pif_nodes.specs.declared.slots.Ends.{Ends}
-use Rattle.pif_lists.specs.Lists.{first_of, last_of, next_in_list, prev_in_list, has, HasNoRepeats}
-use Rattle.pif_lists.specs.Table.{list_with}
+use Rattle.pif_nodes_model.specs.Lists.{first_of, last_of, next_in_list, prev_in_list, has, HasNoRepeats}
+use Rattle.pif_nodes_model.specs.Table.{list_with}
 
 -- the fields of a node that is in no list
 abbrev pub free_slot : Slot

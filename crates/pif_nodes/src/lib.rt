@@ -18,5 +18,5 @@ mod slots;
 mod table;
 
 pub use numbers::{List, Node};
-pub use pif_lists::Key;
+pub use pif_nodes_model::Key;
 pub use table::NodeTable;

@@ -1,12 +1,12 @@
 ghost use Rattle.std.specs.Prelude.{◌≡◌, ℕ, ◌<◌, length, replicate, [], IsSome, IfOk, Some, None, nat_eq, if◌then◌else◌};
 ghost use Rattle.std.specs.Option.{ForSome};
-ghost use Rattle.pif_lists.specs.Lists.{first_of, last_of, insert_after, list_without};
-ghost use Rattle.pif_lists.specs.Table.{no_key, list_at, key_at, holder, next_node, prev_node, with_list, with_key, IsApart};
+ghost use Rattle.pif_nodes_model.specs.Lists.{first_of, last_of, insert_after, list_without};
+ghost use Rattle.pif_nodes_model.specs.Table.{no_key, list_at, key_at, holder, next_node, prev_node, with_list, with_key, IsApart};
 
 use crate::linking::{follower, link, unlink, write_key};
 use crate::numbers::{List, Node};
 use crate::slots::{Ends, Slot};
-use pif_lists::Key;
+use pif_nodes_model::Key;
 use pif_types::NoMemory;
 use std::alloc::Global;
 use std::marker::Model;
@@ -19,7 +19,7 @@ pub struct NodeTable {
 }
 
 impl Model for NodeTable {
-    ghost use Rattle.pif_lists.specs.Table.{NodeLists};
+    ghost use Rattle.pif_nodes_model.specs.Table.{NodeLists};
 
     ghost Value = { NodeLists };
 

@@ -3,11 +3,11 @@ use Rattle.std.proofs.Common.{◌≡◌, ◌⊎◌, ℕ, ◌<◌, ◌≤◌, Boo
 use Rattle.std.proofs.lemmas.Bool.{false≢true, true≢false, cases_lt}
 use Rattle.std.proofs.lemmas.Bool.Decides.{nat_tests}
 use Rattle.std.proofs.lemmas.List.{get_or_past}
-use Rattle.pif_lists.specs.declared.keys.Key.{Key}
-use Rattle.pif_lists.specs.Order.{comes_before}
-use Rattle.pif_lists.proofs.OrderLemmas.{not_before-past, not_before-self}
-use Rattle.pif_owners.specs.Owners.{Wait, Task, Owners, no_task, task_at, state_of, waits_on, rank_of, AreSoundOwners}
-use Rattle.pif_owners.specs.Behind.{IsLast, IsBehind}
+use Rattle.pif_nodes_model.specs.declared.keys.Key.{Key}
+use Rattle.pif_nodes_model.specs.Order.{comes_before}
+use Rattle.pif_nodes_model.proofs.OrderLemmas.{not_before-past, not_before-self}
+use Rattle.pif_kernel_model.specs.Owners.{Wait, Task, Owners, no_task, task_at, state_of, waits_on, rank_of, AreSoundOwners}
+use Rattle.pif_kernel_model.specs.Behind.{IsLast, IsBehind}
 use Rattle.pif_plain.specs.Standing.{rank_on, standing, leads, later, standing_behind}
 use Rattle.pif_plain.proofs.TopLemmas.{standing-from, standing-some}
 

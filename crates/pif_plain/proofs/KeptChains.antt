@@ -1,8 +1,8 @@
 -- Chains of which a call touched the owner states alone.
 use Rattle.std.proofs.Common.{◌≡◌, ap}
-use Rattle.pif_lists.specs.Table.{NodeLists}
-use Rattle.pif_lists.specs.Levels.{Queue, Holds, level_of}
-use Rattle.pif_owners.specs.Owners.{Owners}
+use Rattle.pif_nodes_model.specs.Table.{NodeLists}
+use Rattle.pif_nodes_model.specs.Levels.{Queue, Holds, level_of}
+use Rattle.pif_kernel_model.specs.Owners.{Owners}
 use Rattle.pif_plain.specs.Rows.{PlainRows}
 use Rattle.pif_kernel_state.specs.Chained.{Chained, KeepsLevels}
 

@@ -4,8 +4,8 @@ use Rattle.std.specs.Prelude.{unwrap_or}
 use Rattle.std.proofs.lemmas.Bool.{cases_eq, cases_lt, eq-eqb, ne_eqb}
 use Rattle.std.proofs.lemmas.List.{get_or-set_same, get_or-set_other, get_or-replicate, get_or_past, length-replicate}
 use Rattle.pif_model.specs.Graph.{reaches_within, greatest_where}
-use Rattle.pif_chains.proofs.Following.{greatest_more, greatest_same}
-use Rattle.pif_owners.specs.Boosts.{priority_at, after_propagation}
+use Rattle.pif_model_lemmas.proofs.Following.{greatest_more, greatest_same}
+use Rattle.pif_kernel_model.specs.Boosts.{priority_at, after_propagation}
 
 -- what is to stand by u once a priority was propagated from `at` over so many hops more
 pub still_handed : ℕ → (ℕ → ℕ) → ℕ → ℕ → (ℕ → ℕ) → ℕ → ℕ

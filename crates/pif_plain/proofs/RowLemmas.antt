@@ -4,11 +4,11 @@ use Rattle.std.proofs.lemmas.Bool.{cases_eq, false≢true}
 use Rattle.std.proofs.lemmas.List.{length-map}
 use Rattle.pif_model.specs.Graph.{without}
 use Rattle.pif_model.specs.PiKernel.{Parking, parked_pairs, parkings_without}
-use Rattle.pif_chains.proofs.Waiting.{Once, names, once_push, once_without, named-push, named-without_same, named-without_other}
-use Rattle.pif_chains.proofs.kernel.KernelNumbers.{distinct-none}
-use Rattle.pif_chains.proofs.kernel.KernelParks.{parked_pairs-push, parked_pairs-without}
+use Rattle.pif_model_lemmas.proofs.Waiting.{Once, names, once_push, once_without, named-push, named-without_same, named-without_other}
+use Rattle.pif_model_lemmas.proofs.kernel.Numbers.{distinct-none}
+use Rattle.pif_model_lemmas.proofs.kernel.Parks.{parked_pairs-push, parked_pairs-without}
 use Rattle.pif_plain.specs.Rows.{AreParkedOnce}
-use Rattle.pif_owners.proofs.ArrivalLaws.{few_waiters}
+use Rattle.pif_kernel_model.proofs.ArrivalLaws.{few_waiters}
 
 -- nobody is parked
 pub none_parked : (most : ℕ) (ps : List Parking) → ps ≡ [] → AreParkedOnce most ps

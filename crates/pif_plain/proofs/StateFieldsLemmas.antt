@@ -4,9 +4,9 @@ use Rattle.slab.specs.Slab.{Slab, ContainsKey, HasRoomFor, Updates}
 use Rattle.slab.specs.Slab.{get as value_at}
 use Rattle.std.specs.Ordering.{nat_cmp}
 use Rattle.std.specs.FinMap.{FinMap, get}
-use Rattle.pif_owners.specs.Owners.{Task, Owners, owner_at, count, with_owner, without_state}
+use Rattle.pif_kernel_model.specs.Owners.{Task, Owners, owner_at, count, with_owner, without_state}
 use Rattle.pif_plain.specs.StateFields.{owners_from}
-use Rattle.pif_owners.proofs.MapLemmas.{get-owners_of, len-owners_of, owners_of-put, owners_of-removed}
+use Rattle.pif_kernel_model.proofs.MapLemmas.{get-owners_of, len-owners_of, owners_of-put, owners_of-removed}
 
 -- the slab has the owner of each state
 pub value-owner : (rows : List Task) (s : Slab ℕ) (v : Owners) (j k : ℕ) → owners_from rows s ≡ v → j ≡ k → value_at s j ≡ owner_at v k

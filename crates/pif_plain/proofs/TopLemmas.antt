@@ -2,8 +2,8 @@
 use Rattle.std.proofs.Common.{◌≡◌, ◌⊎◌, ℕ, ◌<◌, ◌≤◌, true, false, eqb, cond, length, Option, Some, None, IsSome, IfSome, OnSome, ◌↔◌, option_map, option_and_then, refl, sym, ◌∙◌, ap, subst, inl, inr, arith}
 use Rattle.std.proofs.lemmas.Bool.{false≢true, cases_lt, cases_Bool, eq-eqb, eqb-true}
 use Rattle.std.proofs.lemmas.List.{get_or_past}
-use Rattle.pif_lists.specs.declared.keys.Key.{Key}
-use Rattle.pif_owners.specs.Owners.{Wait, Owners, no_task, task_at, owner_at, state_of, waits_on, rank_of, IsTop, AreSoundOwners}
+use Rattle.pif_nodes_model.specs.declared.keys.Key.{Key}
+use Rattle.pif_kernel_model.specs.Owners.{Wait, Owners, no_task, task_at, owner_at, state_of, waits_on, rank_of, IsTop, AreSoundOwners}
 use Rattle.pif_plain.specs.Standing.{rank_on, standing, leads}
 
 -- who waits on a state with a rank stands there with it

@@ -1,8 +1,8 @@
 -- The waiters of one owner state, in their order.
 use Rattle.std.specs.Prelude.{ℕ, Bool, true, false, ◌==◌, if◌then◌else◌, Option, Some, None, option_and_then}
-use Rattle.pif_lists.specs.declared.keys.Key.{Key}
-use Rattle.pif_lists.specs.Order.{comes_before}
-use Rattle.pif_owners.specs.Owners.{Owners, Wait, task_at}
+use Rattle.pif_nodes_model.specs.declared.keys.Key.{Key}
+use Rattle.pif_nodes_model.specs.Order.{comes_before}
+use Rattle.pif_kernel_model.specs.Owners.{Owners, Wait, task_at}
 
 -- the rank of a wait on a state; None where it is on another
 abbrev pub rank_on : ℕ → Wait → Option Key

@@ -18,11 +18,11 @@
 //!    3. It becomes the priority with which it waits: t2 stands on s1 with 99, and with the ticket that it had.
 //! 3. The answer is how many threads got another priority: 2.
 ghost use Rattle.std.specs.Prelude.{◌≡◌, ℕ, ◌<◌, ◌≤◌, ◌==◌, not, length, None, true, unwrap_or};
-ghost use Rattle.pif_lists.specs.Lists.{has};
-ghost use Rattle.pif_lists.specs.Levels.{IsLevel, level_of, Holds, IsQueued, SameOutside};
+ghost use Rattle.pif_nodes_model.specs.Lists.{has};
+ghost use Rattle.pif_nodes_model.specs.Levels.{IsLevel, level_of, Holds, IsQueued, SameOutside};
 ghost use Rattle.pif_model.specs.Graph.{IsEffective};
-ghost use Rattle.pif_owners.specs.Owners.{task_at, waits_on, WaitsFor, with_task, IsTop};
-ghost use Rattle.pif_owners.specs.Boosts.{IsThread, base_of, local_of, greatest_base, with_effective, IsRepaired, IsRepairedBut, IsNext, joins, level_after_move_if_queued, level_after_walk};
+ghost use Rattle.pif_kernel_model.specs.Owners.{task_at, waits_on, WaitsFor, with_task, IsTop};
+ghost use Rattle.pif_kernel_model.specs.Boosts.{IsThread, base_of, local_of, greatest_base, with_effective, IsRepaired, IsRepairedBut, IsNext, joins, level_after_move_if_queued, level_after_walk};
 
 use crate::propagate::{PLACES, priority_of, propagate_all};
 use crate::rt_mutexes::RtMutexes;

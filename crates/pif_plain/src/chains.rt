@@ -5,8 +5,8 @@ use crate::cycles::would_close;
 use crate::plain_rows::{Priorities, Rows};
 use crate::rt_mutexes::RtMutexes;
 use pif_kernel::{Chains, KernelOn};
+use pif_kernel_model::Key;
 use pif_nodes::NodeTable;
-use pif_owners::Key;
 use pif_runq::RunQueue;
 use pif_types::{CondId, MutexId, NoMemory, Prio, Tid};
 use std::alloc::Global;
@@ -29,7 +29,7 @@ pub type PlainKernel = KernelOn<PlainChains>;
 
 impl Model for PlainChains {
     ghost use Rattle.std.specs.Prelude.{◌≤◌, ◌+◌, length};
-    ghost use Rattle.pif_lists.specs.Levels.{Holds};
+    ghost use Rattle.pif_nodes_model.specs.Levels.{Holds};
     ghost use Rattle.pif_kernel_state.specs.Chained.{Chained, chained_code};
 
     ghost Value = { Chained };
@@ -42,7 +42,7 @@ impl Model for PlainChains {
 }
 
 impl Priorities for PlainChains {
-    ghost use Rattle.pif_owners.specs.Boosts.{local_of};
+    ghost use Rattle.pif_kernel_model.specs.Boosts.{local_of};
 
     ghost priority_of = { λ c. local_of c.owners };
 

@@ -1,6 +1,6 @@
 ghost use Rattle.std.specs.Prelude.{◌↔◌, IsTrue};
 ghost use Rattle.pif_model.specs.Graph.{Reaches};
-ghost use Rattle.pif_owners.specs.Owners.{WaitsFor};
+ghost use Rattle.pif_kernel_model.specs.Owners.{WaitsFor};
 
 use crate::rt_mutexes::RtMutexes;
 use pif_types::Tid;

@@ -7,7 +7,7 @@ ghost use Rattle.pif_kernel_state.specs.Orders.{waiters_at_level};
 ghost use Rattle.pif_kernel_state.specs.Takings.{first_parked, goes_before, have_target};
 ghost use Rattle.pif_kernel_state.specs.Tickets.{is_named};
 
-use pif_owners::Key;
+use pif_kernel_model::Key;
 use pif_types::{CondId, MutexId, NoMemory, Tid, push_within, with_room};
 use std::alloc::Global;
 use std::marker::Model;

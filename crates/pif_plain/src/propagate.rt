@@ -1,6 +1,6 @@
 ghost use Rattle.std.specs.Prelude.{◌≡◌, ℕ, ◌<◌, max, length, get_or, set, Option, Some, None, unwrap_or};
-ghost use Rattle.pif_owners.specs.Owners.{waits_for};
-ghost use Rattle.pif_owners.specs.Boosts.{greatest_base, priority_at, after_propagation};
+ghost use Rattle.pif_kernel_model.specs.Owners.{waits_for};
+ghost use Rattle.pif_kernel_model.specs.Boosts.{greatest_base, priority_at, after_propagation};
 
 use crate::rt_mutexes::RtMutexes;
 use pif_types::{Prio, Tid};

@@ -1,7 +1,7 @@
 ghost use Rattle.std.specs.Prelude.{◌≡◌, ◌≤◌};
 
+use pif_kernel_model::Key;
 use pif_nodes::Key as Rank;
-use pif_owners::Key;
 use pif_types::Prio;
 use std::marker::Model;
 
@@ -14,7 +14,7 @@ pub struct Wait {
 }
 
 impl Model for Wait {
-    ghost use Rattle.pif_owners.specs.Owners.{Wait as WaitSeen, wait_code};
+    ghost use Rattle.pif_kernel_model.specs.Owners.{Wait as WaitSeen, wait_code};
 
     ghost Value = { WaitSeen };
 
@@ -36,7 +36,7 @@ pub struct Row {
 
 impl Model for Row {
     ghost use Rattle.std.specs.Prelude.{unwrap_or};
-    ghost use Rattle.pif_owners.specs.Owners.{Task, seat_code, prio_of, IsPrio, prio_of-unwrap_or};
+    ghost use Rattle.pif_kernel_model.specs.Owners.{Task, seat_code, prio_of, IsPrio, prio_of-unwrap_or};
 
     ghost Value = { Task };
 

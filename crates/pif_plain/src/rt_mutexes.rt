@@ -21,15 +21,15 @@
 ghost use Rattle.std.specs.Prelude.{◌≡◌, ◌≢◌, ℕ, ◌+◌, ◌<◌, ◌≤◌, ◌↔◌, length, IfOk, IfSome, IfNone, OnSome, IsSome, Some, None, option_map};
 ghost use Rattle.std.specs.Option.{ForSome};
 ghost use Rattle.pif_model.specs.Graph.{Reaches};
-ghost use Rattle.pif_lists.specs.declared.keys.Key.{Key as RankSeen};
-ghost use Rattle.pif_owners.specs.Owners.{no_owners, task_at, owner_at, count, waits_on, rank_of, WaitsFor, IsAcyclic, AreSoundOwners, IsTop, HasNoWaiter, KeepsOrder, with_task, with_base, with_local, with_wait, with_prio, with_ticket, with_owner, without_state};
-ghost use Rattle.pif_owners.specs.Behind.{IsLast, IsBehind};
+ghost use Rattle.pif_nodes_model.specs.declared.keys.Key.{Key as RankSeen};
+ghost use Rattle.pif_kernel_model.specs.Owners.{no_owners, task_at, owner_at, count, waits_on, rank_of, WaitsFor, IsAcyclic, AreSoundOwners, IsTop, HasNoWaiter, KeepsOrder, with_task, with_base, with_local, with_wait, with_prio, with_ticket, with_owner, without_state};
+ghost use Rattle.pif_kernel_model.specs.Behind.{IsLast, IsBehind};
 ghost use Rattle.pif_plain.specs.Standing.{standing, standing_behind};
 
 use crate::rows::{NOBODY, Row, Wait};
 use crate::standing::leads;
+use pif_kernel_model::Key;
 use pif_nodes::Key as Rank;
-use pif_owners::Key;
 use pif_plist::precedes;
 use pif_types::{NoMemory, Prio, Tid};
 use slab::Slab;
@@ -46,7 +46,7 @@ pub struct RtMutexes {
 
 impl Model for RtMutexes {
     ghost use Rattle.std.specs.Prelude.{◌+◌, ◌≤◌, length};
-    ghost use Rattle.pif_owners.specs.Owners.{Owners, owners_code, AreSoundOwners};
+    ghost use Rattle.pif_kernel_model.specs.Owners.{Owners, owners_code, AreSoundOwners};
     ghost use Rattle.pif_plain.specs.StateFields.{owners_from};
 
     ghost Value = { Owners };

@@ -3,14 +3,14 @@ use Rattle.std.proofs.Common.{◌≡◌, ℕ, ◌<◌, true, false, eqb, List, [
 use Rattle.std.proofs.lemmas.Bool.{or_cases, eqb-true}
 use Rattle.std.proofs.lemmas.List.{get_or-set_same, get_or-set_other, set-set, set-get_or}
 use Rattle.std.proofs.lemmas.Option.{same_Some}
-use Rattle.pif_lists.specs.declared.keys.Key.{Key}
-use Rattle.pif_lists.specs.Lists.{has, first_of, last_of, next_in_list, prev_in_list, list_without, HasNoRepeats}
-use Rattle.pif_lists.specs.Table.{NodeLists, list_at, holder, next_node, prev_node, with_key, no_key, IsApart}
-use Rattle.pif_lists.proofs.ListLemmas.{has_split, has-left, has-head, apart_by_has, next_in_list-split, prev_from-split, list_without-split, HasNoRepeats-taken, first_of-has, has-list_without, next_in_list-has, prev_in_list-has}
-use Rattle.pif_lists.specs.Order.{comes_before, key_in, IsInOrder, IsSorted, list_after_insert, table_after_insert, table_after_remove, FitsBetween, OthersStaySorted}
-use Rattle.pif_lists.proofs.OrderLemmas.{not_before-trans, placed-split, back_no_earlier, IsInOrder-put, IsInOrder-list_without}
-use Rattle.pif_lists.proofs.InsertLemmas.{list_at-same, IsInOrder-elsewhere, absent_elsewhere}
-use Rattle.pif_lists.proofs.WalkLemmas.{next_of_is}
+use Rattle.pif_nodes_model.specs.declared.keys.Key.{Key}
+use Rattle.pif_nodes_model.specs.Lists.{has, first_of, last_of, next_in_list, prev_in_list, list_without, HasNoRepeats}
+use Rattle.pif_nodes_model.specs.Table.{NodeLists, list_at, holder, next_node, prev_node, with_key, no_key, IsApart}
+use Rattle.pif_nodes_model.proofs.ListLemmas.{has_split, has-left, has-head, apart_by_has, next_in_list-split, prev_from-split, list_without-split, HasNoRepeats-taken, first_of-has, has-list_without, next_in_list-has, prev_in_list-has}
+use Rattle.pif_nodes_model.specs.Order.{comes_before, key_in, IsInOrder, IsSorted, list_after_insert, table_after_insert, table_after_remove, FitsBetween, OthersStaySorted}
+use Rattle.pif_nodes_model.proofs.OrderLemmas.{not_before-trans, placed-split, back_no_earlier, IsInOrder-put, IsInOrder-list_without}
+use Rattle.pif_nodes_model.proofs.InsertLemmas.{list_at-same, IsInOrder-elsewhere, absent_elsewhere}
+use Rattle.pif_nodes_model.proofs.WalkLemmas.{next_of_is}
 
 -- the front of a list in order is in order
 IsInOrder-front : (keys : List Key) (front back : List ℕ) → IsInOrder keys (front ++ back) → IsInOrder keys front

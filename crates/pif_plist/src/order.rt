@@ -1,5 +1,5 @@
 ghost use Rattle.std.specs.Prelude.{◌≡◌};
-ghost use Rattle.pif_lists.specs.Order.{comes_before};
+ghost use Rattle.pif_nodes_model.specs.Order.{comes_before};
 
 use pif_nodes::Key;
 

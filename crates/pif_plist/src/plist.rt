@@ -1,7 +1,7 @@
 ghost use Rattle.std.specs.Prelude.{◌≡◌, ℕ, ◌<◌, true, false, length, Some, None, nat_eq, if◌then◌else◌};
-ghost use Rattle.pif_lists.specs.Lists.{has, first_of};
-ghost use Rattle.pif_lists.specs.Table.{list_at, key_at, holder, with_key, IsApart};
-ghost use Rattle.pif_lists.specs.Order.{comes_before, IsSorted, IsPlace, FitsBetween, OthersStaySorted, table_after_insert, table_after_remove, key_with_prio, key_with_ticket};
+ghost use Rattle.pif_nodes_model.specs.Lists.{has, first_of};
+ghost use Rattle.pif_nodes_model.specs.Table.{list_at, key_at, holder, with_key, IsApart};
+ghost use Rattle.pif_nodes_model.specs.Order.{comes_before, IsSorted, IsPlace, FitsBetween, OthersStaySorted, table_after_insert, table_after_remove, key_with_prio, key_with_ticket};
 
 use crate::order::precedes;
 use pif_nodes::{Key, List, Node, NodeTable};

@@ -1,13 +1,13 @@
 -- A change of the owner states of words keeps what the parked threads have in the table, and the other way round.
 use Rattle.std.proofs.Common.{◌≡◌, ◌⊎◌, ℕ, ◌+◌, ◌<◌, ◌≤◌, length, sym, ◌∙◌, ap, inl, inr, arith}
-use Rattle.pif_lists.specs.Table.{NodeLists}
-use Rattle.pif_owners.specs.Frames.{IsBeyond, KeepsLists}
-use Rattle.pif_owners.specs.QueueFrames.{KeepsOthers, KeepsUser}
-use Rattle.pif_owners.specs.Entries.{Entries, found_in, HoldsEntries}
-use Rattle.pif_owners.specs.Parked.{ParkedLists, parked_at, HoldsParked}
-use Rattle.pif_owners.specs.Buckets.{Buckets, StandApart, HoldsBuckets}
-use Rattle.pif_owners.proofs.EntryFrames.{found-framed, entries-framed}
-use Rattle.pif_owners.proofs.ParkedFrames.{seen-framed, parked-framed}
+use Rattle.pif_nodes_model.specs.Table.{NodeLists}
+use Rattle.pif_kernel_model.specs.Frames.{IsBeyond, KeepsLists}
+use Rattle.pif_kernel_model.specs.QueueFrames.{KeepsOthers, KeepsUser}
+use Rattle.pif_kernel_model.specs.Entries.{Entries, found_in, HoldsEntries}
+use Rattle.pif_kernel_model.specs.Parked.{ParkedLists, parked_at, HoldsParked}
+use Rattle.pif_kernel_model.specs.Buckets.{Buckets, StandApart, HoldsBuckets}
+use Rattle.pif_kernel_model.proofs.EntryFrames.{found-framed, entries-framed}
+use Rattle.pif_kernel_model.proofs.ParkedFrames.{seen-framed, parked-framed}
 
 module _ (b : Buckets) (was now : NodeLists) (apart : StandApart b) where
   pub lists-keep : KeepsOthers b.entries.first_list 64 b.entries.first_node (length b.entries.items) was now

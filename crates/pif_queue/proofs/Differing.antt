@@ -1,9 +1,9 @@
 -- How often neighbours in a list differ, with and without one number.
 use Rattle.std.proofs.Common.{◌≡◌, ◌⊎◌, ℕ, ◌+◌, ◌≤◌, Bool, true, false, eqb, cond, List, [], ◌∷◌, ◌++◌, length, Option, Some, None, refl, sym, ◌∙◌, ap, subst, inl, inr, arith}
 use Rattle.std.proofs.lemmas.Bool.{eqb-true, eq-eqb, or_right, or_cases, cases_Bool, false≢true}
-use Rattle.pif_lists.specs.Lists.{has, first_of, last_of, next_in_list, prev_in_list, list_without, HasNoRepeats}
-use Rattle.pif_lists.proofs.ListLemmas.{has-head, has_split, next_in_list-split, prev_from-split, list_without-split, HasNoRepeats-taken}
-use Rattle.pif_owners.specs.Differences.{step_between, differences, around, across}
+use Rattle.pif_nodes_model.specs.Lists.{has, first_of, last_of, next_in_list, prev_in_list, list_without, HasNoRepeats}
+use Rattle.pif_nodes_model.proofs.ListLemmas.{has-head, has_split, next_in_list-split, prev_from-split, list_without-split, HasNoRepeats-taken}
+use Rattle.pif_kernel_model.specs.Differences.{step_between, differences, around, across}
 
 -- of two lists in a row those of each, and what stands between
 differences-append : (f : ℕ → ℕ) (xs ys : List ℕ)

@@ -3,14 +3,14 @@ use Rattle.std.proofs.Common.{◌≡◌, ◌≢◌, ◌⊎◌, ℕ, ◌+◌, ◌
 use Rattle.std.proofs.lemmas.Bool.{cases_eq, eq-eqb, ne_eqb, false≢true}
 use Rattle.std.proofs.lemmas.List.{get_or-set_same, get_or-set_other, length-set}
 use Rattle.std.proofs.lemmas.Option.{same_Some}
-use Rattle.pif_lists.specs.Lists.{has, list_without}
-use Rattle.pif_lists.specs.Table.{NodeLists, list_at, key_at, holder, with_list, IsApart}
-use Rattle.pif_lists.proofs.InsertLemmas.{list_at-other}
-use Rattle.pif_owners.specs.Frames.{IsBeyond}
-use Rattle.pif_owners.specs.QueueFrames.{KeepsOthers}
-use Rattle.pif_owners.specs.Entries.{Entry, Entries, Found, no_entry, entry_at, bucket_of, node_of, row_of, word_of_node, node_with, found_at, found_in, IsRow, IsEntered, HoldsEntries}
-use Rattle.pif_owners.proofs.Firsts.{options-same, option-cases}
-use Rattle.pif_owners.proofs.EntryLemmas.{bucket-below, is-some, with-stands, stands-with, row-free, no-node}
+use Rattle.pif_nodes_model.specs.Lists.{has, list_without}
+use Rattle.pif_nodes_model.specs.Table.{NodeLists, list_at, key_at, holder, with_list, IsApart}
+use Rattle.pif_nodes_model.proofs.InsertLemmas.{list_at-other}
+use Rattle.pif_kernel_model.specs.Frames.{IsBeyond}
+use Rattle.pif_kernel_model.specs.QueueFrames.{KeepsOthers}
+use Rattle.pif_kernel_model.specs.Entries.{Entry, Entries, Found, no_entry, entry_at, bucket_of, node_of, row_of, word_of_node, node_with, found_at, found_in, IsRow, IsEntered, HoldsEntries}
+use Rattle.pif_kernel_model.proofs.Firsts.{options-same, option-cases}
+use Rattle.pif_kernel_model.proofs.EntryLemmas.{bucket-below, is-some, with-stands, stands-with, row-free, no-node}
 
 -- a change of the list of a bucket and of a row's node leaves all that is of others
 pub others-kept : (e : Entries) (t now : NodeLists) (w n : ℕ) (xs : List ℕ) → e.first_node ≤ n

@@ -2,11 +2,11 @@
 use Rattle.std.proofs.Common.{◌≡◌, ◌≢◌, ◌⊎◌, ℕ, zero, suc, ◌+◌, ◌<◌, ◌≤◌, ◌==◌, ◌||◌, ◌&&◌, nat_lt, Bool, true, false, if◌then◌else◌, Option, Some, None, refl, sym, ap, subst, ◌∙◌, inl, inr, arith}
 use Rattle.std.proofs.lemmas.Bool.{cases_eq, cases_lt}
 use Rattle.std.proofs.lemmas.Bool.Decides.{nat_tests}
-use Rattle.pif_lists.specs.declared.keys.Key.{Key}
-use Rattle.pif_lists.specs.Lists.{has}
-use Rattle.pif_lists.specs.Table.{NodeLists, holder}
-use Rattle.pif_owners.specs.QueueFrames.{KeepsOthers}
-use Rattle.pif_owners.specs.Parked.{Parked, ParkedLists, parked_at, parked_with_ticket, IsThread, parking_node, KeepsNodes, StandParked, IsParkedOn, KeepsParkedOrder}
+use Rattle.pif_nodes_model.specs.declared.keys.Key.{Key}
+use Rattle.pif_nodes_model.specs.Lists.{has}
+use Rattle.pif_nodes_model.specs.Table.{NodeLists, holder}
+use Rattle.pif_kernel_model.specs.QueueFrames.{KeepsOthers}
+use Rattle.pif_kernel_model.specs.Parked.{Parked, ParkedLists, parked_at, parked_with_ticket, IsThread, parking_node, KeepsNodes, StandParked, IsParkedOn, KeepsParkedOrder}
 use Rattle.pif_queue.specs.Numbered.{ticket_in, ticket_by, HaveTickets, AreNumbered, has_sooner_ticket, HasFirstTicketFrom}
 use Rattle.pif_queue.proofs.ParkedLemmas.{parked-node, place-by_parked}
 

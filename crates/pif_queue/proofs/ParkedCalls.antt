@@ -3,19 +3,19 @@ use Rattle.std.proofs.Common.{◌≡◌, ◌≢◌, ◌⊎◌, ℕ, ◌<◌, tru
 use Rattle.std.proofs.lemmas.Bool.{cases_Bool, cases_eq, eq-eqb, ne_eqb, or_parts, false_from_ne_true, true≢false}
 use Rattle.std.proofs.lemmas.List.{get_or-set_same, get_or-set_other, set-get_or, length-set}
 use Rattle.std.proofs.lemmas.Option.{same_Some}
-use Rattle.pif_lists.specs.declared.keys.Key.{Key}
-use Rattle.pif_lists.specs.Lists.{has, list_without}
-use Rattle.pif_lists.specs.Table.{NodeLists, no_key, list_at, key_at, holder, with_key, IsApart}
-use Rattle.pif_lists.proofs.ListLemmas.{without_absent, has-list_without}
-use Rattle.pif_lists.specs.Order.{comes_before, key_in, IsSorted, OthersStaySorted, list_after_insert, table_after_insert, table_after_remove, key_with_prio, key_with_ticket}
-use Rattle.pif_lists.proofs.OrderLemmas.{not_before-self, has-from_without}
-use Rattle.pif_lists.proofs.InsertLemmas.{list_at-same}
-use Rattle.pif_owners.specs.Frames.{ChangesList}
-use Rattle.pif_owners.proofs.ListChanges.{changes-inserted, changes-removed, changes-rekeyed, changes-renamed, in-list, in-no_list, key-inserted, key-rekeyed, key-renamed}
-use Rattle.pif_lists.proofs.SameOrder.{order-as}
-use Rattle.pif_owners.specs.QueueFrames.{KeepsOthers}
-use Rattle.pif_owners.specs.Differences.{differences}
-use Rattle.pif_owners.specs.Parked.{Place, ParkedLists, place_at, differing_at, IsThread, IsCond, KeepsNodes, variable_list, parking_node, thread_of_node, target_of, parked_with, parked_at, with_place_at, with_differing, parked_with_prio, parked_with_ticket, IsParkedNode, StandsIn, StandParked, IsCounted, HoldsParked, IsParkedOn, KeepsParkedOrder}
+use Rattle.pif_nodes_model.specs.declared.keys.Key.{Key}
+use Rattle.pif_nodes_model.specs.Lists.{has, list_without}
+use Rattle.pif_nodes_model.specs.Table.{NodeLists, no_key, list_at, key_at, holder, with_key, IsApart}
+use Rattle.pif_nodes_model.proofs.ListLemmas.{without_absent, has-list_without}
+use Rattle.pif_nodes_model.specs.Order.{comes_before, key_in, IsSorted, OthersStaySorted, list_after_insert, table_after_insert, table_after_remove, key_with_prio, key_with_ticket}
+use Rattle.pif_nodes_model.proofs.OrderLemmas.{not_before-self, has-from_without}
+use Rattle.pif_nodes_model.proofs.InsertLemmas.{list_at-same}
+use Rattle.pif_kernel_model.specs.Frames.{ChangesList}
+use Rattle.pif_kernel_model.proofs.ListChanges.{changes-inserted, changes-removed, changes-rekeyed, changes-renamed, in-list, in-no_list, key-inserted, key-rekeyed, key-renamed}
+use Rattle.pif_nodes_model.proofs.SameOrder.{order-as}
+use Rattle.pif_kernel_model.specs.QueueFrames.{KeepsOthers}
+use Rattle.pif_kernel_model.specs.Differences.{differences}
+use Rattle.pif_kernel_model.specs.Parked.{Place, ParkedLists, place_at, differing_at, IsThread, IsCond, KeepsNodes, variable_list, parking_node, thread_of_node, target_of, parked_with, parked_at, with_place_at, with_differing, parked_with_prio, parked_with_ticket, IsParkedNode, StandsIn, StandParked, IsCounted, HoldsParked, IsParkedOn, KeepsParkedOrder}
 use Rattle.pif_queue.proofs.Differing.{differences-same}
 use Rattle.pif_queue.proofs.ParkedLemmas.{parked-by_place, node-parked}
 use Rattle.pif_queue.proofs.ParkedChanges.{IsParking, parking-stands, parking-seen, parking-outside, parking-nodes, target-other, counted-other, recounted}

@@ -2,15 +2,15 @@
 use Rattle.std.proofs.Common.{◌≡◌, ◌≢◌, ◌⊎◌, ℕ, true, eqb, cond, Option, Some, None, option_map, refl, sym, ◌∙◌, ap, subst, inl, inr, arith}
 use Rattle.std.proofs.lemmas.Bool.{cases_eq, eq-eqb, ne_eqb}
 use Rattle.std.proofs.lemmas.List.{get_or-set_same, get_or-set_other, length-set}
-use Rattle.pif_lists.specs.declared.keys.Key.{Key}
-use Rattle.pif_lists.specs.Lists.{has}
-use Rattle.pif_lists.specs.Table.{NodeLists, list_at, key_at, holder}
-use Rattle.pif_lists.specs.Order.{IsSorted}
-use Rattle.pif_owners.specs.Frames.{IsBeyond, ChangesList}
-use Rattle.pif_owners.proofs.ListChanges.{had-other}
-use Rattle.pif_owners.specs.QueueFrames.{KeepsOthers}
-use Rattle.pif_owners.specs.Differences.{differences}
-use Rattle.pif_owners.specs.Parked.{Place, ParkedLists, place_at, differing_at, IsThread, IsCond, KeepsNodes, variable_list, parking_node, thread_of_node, target_in, target_of, parked_with, parked_at, with_place_at, with_differing, IsParkedNode, StandsIn, StandParked, IsCounted, HoldsParked}
+use Rattle.pif_nodes_model.specs.declared.keys.Key.{Key}
+use Rattle.pif_nodes_model.specs.Lists.{has}
+use Rattle.pif_nodes_model.specs.Table.{NodeLists, list_at, key_at, holder}
+use Rattle.pif_nodes_model.specs.Order.{IsSorted}
+use Rattle.pif_kernel_model.specs.Frames.{IsBeyond, ChangesList}
+use Rattle.pif_kernel_model.proofs.ListChanges.{had-other}
+use Rattle.pif_kernel_model.specs.QueueFrames.{KeepsOthers}
+use Rattle.pif_kernel_model.specs.Differences.{differences}
+use Rattle.pif_kernel_model.specs.Parked.{Place, ParkedLists, place_at, differing_at, IsThread, IsCond, KeepsNodes, variable_list, parking_node, thread_of_node, target_in, target_of, parked_with, parked_at, with_place_at, with_differing, IsParkedNode, StandsIn, StandParked, IsCounted, HoldsParked}
 use Rattle.pif_queue.proofs.Differing.{differences-same}
 
 -- thread u has the place x then, of which only the variable c may be, and of the table the list of c and the node of u

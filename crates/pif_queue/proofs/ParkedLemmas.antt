@@ -5,13 +5,13 @@ use Rattle.std.proofs.lemmas.Bool.{cases_lt, or_parts, false≢true}
 use Rattle.std.proofs.lemmas.List.{length-replicate, get_or_past, get_or-replicate}
 use Rattle.std.proofs.lemmas.Map.Steps.{length-le_from_distinct_below}
 use Rattle.std.proofs.lemmas.Option.{same_Some}
-use Rattle.pif_lists.specs.Lists.{has, first_of, next_in_list, prev_in_list, list_without, HasNoRepeats}
-use Rattle.pif_lists.specs.Table.{NodeLists, list_at, key_at, holder, next_node, prev_node}
-use Rattle.pif_lists.proofs.ListLemmas.{first_of-has, next_in_list-has, prev_in_list-has}
-use Rattle.pif_lists.specs.Order.{comes_before, IsInOrder}
-use Rattle.pif_owners.specs.Differences.{differences, around, across}
-use Rattle.pif_owners.specs.Parked.{Place, Parked, ParkedLists, no_parked, place_at, differing_at, IsThread, IsCond, IsNodeOfThread, variable_list, parking_node, thread_of_node, target_in, target_of, parked_with, parked_at, IsParkedNode, StandsIn, StandParked, HoldsParked, HasRoomForParked, IsParkedOn, IsTopParked, HasNoParked, HasTarget}
-use Rattle.pif_owners.proofs.Firsts.{option-cases}
+use Rattle.pif_nodes_model.specs.Lists.{has, first_of, next_in_list, prev_in_list, list_without, HasNoRepeats}
+use Rattle.pif_nodes_model.specs.Table.{NodeLists, list_at, key_at, holder, next_node, prev_node}
+use Rattle.pif_nodes_model.proofs.ListLemmas.{first_of-has, next_in_list-has, prev_in_list-has}
+use Rattle.pif_nodes_model.specs.Order.{comes_before, IsInOrder}
+use Rattle.pif_kernel_model.specs.Differences.{differences, around, across}
+use Rattle.pif_kernel_model.specs.Parked.{Place, Parked, ParkedLists, no_parked, place_at, differing_at, IsThread, IsCond, IsNodeOfThread, variable_list, parking_node, thread_of_node, target_in, target_of, parked_with, parked_at, IsParkedNode, StandsIn, StandParked, HoldsParked, HasRoomForParked, IsParkedOn, IsTopParked, HasNoParked, HasTarget}
+use Rattle.pif_kernel_model.proofs.Firsts.{option-cases}
 use Rattle.pif_queue.proofs.Differing.{differences-list_without, differences-left, differences-most, differences-none, differences-equal}
 
 -- the thread of a thread's node is that thread

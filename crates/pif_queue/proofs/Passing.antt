@@ -3,13 +3,13 @@ use Rattle.std.proofs.Common.{◌≡◌, ◌⊎◌, ℕ, ◌<◌, true, false, e
 use Rattle.std.proofs.lemmas.Bool.{or_cases, eqb-true}
 use Rattle.std.proofs.lemmas.List.{append_assoc}
 use Rattle.std.specs.List.{filter}
-use Rattle.pif_lists.specs.Lists.{has, first_of, last_of, next_in_list, HasNoRepeats}
-use Rattle.pif_lists.specs.Table.{no_key}
-use Rattle.pif_lists.proofs.ListLemmas.{has-append, next_in_list-split, HasNoRepeats-taken}
-use Rattle.pif_lists.proofs.OrderLemmas.{not_before-self}
-use Rattle.pif_lists.proofs.WalkLemmas.{left, IsWalked, walk_has, walk_smaller}
-use Rattle.pif_owners.specs.Entries.{Entries, word_of_node}
-use Rattle.pif_owners.proofs.Firsts.{first-behind, first-head}
+use Rattle.pif_nodes_model.specs.Lists.{has, first_of, last_of, next_in_list, HasNoRepeats}
+use Rattle.pif_nodes_model.specs.Table.{no_key}
+use Rattle.pif_nodes_model.proofs.ListLemmas.{has-append, next_in_list-split, HasNoRepeats-taken}
+use Rattle.pif_nodes_model.proofs.OrderLemmas.{not_before-self}
+use Rattle.pif_nodes_model.proofs.WalkLemmas.{left, IsWalked, walk_has, walk_smaller}
+use Rattle.pif_kernel_model.specs.Entries.{Entries, word_of_node}
+use Rattle.pif_kernel_model.proofs.Firsts.{first-behind, first-head}
 
 -- the nodes before `next` have other words
 pub record IsPassing (e : Entries) (w : ℕ) (xs : List ℕ) (next : Option ℕ) : Type 0 where

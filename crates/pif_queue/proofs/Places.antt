@@ -4,9 +4,9 @@ use Rattle.std.proofs.lemmas.Bool.{or_right, ne_eqb, eq-eqb}
 use Rattle.std.proofs.lemmas.Option.{same_Some}
 use Rattle.std.specs.List.{slice_get}
 use Rattle.std.specs.Option.{option_and_then}
-use Rattle.pif_lists.specs.Lists.{has, first_of, next_in_list, HasNoRepeats}
-use Rattle.pif_lists.specs.Table.{NodeLists, list_at, next_node, IsApart}
-use Rattle.pif_lists.proofs.ListLemmas.{has-head, apart_by_has}
+use Rattle.pif_nodes_model.specs.Lists.{has, first_of, next_in_list, HasNoRepeats}
+use Rattle.pif_nodes_model.specs.Table.{NodeLists, list_at, next_node, IsApart}
+use Rattle.pif_nodes_model.proofs.ListLemmas.{has-head, apart_by_has}
 
 -- what stands at a place, the list has
 pub place-has : (xs : List ℕ) (k n : ℕ) → slice_get xs k ≡ Some n → has n xs ≡ true

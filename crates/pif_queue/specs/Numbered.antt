@@ -1,6 +1,6 @@
 -- Parked threads whose tickets are numbered anew, in the order in which they were.
 use Rattle.std.specs.Prelude.{◌≡◌, ℕ, ◌<◌, ◌≤◌, nat_lt, Bool, true, false, if◌then◌else◌, Option, Some, None}
-use Rattle.pif_owners.specs.Parked.{Parked, parked_with_ticket}
+use Rattle.pif_kernel_model.specs.Parked.{Parked, parked_with_ticket}
 
 -- the ticket of a thread; 0 if it is not parked
 abbrev pub ticket_in : Option Parked → ℕ

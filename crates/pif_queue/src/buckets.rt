@@ -1,17 +1,17 @@
 ghost use Rattle.std.specs.Prelude.{◌≡◌, ◌≢◌, ℕ, ◌+◌, ◌<◌, ◌≤◌, ◌^◌, ◌⊎◌, ◌==◌, ◌↔◌, if◌then◌else◌, length, IfOk, IfSome, IfNone, IsSome, IsTrue, Some, None, option_map};
 ghost use Rattle.std.specs.List.{slice_get};
-ghost use Rattle.pif_lists.specs.declared.keys.Key.{Key as RankSeen};
-ghost use Rattle.pif_lists.specs.Table.{NodeLists, holder};
-ghost use Rattle.pif_owners.specs.QueueFrames.{KeepsOthers};
-ghost use Rattle.pif_owners.specs.Entries.{Found, IsRow, no_entries, found_in};
-ghost use Rattle.pif_owners.specs.Parked.{Parked, no_parked, IsThread, IsCond, parking_node, parked_at, parked_on, parked_with_prio, parked_with_ticket, IsTopParked, HasNoParked, HasTarget, KeepsParkedOrder, KeepsNodes};
+ghost use Rattle.pif_nodes_model.specs.declared.keys.Key.{Key as RankSeen};
+ghost use Rattle.pif_nodes_model.specs.Table.{NodeLists, holder};
+ghost use Rattle.pif_kernel_model.specs.QueueFrames.{KeepsOthers};
+ghost use Rattle.pif_kernel_model.specs.Entries.{Found, IsRow, no_entries, found_in};
+ghost use Rattle.pif_kernel_model.specs.Parked.{Parked, no_parked, IsThread, IsCond, parking_node, parked_at, parked_on, parked_with_prio, parked_with_ticket, IsTopParked, HasNoParked, HasTarget, KeepsParkedOrder, KeepsNodes};
 ghost use Rattle.pif_queue.specs.Numbered.{HaveTickets, AreNumbered};
-ghost use Rattle.pif_owners.specs.Buckets.{HoldsBuckets, HasRoomForBuckets};
+ghost use Rattle.pif_kernel_model.specs.Buckets.{HoldsBuckets, HasRoomForBuckets};
 
 use crate::entries::Entries;
 use crate::parked_lists::ParkedLists;
+use pif_kernel_model::Key;
 use pif_nodes::NodeTable;
-use pif_owners::Key;
 use pif_types::{CondId, MutexId, NoMemory, Prio, Tid};
 use std::alloc::Global;
 use std::marker::Model;
@@ -27,7 +27,7 @@ pub struct Buckets {
 }
 
 impl Model for Buckets {
-    ghost use Rattle.pif_owners.specs.Buckets.{Buckets as BucketsSeen, buckets_code};
+    ghost use Rattle.pif_kernel_model.specs.Buckets.{Buckets as BucketsSeen, buckets_code};
 
     ghost Value = { BucketsSeen };
 

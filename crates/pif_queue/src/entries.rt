@@ -1,10 +1,10 @@
 ghost use Rattle.std.specs.Prelude.{◌≡◌, ◌≢◌, ℕ, ◌+◌, ◌<◌, ◌≤◌, ◌^◌, ◌==◌, if◌then◌else◌, length, set, IfOk, IsSome, Some, None, option_map};
-ghost use Rattle.pif_lists.specs.Table.{NodeLists};
-ghost use Rattle.pif_owners.specs.Entries.{Found, no_entries, entry_at, bucket_of, row_of, node_with, found_in, IsRow, HoldsEntries, HasRoomForEntries};
-ghost use Rattle.pif_owners.specs.QueueFrames.{KeepsOthers};
+ghost use Rattle.pif_nodes_model.specs.Table.{NodeLists};
+ghost use Rattle.pif_kernel_model.specs.Entries.{Found, no_entries, entry_at, bucket_of, row_of, node_with, found_in, IsRow, HoldsEntries, HasRoomForEntries};
+ghost use Rattle.pif_kernel_model.specs.QueueFrames.{KeepsOthers};
 
+use pif_kernel_model::Key;
 use pif_nodes::{List, Node, NodeTable};
-use pif_owners::Key;
 use pif_types::NoMemory;
 use std::alloc::Global;
 use std::marker::Model;
@@ -20,7 +20,7 @@ pub struct Entry {
 }
 
 impl Model for Entry {
-    ghost use Rattle.pif_owners.specs.Entries.{Entry as EntrySeen, entry_code};
+    ghost use Rattle.pif_kernel_model.specs.Entries.{Entry as EntrySeen, entry_code};
 
     ghost Value = { EntrySeen };
 
@@ -41,7 +41,7 @@ pub struct Entries {
 
 impl Model for Entries {
     ghost use Rattle.std.specs.Prelude.{◌+◌, ◌<◌, ◌^◌, length};
-    ghost use Rattle.pif_owners.specs.Entries.{Entries as EntriesSeen, entries_code};
+    ghost use Rattle.pif_kernel_model.specs.Entries.{Entries as EntriesSeen, entries_code};
 
     ghost Value = { EntriesSeen };
 

@@ -1,12 +1,12 @@
 ghost use Rattle.std.specs.Prelude.{◌≡◌, ℕ, ◌+◌, ◌<◌, ◌≤◌, ◌^◌, ◌==◌, ◌↔◌, true, false, if◌then◌else◌, length, IfOk, IfSome, IfNone, IsSome, IsTrue, Some, None, option_map};
 ghost use Rattle.std.specs.List.{slice_get};
-ghost use Rattle.pif_lists.specs.declared.keys.Key.{Key as RankSeen};
-ghost use Rattle.pif_lists.specs.Lists.{has, first_of, list_without};
-ghost use Rattle.pif_lists.specs.Table.{NodeLists, list_at, key_at, holder};
-ghost use Rattle.pif_lists.specs.Order.{comes_before};
-ghost use Rattle.pif_owners.specs.Differences.{step_between, differences, around, across};
-ghost use Rattle.pif_owners.specs.QueueFrames.{KeepsOthers};
-ghost use Rattle.pif_owners.specs.Parked.{Parked, no_parked, place_at, differing_at, IsThread, IsCond, variable_list, parking_node, thread_of_node, target_of, parked_at, parked_on, with_place_at, with_differing, parked_with_prio, parked_with_ticket, StandParked, IsCounted, HoldsParked, HasRoomForParked, IsTopParked, HasNoParked, HasTarget, KeepsParkedOrder, KeepsNodes, IsNodeOfThread};
+ghost use Rattle.pif_nodes_model.specs.declared.keys.Key.{Key as RankSeen};
+ghost use Rattle.pif_nodes_model.specs.Lists.{has, first_of, list_without};
+ghost use Rattle.pif_nodes_model.specs.Table.{NodeLists, list_at, key_at, holder};
+ghost use Rattle.pif_nodes_model.specs.Order.{comes_before};
+ghost use Rattle.pif_kernel_model.specs.Differences.{step_between, differences, around, across};
+ghost use Rattle.pif_kernel_model.specs.QueueFrames.{KeepsOthers};
+ghost use Rattle.pif_kernel_model.specs.Parked.{Parked, no_parked, place_at, differing_at, IsThread, IsCond, variable_list, parking_node, thread_of_node, target_of, parked_at, parked_on, with_place_at, with_differing, parked_with_prio, parked_with_ticket, StandParked, IsCounted, HoldsParked, HasRoomForParked, IsTopParked, HasNoParked, HasTarget, KeepsParkedOrder, KeepsNodes, IsNodeOfThread};
 ghost use Rattle.pif_queue.specs.Numbered.{ticket_by, HaveTickets, AreNumbered, HasFirstTicketFrom, has_sooner_ticket};
 
 use pif_nodes::{List, Node, NodeTable};
@@ -23,7 +23,7 @@ pub struct Place {
 }
 
 impl Model for Place {
-    ghost use Rattle.pif_owners.specs.Parked.{Place as PlaceSeen, place_code};
+    ghost use Rattle.pif_kernel_model.specs.Parked.{Place as PlaceSeen, place_code};
 
     ghost Value = { PlaceSeen };
 
@@ -48,7 +48,7 @@ pub struct ParkedLists {
 
 impl Model for ParkedLists {
     ghost use Rattle.std.specs.Prelude.{◌≡◌, ◌+◌, ◌<◌, ◌≤◌, ◌^◌, length};
-    ghost use Rattle.pif_owners.specs.Parked.{ParkedLists as ParkedSeen, parked_code};
+    ghost use Rattle.pif_kernel_model.specs.Parked.{ParkedLists as ParkedSeen, parked_code};
 
     ghost Value = { ParkedSeen };
 

@@ -6,7 +6,7 @@ use Rattle.atomic_table.specs.Seated.{TableId}
 use Rattle.atomic_table.specs.Table.{step, Allows, Splits, Joins}
 use Rattle.atomic_table.specs.declared.shared.Seat.{Seat}
 use Rattle.pif_model.specs.Word.{Word, word_of, held_by, mark_word}
-use Rattle.pif_chains.proofs.WordBits.{word_of-number}
+use Rattle.pif_model_lemmas.proofs.WordBits.{word_of-number}
 use Rattle.pif_quick.specs.declared.rule.Turn.{Turn}
 use Rattle.pif_quick.specs.declared.rule.Record.{Record}
 use Rattle.pif_quick.specs.declared.rule.View.{View}

@@ -9,7 +9,7 @@ use Rattle.std.specs.Prelude.{MatchOption}
 use Rattle.atomic_table.specs.Table.{Me, step, Act, keeps, takes, gives, Valid, stepped, carried_after, Allows}
 use Rattle.atomic_table.proofs.Lists.{exchanged}
 use Rattle.pif_model.specs.Word.{Word, word_of, held_by, take_word, release_word, mark_word}
-use Rattle.pif_chains.proofs.WordBits.{word_of-number, take_word-hit, take_word-miss, release_word-hit, release_word-miss}
+use Rattle.pif_model_lemmas.proofs.WordBits.{word_of-number, take_word-hit, take_word-miss, release_word-hit, release_word-miss}
 use Rattle.pif_quick.specs.declared.rule.View.{View}
 use Rattle.pif_quick.specs.declared.rule.Role.TheVariants.{Seated}
 use Rattle.pif_quick.specs.Turns.{IsOpen, with_open, closed}

@@ -6,9 +6,9 @@ use Rattle.std.proofs.lemmas.List.{get_or-set_same, get_or-set_other, get_or_pas
 use Rattle.pif_model.specs.RobustList.{has_entry, HasNoRepeats}
 use Rattle.pif_robust.specs.declared.links.Link.{Link}
 use Rattle.pif_robust.specs.declared.links.Head.{Head}
-use Rattle.pif_chains.specs.RobustWalks.{first_or, last_or}
+use Rattle.pif_model_lemmas.specs.RobustWalks.{first_or, last_or}
 use Rattle.pif_robust.specs.Links.{unlinked, empty_head, link_at, head_at, path, IsChain, with_next_mutex, with_first_mutex, with_previous}
-use Rattle.pif_chains.proofs.RobustEntries.{kept, has-head, has-tail, apart, last-has}
+use Rattle.pif_model_lemmas.proofs.RobustEntries.{kept, has-head, has-tail, apart, last-has}
 
 -- who holds each mutex of a chain
 pub chain-holder : (ns : List Link) (t : ℕ) (before : Option ℕ) (xs : List ℕ) (after : Option ℕ) (m : ℕ) →

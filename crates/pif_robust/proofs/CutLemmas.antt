@@ -6,9 +6,9 @@ use Rattle.std.proofs.lemmas.List.{get_or-set_same, get_or-set_other, length-set
 use Rattle.pif_model.specs.RobustList.{Robust, RobustRow, no_robust_row, robust_at, has_entry, without_entry, is_listed, without_listed, HasNoRepeats}
 use Rattle.pif_robust.specs.declared.links.Link.{Link}
 use Rattle.pif_robust.specs.declared.links.Head.{Head}
-use Rattle.pif_chains.specs.RobustWalks.{first_or, last_or}
+use Rattle.pif_model_lemmas.specs.RobustWalks.{first_or, last_or}
 use Rattle.pif_robust.specs.Links.{unlinked, empty_head, link_at, head_at, IsChain, FieldsHold, with_next_mutex, with_first_mutex, links_cut, heads_cut}
-use Rattle.pif_chains.proofs.RobustEntries.{Apart, Apart-from_once, has_split, has-left, has-right, has-tail, apart, without-split, has-without, HasNoRepeats-without, last_or-has, first_or-has}
+use Rattle.pif_model_lemmas.proofs.RobustEntries.{Apart, Apart-from_once, has_split, has-left, has-right, has-tail, apart, without-split, has-without, HasNoRepeats-without, last_or-has, first_or-has}
 use Rattle.pif_robust.proofs.ChainLemmas.{chain-holder, chain-refirst, chain-relast, chain-front, chain-back, chain-append, with_next_mutex-at, with_next_mutex-other, with_next_mutex-holder, length-with_next_mutex, with_previous-at, with_previous-other, with_previous-holder, length-with_previous, with_first_mutex-at, with_first_mutex-other, length-with_first_mutex, first_or-back, first_or-front}
 use Rattle.pif_robust.proofs.TiesLemmas.{FieldsHold-changed, IsRobust-from_Ties, listed_in}
 use Rattle.pif_robust.proofs.WriteLemmas.{no_holder}

@@ -5,14 +5,14 @@ use Rattle.std.proofs.lemmas.List.{get_or-set_same, get_or-set_other, get_or_pas
 use Rattle.pif_model.specs.RobustList.{Robust, RobustRow, no_robust_row, robust_at, has_entry, without_entry, is_listed, without_listed, without_robust}
 use Rattle.pif_robust.specs.declared.links.Link.{Link}
 use Rattle.pif_robust.specs.declared.links.Head.{Head}
-use Rattle.pif_chains.specs.RobustWalks.{first_or}
+use Rattle.pif_model_lemmas.specs.RobustWalks.{first_or}
 use Rattle.pif_robust.specs.Links.{empty_head, head_at, robust_from, FieldsHold}
-use Rattle.pif_chains.proofs.RobustEntries.{first_or-has}
+use Rattle.pif_model_lemmas.proofs.RobustEntries.{first_or-has}
 use Rattle.pif_robust.proofs.TiesLemmas.{FieldsHold-changed, robust_at-same}
 use Rattle.pif_robust.proofs.WriteLemmas.{no_holder}
 use Rattle.pif_robust.proofs.SeenLemmas.{Shows, Shows-ties, Shows-same}
 use Rattle.pif_robust.proofs.CallLemmas.{ties_seen}
-use Rattle.pif_chains.proofs.RobustWalks.{length-without}
+use Rattle.pif_model_lemmas.proofs.RobustWalks.{length-without}
 
 -- the last of two writes of one element
 set_twice : {X : Type 0} (xs : List X) (i : ℕ) (a b : X) → set (set xs i a) i b ≡ set xs i b

@@ -6,9 +6,9 @@ use Rattle.std.proofs.lemmas.List.{get_or-set_same, get_or-set_other, length-set
 use Rattle.pif_model.specs.RobustList.{Robust, RobustRow, no_robust_row, robust_at, has_entry, is_listed, with_listed}
 use Rattle.pif_robust.specs.declared.links.Link.{Link}
 use Rattle.pif_robust.specs.declared.links.Head.{Head}
-use Rattle.pif_chains.specs.RobustWalks.{first_or}
+use Rattle.pif_model_lemmas.specs.RobustWalks.{first_or}
 use Rattle.pif_robust.specs.Links.{unlinked, empty_head, link_at, head_at, FieldsHold, links_joined, heads_joined}
-use Rattle.pif_chains.proofs.RobustEntries.{has-head, has-tail, apart, first_or-has}
+use Rattle.pif_model_lemmas.proofs.RobustEntries.{has-head, has-tail, apart, first_or-has}
 use Rattle.pif_robust.proofs.ChainLemmas.{chain-holder, chain-refirst, with_previous-at, with_previous-other, with_previous-holder, length-with_previous}
 use Rattle.pif_robust.proofs.TiesLemmas.{FieldsHold-changed, IsRobust-from_Ties, listed_in}
 use Rattle.pif_robust.proofs.WriteLemmas.{no_holder}

@@ -8,7 +8,7 @@ use Rattle.pif_types.specs.Bounds.{Bounds}
 use Rattle.pif_model.specs.RobustList.{Robust, RobustRow, no_robust_row, no_robust, robust_at, IsRobust, HasNoRepeats}
 use Rattle.pif_robust.specs.declared.links.Link.{Link}
 use Rattle.pif_robust.specs.declared.links.Head.{Head}
-use Rattle.pif_chains.specs.RobustWalks.{first_or}
+use Rattle.pif_model_lemmas.specs.RobustWalks.{first_or}
 use Rattle.pif_robust.specs.Links.{unlinked, empty_head, link_at, head_at, robust_from, IsChain, FieldsHold}
 use Rattle.pif_robust.specs.Robust.{named_mutex}
 use Rattle.pif_robust.proofs.TiesLemmas.{robust_from_is, IsRobust-from_Ties}

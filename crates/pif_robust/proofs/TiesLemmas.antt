@@ -6,10 +6,10 @@ use Rattle.std.proofs.lemmas.List.{ext_get_or, get_or-map, length-map, get_or-se
 use Rattle.pif_model.specs.RobustList.{Robust, RobustRow, no_robust_row, robust_at, has_entry, is_listed, with_robust, HasNoRepeats, IsRobust}
 use Rattle.pif_robust.specs.declared.links.Link.{Link}
 use Rattle.pif_robust.specs.declared.links.Head.{Head}
-use Rattle.pif_chains.specs.RobustWalks.{first_or}
+use Rattle.pif_model_lemmas.specs.RobustWalks.{first_or}
 use Rattle.pif_robust.specs.Links.{unlinked, empty_head, link_at, head_at, path, row_from, robust_from, IsChain, FieldsHold}
 use Rattle.pif_robust.specs.Robust.{named_mutex}
-use Rattle.pif_chains.proofs.RobustEntries.{length-mutexes}
+use Rattle.pif_model_lemmas.proofs.RobustEntries.{length-mutexes}
 use Rattle.pif_robust.proofs.ChainLemmas.{chain-holder, chain-same, path-chain, held_within}
 
 -- the number of a mutex that has one

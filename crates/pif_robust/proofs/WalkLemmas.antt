@@ -5,11 +5,11 @@ use Rattle.std.proofs.lemmas.Option.{same_Some}
 use Rattle.pif_model.specs.RobustList.{Robust, RobustRow, robust_at, has_entry, without_entry, walk_of, HasNoRepeats, IsRobust}
 use Rattle.pif_robust.specs.declared.links.Link.{Link}
 use Rattle.pif_robust.specs.declared.links.Head.{Head}
-use Rattle.pif_chains.specs.RobustWalks.{first_or, walk_along, behind}
+use Rattle.pif_model_lemmas.specs.RobustWalks.{first_or, walk_along, behind}
 use Rattle.pif_robust.specs.Links.{link_at, robust_from, IsChain, FieldsHold}
 use Rattle.pif_robust.specs.Robust.{named_mutex}
-use Rattle.pif_chains.proofs.RobustEntries.{Apart-from_once, has_split, has-append, has-tail, has-right, apart, has-without_same, has-with, first_or-has}
-use Rattle.pif_chains.proofs.RobustWalks.{walk_of-some}
+use Rattle.pif_model_lemmas.proofs.RobustEntries.{Apart-from_once, has_split, has-append, has-tail, has-right, apart, has-without_same, has-with, first_or-has}
+use Rattle.pif_model_lemmas.proofs.RobustWalks.{walk_of-some}
 use Rattle.pif_robust.proofs.ChainLemmas.{chain-back}
 use Rattle.pif_robust.proofs.TiesLemmas.{IsRobust-from_Ties, named_mutex-some}
 use Rattle.pif_robust.proofs.SeenLemmas.{link_read}

@@ -6,10 +6,10 @@ use Rattle.std.proofs.lemmas.List.{get_or-set_same, get_or-set_other, length-set
 use Rattle.pif_model.specs.RobustList.{Robust, RobustRow, robust_at, is_listed, with_robust, with_pending, with_half_linked, IsUnlisted, IsHalfLinkedByNoOther}
 use Rattle.pif_robust.specs.declared.links.Link.{Link}
 use Rattle.pif_robust.specs.declared.links.Head.{Head}
-use Rattle.pif_chains.specs.RobustWalks.{first_or}
+use Rattle.pif_model_lemmas.specs.RobustWalks.{first_or}
 use Rattle.pif_robust.specs.Links.{unlinked, empty_head, link_at, head_at, FieldsHold}
 use Rattle.pif_robust.specs.Robust.{named_mutex}
-use Rattle.pif_chains.proofs.RobustEntries.{apart}
+use Rattle.pif_model_lemmas.proofs.RobustEntries.{apart}
 use Rattle.pif_robust.proofs.ChainLemmas.{chain-same}
 use Rattle.pif_robust.proofs.TiesLemmas.{named_mutex-some, FieldsHold-changed}
 

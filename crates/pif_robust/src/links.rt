@@ -1,7 +1,7 @@
 ghost use Rattle.std.specs.Prelude.{ℕ, ◌≡◌, ◌<◌, ◌≤◌, ◌↔◌, IsTrue, true, List, Option, Some, None, length};
 ghost use Rattle.std.specs.Option.{ForSome};
 ghost use Rattle.pif_model.specs.RobustList.{has_entry, HasNoRepeats};
-ghost use Rattle.pif_chains.specs.RobustWalks.{first_or, walk_along};
+ghost use Rattle.pif_model_lemmas.specs.RobustWalks.{first_or, walk_along};
 ghost use Rattle.pif_robust.specs.Links.{link_at, IsChain, with_next_mutex, with_first_mutex, with_previous, links_joined, heads_joined, links_cut, heads_cut};
 ghost use Rattle.pif_robust.specs.Robust.{named_mutex};
 

@@ -1,6 +1,6 @@
 ghost use Rattle.std.specs.Prelude.{◌≡◌, ◌<◌, ◌≤◌, true, false, None, IfOk, IfSome, IfNone, ℕ, length};
 ghost use Rattle.pif_model.specs.RobustList.{no_robust, robust_at, walk_of, is_listed, with_pending, without_pending, with_half_linked, with_listed, without_listed, without_robust, IsUnlisted, IsHalfLinkedByNoOther, IsRobust, HasNoRepeats, has_entry};
-ghost use Rattle.pif_chains.specs.RobustWalks.{first_or, behind};
+ghost use Rattle.pif_model_lemmas.specs.RobustWalks.{first_or, behind};
 ghost use Rattle.pif_robust.specs.Robust.{named_mutex};
 
 use crate::links::{EMPTY, Head, Link, UNLINKED, cut, join, settle};

@@ -3,21 +3,21 @@ use Rattle.std.proofs.Common.{◌≡◌, ◌≢◌, ◌⊎◌, ◌||◌, ℕ, �
 use Rattle.std.proofs.lemmas.Bool.{false≢true, true≢false, or_cases, eqb-true}
 use Rattle.std.proofs.lemmas.Option.{same_Some}
 use Rattle.std.specs.FinMap.{get}
-use Rattle.pif_lists.specs.declared.keys.Key.{Key}
-use Rattle.pif_lists.specs.Lists.{has, first_of, next_in_list, HasNoRepeats}
-use Rattle.pif_lists.specs.Table.{NodeLists, list_at, key_at, next_node}
-use Rattle.pif_lists.proofs.ListLemmas.{first_of-has, has_split, has-append, has-right, next_in_list-split, HasNoRepeats-taken}
-use Rattle.pif_lists.specs.Order.{comes_before, key_in, IsInOrder}
-use Rattle.pif_lists.proofs.OrderLemmas.{not_before-self}
-use Rattle.pif_lists.proofs.WalkLemmas.{next_of_is}
-use Rattle.pif_owners.specs.Owners.{waits_on, rank_of}
-use Rattle.pif_owners.specs.States.{States, IsThread, wait_of, wait_node, wait_list, waiter_for, owners_in}
-use Rattle.pif_owners.specs.Holds.{HoldsWaiters, IsWaiterIn}
-use Rattle.pif_owners.specs.Behind.{IsLast, IsBehind}
-use Rattle.pif_owners.proofs.ViewLemmas.{waits_on-owners_in, rank_of-owners_in}
-use Rattle.pif_owners.proofs.WaiterLemmas.{waits-state, waiter_for-node}
+use Rattle.pif_nodes_model.specs.declared.keys.Key.{Key}
+use Rattle.pif_nodes_model.specs.Lists.{has, first_of, next_in_list, HasNoRepeats}
+use Rattle.pif_nodes_model.specs.Table.{NodeLists, list_at, key_at, next_node}
+use Rattle.pif_nodes_model.proofs.ListLemmas.{first_of-has, has_split, has-append, has-right, next_in_list-split, HasNoRepeats-taken}
+use Rattle.pif_nodes_model.specs.Order.{comes_before, key_in, IsInOrder}
+use Rattle.pif_nodes_model.proofs.OrderLemmas.{not_before-self}
+use Rattle.pif_nodes_model.proofs.WalkLemmas.{next_of_is}
+use Rattle.pif_kernel_model.specs.Owners.{waits_on, rank_of}
+use Rattle.pif_kernel_model.specs.States.{States, IsThread, wait_of, wait_node, wait_list, waiter_for, owners_in}
+use Rattle.pif_kernel_model.specs.Holds.{HoldsWaiters, IsWaiterIn}
+use Rattle.pif_kernel_model.specs.Behind.{IsLast, IsBehind}
+use Rattle.pif_kernel_model.proofs.ViewLemmas.{waits_on-owners_in, rank_of-owners_in}
+use Rattle.pif_kernel_model.proofs.WaiterLemmas.{waits-state, waiter_for-node}
 use Rattle.pif_rtmutex.proofs.ReadLemmas.{first-no_later}
-use Rattle.pif_owners.proofs.FrameLemmas.{cases_Some}
+use Rattle.pif_kernel_model.proofs.FrameLemmas.{cases_Some}
 
 -- of a list in order, no node of its back comes before one of its front
 order-behind : (keys : List Key) (front back : List ℕ) (x y : ℕ) → IsInOrder keys (front ++ back) → has x front ≡ true

@@ -3,19 +3,19 @@ use Rattle.std.proofs.Common.{◌≡◌, ◌≢◌, ◌⊎◌, ℕ, ◌<◌, ◌
 use Rattle.std.proofs.lemmas.Bool.{false≢true, cases_eq}
 use Rattle.std.proofs.lemmas.List.{get_or-set_same, get_or-set_other}
 use Rattle.std.specs.FinMap.{get, insert}
-use Rattle.pif_lists.specs.declared.keys.Key.{Key}
-use Rattle.pif_lists.specs.Table.{NodeLists, no_key, list_at, key_at, holder, with_key, IsApart}
-use Rattle.pif_lists.specs.Order.{comes_before, key_in, IsSorted, OthersStaySorted, table_after_insert, table_after_remove, key_with_prio, key_with_ticket}
-use Rattle.pif_lists.proofs.OrderLemmas.{not_before-self}
-use Rattle.pif_lists.proofs.SameOrder.{order-as}
+use Rattle.pif_nodes_model.specs.declared.keys.Key.{Key}
+use Rattle.pif_nodes_model.specs.Table.{NodeLists, no_key, list_at, key_at, holder, with_key, IsApart}
+use Rattle.pif_nodes_model.specs.Order.{comes_before, key_in, IsSorted, OthersStaySorted, table_after_insert, table_after_remove, key_with_prio, key_with_ticket}
+use Rattle.pif_nodes_model.proofs.OrderLemmas.{not_before-self}
+use Rattle.pif_nodes_model.proofs.SameOrder.{order-as}
 use Rattle.pif_model.specs.Graph.{Reaches}
-use Rattle.pif_owners.specs.Owners.{Owners, Wait, owner_at, waits_on, rank_of, WaitsFor, KeepsOrder, with_wait, with_prio, with_ticket, with_owner}
-use Rattle.pif_owners.specs.States.{States, IsThread, row_at, wait_of, wait_node, top_node, wait_list, first_waiter, owners_in}
-use Rattle.pif_owners.specs.Holds.{HoldsWaiters, IsWaiterIn, IsRankedTop, HoldsTops, HoldsStates}
-use Rattle.pif_owners.specs.Frames.{ChangesList}
-use Rattle.pif_owners.proofs.ViewLemmas.{length-seats, waits_on-owners_in, rank_of-owners_in}
-use Rattle.pif_owners.proofs.WaiterLemmas.{waits-thread, StandsFirst, stands-first, some_owner}
-use Rattle.pif_owners.proofs.ListChanges.{changes-inserted, changes-removed, changes-rekeyed, changes-renamed, changes-as, in-list, in-no_list, key-inserted, key-rekeyed, key-renamed}
+use Rattle.pif_kernel_model.specs.Owners.{Owners, Wait, owner_at, waits_on, rank_of, WaitsFor, KeepsOrder, with_wait, with_prio, with_ticket, with_owner}
+use Rattle.pif_kernel_model.specs.States.{States, IsThread, row_at, wait_of, wait_node, top_node, wait_list, first_waiter, owners_in}
+use Rattle.pif_kernel_model.specs.Holds.{HoldsWaiters, IsWaiterIn, IsRankedTop, HoldsTops, HoldsStates}
+use Rattle.pif_kernel_model.specs.Frames.{ChangesList}
+use Rattle.pif_kernel_model.proofs.ViewLemmas.{length-seats, waits_on-owners_in, rank_of-owners_in}
+use Rattle.pif_kernel_model.proofs.WaiterLemmas.{waits-thread, StandsFirst, stands-first, some_owner}
+use Rattle.pif_kernel_model.proofs.ListChanges.{changes-inserted, changes-removed, changes-rekeyed, changes-renamed, changes-as, in-list, in-no_list, key-inserted, key-rekeyed, key-renamed}
 use Rattle.pif_rtmutex.proofs.StepLemmas.{row-list, seat-wait, WaitsAt, waits-at, IsStep, IsDone, queued-step, freed-step, handed-step, ranked-step}
 use Rattle.pif_rtmutex.proofs.TopLemmas.{tops-same}
 

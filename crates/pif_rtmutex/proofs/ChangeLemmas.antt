@@ -5,18 +5,18 @@ use Rattle.std.proofs.lemmas.List.{get_or-set_same, get_or-set_other, length-set
 use Rattle.std.proofs.lemmas.Option.{same_Some}
 use Rattle.std.specs.Ordering.{nat_cmp}
 use Rattle.std.specs.FinMap.{FinMap, get}
-use Rattle.pif_lists.specs.declared.keys.Key.{Key}
-use Rattle.pif_lists.specs.Lists.{has, first_of}
-use Rattle.pif_lists.specs.Table.{NodeLists, list_at, key_at, holder}
-use Rattle.pif_lists.specs.Order.{IsSorted}
-use Rattle.pif_owners.specs.Owners.{Task, no_task, with_task, AreSoundOwners}
-use Rattle.pif_owners.specs.States.{Row, States, IsThread, IsOwnList, no_row, row_at, wait_of, wait_node, top_node, wait_list, top_list, waiter_for, first_waiter, seat_in, owners_in}
-use Rattle.pif_owners.specs.Holds.{HoldsWaiters, IsWaiterIn, IsTopNode, IsTopped, IsFirstOf, IsTopOf, IsRankedTop, IsTopBut, HoldsTops, IsToppedBut}
-use Rattle.pif_owners.specs.Frames.{SameOutsideStates, ChangesList, ChangesTops}
-use Rattle.pif_owners.proofs.ViewLemmas.{length-seats, task_at-owners_in, owners_in-by_seat}
-use Rattle.pif_owners.proofs.WaiterLemmas.{waits-thread, first_waiter-by_row, StandsFirst, stands-first, some_owner}
-use Rattle.pif_owners.proofs.FrameLemmas.{cases_Some, view-framed, waiters-framed, topped-as}
-use Rattle.pif_owners.proofs.ListChanges.{had-other, outside-changed}
+use Rattle.pif_nodes_model.specs.declared.keys.Key.{Key}
+use Rattle.pif_nodes_model.specs.Lists.{has, first_of}
+use Rattle.pif_nodes_model.specs.Table.{NodeLists, list_at, key_at, holder}
+use Rattle.pif_nodes_model.specs.Order.{IsSorted}
+use Rattle.pif_kernel_model.specs.Owners.{Task, no_task, with_task, AreSoundOwners}
+use Rattle.pif_kernel_model.specs.States.{Row, States, IsThread, IsOwnList, no_row, row_at, wait_of, wait_node, top_node, wait_list, top_list, waiter_for, first_waiter, seat_in, owners_in}
+use Rattle.pif_kernel_model.specs.Holds.{HoldsWaiters, IsWaiterIn, IsTopNode, IsTopped, IsFirstOf, IsTopOf, IsRankedTop, IsTopBut, HoldsTops, IsToppedBut}
+use Rattle.pif_kernel_model.specs.Frames.{SameOutsideStates, ChangesList, ChangesTops}
+use Rattle.pif_kernel_model.proofs.ViewLemmas.{length-seats, task_at-owners_in, owners_in-by_seat}
+use Rattle.pif_kernel_model.proofs.WaiterLemmas.{waits-thread, first_waiter-by_row, StandsFirst, stands-first, some_owner}
+use Rattle.pif_kernel_model.proofs.FrameLemmas.{cases_Some, view-framed, waiters-framed, topped-as}
+use Rattle.pif_kernel_model.proofs.ListChanges.{had-other, outside-changed}
 
 -- the value has these rows and owners then, of which those of thread u and of state k may be other ones, and of the table
 -- the list of row r of k and the node of u as a waiter changed

@@ -10,8 +10,8 @@ use Rattle.std.specs.FinMap.{FinMap, get, insert, remove, len, len-insert, same_
 use Rattle.slab.specs.Slab.{Slab, Updates, ContainsKey, slab_len, with_value}
 use Rattle.slab.proofs.SlabLemmas.{Updates-with_value}
 use Rattle.slab.specs.Slab.{get as value_at}
-use Rattle.pif_owners.specs.OwnerMaps.{owners_of}
-use Rattle.pif_owners.proofs.MapLemmas.{get-insert_same, get-insert_other, get-owners_of, len-owners_of, owners_of-put, owners_of-removed}
+use Rattle.pif_kernel_model.specs.OwnerMaps.{owners_of}
+use Rattle.pif_kernel_model.proofs.MapLemmas.{get-insert_same, get-insert_other, get-owners_of, len-owners_of, owners_of-put, owners_of-removed}
 use Rattle.pif_rtmutex.specs.Fields.{State, slab_with}
 
 -- the number of a key is that of its state

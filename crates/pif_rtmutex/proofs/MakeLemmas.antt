@@ -4,13 +4,13 @@ use Rattle.std.proofs.lemmas.Bool.{false≢true, cases_eq}
 use Rattle.std.proofs.lemmas.Option.{same_Some}
 use Rattle.std.specs.Ordering.{nat_cmp}
 use Rattle.std.specs.FinMap.{FinMap, get, insert, remove}
-use Rattle.pif_lists.specs.Table.{NodeLists}
-use Rattle.pif_owners.specs.Owners.{HasNoWaiter}
-use Rattle.pif_owners.proofs.MapLemmas.{get-insert_same, get-insert_other, get-remove_same, get-remove_other}
-use Rattle.pif_owners.specs.States.{States, IsThread, owners_in}
-use Rattle.pif_owners.specs.Holds.{HoldsStates}
-use Rattle.pif_owners.proofs.ViewLemmas.{waits_on-owners_in}
-use Rattle.pif_owners.proofs.WaiterLemmas.{waits-state}
+use Rattle.pif_nodes_model.specs.Table.{NodeLists}
+use Rattle.pif_kernel_model.specs.Owners.{HasNoWaiter}
+use Rattle.pif_kernel_model.proofs.MapLemmas.{get-insert_same, get-insert_other, get-remove_same, get-remove_other}
+use Rattle.pif_kernel_model.specs.States.{States, IsThread, owners_in}
+use Rattle.pif_kernel_model.specs.Holds.{HoldsStates}
+use Rattle.pif_kernel_model.proofs.ViewLemmas.{waits_on-owners_in}
+use Rattle.pif_kernel_model.proofs.WaiterLemmas.{waits-state}
 use Rattle.pif_rtmutex.proofs.StateLemmas.{IsStateChange}
 
 -- a number that a map has after an insert it had, or is the new one

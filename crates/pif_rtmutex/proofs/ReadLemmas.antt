@@ -3,22 +3,22 @@ use Rattle.std.proofs.Common.{◌≡◌, ◌≢◌, ◌⊎◌, ◌↔◌, ◌==�
 use Rattle.std.proofs.lemmas.Bool.{false≢true, both_ways, cases_lt, or_cases, eqb-true, eq-eqb}
 use Rattle.std.proofs.lemmas.Option.{same_Some}
 use Rattle.std.specs.FinMap.{get}
-use Rattle.pif_lists.specs.declared.keys.Key.{Key}
-use Rattle.pif_lists.specs.Lists.{has, first_of}
-use Rattle.pif_lists.specs.Table.{NodeLists, list_at, key_at, holder}
-use Rattle.pif_lists.proofs.ListLemmas.{first_of-has}
-use Rattle.pif_lists.specs.Order.{comes_before, key_in, IsInOrder}
-use Rattle.pif_lists.proofs.OrderLemmas.{not_before-self, comes_before-from}
-use Rattle.pif_chains.proofs.Following.{greatest_where_above}
-use Rattle.pif_chains.proofs.Greatest.{greatest_where_most}
-use Rattle.pif_owners.specs.Owners.{Task, Wait, task_at, owner_at, rank_of, waits_for, IsTop, HasNoWaiter}
-use Rattle.pif_owners.proofs.OwnersLemmas.{WaitsFor-some, WaitsFor-from}
-use Rattle.pif_owners.specs.States.{States, IsThread, wait_of, wait_node, top_node, wait_list, top_list, waiter_for, first_waiter, owners_in}
-use Rattle.pif_owners.specs.Holds.{HoldsWaiters, IsWaiterIn, IsTopNode, IsFirstOf, IsTopOf, HoldsStates}
+use Rattle.pif_nodes_model.specs.declared.keys.Key.{Key}
+use Rattle.pif_nodes_model.specs.Lists.{has, first_of}
+use Rattle.pif_nodes_model.specs.Table.{NodeLists, list_at, key_at, holder}
+use Rattle.pif_nodes_model.proofs.ListLemmas.{first_of-has}
+use Rattle.pif_nodes_model.specs.Order.{comes_before, key_in, IsInOrder}
+use Rattle.pif_nodes_model.proofs.OrderLemmas.{not_before-self, comes_before-from}
+use Rattle.pif_model_lemmas.proofs.Following.{greatest_where_above}
+use Rattle.pif_model_lemmas.proofs.Greatest.{greatest_where_most}
+use Rattle.pif_kernel_model.specs.Owners.{Task, Wait, task_at, owner_at, rank_of, waits_for, IsTop, HasNoWaiter}
+use Rattle.pif_kernel_model.proofs.OwnersLemmas.{WaitsFor-some, WaitsFor-from}
+use Rattle.pif_kernel_model.specs.States.{States, IsThread, wait_of, wait_node, top_node, wait_list, top_list, waiter_for, first_waiter, owners_in}
+use Rattle.pif_kernel_model.specs.Holds.{HoldsWaiters, IsWaiterIn, IsTopNode, IsFirstOf, IsTopOf, HoldsStates}
 use Rattle.pif_rtmutex.specs.Maximum.{rank_priority, greatest_rank}
-use Rattle.pif_owners.proofs.ViewLemmas.{length-seats, task_at-owners_in, waits_on-owners_in, rank_of-owners_in}
-use Rattle.pif_owners.proofs.WaiterLemmas.{waits-state, first_waiter-by_row, StandsFirst, stands-first, some_owner}
-use Rattle.pif_owners.proofs.FrameLemmas.{cases_Some}
+use Rattle.pif_kernel_model.proofs.ViewLemmas.{length-seats, task_at-owners_in, waits_on-owners_in, rank_of-owners_in}
+use Rattle.pif_kernel_model.proofs.WaiterLemmas.{waits-state, first_waiter-by_row, StandsFirst, stands-first, some_owner}
+use Rattle.pif_kernel_model.proofs.FrameLemmas.{cases_Some}
 
 -- the first of a list that has a node
 pub first-there : (n : ℕ) (xs : List ℕ) → has n xs ≡ true → (p : ℕ) × (first_of xs ≡ Some p)

@@ -2,12 +2,12 @@
 use Rattle.std.proofs.Common.{◌≡◌, ◌⊎◌, ◌↔◌, ℕ, ◌<◌, ◌≤◌, length, set, get_or, Option, Some, None, IsSome, IfSome, option_map, unwrap_or, refl, sym, ◌∙◌, ap, subst, inl, inr, arith}
 use Rattle.std.proofs.lemmas.Bool.{false≢true, cases_eq, cases_lt}
 use Rattle.std.proofs.lemmas.List.{get_or-set_same, get_or-set_other, set_past, length-set}
-use Rattle.pif_lists.specs.Table.{NodeLists, key_at}
-use Rattle.pif_owners.specs.Owners.{Task, IsPrio, no_task, with_task, AreSoundOwners}
-use Rattle.pif_owners.proofs.OwnersLemmas.{sound-priorities}
-use Rattle.pif_owners.specs.States.{Row, States, no_row, row_at, wait_of, wait_node, seat_in, owners_in, with_row}
-use Rattle.pif_owners.specs.Holds.{IsWaiterIn, IsTopNode, HoldsStates}
-use Rattle.pif_owners.proofs.ViewLemmas.{length-seats, task_at-owners_in, owners_in-by_seat}
+use Rattle.pif_nodes_model.specs.Table.{NodeLists, key_at}
+use Rattle.pif_kernel_model.specs.Owners.{Task, IsPrio, no_task, with_task, AreSoundOwners}
+use Rattle.pif_kernel_model.proofs.OwnersLemmas.{sound-priorities}
+use Rattle.pif_kernel_model.specs.States.{Row, States, no_row, row_at, wait_of, wait_node, seat_in, owners_in, with_row}
+use Rattle.pif_kernel_model.specs.Holds.{IsWaiterIn, IsTopNode, HoldsStates}
+use Rattle.pif_kernel_model.proofs.ViewLemmas.{length-seats, task_at-owners_in, owners_in-by_seat}
 
 -- what value and table say of a thread that has this row
 abbrev pub seat_of : States → NodeLists → ℕ → Row → Task

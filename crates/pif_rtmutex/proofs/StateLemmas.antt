@@ -6,18 +6,18 @@ use Rattle.std.proofs.lemmas.List.{append-nil, get_or-replicate, length-replicat
 use Rattle.std.proofs.lemmas.List.FromFn.{length-range_with_len}
 use Rattle.std.specs.Ordering.{nat_cmp}
 use Rattle.std.specs.FinMap.{FinMap, empty, get, get-empty, len, len-empty}
-use Rattle.pif_lists.specs.Lists.{has, first_of, HasNoRepeats}
-use Rattle.pif_lists.specs.Table.{NodeLists, list_at, key_at}
-use Rattle.pif_lists.proofs.ListLemmas.{first_of-has, has-append, has-left, has-parts, has-neither, HasNoRepeats-put, HasNoRepeats-taken}
-use Rattle.pif_lists.specs.Order.{IsInOrder, IsSorted}
-use Rattle.pif_owners.specs.Owners.{no_task, no_owners, AreSoundOwners}
-use Rattle.pif_owners.proofs.OwnersLemmas.{sound-no_owners}
-use Rattle.pif_owners.specs.States.{Row, States, IsThread, IsOwnList, no_row, empty_states, wait_of, wait_list, top_list, waiter_for, first_waiter, owners_in}
-use Rattle.pif_owners.specs.Holds.{IsWaiterIn, IsTopNode, IsFirstOf, IsTopOf, HoldsStates, HasRoomForStates}
+use Rattle.pif_nodes_model.specs.Lists.{has, first_of, HasNoRepeats}
+use Rattle.pif_nodes_model.specs.Table.{NodeLists, list_at, key_at}
+use Rattle.pif_nodes_model.proofs.ListLemmas.{first_of-has, has-append, has-left, has-parts, has-neither, HasNoRepeats-put, HasNoRepeats-taken}
+use Rattle.pif_nodes_model.specs.Order.{IsInOrder, IsSorted}
+use Rattle.pif_kernel_model.specs.Owners.{no_task, no_owners, AreSoundOwners}
+use Rattle.pif_kernel_model.proofs.OwnersLemmas.{sound-no_owners}
+use Rattle.pif_kernel_model.specs.States.{Row, States, IsThread, IsOwnList, no_row, empty_states, wait_of, wait_list, top_list, waiter_for, first_waiter, owners_in}
+use Rattle.pif_kernel_model.specs.Holds.{IsWaiterIn, IsTopNode, IsFirstOf, IsTopOf, HoldsStates, HasRoomForStates}
 use Rattle.pif_rtmutex.specs.Fields.{IsSpare}
-use Rattle.pif_owners.proofs.ViewLemmas.{owners_in-by_seat}
-use Rattle.pif_owners.proofs.WaiterLemmas.{first_waiter-by_row, stands-first, some_owner}
-use Rattle.pif_owners.proofs.FrameLemmas.{cases_Some}
+use Rattle.pif_kernel_model.proofs.ViewLemmas.{owners_in-by_seat}
+use Rattle.pif_kernel_model.proofs.WaiterLemmas.{first_waiter-by_row, stands-first, some_owner}
+use Rattle.pif_kernel_model.proofs.FrameLemmas.{cases_Some}
 
 -- state k, on which nobody waits, gets an owner and a row, or loses both
 pub record IsStateChange (m : States) (owners places : FinMap nat_cmp ℕ) (k : ℕ) : Type 0 where

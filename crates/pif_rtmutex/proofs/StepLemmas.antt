@@ -4,18 +4,18 @@ use Rattle.std.proofs.lemmas.List.{get_or-set_same, get_or-set_other, length-set
 use Rattle.std.proofs.lemmas.Option.{same_Some}
 use Rattle.std.specs.Ordering.{nat_cmp}
 use Rattle.std.specs.FinMap.{FinMap, get, insert}
-use Rattle.pif_lists.specs.declared.keys.Key.{Key}
-use Rattle.pif_lists.specs.Table.{NodeLists, key_at, holder}
+use Rattle.pif_nodes_model.specs.declared.keys.Key.{Key}
+use Rattle.pif_nodes_model.specs.Table.{NodeLists, key_at, holder}
 use Rattle.pif_model.specs.Graph.{Reaches}
-use Rattle.pif_owners.specs.Owners.{Owners, Task, task_at, WaitsFor, with_wait, with_owner, AreSoundOwners}
-use Rattle.pif_owners.proofs.MapLemmas.{get-insert_same, get-insert_other}
-use Rattle.pif_owners.proofs.OwnersLemmas.{sound-free, sound-ranked, sound-queued, sound-handed, waits_on-freed}
-use Rattle.pif_owners.specs.States.{Row, States, IsThread, IsOwnList, no_row, row_at, wait_of, wait_node, wait_list, first_waiter, seat_in, owners_in}
-use Rattle.pif_owners.specs.Holds.{HoldsWaiters, HoldsTops, IsToppedBut, HoldsStates}
-use Rattle.pif_owners.specs.Frames.{SameOutsideStates, ChangesList, ChangesTops, KeepsWaiterNodes}
-use Rattle.pif_owners.proofs.ViewLemmas.{task_at-owners_in}
-use Rattle.pif_owners.proofs.WaiterLemmas.{waits-state, waits-thread, some_owner}
-use Rattle.pif_owners.proofs.ListChanges.{outside-then}
+use Rattle.pif_kernel_model.specs.Owners.{Owners, Task, task_at, WaitsFor, with_wait, with_owner, AreSoundOwners}
+use Rattle.pif_kernel_model.proofs.MapLemmas.{get-insert_same, get-insert_other}
+use Rattle.pif_kernel_model.proofs.OwnersLemmas.{sound-free, sound-ranked, sound-queued, sound-handed, waits_on-freed}
+use Rattle.pif_kernel_model.specs.States.{Row, States, IsThread, IsOwnList, no_row, row_at, wait_of, wait_node, wait_list, first_waiter, seat_in, owners_in}
+use Rattle.pif_kernel_model.specs.Holds.{HoldsWaiters, HoldsTops, IsToppedBut, HoldsStates}
+use Rattle.pif_kernel_model.specs.Frames.{SameOutsideStates, ChangesList, ChangesTops, KeepsWaiterNodes}
+use Rattle.pif_kernel_model.proofs.ViewLemmas.{task_at-owners_in}
+use Rattle.pif_kernel_model.proofs.WaiterLemmas.{waits-state, waits-thread, some_owner}
+use Rattle.pif_kernel_model.proofs.ListChanges.{outside-then}
 use Rattle.pif_rtmutex.proofs.ChangeLemmas.{IsChange, view-changed, waiters-outside, waiters-changed, tops-but, waiters-stay, owners-stay}
 
 -- the list of the row of a state, by what `waiters` answers

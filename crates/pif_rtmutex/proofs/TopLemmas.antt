@@ -3,16 +3,16 @@ use Rattle.std.proofs.Common.{◌≡◌, ◌≢◌, ◌⊎◌, ℕ, true, Option
 use Rattle.std.proofs.lemmas.Bool.{cases_eq}
 use Rattle.std.proofs.lemmas.Option.{same_Some}
 use Rattle.std.specs.FinMap.{get}
-use Rattle.pif_lists.specs.declared.keys.Key.{Key}
-use Rattle.pif_lists.specs.Lists.{has}
-use Rattle.pif_lists.specs.Table.{NodeLists, list_at, holder}
-use Rattle.pif_lists.specs.Order.{IsSorted}
-use Rattle.pif_owners.specs.States.{States, IsThread, wait_of, wait_node, top_node, top_list, first_waiter}
-use Rattle.pif_owners.specs.Holds.{HoldsWaiters, IsTopNode, IsTopped, IsFirstOf, IsTopOf, IsRankedTop, IsTopBut, HoldsTops, IsToppedBut}
-use Rattle.pif_owners.specs.Frames.{ChangesList, ChangesTops}
-use Rattle.pif_owners.proofs.WaiterLemmas.{StandsFirst, stands-first, some_owner}
-use Rattle.pif_owners.proofs.FrameLemmas.{cases_Some, first_waiter-framed, topped-as}
-use Rattle.pif_owners.proofs.ListChanges.{had-other}
+use Rattle.pif_nodes_model.specs.declared.keys.Key.{Key}
+use Rattle.pif_nodes_model.specs.Lists.{has}
+use Rattle.pif_nodes_model.specs.Table.{NodeLists, list_at, holder}
+use Rattle.pif_nodes_model.specs.Order.{IsSorted}
+use Rattle.pif_kernel_model.specs.States.{States, IsThread, wait_of, wait_node, top_node, top_list, first_waiter}
+use Rattle.pif_kernel_model.specs.Holds.{HoldsWaiters, IsTopNode, IsTopped, IsFirstOf, IsTopOf, IsRankedTop, IsTopBut, HoldsTops, IsToppedBut}
+use Rattle.pif_kernel_model.specs.Frames.{ChangesList, ChangesTops}
+use Rattle.pif_kernel_model.proofs.WaiterLemmas.{StandsFirst, stands-first, some_owner}
+use Rattle.pif_kernel_model.proofs.FrameLemmas.{cases_Some, first_waiter-framed, topped-as}
+use Rattle.pif_kernel_model.proofs.ListChanges.{had-other}
 
 -- a list of top waiters and the node of one of them changed
 module _ (m : States) (t now : NodeLists) (o u : ℕ) (i : IsThread m o) (j : IsThread m u)

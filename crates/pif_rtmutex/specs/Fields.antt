@@ -3,9 +3,9 @@ use Rattle.std.specs.Prelude.{◌≡◌, ℕ, ◌+◌, ◌<◌, true, false, Lis
 use Rattle.std.specs.FinMap.{get, len}
 use Rattle.std.specs.Coded.{Coded, code_by, coded×, coded_ℕ}
 use Rattle.slab.specs.Slab.{Slab}
-use Rattle.pif_lists.specs.Lists.{has, HasNoRepeats}
-use Rattle.pif_owners.specs.OwnerMaps.{owners_of}
-use Rattle.pif_owners.specs.States.{Row, States}
+use Rattle.pif_nodes_model.specs.Lists.{has, HasNoRepeats}
+use Rattle.pif_kernel_model.specs.OwnerMaps.{owners_of}
+use Rattle.pif_kernel_model.specs.States.{Row, States}
 
 -- what is stored of a state: its owner, and its row
 pub record State : Type 0 where

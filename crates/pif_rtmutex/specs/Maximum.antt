@@ -1,8 +1,8 @@
 -- The priority that a thread is to have by those that wait on the states that it owns.
 use Rattle.std.specs.Prelude.{ℕ, max, ◌==◌, length, option_map, unwrap_or}
-use Rattle.pif_lists.specs.declared.keys.Key.{Key}
+use Rattle.pif_nodes_model.specs.declared.keys.Key.{Key}
 use Rattle.pif_model.specs.Graph.{greatest_where}
-use Rattle.pif_owners.specs.Owners.{Owners, task_at, rank_of, waits_for}
+use Rattle.pif_kernel_model.specs.Owners.{Owners, task_at, rank_of, waits_for}
 
 -- the priority with which a thread waits; 0 where it waits for nothing
 abbrev pub rank_priority : Owners → ℕ → ℕ

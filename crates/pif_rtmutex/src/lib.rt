@@ -28,5 +28,5 @@
 mod rows;
 mod rt_mutexes;
 
-pub use pif_owners::Key;
+pub use pif_kernel_model::Key;
 pub use rt_mutexes::RtMutexes;

@@ -1,6 +1,6 @@
 ghost use Rattle.std.specs.Prelude.{◌≡◌, ◌≤◌, max, unwrap_or};
 
-use pif_owners::Key;
+use pif_kernel_model::Key;
 use pif_types::{Prio, Tid};
 use std::marker::Model;
 
@@ -46,8 +46,8 @@ pub struct Row {
 
 impl Model for Row {
     ghost use Rattle.std.specs.Prelude.{unwrap_or};
-    ghost use Rattle.pif_owners.specs.Owners.{prio_of, IsPrio, prio_of-unwrap_or};
-    ghost use Rattle.pif_owners.specs.States.{Row as RowSeen, row_code};
+    ghost use Rattle.pif_kernel_model.specs.Owners.{prio_of, IsPrio, prio_of-unwrap_or};
+    ghost use Rattle.pif_kernel_model.specs.States.{Row as RowSeen, row_code};
 
     ghost Value = { RowSeen };
 

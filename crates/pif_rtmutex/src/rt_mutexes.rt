@@ -3,19 +3,19 @@ ghost use Rattle.std.specs.List.{range_with_len};
 ghost use Rattle.std.specs.Option.{ForSome};
 ghost use Rattle.std.specs.FinMap.{get, empty, insert, remove, len};
 ghost use Rattle.pif_model.specs.Graph.{Reaches};
-ghost use Rattle.pif_lists.specs.declared.keys.Key.{Key as RankSeen};
-ghost use Rattle.pif_lists.specs.Table.{NodeLists, key_at, holder, next_node};
-ghost use Rattle.pif_owners.specs.Owners.{no_owners, task_at, owner_at, count, waits_on, rank_of, WaitsFor, IsTop, HasNoWaiter, KeepsOrder, with_task, with_base, with_local, with_wait, with_prio, with_ticket, with_owner, without_state};
-ghost use Rattle.pif_owners.specs.States.{IsThread, empty_states, row_at, wait_node, top_node, wait_list, top_list, waiter_for, first_waiter, owners_in, with_row, with_wait_on, with_owner_of};
-ghost use Rattle.pif_owners.specs.Holds.{HoldsWaiters, IsRankedTop, HoldsTops, IsToppedBut, HoldsStates, HasRoomForStates};
-ghost use Rattle.pif_owners.specs.Behind.{IsLast, IsBehind};
-ghost use Rattle.pif_owners.specs.Frames.{SameOutsideStates, ChangesTops, KeepsWaiterNodes};
+ghost use Rattle.pif_nodes_model.specs.declared.keys.Key.{Key as RankSeen};
+ghost use Rattle.pif_nodes_model.specs.Table.{NodeLists, key_at, holder, next_node};
+ghost use Rattle.pif_kernel_model.specs.Owners.{no_owners, task_at, owner_at, count, waits_on, rank_of, WaitsFor, IsTop, HasNoWaiter, KeepsOrder, with_task, with_base, with_local, with_wait, with_prio, with_ticket, with_owner, without_state};
+ghost use Rattle.pif_kernel_model.specs.States.{IsThread, empty_states, row_at, wait_node, top_node, wait_list, top_list, waiter_for, first_waiter, owners_in, with_row, with_wait_on, with_owner_of};
+ghost use Rattle.pif_kernel_model.specs.Holds.{HoldsWaiters, IsRankedTop, HoldsTops, IsToppedBut, HoldsStates, HasRoomForStates};
+ghost use Rattle.pif_kernel_model.specs.Behind.{IsLast, IsBehind};
+ghost use Rattle.pif_kernel_model.specs.Frames.{SameOutsideStates, ChangesTops, KeepsWaiterNodes};
 ghost use Rattle.pif_rtmutex.specs.Maximum.{greatest_rank, maximum_of};
 ghost use Rattle.pif_rtmutex.specs.Fields.{State as StateSeen, IsSpare};
 
 use crate::rows::{NOBODY, Row, State, greater};
+use pif_kernel_model::Key;
 use pif_nodes::{List, Node, NodeTable};
-use pif_owners::Key;
 use pif_plist::PList;
 use pif_types::{NoMemory, Prio, Tid};
 use slab::Slab;
@@ -36,7 +36,7 @@ pub struct RtMutexes {
 
 impl Model for RtMutexes {
     ghost use Rattle.std.specs.Prelude.{◌≡◌, ◌+◌, ◌*◌, ◌^◌, ◌<◌, ◌≤◌, length, vec_capacity};
-    ghost use Rattle.pif_owners.specs.States.{States, states_code};
+    ghost use Rattle.pif_kernel_model.specs.States.{States, states_code};
     ghost use Rattle.pif_rtmutex.specs.Fields.{states_from, IsSpare};
 
     ghost Value = { States };

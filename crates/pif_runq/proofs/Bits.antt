@@ -5,7 +5,7 @@ use Rattle.std.proofs.lemmas.Nat.Bits.{bit_at_clear_same, bit_at_clear_other, bi
 use Rattle.std.proofs.lemmas.Bool.{cases_lt}
 use Rattle.std.proofs.Math.Nat.{pow-suc, div-eq_of_lt-le}
 use Rattle.std.specs.Int.{bit_not, w128}
-use Rattle.pif_lists.specs.Masks.{ChangesBit, IsGreatestBit}
+use Rattle.pif_nodes_model.specs.Masks.{ChangesBit, IsGreatestBit}
 
 -- `& !(1 << i)` of 128 bits clears bit i and no other
 pub clear_bit : (mask i : ℕ) → i < 128 → mask < 2 ^ 128 → ChangesBit mask (bit_and mask (bit_not w128 (1 * 2 ^ i % 2 ^ 128))) i 0

@@ -1,6 +1,6 @@
 ghost use Rattle.std.specs.Prelude.{◌≡◌, ℕ, ◌<◌, IfNone, IfSome};
 ghost use Rattle.std.specs.Int.{bit_at};
-ghost use Rattle.pif_lists.specs.Masks.{ChangesBit, IsGreatestBit};
+ghost use Rattle.pif_nodes_model.specs.Masks.{ChangesBit, IsGreatestBit};
 
 /// The mask with the bit `i`, below 128, set.
 pub fn with_bit(mask: u128, i: u32) -> u128

@@ -1,10 +1,10 @@
 ghost use Rattle.std.specs.Prelude.{◌≡◌, ℕ, ◌+◌, ◌-◌, ◌<◌, ◌≤◌, ◌^◌, ◌↔◌, true, [], ◌∷◌, ◌++◌, length, nat_eq, if◌then◌else◌, IfNone, IfSome, IfOk, Some, None};
 ghost use Rattle.std.specs.Int.{bit_at};
 ghost use Rattle.std.specs.List.{slice_get};
-ghost use Rattle.pif_lists.specs.Lists.{has, list_without};
-ghost use Rattle.pif_lists.specs.Table.{NodeLists, holder, list_at};
-ghost use Rattle.pif_lists.specs.Levels.{all_below, IsLevel, list_for, node_for, thread_for, IsThreadNode, level_of, level_with, HasRoom, Holds, IsQueued, IsOnLevel, IsFirstOfGreatest, IsEmpty, level_after_add, level_after_move, SameOutside};
-ghost use Rattle.pif_lists.specs.Masks.{ChangesBit, IsGreatestBit};
+ghost use Rattle.pif_nodes_model.specs.Lists.{has, list_without};
+ghost use Rattle.pif_nodes_model.specs.Table.{NodeLists, holder, list_at};
+ghost use Rattle.pif_nodes_model.specs.Levels.{all_below, IsLevel, list_for, node_for, thread_for, IsThreadNode, level_of, level_with, HasRoom, Holds, IsQueued, IsOnLevel, IsFirstOfGreatest, IsEmpty, level_after_add, level_after_move, SameOutside};
+ghost use Rattle.pif_nodes_model.specs.Masks.{ChangesBit, IsGreatestBit};
 
 use crate::masks::{greatest_bit, with_bit, without_bit};
 use pif_nodes::{List, Node, NodeTable};
@@ -23,7 +23,7 @@ pub struct RunQueue {
 
 impl Model for RunQueue {
     ghost use Rattle.std.specs.Prelude.{◌+◌, ◌<◌, ◌^◌};
-    ghost use Rattle.pif_lists.specs.Levels.{Queue};
+    ghost use Rattle.pif_nodes_model.specs.Levels.{Queue};
 
     ghost Value = { Queue };
 

@@ -16,11 +16,11 @@ use Rattle.pif_model.specs.Graph.{is_priority}
 use Rattle.pif_model.specs.Lines.{event_outcome}
 use Rattle.pif_model.specs.Soundness.{IsSound}
 use Rattle.pif_model.specs.Table.{Table, new_table, has_thread_room, has_mutex_room, has_cond_room, has_mutex, thread_added, mutex_added, cond_added}
-use Rattle.pif_simulation.proofs.additions.Additions.{new_sound}
-use Rattle.pif_simulation.proofs.additions.ThreadAdded.{thread_added_kept}
-use Rattle.pif_simulation.proofs.additions.MutexAdded.{mutex_added_kept}
-use Rattle.pif_simulation.proofs.additions.CondAdded.{cond_added_kept}
-use Rattle.pif_simulation.proofs.Simulation.{event_kept}
+use Rattle.pif_model_simulation.proofs.additions.Additions.{new_sound}
+use Rattle.pif_model_simulation.proofs.additions.ThreadAdded.{thread_added_kept}
+use Rattle.pif_model_simulation.proofs.additions.MutexAdded.{mutex_added_kept}
+use Rattle.pif_model_simulation.proofs.additions.CondAdded.{cond_added_kept}
+use Rattle.pif_model_simulation.proofs.Simulation.{event_kept}
 use Rattle.pif_calls.proofs.CallLemmas.{is_refused, is_went}
 use Rattle.pif_text_model.specs.declared.commands.Addition.{Addition}
 use Rattle.pif_text_model.specs.declared.commands.Addition.TheVariants.{Thread, Mutex, Cond}

@@ -1,7 +1,7 @@
 -- A session: the commands that were accepted, and the core behind them.
 use Rattle.std.specs.Prelude.{ℕ, ◌≡◌, ◌≤◌, ◌<◌, List, [], ◌∷◌, ◌++◌, All, length, Option, Some, None, Result, Ok, Err}
 use Rattle.pif_model.specs.Table.{Table}
-use Rattle.pif_slips.specs.Slips.{IsIn}
+use Rattle.pif_text_errors.specs.Slips.{IsIn}
 use Rattle.pif_text_model.specs.declared.commands.Command.{Command}
 use Rattle.pif_text_model.specs.declared.replies.Cause.{Cause}
 use Rattle.pif_text_model.specs.declared.replies.Reply.{Reply}

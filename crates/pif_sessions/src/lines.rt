@@ -2,7 +2,7 @@ ghost use Rattle.std.specs.Prelude.{◌≤◌};
 ghost use Rattle.pif_sessions.specs.Lines.{ReadsOn};
 
 use arrayvec::ArrayVec;
-use pif_reading::MOST_LINE;
+use pif_script::MOST_LINE;
 use std::io::Read;
 
 /// The most bytes that are read at once.

@@ -1,8 +1,8 @@
 use crate::sessions::{NotUndone, Refusal, Unplayed};
 use arrayvec::ArrayVec;
 use itoa::Buffer;
-use pif_slips::{Slip, Wrong, nearest_name};
 use pif_text::Cause;
+use pif_text_errors::{Slip, Wrong, nearest_name};
 
 /// The most bytes of a remark.
 const REMARK_ROOM: usize = 512;

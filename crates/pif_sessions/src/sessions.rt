@@ -5,11 +5,11 @@ ghost use Rattle.pif_script_model.specs.CommandLines.{command_line, script_lines
 ghost use Rattle.pif_sessions.specs.Sessions.{AnswersCommand, AnswersAsRuns, HasNoRoom, KeepsRuns, Leaves, PlaysParts, TakesBack};
 
 use pif_core::{Core, Event};
-use pif_reading::{Ending, OpenFault, obey, open_core};
-use pif_slips::{Slip, read_command};
+use pif_script::{Ending, OpenFault, obey, open_core};
 use pif_text::{
     Addition, Cause, Command, Question, Reply, Text, command_text, commands_of_lines_are_written,
 };
+use pif_text_errors::{Slip, read_command};
 use pif_types::{Request, push_within};
 use std::alloc::{AllocError, Global};
 use std::marker::Model;

@@ -1,5 +1,5 @@
 ghost use Rattle.std.specs.Prelude.{◌≡◌, ◌<◌, IfOk, Some, None, slice_set};
-ghost use Rattle.pif_lists.specs.Table.{holder};
+ghost use Rattle.pif_nodes_model.specs.Table.{holder};
 ghost use Rattle.pif_bench.specs.Filling.{IsReady, IsFilled, IsEmptied, ChangesHolder, priority_of};
 
 use crate::moments::{each_since, now};

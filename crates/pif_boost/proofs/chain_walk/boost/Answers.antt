@@ -1,7 +1,7 @@
 use Rattle.std.proofs.Common.{ap, ◌∙◌}
-use Rattle.pif_owners.specs.Owners.{with_prio}
-use Rattle.pif_owners.specs.States.{owners_in}
-use Rattle.pif_owners.proofs.Repairs.{boosted-waiting}
+use Rattle.pif_kernel_model.specs.Owners.{with_prio}
+use Rattle.pif_kernel_model.specs.States.{owners_in}
+use Rattle.pif_kernel_model.proofs.Repairs.{boosted-waiting}
 use Rattle.pif_boost.proofs.chain_walk.boost.Goals as goal
 
 pub returns-in-Some-clause-owners : goal.returns-in-Some-clause-owners

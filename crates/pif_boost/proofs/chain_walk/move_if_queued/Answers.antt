@@ -1,6 +1,6 @@
 use Rattle.std.proofs.Common.{sym, ap, ◌∙◌}
 use Rattle.std.specs.Option.{is_some}
-use Rattle.pif_lists.proofs.LevelWithLemmas.{queued_found}
+use Rattle.pif_nodes_model.proofs.LevelWithLemmas.{queued_found}
 use Rattle.pif_boost.proofs.chain_walk.move_if_queued.Goals as goal
 
 pub move_to-requires-clause-queued : goal.move_to-requires-clause-queued

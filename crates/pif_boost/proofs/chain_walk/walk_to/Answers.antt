@@ -1,11 +1,11 @@
 use Rattle.std.proofs.Common.{◌≡◌, ◌≢◌, ◌∙◌, ℕ, ◌+◌, refl, sym, ap, subst, eqb-true, arith}
 use Rattle.std.proofs.lemmas.Bool.{eq-eqb, true≢false}
-use Rattle.pif_lists.specs.Table.{NodeLists}
-use Rattle.pif_lists.specs.Levels.{Queue, IsLevel, level_of, Holds, SameOutside}
-use Rattle.pif_owners.specs.States.{States, owners_in}
+use Rattle.pif_nodes_model.specs.Table.{NodeLists}
+use Rattle.pif_nodes_model.specs.Levels.{Queue, IsLevel, level_of, Holds, SameOutside}
+use Rattle.pif_kernel_model.specs.States.{States, owners_in}
 use Rattle.pif_rtmutex.specs.Maximum.{maximum_of}
-use Rattle.pif_owners.proofs.ViewLemmas.{length-seats}
-use Rattle.pif_owners.specs.Boosts.{local_of, level_after_move_if_queued}
+use Rattle.pif_kernel_model.proofs.ViewLemmas.{length-seats}
+use Rattle.pif_kernel_model.specs.Boosts.{local_of, level_after_move_if_queued}
 use Rattle.pif_boost.specs.Done.{IsDone}
 use Rattle.pif_boost.proofs.Walking.{walking-start, walking-few, walking-row, walking-some, walking-last, walking-hop, walking-stopped, counted-stopped, ended_holds, counted-ended, walking-ended, ended_ends}
 use Rattle.pif_boost.proofs.chain_walk.walk_to.Goals as goal

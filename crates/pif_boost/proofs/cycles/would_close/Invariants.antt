@@ -1,4 +1,4 @@
-use Rattle.pif_owners.specs.States.{owners_in}
+use Rattle.pif_kernel_model.specs.States.{owners_in}
 use Rattle.pif_boost.proofs.Chaining.{IsChaining}
 use Rattle.pif_boost.proofs.cycles.would_close.Given as goal
 

@@ -1,5 +1,5 @@
 use Rattle.std.proofs.Common.{subst, sym}
-use Rattle.pif_arguments.specs.declared.jobs.Job.{Job}
+use Rattle.pif_cli_words.specs.declared.jobs.Job.{Job}
 use Rattle.pif_cli.specs.Words.{Did}
 use Rattle.pif_cli.proofs.files.do_input.Goals as goal
 

@@ -5,9 +5,9 @@ use Rattle.pif_model.specs.PiKernel.{is_living}
 use Rattle.pif_model.specs.Table.{Table, line_at}
 use Rattle.pif_model.specs.Lines.{Outcome, go_outcome}
 use Rattle.pif_model.specs.Soundness.{IsSound}
-use Rattle.pif_simulation.proofs.events.SoundTables.{step_sound}
-use Rattle.pif_simulation.proofs.events.Stepping.{may_step}
-use Rattle.pif_simulation.proofs.events.Steps.{step_owns_once}
+use Rattle.pif_model_simulation.proofs.events.SoundTables.{step_sound}
+use Rattle.pif_model_simulation.proofs.events.Stepping.{may_step}
+use Rattle.pif_model_simulation.proofs.events.Steps.{step_owns_once}
 use Rattle.pif_cond.specs.Conditions.{is_of_conditions}
 use Rattle.pif_cond.proofs.Stepping.{below_limit, handed_on}
 use Rattle.pif_cond.proofs.step.advance_at.Goals as goal

@@ -2,7 +2,7 @@ use Rattle.std.proofs.Common.{◌≡◌, ℕ, sym, ap, ◌∙◌, arith}
 use Rattle.pif_model.specs.declared.lines.Status.TheVariants.{Parked}
 use Rattle.pif_model.specs.Word.{Words, word_at, set_word, taken_word, mark_word}
 use Rattle.pif_model.specs.PiKernel.{Kernel, System, seat_at, is_living, may_queue, without_parking, kernel_after_queueing}
-use Rattle.pif_chains.proofs.kernel.KernelTaken.{may_queue-facts}
+use Rattle.pif_model_lemmas.proofs.kernel.Taken.{may_queue-facts}
 use Rattle.pif_word.specs.WordMap.{words_of}
 use Rattle.pif_kernel_state.specs.Inside.{kernel_of}
 use Rattle.pif_kernel_state.specs.Systems.{system_of}

@@ -1,8 +1,8 @@
 use Rattle.std.proofs.Common.{◌≡◌, ℕ, suc, ◌+◌, ◌-◌, true, false, sym, ap, ◌∙◌, arith}
 use Rattle.pif_model.specs.declared.lines.Status.TheVariants.{Parked}
 use Rattle.pif_model.specs.PiKernel.{System, seat_at, is_parked, has_parked, top_parked, parked_count, after_taking, after_takings}
-use Rattle.pif_chains.proofs.kernel.KernelWoken.{top-parked}
-use Rattle.pif_chains.proofs.kernel.KernelTaken.{takings-none, takings-more}
+use Rattle.pif_model_lemmas.proofs.kernel.Woken.{top-parked}
+use Rattle.pif_model_lemmas.proofs.kernel.Taken.{takings-none, takings-more}
 use Rattle.pif_kernel_state.specs.Inside.{kernel_of}
 use Rattle.pif_kernel_state.specs.Systems.{system_of}
 use Rattle.pif_kernel_state.proofs.RequeueAnswers.{count_none}

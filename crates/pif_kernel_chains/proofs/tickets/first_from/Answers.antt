@@ -1,5 +1,5 @@
 use Rattle.std.proofs.Common.{◌≡◌, ◌+◌, if◌then◌else◌, Option, Some, sym, ap, subst, ◌∙◌, ℕ, arith}
-use Rattle.pif_owners.specs.Owners.{Owners}
+use Rattle.pif_kernel_model.specs.Owners.{Owners}
 use Rattle.pif_kernel_state.specs.Tickets.{IsFirstFrom, is_sooner}
 use Rattle.pif_kernel_state.proofs.TicketTurns.{sooner_none, sooner_more}
 use Rattle.pif_kernel_chains.proofs.tickets.first_from.Goals as goal

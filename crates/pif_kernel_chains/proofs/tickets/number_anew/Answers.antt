@@ -1,5 +1,5 @@
 use Rattle.std.proofs.Common.{◌≡◌, ℕ, ◌+◌, ◌-◌, ◌<◌, ◌≤◌, List, length, Some, None, subst, sym, ap, ◌∙◌, arith}
-use Rattle.pif_owners.specs.Owners.{Owners, KeepsOrder, with_ticket}
+use Rattle.pif_kernel_model.specs.Owners.{Owners, KeepsOrder, with_ticket}
 use Rattle.pif_kernel_state.specs.Inside.{arrivals_in}
 use Rattle.pif_kernel_state.specs.Tickets.{IsRenumbered, IsFirstFrom}
 use Rattle.pif_kernel_state.proofs.TicketLaws.{renumbered_more, named_at}

@@ -1,5 +1,5 @@
 -- A thread that lives was added.
-use Rattle.pif_chains.proofs.kernel.KernelFacts.{living-added}
+use Rattle.pif_model_lemmas.proofs.kernel.Facts.{living-added}
 use Rattle.pif_mutex.proofs.parts.advance.Goals as goal
 
 pub line-requires : goal.line-requires

@@ -6,9 +6,9 @@ use Rattle.pif_model.specs.PiKernel.{is_living}
 use Rattle.pif_model.specs.Table.{Table, line_at}
 use Rattle.pif_model.specs.Lines.{Outcome, go_outcome}
 use Rattle.pif_model.specs.Soundness.{IsSound}
-use Rattle.pif_simulation.proofs.events.SoundTables.{step_sound}
-use Rattle.pif_simulation.proofs.events.Stepping.{may_step}
-use Rattle.pif_simulation.proofs.events.Steps.{step_owns_once}
+use Rattle.pif_model_simulation.proofs.events.SoundTables.{step_sound}
+use Rattle.pif_model_simulation.proofs.events.Stepping.{may_step}
+use Rattle.pif_model_simulation.proofs.events.Steps.{step_owns_once}
 use Rattle.pif_mutex.proofs.parts.advance_at.Goals as goal
 
 pub go-requires-clause-call : goal.go-requires-clause-call

@@ -1,6 +1,6 @@
 use Rattle.std.proofs.Common.{◌≡◌, None, sym, ap, ◌∙◌}
-use Rattle.pif_owners.specs.Owners.{Owners, waits_on, with_prio, with_local}
-use Rattle.pif_owners.proofs.Repairs.{boosted-waiting, boosted-free}
+use Rattle.pif_kernel_model.specs.Owners.{Owners, waits_on, with_prio, with_local}
+use Rattle.pif_kernel_model.proofs.Repairs.{boosted-waiting, boosted-free}
 use Rattle.pif_plain.proofs.chain_walk.boost.Goals as goal
 use Rattle.pif_plain.proofs.chain_walk.boost.Goals.{in-Some, in_default}
 

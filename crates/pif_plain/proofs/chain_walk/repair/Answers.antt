@@ -1,7 +1,7 @@
 use Rattle.std.proofs.Common.{◌≡◌, ℕ, Option, sym, ap, if◌then◌else◌}
 use Rattle.std.specs.Prelude.{unwrap_or}
-use Rattle.pif_lists.specs.Levels.{level_of, level_after_move}
-use Rattle.pif_owners.proofs.Walks.{not_queued}
+use Rattle.pif_nodes_model.specs.Levels.{level_of, level_after_move}
+use Rattle.pif_kernel_model.proofs.Walks.{not_queued}
 use Rattle.pif_plain.proofs.chain_walk.repair.Goals as goal
 
 pub returns-in-None-clause-levels : goal.returns-in-None-clause-levels

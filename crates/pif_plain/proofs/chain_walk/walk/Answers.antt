@@ -1,11 +1,11 @@
 -- Each thread in turn is repaired.
 use Rattle.std.proofs.Common.{◌≡◌, ◌+◌, ◌∙◌, arith}
 use Rattle.std.specs.Prelude.{unwrap_or}
-use Rattle.pif_owners.specs.Boosts.{IsRepaired, greatest_base}
-use Rattle.pif_owners.proofs.Joining.{one_joins}
+use Rattle.pif_kernel_model.specs.Boosts.{IsRepaired, greatest_base}
+use Rattle.pif_kernel_model.proofs.Joining.{one_joins}
 use Rattle.pif_plain.proofs.Propagation.{nothing_at}
-use Rattle.pif_owners.proofs.Settled.{settled, top_is_next, walked-level}
-use Rattle.pif_owners.proofs.Walks.{numbered, walked-start, next_ready, next_idle, walked-more, walked-repaired, walked-levels, repaired-greatest}
+use Rattle.pif_kernel_model.proofs.Settled.{settled, top_is_next, walked-level}
+use Rattle.pif_kernel_model.proofs.Walks.{numbered, walked-start, next_ready, next_idle, walked-more, walked-repaired, walked-levels, repaired-greatest}
 use Rattle.pif_plain.proofs.chain_walk.walk.Goals as goal
 use Rattle.pif_plain.proofs.chain_walk.walk.Goals.{then-repair, else-repair}
 

@@ -1,6 +1,6 @@
 -- The threads so far are repaired, and no more are counted.
 use Rattle.std.proofs.Common.{◌≤◌}
-use Rattle.pif_owners.proofs.Walks.{IsWalkedTo}
+use Rattle.pif_kernel_model.proofs.Walks.{IsWalkedTo}
 use Rattle.pif_plain.proofs.chain_walk.walk.Given as goal
 
 abbrev pub invariant-loop-place : goal.invariant-loop-place

@@ -2,10 +2,10 @@
 use Rattle.std.proofs.Common.{◌≡◌, ◌-◌, ◌+◌, ℕ, suc, length, sym, ap, ◌∙◌, arith}
 use Rattle.std.proofs.lemmas.Bool.{eqb-true, eqb-false}
 use Rattle.pif_model.specs.Graph.{reaches_within}
-use Rattle.pif_owners.specs.Owners.{waits_for}
-use Rattle.pif_owners.proofs.Greatest.{closes, waits_for-none, waits_for-owner}
-use Rattle.pif_chains.proofs.Following.{reaches_here}
-use Rattle.pif_chains.proofs.Hops.{reached_never, reached_hop, reached_last}
+use Rattle.pif_kernel_model.specs.Owners.{waits_for}
+use Rattle.pif_kernel_model.proofs.Greatest.{closes, waits_for-none, waits_for-owner}
+use Rattle.pif_model_lemmas.proofs.Following.{reaches_here}
+use Rattle.pif_model_lemmas.proofs.Hops.{reached_never, reached_hop, reached_last}
 use Rattle.pif_plain.proofs.cycles.would_close.Goals as goal
 
 pub returns-then-eq : goal.returns-then-eq

@@ -1,7 +1,7 @@
 -- What is reached from here in the hops that are left is what is reached from the start.
 use Rattle.std.proofs.Common.{◌≡◌, ◌-◌, suc, length}
 use Rattle.pif_model.specs.Graph.{reaches_within}
-use Rattle.pif_owners.specs.Owners.{waits_for}
+use Rattle.pif_kernel_model.specs.Owners.{waits_for}
 use Rattle.pif_plain.proofs.cycles.would_close.Given as goal
 
 abbrev pub invariant-loop-hop : goal.invariant-loop-hop

@@ -1,8 +1,8 @@
 -- Each hop propagates the priority to whom the thread waits for.
 use Rattle.std.proofs.Common.{◌≡◌, ◌+◌, ◌-◌, suc, length, sym, ap, ◌∙◌, arith}
-use Rattle.pif_owners.specs.Owners.{waits_for}
-use Rattle.pif_owners.specs.Boosts.{priority_at}
-use Rattle.pif_owners.proofs.Greatest.{waits_for-none, waits_for-owner}
+use Rattle.pif_kernel_model.specs.Owners.{waits_for}
+use Rattle.pif_kernel_model.specs.Boosts.{priority_at}
+use Rattle.pif_kernel_model.proofs.Greatest.{waits_for-none, waits_for-owner}
 use Rattle.pif_plain.proofs.Propagation.{handed-set, still_handed, still_handed-hop, still_handed-end, still_handed-all, still_handed-done}
 use Rattle.pif_plain.proofs.propagate.propagate.Goals as goal
 

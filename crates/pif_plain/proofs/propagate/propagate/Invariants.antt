@@ -1,7 +1,7 @@
 -- What is to stand by each thread over the hops that are left is what is to stand there over all.
 use Rattle.std.proofs.Common.{◌≡◌, ◌<◌, ◌-◌, ℕ, suc, length}
-use Rattle.pif_owners.specs.Owners.{waits_for}
-use Rattle.pif_owners.specs.Boosts.{priority_at, after_propagation}
+use Rattle.pif_kernel_model.specs.Owners.{waits_for}
+use Rattle.pif_kernel_model.specs.Boosts.{priority_at, after_propagation}
 use Rattle.pif_plain.proofs.Propagation.{still_handed}
 use Rattle.pif_plain.proofs.propagate.propagate.Given as goal
 

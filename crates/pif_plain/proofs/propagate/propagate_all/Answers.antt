@@ -1,11 +1,11 @@
 -- Each thread in turn propagates its base priority.
 use Rattle.std.proofs.Common.{◌≡◌, ◌+◌, ◌∙◌, ap, length, arith}
-use Rattle.pif_owners.specs.Owners.{waits_for}
-use Rattle.pif_owners.specs.Boosts.{base_of, priority_at, after_propagation}
-use Rattle.pif_owners.proofs.Greatest.{greatest_start, greatest_all}
+use Rattle.pif_kernel_model.specs.Owners.{waits_for}
+use Rattle.pif_kernel_model.specs.Boosts.{base_of, priority_at, after_propagation}
+use Rattle.pif_kernel_model.proofs.Greatest.{greatest_start, greatest_all}
 use Rattle.pif_plain.proofs.Propagation.{handed_by-more, propagation-none}
-use Rattle.pif_owners.proofs.PrioLemmas.{none_given}
-use Rattle.pif_owners.proofs.Walks.{numbered}
+use Rattle.pif_kernel_model.proofs.PrioLemmas.{none_given}
+use Rattle.pif_kernel_model.proofs.Walks.{numbered}
 use Rattle.pif_plain.proofs.propagate.propagate_all.Goals as goal
 use Rattle.pif_plain.proofs.propagate.propagate_all.Goals.{in-Some, in_default}
 

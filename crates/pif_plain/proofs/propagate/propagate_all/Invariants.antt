@@ -1,7 +1,7 @@
 -- The greatest base priority of the threads so far that reach each.
 use Rattle.std.proofs.Common.{◌≡◌, ◌<◌, ◌+◌, ℕ, length}
-use Rattle.pif_owners.specs.Owners.{waits_for}
-use Rattle.pif_owners.specs.Boosts.{base_of, priority_at}
+use Rattle.pif_kernel_model.specs.Owners.{waits_for}
+use Rattle.pif_kernel_model.specs.Boosts.{base_of, priority_at}
 use Rattle.pif_plain.proofs.Propagation.{handed_by}
 use Rattle.pif_plain.proofs.propagate.propagate_all.Given as goal
 

@@ -1,6 +1,6 @@
 use Rattle.std.proofs.Common.{◌≡◌, ◌+◌, None, sym, ap, ◌∙◌, arith}
 use Rattle.std.specs.List.{slice_get}
-use Rattle.pif_lists.specs.Table.{NodeLists, list_at}
+use Rattle.pif_nodes_model.specs.Table.{NodeLists, list_at}
 use Rattle.pif_queue.proofs.Places.{place-has, place-next, place-ended}
 use Rattle.pif_queue.proofs.parked_lists.nth.Goals as goal
 

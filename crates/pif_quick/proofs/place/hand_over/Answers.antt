@@ -1,6 +1,6 @@
 use Rattle.std.proofs.Common.{◌∙◌, ap, refl, arith}
 use Rattle.pif_model.specs.Word.{word_of, mark_word}
-use Rattle.pif_chains.proofs.WordBits.{word_of-number}
+use Rattle.pif_model_lemmas.proofs.WordBits.{word_of-number}
 use Rattle.pif_quick.proofs.PlaceSteps.{hand_allowed, closed_place}
 use Rattle.pif_quick.proofs.place.hand_over.Goals as goal
 

@@ -1,5 +1,5 @@
 use Rattle.std.proofs.Common.{sym, ap, ◌∙◌, arith}
-use Rattle.pif_chains.proofs.WordBits.{word_of-number}
+use Rattle.pif_model_lemmas.proofs.WordBits.{word_of-number}
 use Rattle.pif_quick.specs.Rule.{handed_to}
 use Rattle.pif_quick.proofs.place.handed_word.Goals as goal
 

@@ -1,8 +1,8 @@
 use Rattle.std.proofs.Common.{◌≡◌, ℕ, ◌-◌, ◌<◌, ◌≤◌, List, length, Some, sym, ap, ◌∙◌, arith}
 use Rattle.std.proofs.lemmas.Option.{slice_get_past, slice_get_within}
 use Rattle.std.specs.List.{slice_get}
-use Rattle.pif_lists.specs.Table.{NodeLists, list_at, IsApart}
-use Rattle.pif_lists.proofs.Places.{slice_get-ended, slice_get-has, next_node-place}
+use Rattle.pif_nodes_model.specs.Table.{NodeLists, list_at, IsApart}
+use Rattle.pif_nodes_model.proofs.Places.{slice_get-ended, slice_get-has, next_node-place}
 use Rattle.pif_runq.proofs.queue.nth_of_list.Goals as goal
 
 pub next-next-requires : goal.next-next-requires

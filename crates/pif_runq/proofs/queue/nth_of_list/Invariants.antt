@@ -1,6 +1,6 @@
 use Rattle.std.proofs.Common.{◌≡◌, ◌+◌, ◌-◌, ◌≤◌, length}
 use Rattle.std.specs.List.{slice_get}
-use Rattle.pif_lists.specs.Table.{list_at}
+use Rattle.pif_nodes_model.specs.Table.{list_at}
 use Rattle.pif_runq.proofs.queue.nth_of_list.Given as goal
 
 -- the node at hand stands behind as many as were taken off

@@ -1,4 +1,4 @@
-use Rattle.pif_chains.proofs.WordBits.{waiters-is}
+use Rattle.pif_model_lemmas.proofs.WordBits.{waiters-is}
 use Rattle.pif_word.proofs.bits.has_waiters.Goals as goal
 
 pub returns : goal.returns

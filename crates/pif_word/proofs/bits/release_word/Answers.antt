@@ -1,5 +1,5 @@
 use Rattle.std.proofs.Common.{sym}
-use Rattle.pif_chains.proofs.WordBits.{release_word-hit, release_word-miss}
+use Rattle.pif_model_lemmas.proofs.WordBits.{release_word-hit, release_word-miss}
 use Rattle.pif_word.proofs.bits.release_word.Goals as goal
 
 pub returns-then-w-t : goal.returns-then-w-t

@@ -1,4 +1,4 @@
-use Rattle.pif_chains.proofs.WordBits.{word_of-without_died}
+use Rattle.pif_model_lemmas.proofs.WordBits.{word_of-without_died}
 use Rattle.pif_word.proofs.bits.settled_word.Goals as goal
 
 pub returns : goal.returns

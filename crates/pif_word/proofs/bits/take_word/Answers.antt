@@ -1,5 +1,5 @@
 use Rattle.std.proofs.Common.{sym}
-use Rattle.pif_chains.proofs.WordBits.{take_word-hit, take_word-miss}
+use Rattle.pif_model_lemmas.proofs.WordBits.{take_word-hit, take_word-miss}
 use Rattle.pif_word.proofs.bits.take_word.Goals as goal
 
 pub returns-then-w-eq0 : goal.returns-then-w-eq0

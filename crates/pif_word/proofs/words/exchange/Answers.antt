@@ -1,5 +1,5 @@
 use Rattle.std.proofs.Common.{arith, sym, ◌∙◌, eq-eqb, ne_eqb}
-use Rattle.pif_chains.proofs.WordBits.{word_of-number, is_bare-word_of}
+use Rattle.pif_model_lemmas.proofs.WordBits.{word_of-number, is_bare-word_of}
 use Rattle.pif_word.proofs.words.exchange.Goals as goal
 
 pub returns-then-actual-expected-clause-bare : goal.returns-then-actual-expected-clause-bare

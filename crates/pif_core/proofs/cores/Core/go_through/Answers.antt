@@ -1,7 +1,7 @@
 -- A thread goes on: the loop is the definition's, no step is refused, and it ends.
 use Rattle.std.proofs.Common.{◌-◌, sym, ap, ◌∙◌, arith}
 use Rattle.pif_model.specs.Lines.{Outcome}
-use Rattle.pif_simulation.proofs.Bound.{went_on}
+use Rattle.pif_model_simulation.proofs.Bound.{went_on}
 use Rattle.pif_calls.proofs.CallLemmas.{goes_on-other, goes_on-turn}
 use Rattle.pif_core.proofs.Turns.{turns_left}
 use Rattle.pif_core.proofs.cores.Core.go_through.Goals as goal

@@ -1,6 +1,6 @@
 -- A core to which nothing was added stands after the empty history.
 use Rattle.pif_model.specs.Posix.{empty_world}
-use Rattle.pif_simulation.proofs.StandingLaws.{new_stands}
+use Rattle.pif_model_simulation.proofs.StandingLaws.{new_stands}
 use Rattle.pif_core.proofs.cores.Core.new.Goals as goal
 
 pub returns-clause-stands : goal.returns-clause-stands

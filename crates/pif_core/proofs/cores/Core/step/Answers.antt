@@ -1,5 +1,5 @@
 -- A core that stands stands after an event.
-use Rattle.pif_simulation.proofs.Bound.{open_ends_within_24}
+use Rattle.pif_model_simulation.proofs.Bound.{open_ends_within_24}
 use Rattle.pif_core.proofs.StandsAfter.{step_stands, stands_legal, stands_one_holder}
 use Rattle.pif_core.proofs.cores.Core.step.Goals as goal
 

@@ -1,8 +1,8 @@
 use Rattle.std.proofs.Common.{◌≡◌, true, subst, sym, ap, ◌∙◌}
 use Rattle.pif_model.specs.declared.lines.Status.TheVariants.{Ended}
 use Rattle.pif_model.specs.PiKernel.{Kernel, seat_at, is_living}
-use Rattle.pif_chains.proofs.kernel.KernelLeft.{status-left_same}
-use Rattle.pif_chains.proofs.kernel.KernelFacts.{living-added}
+use Rattle.pif_model_lemmas.proofs.kernel.Left.{status-left_same}
+use Rattle.pif_model_lemmas.proofs.kernel.Facts.{living-added}
 use Rattle.pif_kernel_state.specs.Inside.{Inside, kernel_of}
 use Rattle.pif_kernel.proofs.kernel_on.KernelOnPiKernel.exit.Goals as goal
 

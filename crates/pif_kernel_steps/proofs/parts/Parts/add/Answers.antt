@@ -1,6 +1,6 @@
 use Rattle.std.proofs.Common.{◌≡◌, ◌≤◌, ℕ, length, subst, sym, ◌∙◌, ap, arith}
 use Rattle.pif_types.specs.Bounds.{Bounds}
-use Rattle.pif_lists.specs.Levels.{IsQueued, IsLevel, level_of, level_after_add}
+use Rattle.pif_nodes_model.specs.Levels.{IsQueued, IsLevel, level_of, level_after_add}
 use Rattle.pif_model.specs.PiKernel.{kernel_after_add}
 use Rattle.pif_kernel_state.specs.Chained.{Chained}
 use Rattle.pif_kernel_state.specs.Inside.{Inside, IsSoundInside, kernel_of}

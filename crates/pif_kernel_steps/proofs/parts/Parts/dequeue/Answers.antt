@@ -3,7 +3,7 @@ use Rattle.std.proofs.lemmas.Bool.{true≢false, false≢true}
 use Rattle.pif_model.specs.declared.lines.Status.TheVariants.{Queued}
 use Rattle.pif_model.specs.Graph.{has_waiter, without}
 use Rattle.pif_model.specs.PiKernel.{Kernel, seat_at}
-use Rattle.pif_owners.specs.Owners.{Owners, count, waits_on, without_state}
+use Rattle.pif_kernel_model.specs.Owners.{Owners, count, waits_on, without_state}
 use Rattle.pif_kernel_state.specs.Chained.{Chained, KeepsLevels}
 use Rattle.pif_kernel_state.specs.Fields.{chains_of}
 use Rattle.pif_kernel_state.specs.Inside.{Inside, IsSoundInside, kernel_of, state_key_at, arrivals_in}

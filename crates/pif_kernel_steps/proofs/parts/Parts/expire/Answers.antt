@@ -2,9 +2,9 @@ use Rattle.std.proofs.Common.{◌≡◌, ap, ◌∙◌, sym}
 use Rattle.pif_model.specs.declared.lines.Status.TheVariants.{Stopped}
 use Rattle.pif_model.specs.declared.lines.Woken.TheVariants.{Expired}
 use Rattle.pif_model.specs.PiKernel.{Kernel, seat_at, has_seat, is_ready, queued_on, kernel_after_waking}
-use Rattle.pif_chains.proofs.kernel.KernelFacts.{living-added}
-use Rattle.pif_chains.proofs.kernel.KernelLeft.{has-left, status-left_same}
-use Rattle.pif_chains.proofs.kernel.KernelExpired.{expired-as_woken}
+use Rattle.pif_model_lemmas.proofs.kernel.Facts.{living-added}
+use Rattle.pif_model_lemmas.proofs.kernel.Left.{has-left, status-left_same}
+use Rattle.pif_model_lemmas.proofs.kernel.Expired.{expired-as_woken}
 use Rattle.pif_kernel_state.specs.Inside.{kernel_of}
 use Rattle.pif_kernel_steps.proofs.parts.Parts.expire.Goals.{After-leave_as}
 use Rattle.pif_kernel_steps.proofs.parts.Parts.expire.Goals as goal

@@ -4,7 +4,7 @@ use Rattle.pif_model.specs.declared.lines.Status.TheVariants.{Ready}
 use Rattle.pif_model.specs.declared.lines.Woken.TheVariants.{Owns}
 use Rattle.pif_model.specs.Graph.{has_waiter, without}
 use Rattle.pif_model.specs.PiKernel.{kernel_after_hand_over, next_in}
-use Rattle.pif_owners.specs.Owners.{Owners, count, without_state}
+use Rattle.pif_kernel_model.specs.Owners.{Owners, count, without_state}
 use Rattle.pif_kernel_state.specs.Chained.{Chained, KeepsLevels}
 use Rattle.pif_kernel_state.specs.Fields.{chains_of}
 use Rattle.pif_kernel_state.specs.Inside.{Inside, kernel_of}

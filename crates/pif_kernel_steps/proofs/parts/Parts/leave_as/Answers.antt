@@ -1,7 +1,7 @@
 use Rattle.std.proofs.Common.{set, arith, ap, ◌∙◌, ◌≡◌, length}
 use Rattle.pif_model.specs.Graph.{without}
 use Rattle.pif_model.specs.PiKernel.{kernel_left_as}
-use Rattle.pif_chains.proofs.kernel.KernelFacts.{living-added}
+use Rattle.pif_model_lemmas.proofs.kernel.Facts.{living-added}
 use Rattle.pif_kernel_state.specs.Inside.{Inside, kernel_of}
 use Rattle.pif_kernel_steps.specs.declared.parts.Parts.TheView.{view}
 use Rattle.pif_kernel_state.proofs.Found.{found_so}

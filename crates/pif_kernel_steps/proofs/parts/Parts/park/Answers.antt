@@ -1,6 +1,6 @@
 use Rattle.std.proofs.Common.{◌≡◌, true, [], ◌∷◌, ◌++◌, subst, sym, ◌∙◌, ap, arith}
-use Rattle.pif_lists.specs.Lists.{has}
-use Rattle.pif_chains.proofs.kernel.Statuses.{ready-unparked}
+use Rattle.pif_nodes_model.specs.Lists.{has}
+use Rattle.pif_model_lemmas.proofs.kernel.Statuses.{ready-unparked}
 use Rattle.pif_model.specs.PiKernel.{Kernel, has_seat, is_ready, seat_at, kernel_after_parking}
 use Rattle.pif_kernel_state.specs.Chained.{Chained, KeepsLevels}
 use Rattle.pif_kernel_state.specs.Fields.{chains_of}

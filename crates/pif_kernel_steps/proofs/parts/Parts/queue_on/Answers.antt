@@ -2,10 +2,10 @@ use Rattle.std.proofs.Common.{[], ◌∷◌, ◌++◌, set, is_some, subst, sym,
 use Rattle.pif_model.specs.declared.lines.Status.TheVariants.{Queued}
 use Rattle.pif_model.specs.PiKernel.{Kernel, has_seat, is_ready, kernel_after_queueing}
 use Rattle.pif_model.specs.PiKernel.{seat_at as kernel_seat_at}
-use Rattle.pif_lists.specs.Lists.{has, list_without}
-use Rattle.pif_lists.specs.Levels.{Queue}
-use Rattle.pif_chains.proofs.kernel.KernelFacts.{living-added}
-use Rattle.pif_chains.proofs.kernel.Statuses.{ready-unparked}
+use Rattle.pif_nodes_model.specs.Lists.{has, list_without}
+use Rattle.pif_nodes_model.specs.Levels.{Queue}
+use Rattle.pif_model_lemmas.proofs.kernel.Facts.{living-added}
+use Rattle.pif_model_lemmas.proofs.kernel.Statuses.{ready-unparked}
 use Rattle.pif_kernel_state.specs.Chained.{Chained}
 use Rattle.pif_kernel_state.specs.Inside.{Inside, kernel_of, state_key_at}
 use Rattle.pif_kernel_state.specs.Opened.{IsOpened}

@@ -1,6 +1,6 @@
 use Rattle.std.proofs.Common.{◌≡◌, ◌+◌, List, length, refl, subst, sym, ap, ◌∙◌, arith}
 use Rattle.pif_model.specs.declared.lines.Status.{Status}
-use Rattle.pif_owners.specs.Owners.{Owners}
+use Rattle.pif_kernel_model.specs.Owners.{Owners}
 use Rattle.pif_kernel_state.specs.Chained.{Chained}
 use Rattle.pif_kernel_state.specs.Inside.{Inside, IsSoundInside, kernel_of, arrivals_in}
 use Rattle.pif_kernel_state.specs.Tickets.{IsRenumbered}

@@ -1,5 +1,5 @@
 use Rattle.std.proofs.Common.{◌+◌, ◌<◌, length, refl, subst, sym, ap, ◌∙◌}
-use Rattle.pif_owners.specs.Owners.{count}
+use Rattle.pif_kernel_model.specs.Owners.{count}
 use Rattle.pif_kernel_state.specs.Inside.{Inside, state_key_at}
 use Rattle.pif_kernel_state.specs.Opened.IsOpened.{found}
 use Rattle.pif_kernel_state.proofs.QueueingSound.{opened_made}

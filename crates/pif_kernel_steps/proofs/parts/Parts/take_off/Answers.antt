@@ -2,9 +2,9 @@ use Rattle.std.proofs.Common.{◌≡◌, ◌⊎◌, ℕ, true, false, subst, sym
 use Rattle.pif_model.specs.declared.lines.Status.{Status}
 use Rattle.pif_model.specs.declared.lines.Status.TheVariants.{Stopped, Ended}
 use Rattle.pif_model.specs.PiKernel.{is_ready, is_parked, queued_on, seat_at, is_living, parkings_without}
-use Rattle.pif_chains.proofs.kernel.KernelFacts.{living-added}
-use Rattle.pif_chains.proofs.kernel.Statuses.{ready-unparked}
-use Rattle.pif_lists.specs.Levels.{Queue}
+use Rattle.pif_model_lemmas.proofs.kernel.Facts.{living-added}
+use Rattle.pif_model_lemmas.proofs.kernel.Statuses.{ready-unparked}
+use Rattle.pif_nodes_model.specs.Levels.{Queue}
 use Rattle.pif_kernel_state.specs.Chained.{Chained}
 use Rattle.pif_kernel_state.specs.Inside.{Inside, IsSoundInside, kernel_of}
 use Rattle.pif_kernel_state.specs.Leaving.{IsLeft}

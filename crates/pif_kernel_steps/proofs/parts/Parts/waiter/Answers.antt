@@ -1,11 +1,11 @@
 use Rattle.std.proofs.Common.{◌≡◌, ℕ, suc, List, is_some, subst, sym, ap, ◌∙◌, arith, add-one}
 use Rattle.std.specs.List.{slice_get}
 use Rattle.pif_model.specs.PiKernel.{waiters_in}
-use Rattle.pif_owners.specs.Owners.{waits_on, IsTop, HasNoWaiter}
-use Rattle.pif_owners.specs.Behind.{IsLast, IsBehind}
+use Rattle.pif_kernel_model.specs.Owners.{waits_on, IsTop, HasNoWaiter}
+use Rattle.pif_kernel_model.specs.Behind.{IsLast, IsBehind}
 use Rattle.pif_kernel_state.specs.Inside.{Inside, kernel_of}
 use Rattle.pif_kernel_state.proofs.WaiterOrder.{keyless, waits_at, top_at, last_at, next_at, nobody_at}
-use Rattle.pif_owners.proofs.WaiterRows.{none_later}
+use Rattle.pif_kernel_model.proofs.WaiterRows.{none_later}
 use Rattle.pif_kernel_steps.proofs.parts.Parts.waiter.Goals as goal
 
 pub returns-in_err-key : goal.returns-in_err-key

@@ -1,9 +1,9 @@
 use Rattle.std.proofs.Common.{◌≡◌, false, set, true, refl, subst, sym, ◌∙◌, ap, arith}
-use Rattle.pif_lists.specs.Lists.{has}
+use Rattle.pif_nodes_model.specs.Lists.{has}
 use Rattle.pif_model.specs.declared.lines.Status.TheVariants.{Ready}
 use Rattle.pif_model.specs.PiKernel.{Kernel, has_seat, is_ready, queued_on, kernel_after_waking, parkings_without}
 use Rattle.pif_model.specs.PiKernel.{seat_at as kernel_seat_at}
-use Rattle.pif_owners.specs.Owners.{Owners, task_at}
+use Rattle.pif_kernel_model.specs.Owners.{Owners, task_at}
 use Rattle.pif_kernel_state.specs.Chained.{Chained, KeepsLevels}
 use Rattle.pif_kernel_state.specs.Fields.{chains_of}
 use Rattle.pif_kernel_state.specs.Inside.{Inside, IsSoundInside, kernel_of}

@@ -1,7 +1,7 @@
 -- A new mutex leaves the parts sound.
 use Rattle.std.proofs.Common.{ap, ◌∙◌}
 use Rattle.pif_model.specs.Table.{Table, has_mutex_room}
-use Rattle.pif_simulation.proofs.additions.MutexAdded.{mutex_added_sound}
+use Rattle.pif_model_simulation.proofs.additions.MutexAdded.{mutex_added_sound}
 use Rattle.pif_mutex.proofs.parts.Parts.add_mutex.Goals as goal
 
 pub invariant_of-self : goal.invariant_of-self

@@ -1,8 +1,8 @@
 -- A new thread leaves the parts sound.
 use Rattle.std.proofs.Common.{ap, ◌∙◌}
 use Rattle.pif_model.specs.Table.{Table, has_thread_room}
-use Rattle.pif_simulation.proofs.additions.ThreadAdded.{thread_added_sound}
-use Rattle.pif_simulation.proofs.events.SoundTables.{priority}
+use Rattle.pif_model_simulation.proofs.additions.ThreadAdded.{thread_added_sound}
+use Rattle.pif_model_simulation.proofs.events.SoundTables.{priority}
 use Rattle.pif_mutex.proofs.parts.Parts.add_thread.Goals as goal
 
 pub invariant_of-self : goal.invariant_of-self

@@ -2,7 +2,7 @@
 use Rattle.std.proofs.Common.{ap, ◌∙◌}
 use Rattle.pif_model.specs.PiKernel.{is_living}
 use Rattle.pif_model.specs.Table.{Table}
-use Rattle.pif_simulation.proofs.events.SoundTables.{end_sound}
+use Rattle.pif_model_simulation.proofs.events.SoundTables.{end_sound}
 use Rattle.pif_mutex.proofs.parts.Parts.end.Goals as goal
 
 pub invariant_of-self : goal.invariant_of-self

@@ -1,5 +1,5 @@
 -- Parts to which nothing was added are sound.
-use Rattle.pif_simulation.proofs.additions.Additions.{new_sound}
+use Rattle.pif_model_simulation.proofs.additions.Additions.{new_sound}
 use Rattle.pif_mutex.proofs.parts.Parts.new.Goals as goal
 
 pub invariant_of-result : goal.invariant_of-result

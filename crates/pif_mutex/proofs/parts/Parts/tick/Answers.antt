@@ -3,7 +3,7 @@ use Rattle.std.proofs.Common.{ap, ◌∙◌}
 use Rattle.pif_model.specs.declared.events.Event.TheVariants.{Tick}
 use Rattle.pif_model.specs.Table.{Table}
 use Rattle.pif_model.specs.Lines.{table_refusal}
-use Rattle.pif_simulation.proofs.events.SoundTables.{tick_sound}
+use Rattle.pif_model_simulation.proofs.events.SoundTables.{tick_sound}
 use Rattle.pif_mutex.proofs.parts.Parts.tick.Goals as goal
 
 pub invariant_of-self : goal.invariant_of-self

@@ -2,8 +2,8 @@
 use Rattle.std.proofs.Common.{◌≡◌, ◌<◌, length, true, refl, sym, ap, ◌∙◌, arith}
 use Rattle.pif_model.specs.Word.{bits_of}
 use Rattle.pif_model.specs.Table.{has_mutex, cell_at}
-use Rattle.pif_chains.proofs.WordBits.{bits_of-word_of}
-use Rattle.pif_chains.proofs.Numbers.{from_within}
+use Rattle.pif_model_lemmas.proofs.WordBits.{bits_of-word_of}
+use Rattle.pif_model_lemmas.proofs.Numbers.{from_within}
 use Rattle.pif_mutex.proofs.parts.Parts.word.Goals as goal
 
 pub returns-then-get-mutex_count-clause-value : goal.returns-then-get-mutex_count-clause-value

@@ -2,7 +2,7 @@
 use Rattle.std.proofs.Common.{ap, ◌∙◌, arith}
 use Rattle.pif_model.specs.Word.{word_of, is_bare}
 use Rattle.pif_model.specs.Table.{cell_at}
-use Rattle.pif_chains.proofs.WordBits.{word_of-number}
+use Rattle.pif_model_lemmas.proofs.WordBits.{word_of-number}
 use Rattle.pif_mutex.proofs.Exchanges.{give_exchange_done, give_exchange_failed}
 use Rattle.pif_mutex.proofs.state.State.give_exchange.Goals as goal
 

@@ -1,7 +1,7 @@
 -- The exchange writes the thread's number, or fails.
 use Rattle.std.proofs.Common.{◌≡◌, ap, ◌∙◌}
 use Rattle.pif_model.specs.Word.{word_of, held_by}
-use Rattle.pif_chains.proofs.WordBits.{word_of-number}
+use Rattle.pif_model_lemmas.proofs.WordBits.{word_of-number}
 use Rattle.pif_mutex.proofs.Exchanges.{own_exchange_done, own_exchange_failed}
 use Rattle.pif_mutex.proofs.state.State.own_exchange.Goals as goal
 

@@ -2,8 +2,8 @@
 use Rattle.std.proofs.Common.{◌≡◌, ℕ, List, ◌∷◌, Option, None, sym, ap, ◌∙◌, subst}
 use Rattle.pif_model.specs.RobustList.{Robust, robust_at, walk_of, has_entry, IsRobust}
 use Rattle.pif_model.specs.Table.{Table}
-use Rattle.pif_chains.specs.RobustWalks.{first_or, behind, ahead}
-use Rattle.pif_chains.proofs.RobustWalks.{first-ahead, first-on, next-ahead, next-on, next-smaller}
+use Rattle.pif_model_lemmas.specs.RobustWalks.{first_or, behind, ahead}
+use Rattle.pif_model_lemmas.proofs.RobustWalks.{first-ahead, first-on, next-ahead, next-on, next-smaller}
 use Rattle.pif_mutex.proofs.EndedCounts.{held_once_first, held_once_more, held_once_last, held_once_lists}
 use Rattle.pif_mutex.proofs.state.State.reset_counts.Goals as goal
 

@@ -1,7 +1,7 @@
 -- Those of the walk that aren't ahead any more are held once.
 use Rattle.std.proofs.Common.{◌≡◌, ℕ, true, Some, length}
 use Rattle.pif_model.specs.RobustList.{robust_at, walk_of, has_entry}
-use Rattle.pif_chains.specs.RobustWalks.{ahead}
+use Rattle.pif_model_lemmas.specs.RobustWalks.{ahead}
 use Rattle.pif_mutex.proofs.EndedCounts.{AreHeldOnce}
 use Rattle.pif_mutex.proofs.state.State.reset_counts.Given as goal
 

@@ -1,5 +1,5 @@
 use Rattle.std.proofs.Common.{rules, arith, ◌≡◌, ◌∙◌, ap, sym, subst, length}
-use Rattle.pif_lists.specs.Table.{NodeLists, IsApart, holder}
+use Rattle.pif_nodes_model.specs.Table.{NodeLists, IsApart, holder}
 use Rattle.pif_nodes.specs.Links.{follower_of}
 use Rattle.pif_nodes.proofs.SeenLemmas.{Shows-from, holders-put, Ties-shown, apart_shown, held_in, follower_in}
 use Rattle.pif_nodes.proofs.ReadLemmas.{nodes_seen}

@@ -1,7 +1,7 @@
 use Rattle.std.proofs.Common.{arith, ◌≡◌, ◌∙◌, ap, sym, subst, length}
 use Rattle.std.proofs.lemmas.Option.{same_Some}
-use Rattle.pif_lists.specs.Lists.{list_without}
-use Rattle.pif_lists.specs.Table.{NodeLists, IsApart, with_list, list_at, holder}
+use Rattle.pif_nodes_model.specs.Lists.{list_without}
+use Rattle.pif_nodes_model.specs.Table.{NodeLists, IsApart, with_list, list_at, holder}
 use Rattle.pif_nodes.proofs.SeenLemmas.{Shows-from, holders-taken, Ties-shown, apart_shown}
 use Rattle.pif_nodes.proofs.ReadLemmas.{apart_seen}
 use Rattle.pif_nodes.proofs.WriteLemmas.{Shows-detached, holder_is, list_within, prev_within, next_within}

@@ -1,5 +1,5 @@
 use Rattle.std.proofs.Common.{rules, ◌≡◌, sym, subst, replicate}
-use Rattle.pif_lists.specs.Table.{IsApart}
+use Rattle.pif_nodes_model.specs.Table.{IsApart}
 use Rattle.pif_nodes.specs.Links.{free_slot, empty_ends}
 use Rattle.pif_nodes.proofs.SeenLemmas.{Ties-shown, apart_shown}
 use Rattle.pif_nodes.proofs.WriteLemmas.{Shows-new}

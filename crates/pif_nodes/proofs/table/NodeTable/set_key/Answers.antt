@@ -1,5 +1,5 @@
 use Rattle.std.proofs.Common.{arith, ◌≡◌, sym, subst, length}
-use Rattle.pif_lists.specs.Table.{IsApart}
+use Rattle.pif_nodes_model.specs.Table.{IsApart}
 use Rattle.pif_nodes.proofs.SeenLemmas.{Ties-shown, apart_shown}
 use Rattle.pif_nodes.proofs.ReadLemmas.{nodes_seen}
 use Rattle.pif_nodes.proofs.WriteLemmas.{Shows-rekeyed}

@@ -1,7 +1,7 @@
 use Rattle.std.proofs.Common.{◌≤◌, subst, sym, ap, ◌∙◌, arith}
-use Rattle.pif_lists.specs.Levels.{IsQueued, level_of, level_after_add}
+use Rattle.pif_nodes_model.specs.Levels.{IsQueued, level_of, level_after_add}
 use Rattle.pif_kernel_state.specs.Chained.{Chained}
-use Rattle.pif_lists.proofs.FreeNodes.{off_free}
+use Rattle.pif_nodes_model.proofs.FreeNodes.{off_free}
 use Rattle.pif_plain.proofs.chains.PlainChainsChains.add.Goals as goal
 
 pub add-requires-clause-thread : goal.add-requires-clause-thread

@@ -1,9 +1,9 @@
 use Rattle.std.proofs.Common.{◌≡◌, ℕ, ◌+◌, [], length, subst, sym, ap, ◌∙◌, arith}
 use Rattle.std.proofs.lemmas.List.{length-replicate}
-use Rattle.pif_lists.specs.Table.{NodeLists, IsApart}
-use Rattle.pif_lists.specs.Levels.{Queue, HasRoom, level_of}
-use Rattle.pif_owners.specs.Owners.{Owners, no_task}
-use Rattle.pif_lists.proofs.EmptyTables.{empty_table, queue_room, empty_level}
+use Rattle.pif_nodes_model.specs.Table.{NodeLists, IsApart}
+use Rattle.pif_nodes_model.specs.Levels.{Queue, HasRoom, level_of}
+use Rattle.pif_kernel_model.specs.Owners.{Owners, no_task}
+use Rattle.pif_nodes_model.proofs.EmptyTables.{empty_table, queue_room, empty_level}
 use Rattle.pif_plain.proofs.chains.PlainChainsChains.new.Goals as goal
 
 room : (threads : ℕ) (q : Queue) (t : NodeLists)

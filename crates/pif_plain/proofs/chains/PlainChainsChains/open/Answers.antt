@@ -1,5 +1,5 @@
 use Rattle.std.proofs.Common.{◌+◌, ◌<◌, length, subst, sym}
-use Rattle.pif_owners.specs.Owners.{count}
+use Rattle.pif_kernel_model.specs.Owners.{count}
 use Rattle.pif_kernel_state.specs.Chained.{Chained}
 use Rattle.pif_plain.proofs.chains.PlainChainsChains.open.Goals as goal
 

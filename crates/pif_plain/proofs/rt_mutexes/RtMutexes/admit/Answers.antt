@@ -1,6 +1,6 @@
 use Rattle.std.proofs.Common.{arith, ap, sym, ◌∙◌, ◌≡◌, ◌≤◌}
-use Rattle.pif_owners.specs.Owners.{Task, no_task}
-use Rattle.pif_owners.proofs.OwnersLemmas.{sound-priorities, free-wait}
+use Rattle.pif_kernel_model.specs.Owners.{Task, no_task}
+use Rattle.pif_kernel_model.proofs.OwnersLemmas.{sound-priorities, free-wait}
 use Rattle.pif_plain.proofs.rt_mutexes.RtMutexes.admit.Goals as goal
 
 pub put-requires : goal.put-requires

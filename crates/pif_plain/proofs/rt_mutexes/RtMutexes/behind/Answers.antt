@@ -1,5 +1,5 @@
 use Rattle.std.proofs.Common.{◌≡◌, ◌∙◌, ◌+◌, length, arith, ap, subst, sym}
-use Rattle.pif_owners.specs.Owners.{Owners, AreSoundOwners}
+use Rattle.pif_kernel_model.specs.Owners.{Owners, AreSoundOwners}
 use Rattle.pif_plain.proofs.BehindLemmas.{IsFirstBehind, asked, behind-none, behind-some, next-first, same-first}
 use Rattle.pif_plain.proofs.rt_mutexes.RtMutexes.behind.Goals as goal
 use Rattle.pif_plain.proofs.rt_mutexes.RtMutexes.behind.Goals.{then-leads, else-leads}

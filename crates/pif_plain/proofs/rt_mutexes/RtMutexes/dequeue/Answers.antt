@@ -1,4 +1,4 @@
-use Rattle.pif_owners.proofs.OwnersLemmas.{sound-free}
+use Rattle.pif_kernel_model.proofs.OwnersLemmas.{sound-free}
 use Rattle.pif_plain.proofs.rt_mutexes.RtMutexes.dequeue.Goals as goal
 
 pub set_wait-requires : goal.set_wait-requires

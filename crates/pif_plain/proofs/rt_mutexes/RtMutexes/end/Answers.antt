@@ -1,9 +1,9 @@
 use Rattle.std.proofs.Common.{◌≡◌, sym, subst, ap, arith}
-use Rattle.pif_owners.specs.Owners.{count, without_state, AreSoundOwners}
+use Rattle.pif_kernel_model.specs.Owners.{count, without_state, AreSoundOwners}
 use Rattle.pif_plain.specs.StateFields.{owners_from}
-use Rattle.pif_owners.proofs.OwnersLemmas.{sound-ended}
+use Rattle.pif_kernel_model.proofs.OwnersLemmas.{sound-ended}
 use Rattle.pif_plain.proofs.StateFieldsLemmas.{contains-state, owners_from-removed}
-use Rattle.pif_owners.proofs.MapLemmas.{len-owners_of}
+use Rattle.pif_kernel_model.proofs.MapLemmas.{len-owners_of}
 use Rattle.pif_plain.proofs.rt_mutexes.RtMutexes.end.Goals as goal
 
 pub remove-requires : goal.remove-requires

@@ -1,4 +1,4 @@
-use Rattle.pif_owners.proofs.OwnersLemmas.{sound-queued}
+use Rattle.pif_kernel_model.proofs.OwnersLemmas.{sound-queued}
 use Rattle.pif_plain.proofs.rt_mutexes.RtMutexes.enqueue.Goals as goal
 
 pub set_wait-requires : goal.set_wait-requires

@@ -1,6 +1,6 @@
 use Rattle.std.proofs.Common.{◌≡◌, None, ap, ◌∙◌}
-use Rattle.pif_owners.specs.Owners.{Owners, waits_on}
-use Rattle.pif_owners.proofs.OwnersLemmas.{sound-free, sound-handed, waits_on-freed}
+use Rattle.pif_kernel_model.specs.Owners.{Owners, waits_on}
+use Rattle.pif_kernel_model.proofs.OwnersLemmas.{sound-free, sound-handed, waits_on-freed}
 use Rattle.pif_plain.proofs.rt_mutexes.RtMutexes.hand_over.Goals as goal
 
 pub set_wait-requires : goal.set_wait-requires

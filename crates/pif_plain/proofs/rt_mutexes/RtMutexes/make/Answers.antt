@@ -1,9 +1,9 @@
 use Rattle.std.proofs.Common.{◌≡◌, None, sym, subst, ap, ◌∙◌, arith}
-use Rattle.pif_owners.specs.Owners.{Owners, owner_at, count, waits_on, with_owner, HasNoWaiter, AreSoundOwners}
+use Rattle.pif_kernel_model.specs.Owners.{Owners, owner_at, count, waits_on, with_owner, HasNoWaiter, AreSoundOwners}
 use Rattle.pif_plain.specs.StateFields.{owners_from}
-use Rattle.pif_owners.proofs.OwnersLemmas.{sound-made, no_waiter-without_state}
+use Rattle.pif_kernel_model.proofs.OwnersLemmas.{sound-made, no_waiter-without_state}
 use Rattle.pif_plain.proofs.StateFieldsLemmas.{value-owner, room-for_one, owners_from-put}
-use Rattle.pif_owners.proofs.MapLemmas.{len-owners_of}
+use Rattle.pif_kernel_model.proofs.MapLemmas.{len-owners_of}
 use Rattle.pif_plain.proofs.rt_mutexes.RtMutexes.make.Goals as goal
 
 pub insert_reserved-requires : goal.insert_reserved-requires

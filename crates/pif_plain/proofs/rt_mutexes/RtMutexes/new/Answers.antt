@@ -1,9 +1,9 @@
 use Rattle.std.proofs.Common.{arith, sym, subst, ap, rules, ◌≡◌, ◌+◌, ◌≤◌, [], length, replicate}
 use Rattle.std.proofs.lemmas.List.{length-replicate}
-use Rattle.pif_owners.specs.Owners.{AreSoundOwners, no_owners, no_task}
+use Rattle.pif_kernel_model.specs.Owners.{AreSoundOwners, no_owners, no_task}
 use Rattle.pif_plain.specs.StateFields.{owners_from}
-use Rattle.pif_owners.proofs.MapLemmas.{owners_of-empty}
-use Rattle.pif_owners.proofs.OwnersLemmas.{sound-no_owners}
+use Rattle.pif_kernel_model.proofs.MapLemmas.{owners_of-empty}
+use Rattle.pif_kernel_model.proofs.OwnersLemmas.{sound-no_owners}
 use Rattle.pif_plain.proofs.rt_mutexes.RtMutexes.new.Goals as goal
 
 pub invariant_of-result : goal.invariant_of-result

@@ -1,6 +1,6 @@
 use Rattle.std.proofs.Common.{◌≡◌, ◌∙◌, ap, sym, refl, Some}
-use Rattle.pif_owners.specs.Owners.{Task, Wait, task_at}
-use Rattle.pif_owners.proofs.OwnersLemmas.{sound-ranked}
+use Rattle.pif_kernel_model.specs.Owners.{Task, Wait, task_at}
+use Rattle.pif_kernel_model.proofs.OwnersLemmas.{sound-ranked}
 use Rattle.pif_plain.proofs.rt_mutexes.RtMutexes.rekey.Goals as goal
 
 pub set_wait-requires : goal.set_wait-requires

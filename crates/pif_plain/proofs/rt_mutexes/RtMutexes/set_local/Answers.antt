@@ -1,6 +1,6 @@
 use Rattle.std.proofs.Common.{arith, ap, ◌≡◌, ◌∙◌}
-use Rattle.pif_owners.specs.Owners.{Task, task_at}
-use Rattle.pif_owners.proofs.OwnersLemmas.{sound-priorities}
+use Rattle.pif_kernel_model.specs.Owners.{Task, task_at}
+use Rattle.pif_kernel_model.proofs.OwnersLemmas.{sound-priorities}
 use Rattle.pif_plain.proofs.rt_mutexes.RtMutexes.set_local.Goals as goal
 
 pub put-requires : goal.put-requires

@@ -1,7 +1,7 @@
 use Rattle.std.proofs.Common.{◌≡◌, sym, subst}
 use Rattle.slab.specs.Slab.{ContainsKey, with_value}
 use Rattle.slab.proofs.SlabLemmas.{Updates-with_value}
-use Rattle.pif_owners.specs.Owners.{with_owner, AreSoundOwners}
+use Rattle.pif_kernel_model.specs.Owners.{with_owner, AreSoundOwners}
 use Rattle.pif_plain.specs.StateFields.{owners_from}
 use Rattle.pif_plain.proofs.StateFieldsLemmas.{contains-state, owners_from-put}
 use Rattle.pif_plain.proofs.rt_mutexes.RtMutexes.set_owner.Goals as goal

@@ -1,5 +1,5 @@
 use Rattle.std.proofs.Common.{◌≡◌, length, arith, ap, subst}
-use Rattle.pif_owners.specs.Owners.{Owners, AreSoundOwners}
+use Rattle.pif_kernel_model.specs.Owners.{Owners, AreSoundOwners}
 use Rattle.pif_plain.proofs.TopLemmas.{first-some, top-state}
 use Rattle.pif_plain.proofs.rt_mutexes.RtMutexes.top.Goals as goal
 

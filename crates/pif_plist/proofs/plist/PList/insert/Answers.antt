@@ -1,8 +1,8 @@
 use Rattle.std.proofs.Common.{◌≡◌, ◌∙◌, ap, sym, subst, Some}
-use Rattle.pif_lists.specs.Lists.{insert_after}
-use Rattle.pif_lists.specs.Table.{NodeLists, list_at, holder, with_list, with_key}
-use Rattle.pif_lists.specs.Order.{IsSorted, table_after_insert, OthersStaySorted}
-use Rattle.pif_lists.proofs.InsertLemmas.{put_is, inserted_sorted, inserted_others, place_held}
+use Rattle.pif_nodes_model.specs.Lists.{insert_after}
+use Rattle.pif_nodes_model.specs.Table.{NodeLists, list_at, holder, with_list, with_key}
+use Rattle.pif_nodes_model.specs.Order.{IsSorted, table_after_insert, OthersStaySorted}
+use Rattle.pif_nodes_model.proofs.InsertLemmas.{put_is, inserted_sorted, inserted_others, place_held}
 use Rattle.pif_plist.proofs.plist.PList.insert.Goals as goal
 
 pub attach_after-requires-clause-place : goal.attach_after-requires-clause-place

@@ -1,9 +1,9 @@
 use Rattle.std.proofs.Common.{◌≡◌, ◌∙◌, ap, false, sym, Some}
-use Rattle.pif_lists.specs.Lists.{last_of}
-use Rattle.pif_lists.specs.Table.{list_at}
-use Rattle.pif_lists.proofs.ListLemmas.{last_of-has}
-use Rattle.pif_lists.specs.Order.{comes_before, key_in}
-use Rattle.pif_lists.proofs.WalkLemmas.{place_at_end}
+use Rattle.pif_nodes_model.specs.Lists.{last_of}
+use Rattle.pif_nodes_model.specs.Table.{list_at}
+use Rattle.pif_nodes_model.proofs.ListLemmas.{last_of-has}
+use Rattle.pif_nodes_model.specs.Order.{comes_before, key_in}
+use Rattle.pif_nodes_model.proofs.WalkLemmas.{place_at_end}
 use Rattle.pif_plist.proofs.plist.PList.place.Goals as goal
 
 pub key-requires : goal.key-requires

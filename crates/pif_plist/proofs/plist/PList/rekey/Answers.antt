@@ -1,7 +1,7 @@
 use Rattle.std.proofs.Common.{◌≡◌, ◌∙◌, ap, sym, subst}
-use Rattle.pif_lists.specs.declared.keys.Key.{Key}
-use Rattle.pif_lists.specs.Table.{NodeLists, IsApart}
-use Rattle.pif_lists.specs.Order.{IsSorted, table_after_insert, table_after_remove, key_with_prio}
+use Rattle.pif_nodes_model.specs.declared.keys.Key.{Key}
+use Rattle.pif_nodes_model.specs.Table.{NodeLists, IsApart}
+use Rattle.pif_nodes_model.specs.Order.{IsSorted, table_after_insert, table_after_remove, key_with_prio}
 use Rattle.pif_plist.proofs.RekeyLemmas.{rekeyed-in_place, rekeyed_sorted, rekeyed_others}
 use Rattle.pif_plist.proofs.plist.PList.rekey.Goals as goal
 

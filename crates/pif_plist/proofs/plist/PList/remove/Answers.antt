@@ -1,7 +1,7 @@
 use Rattle.std.proofs.Common.{sym, subst}
-use Rattle.pif_lists.specs.Table.{NodeLists}
-use Rattle.pif_lists.specs.Order.{IsSorted}
-use Rattle.pif_lists.proofs.InsertLemmas.{removed_sorted}
+use Rattle.pif_nodes_model.specs.Table.{NodeLists}
+use Rattle.pif_nodes_model.specs.Order.{IsSorted}
+use Rattle.pif_nodes_model.proofs.InsertLemmas.{removed_sorted}
 use Rattle.pif_plist.proofs.plist.PList.remove.Goals as goal
 
 pub returns-clause-sorted : goal.returns-clause-sorted

@@ -1,7 +1,7 @@
 use Rattle.std.proofs.Common.{sym, subst}
-use Rattle.pif_lists.specs.declared.keys.Key.{Key}
-use Rattle.pif_lists.specs.Table.{NodeLists, IsApart}
-use Rattle.pif_lists.specs.Order.{IsSorted}
+use Rattle.pif_nodes_model.specs.declared.keys.Key.{Key}
+use Rattle.pif_nodes_model.specs.Table.{NodeLists, IsApart}
+use Rattle.pif_nodes_model.specs.Order.{IsSorted}
 use Rattle.pif_plist.proofs.RekeyLemmas.{rekeyed_others}
 use Rattle.pif_plist.proofs.plist.PList.set_ticket.Goals as goal
 

@@ -1,8 +1,8 @@
 use Rattle.std.proofs.Common.{◌≡◌, ◌∙◌, ◌<◌, ap, ℕ, false, sym, subst, Option, Some}
-use Rattle.pif_lists.specs.Lists.{next_in_list}
-use Rattle.pif_lists.specs.Table.{list_at}
-use Rattle.pif_lists.specs.Order.{comes_before, key_in}
-use Rattle.pif_lists.proofs.WalkLemmas.{IsWalked, left, walk_has, walk_step, walk_smaller, next_of_is}
+use Rattle.pif_nodes_model.specs.Lists.{next_in_list}
+use Rattle.pif_nodes_model.specs.Table.{list_at}
+use Rattle.pif_nodes_model.specs.Order.{comes_before, key_in}
+use Rattle.pif_nodes_model.proofs.WalkLemmas.{IsWalked, left, walk_has, walk_step, walk_smaller, next_of_is}
 use Rattle.pif_plist.proofs.plist.PList.walk.Goals as goal
 
 pub key-requires : goal.key-requires

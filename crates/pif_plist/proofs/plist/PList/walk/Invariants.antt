@@ -1,5 +1,5 @@
-use Rattle.pif_lists.specs.Table.{list_at}
-use Rattle.pif_lists.proofs.WalkLemmas.{IsWalked, left}
+use Rattle.pif_nodes_model.specs.Table.{list_at}
+use Rattle.pif_nodes_model.proofs.WalkLemmas.{IsWalked, left}
 use Rattle.pif_plist.proofs.plist.PList.walk.Given as goal
 
 abbrev pub invariant-loop-next : goal.invariant-loop-next

@@ -1,7 +1,7 @@
 use Rattle.std.proofs.Common.{◌≡◌, ◌∙◌, length, ap, sym, subst, rules}
-use Rattle.pif_owners.specs.Entries.{Entries}
-use Rattle.pif_owners.specs.Parked.{parked_at}
-use Rattle.pif_owners.specs.Buckets.{Buckets, HoldsBuckets}
+use Rattle.pif_kernel_model.specs.Entries.{Entries}
+use Rattle.pif_kernel_model.specs.Parked.{parked_at}
+use Rattle.pif_kernel_model.specs.Buckets.{Buckets, HoldsBuckets}
 use Rattle.pif_queue.proofs.BucketFrames.{parked-same, words-changed}
 use Rattle.pif_queue.proofs.buckets.Buckets.forget_at.Goals as goal
 

@@ -1,6 +1,6 @@
 use Rattle.std.proofs.Common.{◌≡◌, ◌∙◌, ◌%◌, Some, sym}
-use Rattle.pif_owners.specs.Entries.{node_with, IsEntered}
-use Rattle.pif_owners.proofs.EntryLemmas.{with-stands}
+use Rattle.pif_kernel_model.specs.Entries.{node_with, IsEntered}
+use Rattle.pif_kernel_model.proofs.EntryLemmas.{with-stands}
 use Rattle.pif_queue.proofs.entries.Entries.find.Goals as goal
 
 -- the node that was found is that of a row

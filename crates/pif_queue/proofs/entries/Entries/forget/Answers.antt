@@ -1,8 +1,8 @@
 use Rattle.std.proofs.Common.{◌≡◌, ◌∙◌, Some, sym}
-use Rattle.pif_lists.specs.Table.{list_at, holder, with_list}
-use Rattle.pif_lists.specs.Lists.{list_without}
-use Rattle.pif_owners.specs.Entries.{bucket_of, node_with}
-use Rattle.pif_owners.proofs.EntryLemmas.{is-some, with-stands}
+use Rattle.pif_nodes_model.specs.Table.{list_at, holder, with_list}
+use Rattle.pif_nodes_model.specs.Lists.{list_without}
+use Rattle.pif_kernel_model.specs.Entries.{bucket_of, node_with}
+use Rattle.pif_kernel_model.proofs.EntryLemmas.{is-some, with-stands}
 use Rattle.pif_queue.proofs.EntryChanges.{forgot-found, forgot-holds, forgot-outside}
 use Rattle.pif_queue.proofs.entries.Entries.forget.Goals as goal
 

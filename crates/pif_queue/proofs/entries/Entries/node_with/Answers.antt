@@ -1,10 +1,10 @@
 use Rattle.std.proofs.Common.{◌≡◌, ◌∙◌, ◌%◌, ◌<◌, ℕ, List, Option, Some, ap, sym, subst}
 use Rattle.std.proofs.lemmas.Bool.{eq-eqb, ne_eqb}
-use Rattle.pif_lists.specs.Lists.{next_in_list}
-use Rattle.pif_lists.specs.Table.{NodeLists, list_at}
-use Rattle.pif_lists.proofs.WalkLemmas.{left, next_of_is}
-use Rattle.pif_owners.specs.Entries.{Entry, Entries, bucket_of, word_of_node, IsEntered}
-use Rattle.pif_owners.proofs.EntryLemmas.{bucket-below}
+use Rattle.pif_nodes_model.specs.Lists.{next_in_list}
+use Rattle.pif_nodes_model.specs.Table.{NodeLists, list_at}
+use Rattle.pif_nodes_model.proofs.WalkLemmas.{left, next_of_is}
+use Rattle.pif_kernel_model.specs.Entries.{Entry, Entries, bucket_of, word_of_node, IsEntered}
+use Rattle.pif_kernel_model.proofs.EntryLemmas.{bucket-below}
 use Rattle.pif_queue.proofs.Passing.{IsPassing, passing-has, passing-smaller, passing-step, passing-found, passing-end}
 use Rattle.pif_queue.proofs.entries.Entries.node_with.Goals as goal
 

@@ -1,6 +1,6 @@
-use Rattle.pif_lists.specs.Table.{list_at}
-use Rattle.pif_lists.proofs.WalkLemmas.{left}
-use Rattle.pif_owners.specs.Entries.{bucket_of}
+use Rattle.pif_nodes_model.specs.Table.{list_at}
+use Rattle.pif_nodes_model.proofs.WalkLemmas.{left}
+use Rattle.pif_kernel_model.specs.Entries.{bucket_of}
 use Rattle.pif_queue.proofs.Passing.{IsPassing}
 use Rattle.pif_queue.proofs.entries.Entries.node_with.Given as goal
 

@@ -1,7 +1,7 @@
 use Rattle.std.proofs.Common.{◌≡◌, ◌∙◌, ℕ, eqb, cond, ◌∷◌, Some, ap, sym, subst}
-use Rattle.pif_lists.specs.Table.{list_at, holder, with_list}
-use Rattle.pif_owners.specs.Entries.{Entries, bucket_of, node_of, found_in, HoldsEntries}
-use Rattle.pif_owners.proofs.EntryLemmas.{row-free}
+use Rattle.pif_nodes_model.specs.Table.{list_at, holder, with_list}
+use Rattle.pif_kernel_model.specs.Entries.{Entries, bucket_of, node_of, found_in, HoldsEntries}
+use Rattle.pif_kernel_model.proofs.EntryLemmas.{row-free}
 use Rattle.pif_queue.proofs.EntryChanges.{put-found, put-holds}
 use Rattle.pif_queue.proofs.entries.Entries.put.Goals as goal
 

@@ -1,6 +1,6 @@
 use Rattle.std.proofs.Common.{◌∙◌, sym}
-use Rattle.pif_owners.specs.Parked.{IsNodeOfThread, variable_list}
-use Rattle.pif_owners.proofs.Firsts.{all-if}
+use Rattle.pif_kernel_model.specs.Parked.{IsNodeOfThread, variable_list}
+use Rattle.pif_kernel_model.proofs.Firsts.{all-if}
 use Rattle.pif_queue.proofs.ParkedLemmas.{own-node, own-next, own-prev}
 use Rattle.pif_queue.proofs.parked_lists.ParkedLists.around.Goals as goal
 

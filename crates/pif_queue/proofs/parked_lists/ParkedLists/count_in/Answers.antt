@@ -1,6 +1,6 @@
 use Rattle.std.proofs.Common.{◌∙◌, ap, arith}
-use Rattle.pif_lists.specs.Table.{NodeLists}
-use Rattle.pif_owners.specs.Parked.{ParkedLists, with_differing}
+use Rattle.pif_nodes_model.specs.Table.{NodeLists}
+use Rattle.pif_kernel_model.specs.Parked.{ParkedLists, with_differing}
 use Rattle.pif_queue.proofs.ParkedLemmas.{counts, few-differences}
 use Rattle.pif_queue.proofs.parked_lists.ParkedLists.count_in.Goals as goal
 

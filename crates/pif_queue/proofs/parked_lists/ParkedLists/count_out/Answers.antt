@@ -1,9 +1,9 @@
 use Rattle.std.proofs.Common.{◌≡◌, ℕ, List, sym, ◌∙◌, ap, arith}
 use Rattle.std.proofs.lemmas.List.{set-get_or}
-use Rattle.pif_lists.specs.Lists.{list_without}
-use Rattle.pif_lists.specs.Table.{NodeLists, list_at}
-use Rattle.pif_owners.specs.Differences.{differences}
-use Rattle.pif_owners.specs.Parked.{ParkedLists, with_differing, differing_at, variable_list, target_of}
+use Rattle.pif_nodes_model.specs.Lists.{list_without}
+use Rattle.pif_nodes_model.specs.Table.{NodeLists, list_at}
+use Rattle.pif_kernel_model.specs.Differences.{differences}
+use Rattle.pif_kernel_model.specs.Parked.{ParkedLists, with_differing, differing_at, variable_list, target_of}
 use Rattle.pif_queue.proofs.ParkedLemmas.{counts, few-differences, none-left}
 use Rattle.pif_queue.proofs.parked_lists.ParkedLists.count_out.Goals as goal
 

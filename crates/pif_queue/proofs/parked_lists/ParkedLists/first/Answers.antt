@@ -1,8 +1,8 @@
 use Rattle.std.proofs.Common.{◌≡◌, ◌∙◌, ap, arith}
-use Rattle.pif_lists.specs.Lists.{first_of}
-use Rattle.pif_lists.specs.Table.{list_at}
-use Rattle.pif_owners.specs.Parked.{ParkedLists, HasNoParked}
-use Rattle.pif_owners.proofs.Firsts.{none-if}
+use Rattle.pif_nodes_model.specs.Lists.{first_of}
+use Rattle.pif_nodes_model.specs.Table.{list_at}
+use Rattle.pif_kernel_model.specs.Parked.{ParkedLists, HasNoParked}
+use Rattle.pif_kernel_model.proofs.Firsts.{none-if}
 use Rattle.pif_queue.proofs.ParkedLemmas.{none-parked, none-past}
 use Rattle.pif_queue.proofs.parked_lists.ParkedLists.first.Goals as goal
 

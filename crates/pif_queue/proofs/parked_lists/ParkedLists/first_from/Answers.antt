@@ -1,5 +1,5 @@
 use Rattle.std.proofs.Common.{◌≡◌, ◌+◌, if◌then◌else◌, ℕ, Option, Some, sym, ap, subst, ◌∙◌, arith}
-use Rattle.pif_owners.specs.Parked.{ParkedLists, parked_at}
+use Rattle.pif_kernel_model.specs.Parked.{ParkedLists, parked_at}
 use Rattle.pif_queue.specs.Numbered.{ticket_by, HasFirstTicketFrom, has_sooner_ticket}
 use Rattle.pif_queue.proofs.Numbering.{first-start, first-more}
 use Rattle.pif_queue.proofs.parked_lists.ParkedLists.first_from.Goals as goal

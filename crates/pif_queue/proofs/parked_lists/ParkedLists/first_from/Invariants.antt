@@ -1,4 +1,4 @@
-use Rattle.pif_owners.specs.Parked.{parked_at}
+use Rattle.pif_kernel_model.specs.Parked.{parked_at}
 use Rattle.pif_queue.specs.Numbered.{ticket_by, HasFirstTicketFrom}
 use Rattle.pif_queue.proofs.parked_lists.ParkedLists.first_from.Given as goal
 

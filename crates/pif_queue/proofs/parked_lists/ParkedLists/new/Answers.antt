@@ -1,5 +1,5 @@
 use Rattle.std.proofs.Common.{◌≡◌, ◌∙◌, ap, sym, subst, rules}
-use Rattle.pif_owners.specs.Parked.{ParkedLists, no_parked, parked_at, HoldsParked, HasRoomForParked}
+use Rattle.pif_kernel_model.specs.Parked.{ParkedLists, no_parked, parked_at, HoldsParked, HasRoomForParked}
 use Rattle.pif_queue.proofs.ParkedLemmas.{holds-no_parked, nobody-parked}
 use Rattle.pif_queue.proofs.parked_lists.ParkedLists.new.Goals as goal
 

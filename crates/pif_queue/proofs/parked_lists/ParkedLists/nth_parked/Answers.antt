@@ -1,8 +1,8 @@
 use Rattle.std.proofs.Common.{◌≡◌, ℕ, Some, option_map, sym, ap, ◌∙◌, arith}
 use Rattle.std.specs.List.{slice_get}
 use Rattle.std.proofs.lemmas.Option.{slice_get-map}
-use Rattle.pif_lists.specs.Table.{list_at}
-use Rattle.pif_owners.specs.Parked.{ParkedLists, IsCond, variable_list, thread_of_node, IsParkedNode}
+use Rattle.pif_nodes_model.specs.Table.{list_at}
+use Rattle.pif_kernel_model.specs.Parked.{ParkedLists, IsCond, variable_list, thread_of_node, IsParkedNode}
 use Rattle.pif_queue.proofs.Places.{place-has}
 use Rattle.pif_queue.proofs.parked_lists.ParkedLists.nth_parked.Goals as goal
 

@@ -1,9 +1,9 @@
 use Rattle.std.proofs.Common.{◌≡◌, ◌∙◌, ℕ, eqb, cond, Some, ap, sym, subst, refl}
-use Rattle.pif_lists.specs.Lists.{list_without}
-use Rattle.pif_lists.specs.Table.{NodeLists, list_at, holder}
-use Rattle.pif_lists.specs.Order.{IsSorted, OthersStaySorted, table_after_insert}
-use Rattle.pif_owners.specs.Differences.{differences}
-use Rattle.pif_owners.specs.Parked.{Place, ParkedLists, differing_at, variable_list, parking_node, target_of, parked_at, with_place_at, with_differing, StandParked, HoldsParked}
+use Rattle.pif_nodes_model.specs.Lists.{list_without}
+use Rattle.pif_nodes_model.specs.Table.{NodeLists, list_at, holder}
+use Rattle.pif_nodes_model.specs.Order.{IsSorted, OthersStaySorted, table_after_insert}
+use Rattle.pif_kernel_model.specs.Differences.{differences}
+use Rattle.pif_kernel_model.specs.Parked.{Place, ParkedLists, differing_at, variable_list, parking_node, target_of, parked_at, with_place_at, with_differing, StandParked, HoldsParked}
 use Rattle.pif_queue.proofs.ParkedCalls.{IsCall, park-stands, park-counted, park-seen, park-holds}
 use Rattle.pif_queue.proofs.parked_lists.ParkedLists.park.Goals as goal
 

@@ -1,9 +1,9 @@
 use Rattle.std.proofs.Common.{◌≡◌, ◌∙◌, ℕ, Some, ap, sym, subst, refl}
-use Rattle.pif_lists.specs.Lists.{list_without}
-use Rattle.pif_lists.specs.Table.{NodeLists, list_at}
-use Rattle.pif_lists.specs.Order.{IsSorted, table_after_insert, table_after_remove, key_with_prio}
-use Rattle.pif_owners.specs.Differences.{differences}
-use Rattle.pif_owners.specs.Parked.{Place, ParkedLists, place_at, differing_at, IsCond, variable_list, target_of, parked_at, with_differing, StandParked, HoldsParked}
+use Rattle.pif_nodes_model.specs.Lists.{list_without}
+use Rattle.pif_nodes_model.specs.Table.{NodeLists, list_at}
+use Rattle.pif_nodes_model.specs.Order.{IsSorted, table_after_insert, table_after_remove, key_with_prio}
+use Rattle.pif_kernel_model.specs.Differences.{differences}
+use Rattle.pif_kernel_model.specs.Parked.{Place, ParkedLists, place_at, differing_at, IsCond, variable_list, target_of, parked_at, with_differing, StandParked, HoldsParked}
 use Rattle.pif_queue.proofs.ParkedChanges.{stand-recounted, recounted, counted-here, counted-elsewhere}
 use Rattle.pif_queue.proofs.ParkedCalls.{IsRekeyed, rekeyed}
 use Rattle.pif_queue.proofs.parked_lists.ParkedLists.rekey.Goals as goal

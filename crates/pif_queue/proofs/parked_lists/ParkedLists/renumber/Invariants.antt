@@ -1,7 +1,7 @@
 use Rattle.std.proofs.Common.{◌≡◌, ℕ, ◌+◌, ◌-◌}
-use Rattle.pif_lists.specs.Table.{holder}
-use Rattle.pif_owners.specs.QueueFrames.{KeepsOthers}
-use Rattle.pif_owners.specs.Parked.{IsThread, parking_node, parked_at, HoldsParked}
+use Rattle.pif_nodes_model.specs.Table.{holder}
+use Rattle.pif_kernel_model.specs.QueueFrames.{KeepsOthers}
+use Rattle.pif_kernel_model.specs.Parked.{IsThread, parking_node, parked_at, HoldsParked}
 use Rattle.pif_queue.proofs.Numbering.{IsNumbering}
 use Rattle.pif_queue.proofs.parked_lists.ParkedLists.renumber.Given as goal
 

@@ -1,7 +1,7 @@
 use Rattle.std.proofs.Common.{◌≡◌, ◌∙◌, ℕ, Some, ap, sym, subst}
-use Rattle.pif_lists.specs.Table.{NodeLists, with_key}
-use Rattle.pif_lists.specs.Order.{IsSorted, OthersStaySorted, key_with_ticket}
-use Rattle.pif_owners.specs.Parked.{Place, place_at, IsCond, parking_node}
+use Rattle.pif_nodes_model.specs.Table.{NodeLists, with_key}
+use Rattle.pif_nodes_model.specs.Order.{IsSorted, OthersStaySorted, key_with_ticket}
+use Rattle.pif_kernel_model.specs.Parked.{Place, place_at, IsCond, parking_node}
 use Rattle.pif_queue.proofs.ParkedCalls.{IsCall, ticket-seen, ticket-holds, ticket-sorted}
 use Rattle.pif_queue.proofs.parked_lists.ParkedLists.set_ticket.Goals as goal
 

@@ -1,6 +1,6 @@
 use Rattle.std.proofs.Common.{ℕ, Option, sym, subst}
 use Rattle.std.specs.Prelude.{IfSome}
-use Rattle.pif_owners.specs.Parked.{IsTopParked}
+use Rattle.pif_kernel_model.specs.Parked.{IsTopParked}
 use Rattle.pif_queue.proofs.ParkedLemmas.{top-first}
 use Rattle.pif_queue.proofs.parked_lists.ParkedLists.top_parked.Goals as goal
 

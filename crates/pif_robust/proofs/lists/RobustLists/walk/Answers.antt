@@ -1,8 +1,8 @@
 use Rattle.std.proofs.Common.{◌≡◌, ℕ, ◌∷◌, ◌++◌, [], List, arith, sym, ap, subst, ◌∙◌, length}
 use Rattle.std.proofs.lemmas.List.{append_assoc, length-append}
 use Rattle.pif_model.specs.RobustList.{robust_at, walk_of, has_entry, HasNoRepeats}
-use Rattle.pif_chains.specs.RobustWalks.{behind, ahead}
-use Rattle.pif_chains.proofs.RobustWalks.{first-ahead, next-ahead, next-smaller, ahead-none, walk_of-once, walk_of-within, walk_of-short}
+use Rattle.pif_model_lemmas.specs.RobustWalks.{behind, ahead}
+use Rattle.pif_model_lemmas.proofs.RobustWalks.{first-ahead, next-ahead, next-smaller, ahead-none, walk_of-once, walk_of-within, walk_of-short}
 use Rattle.pif_robust.proofs.lists.RobustLists.walk.Goals.{In-Some}
 use Rattle.pif_robust.proofs.lists.RobustLists.walk.Goals as goal
 

@@ -1,6 +1,6 @@
 use Rattle.std.proofs.Common.{◌≡◌, ◌++◌, length}
 use Rattle.pif_model.specs.RobustList.{robust_at, walk_of}
-use Rattle.pif_chains.specs.RobustWalks.{ahead}
+use Rattle.pif_model_lemmas.specs.RobustWalks.{ahead}
 use Rattle.pif_robust.proofs.lists.RobustLists.walk.Given as goal
 
 -- what was found and what is ahead are all

@@ -2,9 +2,9 @@ use Rattle.std.proofs.Common.{◌≡◌, ℕ, List, Some, None, arith, ap, sym, 
 use Rattle.std.proofs.lemmas.Bool.{both_ways}
 use Rattle.pif_model.specs.RobustList.{robust_at}
 use Rattle.pif_robust.specs.declared.links.Link.{Link}
-use Rattle.pif_chains.specs.RobustWalks.{first_or}
+use Rattle.pif_model_lemmas.specs.RobustWalks.{first_or}
 use Rattle.pif_robust.specs.Links.{IsChain}
-use Rattle.pif_chains.proofs.RobustEntries.{first_or-has}
+use Rattle.pif_model_lemmas.proofs.RobustEntries.{first_or-has}
 use Rattle.pif_robust.proofs.WalkLemmas.{IsFollowed, next-pending, follows, follows-next}
 use Rattle.pif_robust.proofs.lists.RobustLists.walk_next.Goals.{After-index}
 use Rattle.pif_robust.proofs.lists.RobustLists.walk_next.Goals as goal

@@ -1,8 +1,8 @@
 use Rattle.std.proofs.Common.{◌≡◌, ◌∙◌, ◌≤◌, ap, sym, subst, None, arith}
-use Rattle.pif_lists.specs.Table.{NodeLists}
-use Rattle.pif_owners.specs.States.{Row, States, wait_of, owners_in}
-use Rattle.pif_owners.specs.Holds.{HoldsStates}
-use Rattle.pif_owners.proofs.ViewLemmas.{waits_on-owners_in}
+use Rattle.pif_nodes_model.specs.Table.{NodeLists}
+use Rattle.pif_kernel_model.specs.States.{Row, States, wait_of, owners_in}
+use Rattle.pif_kernel_model.specs.Holds.{HoldsStates}
+use Rattle.pif_kernel_model.proofs.ViewLemmas.{waits_on-owners_in}
 use Rattle.pif_rtmutex.proofs.RowLemmas.{seat_of, view-row, holds-row}
 use Rattle.pif_rtmutex.proofs.rt_mutexes.RtMutexes.admit.Goals as goal
 

@@ -1,7 +1,7 @@
 use Rattle.std.proofs.Common.{◌≡◌, ◌∙◌, ap, sym, unwrap_or}
-use Rattle.pif_owners.specs.Owners.{Task, task_at}
-use Rattle.pif_owners.specs.States.{Row, row_at, owners_in}
-use Rattle.pif_owners.proofs.ViewLemmas.{task_at-owners_in}
+use Rattle.pif_kernel_model.specs.Owners.{Task, task_at}
+use Rattle.pif_kernel_model.specs.States.{Row, row_at, owners_in}
+use Rattle.pif_kernel_model.proofs.ViewLemmas.{task_at-owners_in}
 use Rattle.pif_rtmutex.proofs.RowLemmas.{prio-given, prio-value, prio-most}
 use Rattle.pif_rtmutex.proofs.rt_mutexes.RtMutexes.base.Goals as goal
 

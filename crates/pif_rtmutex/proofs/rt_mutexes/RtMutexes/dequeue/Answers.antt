@@ -1,13 +1,13 @@
 use Rattle.std.proofs.Common.{◌≡◌, ◌∙◌, ◌+◌, ◌<◌, ap, sym, subst, ℕ, Option, Some, None, set, arith, option_map}
 use Rattle.std.specs.FinMap.{get}
-use Rattle.pif_lists.specs.Table.{NodeLists, holder}
-use Rattle.pif_owners.specs.Owners.{with_wait}
-use Rattle.pif_owners.specs.States.{States, row_at, wait_of, wait_node, owners_in, wait_list}
-use Rattle.pif_owners.specs.Holds.{HoldsWaiters, HoldsTops, HoldsStates, IsToppedBut}
-use Rattle.pif_owners.specs.Frames.{ChangesTops}
-use Rattle.pif_owners.proofs.ViewLemmas.{waits_on-owners_in}
-use Rattle.pif_owners.proofs.WaiterLemmas.{waits-thread}
-use Rattle.pif_owners.proofs.ListChanges.{in-no_list}
+use Rattle.pif_nodes_model.specs.Table.{NodeLists, holder}
+use Rattle.pif_kernel_model.specs.Owners.{with_wait}
+use Rattle.pif_kernel_model.specs.States.{States, row_at, wait_of, wait_node, owners_in, wait_list}
+use Rattle.pif_kernel_model.specs.Holds.{HoldsWaiters, HoldsTops, HoldsStates, IsToppedBut}
+use Rattle.pif_kernel_model.specs.Frames.{ChangesTops}
+use Rattle.pif_kernel_model.proofs.ViewLemmas.{waits_on-owners_in}
+use Rattle.pif_kernel_model.proofs.WaiterLemmas.{waits-thread}
+use Rattle.pif_kernel_model.proofs.ListChanges.{in-no_list}
 use Rattle.pif_rtmutex.proofs.StepLemmas.{row-list, WaitsAt, waits-at, IsStep, IsDone, done}
 use Rattle.pif_rtmutex.proofs.CallLemmas.{IsCall, dequeued}
 use Rattle.pif_rtmutex.proofs.ReadLemmas.{row-below}

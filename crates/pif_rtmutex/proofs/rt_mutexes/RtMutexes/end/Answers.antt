@@ -3,12 +3,12 @@ use Rattle.std.specs.FinMap.{FinMap, get, remove, len}
 use Rattle.std.specs.Ordering.{nat_cmp}
 use Rattle.slab.specs.Slab.{Slab}
 use Rattle.slab.specs.Slab.{get as value_at}
-use Rattle.pif_owners.specs.OwnerMaps.{owners_of}
-use Rattle.pif_owners.proofs.MapLemmas.{get-remove_other}
-use Rattle.pif_owners.proofs.OwnersLemmas.{sound-ended}
+use Rattle.pif_kernel_model.specs.OwnerMaps.{owners_of}
+use Rattle.pif_kernel_model.proofs.MapLemmas.{get-remove_other}
+use Rattle.pif_kernel_model.proofs.OwnersLemmas.{sound-ended}
 use Rattle.pif_rtmutex.specs.Fields.{State, slab_with, states_from}
-use Rattle.pif_owners.specs.States.{States, owners_in}
-use Rattle.pif_owners.specs.Holds.{HoldsStates}
+use Rattle.pif_kernel_model.specs.States.{States, owners_in}
+use Rattle.pif_kernel_model.specs.Holds.{HoldsStates}
 use Rattle.pif_rtmutex.proofs.FieldLemmas.{state-value, state-contains, states-removed, len-states}
 use Rattle.pif_rtmutex.proofs.ReadLemmas.{row-below}
 use Rattle.pif_rtmutex.proofs.StateLemmas.{holds-state, spare-given}

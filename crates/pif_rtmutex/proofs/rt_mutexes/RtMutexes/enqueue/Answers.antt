@@ -1,18 +1,18 @@
 use Rattle.std.proofs.Common.{◌≡◌, ◌∙◌, ap, sym, subst, ℕ, Option, Some, set, arith, option_map}
 use Rattle.std.specs.FinMap.{get}
-use Rattle.pif_lists.specs.declared.keys.Key.{Key}
-use Rattle.pif_lists.specs.Table.{NodeLists}
-use Rattle.pif_owners.specs.Owners.{with_wait}
-use Rattle.pif_owners.specs.States.{States, row_at, owners_in, wait_list}
-use Rattle.pif_owners.specs.Holds.{HoldsWaiters, HoldsTops, HoldsStates, IsToppedBut}
-use Rattle.pif_owners.specs.Frames.{ChangesTops}
-use Rattle.pif_owners.proofs.ViewLemmas.{length-seats}
+use Rattle.pif_nodes_model.specs.declared.keys.Key.{Key}
+use Rattle.pif_nodes_model.specs.Table.{NodeLists}
+use Rattle.pif_kernel_model.specs.Owners.{with_wait}
+use Rattle.pif_kernel_model.specs.States.{States, row_at, owners_in, wait_list}
+use Rattle.pif_kernel_model.specs.Holds.{HoldsWaiters, HoldsTops, HoldsStates, IsToppedBut}
+use Rattle.pif_kernel_model.specs.Frames.{ChangesTops}
+use Rattle.pif_kernel_model.proofs.ViewLemmas.{length-seats}
 use Rattle.pif_rtmutex.proofs.StepLemmas.{IsStep, IsDone, done}
 use Rattle.pif_rtmutex.proofs.CallLemmas.{IsCall, enqueued}
 use Rattle.pif_rtmutex.proofs.rt_mutexes.RtMutexes.enqueue.Goals as goal
 use Rattle.pif_rtmutex.proofs.ReadLemmas.{row-below}
 use Rattle.pif_rtmutex.specs.Fields.{State}
-use Rattle.pif_lists.specs.Order.{table_after_insert}
+use Rattle.pif_nodes_model.specs.Order.{table_after_insert}
 
 pub list_of_row-requires : goal.list_of_row-requires
 list_of_row-requires c =

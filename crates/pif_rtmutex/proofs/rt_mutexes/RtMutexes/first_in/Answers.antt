@@ -1,7 +1,7 @@
 use Rattle.std.proofs.Common.{◌∙◌, ap, sym, arith}
-use Rattle.pif_lists.specs.Table.{list_at}
-use Rattle.pif_lists.specs.Lists.{first_of}
-use Rattle.pif_owners.specs.States.{States}
+use Rattle.pif_nodes_model.specs.Table.{list_at}
+use Rattle.pif_nodes_model.specs.Lists.{first_of}
+use Rattle.pif_kernel_model.specs.States.{States}
 use Rattle.pif_rtmutex.proofs.ReadLemmas.{first-node}
 use Rattle.pif_rtmutex.proofs.rt_mutexes.RtMutexes.first_in.Goals as goal
 

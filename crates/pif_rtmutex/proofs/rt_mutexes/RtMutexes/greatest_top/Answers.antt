@@ -1,9 +1,9 @@
 use Rattle.std.proofs.Common.{◌≡◌, ◌∙◌, ap, sym, ℕ, unwrap_or}
-use Rattle.pif_lists.specs.Table.{list_at}
-use Rattle.pif_lists.specs.declared.keys.Key.{Key}
-use Rattle.pif_lists.specs.Lists.{first_of}
-use Rattle.pif_owners.specs.States.{top_list}
-use Rattle.pif_lists.proofs.ListLemmas.{first_of-has}
+use Rattle.pif_nodes_model.specs.Table.{list_at}
+use Rattle.pif_nodes_model.specs.declared.keys.Key.{Key}
+use Rattle.pif_nodes_model.specs.Lists.{first_of}
+use Rattle.pif_kernel_model.specs.States.{top_list}
+use Rattle.pif_nodes_model.proofs.ListLemmas.{first_of-has}
 use Rattle.std.proofs.Common.{Option}
 use Rattle.pif_rtmutex.proofs.ReadLemmas.{greatest-none, prio-made}
 use Rattle.pif_rtmutex.proofs.rt_mutexes.RtMutexes.greatest_top.Goals as goal

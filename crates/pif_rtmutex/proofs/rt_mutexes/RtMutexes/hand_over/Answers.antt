@@ -1,15 +1,15 @@
 use Rattle.std.proofs.Common.{◌≡◌, ◌∙◌, ◌+◌, ◌<◌, ap, sym, refl, subst, ℕ, Option, Some, None, IsSome, set, arith, option_map}
 use Rattle.std.specs.FinMap.{get, insert}
-use Rattle.pif_lists.specs.Table.{NodeLists, holder}
-use Rattle.pif_owners.specs.Owners.{with_wait, with_owner}
-use Rattle.pif_owners.proofs.MapLemmas.{get-insert_same}
-use Rattle.pif_owners.specs.States.{States, IsThread, row_at, wait_node, first_waiter, owners_in, with_owner_of, wait_list}
-use Rattle.pif_owners.specs.Holds.{HoldsWaiters, HoldsTops, HoldsStates, IsToppedBut}
-use Rattle.pif_owners.specs.Frames.{ChangesTops}
-use Rattle.pif_owners.proofs.ViewLemmas.{waits_on-owners_in}
-use Rattle.pif_owners.proofs.WaiterLemmas.{StandsFirst, stands-first}
+use Rattle.pif_nodes_model.specs.Table.{NodeLists, holder}
+use Rattle.pif_kernel_model.specs.Owners.{with_wait, with_owner}
+use Rattle.pif_kernel_model.proofs.MapLemmas.{get-insert_same}
+use Rattle.pif_kernel_model.specs.States.{States, IsThread, row_at, wait_node, first_waiter, owners_in, with_owner_of, wait_list}
+use Rattle.pif_kernel_model.specs.Holds.{HoldsWaiters, HoldsTops, HoldsStates, IsToppedBut}
+use Rattle.pif_kernel_model.specs.Frames.{ChangesTops}
+use Rattle.pif_kernel_model.proofs.ViewLemmas.{waits_on-owners_in}
+use Rattle.pif_kernel_model.proofs.WaiterLemmas.{StandsFirst, stands-first}
 use Rattle.pif_rtmutex.proofs.ReadLemmas.{waited-first, first-state, first-top, row-below}
-use Rattle.pif_owners.proofs.ListChanges.{in-no_list}
+use Rattle.pif_kernel_model.proofs.ListChanges.{in-no_list}
 use Rattle.pif_rtmutex.proofs.StepLemmas.{row-list, WaitsAt, waits-at, IsStep, IsDone, done}
 use Rattle.pif_rtmutex.proofs.CallLemmas.{IsCall, handed}
 use Rattle.pif_rtmutex.specs.Fields.{State}

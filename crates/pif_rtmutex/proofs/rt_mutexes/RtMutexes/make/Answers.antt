@@ -3,18 +3,18 @@ use Rattle.std.proofs.lemmas.Bool.{false≢true}
 use Rattle.std.specs.FinMap.{FinMap, get, insert, len}
 use Rattle.std.specs.Ordering.{nat_cmp}
 use Rattle.slab.specs.Slab.{Slab, Updates}
-use Rattle.pif_lists.specs.Lists.{has}
-use Rattle.pif_lists.proofs.ListLemmas.{has-right, has-head}
-use Rattle.pif_owners.specs.Owners.{waits_on}
-use Rattle.pif_owners.specs.OwnerMaps.{owners_of}
-use Rattle.pif_owners.proofs.MapLemmas.{get-insert_other}
-use Rattle.pif_owners.proofs.OwnersLemmas.{sound-made}
+use Rattle.pif_nodes_model.specs.Lists.{has}
+use Rattle.pif_nodes_model.proofs.ListLemmas.{has-right, has-head}
+use Rattle.pif_kernel_model.specs.Owners.{waits_on}
+use Rattle.pif_kernel_model.specs.OwnerMaps.{owners_of}
+use Rattle.pif_kernel_model.proofs.MapLemmas.{get-insert_other}
+use Rattle.pif_kernel_model.proofs.OwnersLemmas.{sound-made}
 use Rattle.pif_rtmutex.specs.Fields.{State, slab_with, states_from}
-use Rattle.pif_owners.specs.States.{States, IsThread, wait_of, owners_in}
-use Rattle.pif_owners.specs.Holds.{HoldsStates}
+use Rattle.pif_kernel_model.specs.States.{States, IsThread, wait_of, owners_in}
+use Rattle.pif_kernel_model.specs.Holds.{HoldsStates}
 use Rattle.pif_rtmutex.proofs.FieldLemmas.{state-value, states-put, len-states}
-use Rattle.pif_owners.proofs.ViewLemmas.{length-seats, waits_on-owners_in}
-use Rattle.pif_owners.proofs.WaiterLemmas.{waits-state}
+use Rattle.pif_kernel_model.proofs.ViewLemmas.{length-seats, waits_on-owners_in}
+use Rattle.pif_kernel_model.proofs.WaiterLemmas.{waits-state}
 use Rattle.pif_rtmutex.proofs.StateLemmas.{holds-state, spare-taken}
 use Rattle.pif_rtmutex.proofs.MakeLemmas.{state-made, from_made}
 use Rattle.pif_rtmutex.proofs.rt_mutexes.RtMutexes.make.Goals as goal

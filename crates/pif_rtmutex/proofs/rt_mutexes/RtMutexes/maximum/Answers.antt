@@ -1,7 +1,7 @@
 use Rattle.std.proofs.Common.{◌≡◌, ◌∙◌, ap, sym, unwrap_or, max, arith}
-use Rattle.pif_owners.specs.Owners.{Task, task_at}
-use Rattle.pif_owners.specs.States.{Row, row_at, owners_in}
-use Rattle.pif_owners.proofs.ViewLemmas.{length-seats, task_at-owners_in}
+use Rattle.pif_kernel_model.specs.Owners.{Task, task_at}
+use Rattle.pif_kernel_model.specs.States.{Row, row_at, owners_in}
+use Rattle.pif_kernel_model.proofs.ViewLemmas.{length-seats, task_at-owners_in}
 use Rattle.pif_rtmutex.proofs.rt_mutexes.RtMutexes.maximum.Goals as goal
 
 pub greatest_top-requires-clause-row : goal.greatest_top-requires-clause-row

@@ -1,8 +1,8 @@
 use Rattle.std.proofs.Common.{◌≡◌, ◌∙◌, ◌+◌, ◌≤◌, ap, sym, subst, rules, length}
 use Rattle.pif_rtmutex.specs.Fields.{states_from, IsSpare}
-use Rattle.pif_owners.specs.States.{States, owners_in}
-use Rattle.pif_owners.specs.Holds.{HoldsStates, HasRoomForStates}
-use Rattle.pif_owners.specs.States.{empty_states, no_row}
+use Rattle.pif_kernel_model.specs.States.{States, owners_in}
+use Rattle.pif_kernel_model.specs.Holds.{HoldsStates, HasRoomForStates}
+use Rattle.pif_kernel_model.specs.States.{empty_states, no_row}
 use Rattle.std.proofs.lemmas.List.{length-replicate}
 use Rattle.pif_rtmutex.proofs.StateLemmas.{spare-empty_states, view-empty_states, holds-empty_states}
 use Rattle.pif_rtmutex.proofs.rt_mutexes.RtMutexes.new.Goals as goal

@@ -1,14 +1,14 @@
 use Rattle.std.proofs.Common.{◌≡◌, ◌∙◌, ap, sym, subst, ℕ, Some, None, arith}
-use Rattle.pif_lists.specs.Table.{NodeLists, key_at, holder}
-use Rattle.pif_owners.specs.States.{States, IsThread, IsOwnList, wait_node, top_node, top_list, first_waiter}
-use Rattle.pif_owners.specs.Holds.{IsRankedTop}
-use Rattle.pif_lists.specs.declared.keys.Key.{Key}
+use Rattle.pif_nodes_model.specs.Table.{NodeLists, key_at, holder}
+use Rattle.pif_kernel_model.specs.States.{States, IsThread, IsOwnList, wait_node, top_node, top_list, first_waiter}
+use Rattle.pif_kernel_model.specs.Holds.{IsRankedTop}
+use Rattle.pif_nodes_model.specs.declared.keys.Key.{Key}
 use Rattle.std.proofs.lemmas.List.{get_or-set_same}
-use Rattle.pif_lists.specs.Table.{no_key}
-use Rattle.pif_lists.specs.Order.{IsSorted}
-use Rattle.pif_owners.specs.Frames.{ChangesList, ChangesTops}
-use Rattle.pif_owners.proofs.WaiterLemmas.{StandsFirst, stands-first, some_owner}
-use Rattle.pif_owners.proofs.ListChanges.{changes-inserted, changes-as, in-list, tops-changed}
+use Rattle.pif_nodes_model.specs.Table.{no_key}
+use Rattle.pif_nodes_model.specs.Order.{IsSorted}
+use Rattle.pif_kernel_model.specs.Frames.{ChangesList, ChangesTops}
+use Rattle.pif_kernel_model.proofs.WaiterLemmas.{StandsFirst, stands-first, some_owner}
+use Rattle.pif_kernel_model.proofs.ListChanges.{changes-inserted, changes-as, in-list, tops-changed}
 use Rattle.pif_rtmutex.proofs.TopLemmas.{tops-put, but_nobody, top-free}
 use Rattle.pif_rtmutex.proofs.rt_mutexes.RtMutexes.put_top.Goals as goal
 

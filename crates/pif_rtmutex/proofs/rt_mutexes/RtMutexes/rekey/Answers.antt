@@ -1,17 +1,17 @@
 use Rattle.std.proofs.Common.{◌≡◌, ◌∙◌, ap, sym, refl, subst, ℕ, Option, Some, arith, option_map}
 use Rattle.std.specs.FinMap.{get}
-use Rattle.pif_lists.specs.Table.{NodeLists, holder}
-use Rattle.pif_owners.specs.Owners.{with_prio}
-use Rattle.pif_owners.specs.States.{States, wait_of, owners_in, wait_list}
-use Rattle.pif_owners.specs.Holds.{IsToppedBut}
-use Rattle.pif_owners.proofs.ViewLemmas.{waits_on-owners_in}
-use Rattle.pif_owners.proofs.WaiterLemmas.{waits-thread}
+use Rattle.pif_nodes_model.specs.Table.{NodeLists, holder}
+use Rattle.pif_kernel_model.specs.Owners.{with_prio}
+use Rattle.pif_kernel_model.specs.States.{States, wait_of, owners_in, wait_list}
+use Rattle.pif_kernel_model.specs.Holds.{IsToppedBut}
+use Rattle.pif_kernel_model.proofs.ViewLemmas.{waits_on-owners_in}
+use Rattle.pif_kernel_model.proofs.WaiterLemmas.{waits-thread}
 use Rattle.pif_rtmutex.proofs.StepLemmas.{row-list, WaitsAt, waits-at, IsStep, IsDone, done}
 use Rattle.pif_rtmutex.proofs.CallLemmas.{IsCall, rekeyed}
 use Rattle.pif_rtmutex.proofs.rt_mutexes.RtMutexes.rekey.Goals as goal
 use Rattle.pif_rtmutex.proofs.ReadLemmas.{row-below}
 use Rattle.pif_rtmutex.specs.Fields.{State}
-use Rattle.pif_lists.specs.Order.{table_after_insert, table_after_remove, key_with_prio}
+use Rattle.pif_nodes_model.specs.Order.{table_after_insert, table_after_remove, key_with_prio}
 
 pub list_of_row-requires : goal.list_of_row-requires
 list_of_row-requires c =

@@ -1,12 +1,12 @@
 use Rattle.std.proofs.Common.{◌≡◌, ◌∙◌, ap, sym, refl, subst, inr, ℕ, Option, Some, arith}
 use Rattle.std.proofs.lemmas.Option.{same_Some}
-use Rattle.pif_lists.specs.declared.keys.Key.{Key}
-use Rattle.pif_lists.specs.Table.{NodeLists, key_at, holder}
-use Rattle.pif_lists.specs.Order.{key_with_prio}
-use Rattle.pif_owners.specs.States.{States, IsThread, IsOwnList, wait_node, top_node, top_list}
-use Rattle.pif_owners.specs.Holds.{IsToppedBut, IsRankedTop}
-use Rattle.pif_owners.specs.Frames.{ChangesList, ChangesTops}
-use Rattle.pif_owners.proofs.ListChanges.{changes-rekeyed, changes-as, key-rekeyed, tops-changed}
+use Rattle.pif_nodes_model.specs.declared.keys.Key.{Key}
+use Rattle.pif_nodes_model.specs.Table.{NodeLists, key_at, holder}
+use Rattle.pif_nodes_model.specs.Order.{key_with_prio}
+use Rattle.pif_kernel_model.specs.States.{States, IsThread, IsOwnList, wait_node, top_node, top_list}
+use Rattle.pif_kernel_model.specs.Holds.{IsToppedBut, IsRankedTop}
+use Rattle.pif_kernel_model.specs.Frames.{ChangesList, ChangesTops}
+use Rattle.pif_kernel_model.proofs.ListChanges.{changes-rekeyed, changes-as, key-rekeyed, tops-changed}
 use Rattle.pif_rtmutex.proofs.TopLemmas.{tops-same, tops-rekeyed}
 use Rattle.pif_rtmutex.proofs.rt_mutexes.RtMutexes.rerank.Goals as goal
 

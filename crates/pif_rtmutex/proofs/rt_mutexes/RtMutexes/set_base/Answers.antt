@@ -1,9 +1,9 @@
 use Rattle.std.proofs.Common.{◌≡◌, ◌∙◌, ◌≤◌, ap, sym, subst, arith}
-use Rattle.pif_lists.specs.Table.{NodeLists}
-use Rattle.pif_owners.specs.Owners.{Task, task_at}
-use Rattle.pif_owners.specs.States.{Row, States, row_at, owners_in}
-use Rattle.pif_owners.specs.Holds.{HoldsStates}
-use Rattle.pif_owners.proofs.ViewLemmas.{task_at-owners_in}
+use Rattle.pif_nodes_model.specs.Table.{NodeLists}
+use Rattle.pif_kernel_model.specs.Owners.{Task, task_at}
+use Rattle.pif_kernel_model.specs.States.{Row, States, row_at, owners_in}
+use Rattle.pif_kernel_model.specs.Holds.{HoldsStates}
+use Rattle.pif_kernel_model.proofs.ViewLemmas.{task_at-owners_in}
 use Rattle.pif_rtmutex.proofs.RowLemmas.{seat_of, view-row, holds-row}
 use Rattle.pif_rtmutex.proofs.rt_mutexes.RtMutexes.set_base.Goals as goal
 

@@ -1,13 +1,13 @@
 use Rattle.std.proofs.Common.{◌≡◌, ◌∙◌, ap, sym, refl, subst, Some, IsSome, arith}
 use Rattle.std.specs.FinMap.{get}
 use Rattle.pif_rtmutex.specs.Fields.{State}
-use Rattle.pif_owners.specs.States.{States}
-use Rattle.pif_owners.specs.States.{with_owner_of}
+use Rattle.pif_kernel_model.specs.States.{States}
+use Rattle.pif_kernel_model.specs.States.{with_owner_of}
 use Rattle.pif_rtmutex.specs.Fields.{slab_with}
 use Rattle.slab.specs.Slab.{Slab, with_value}
 use Rattle.slab.specs.Slab.{get as value_at}
 use Rattle.slab.proofs.SlabLemmas.{Updates-with_value}
-use Rattle.pif_owners.specs.OwnerMaps.{owners_of}
+use Rattle.pif_kernel_model.specs.OwnerMaps.{owners_of}
 use Rattle.std.specs.FinMap.{insert}
 use Rattle.pif_rtmutex.proofs.FieldLemmas.{state-contains, state-in_row, states-put, states-rewritten, len-rewritten}
 use Rattle.pif_rtmutex.proofs.rt_mutexes.RtMutexes.set_owner.Goals as goal

@@ -1,12 +1,12 @@
 use Rattle.std.proofs.Common.{◌≡◌, ◌∙◌, ap, sym, refl, subst, ℕ, Some, None, IsSome}
 use Rattle.std.proofs.lemmas.Bool.{false≢true}
 use Rattle.std.specs.FinMap.{get}
-use Rattle.pif_lists.specs.Table.{NodeLists, holder}
-use Rattle.pif_lists.specs.Order.{IsSorted}
-use Rattle.pif_owners.specs.Owners.{with_ticket}
-use Rattle.pif_owners.specs.States.{Row, States, row_at, wait_of, wait_list, owners_in}
-use Rattle.pif_owners.proofs.ViewLemmas.{waits_on-owners_in}
-use Rattle.pif_owners.proofs.WaiterLemmas.{waits-state}
+use Rattle.pif_nodes_model.specs.Table.{NodeLists, holder}
+use Rattle.pif_nodes_model.specs.Order.{IsSorted}
+use Rattle.pif_kernel_model.specs.Owners.{with_ticket}
+use Rattle.pif_kernel_model.specs.States.{Row, States, row_at, wait_of, wait_list, owners_in}
+use Rattle.pif_kernel_model.proofs.ViewLemmas.{waits_on-owners_in}
+use Rattle.pif_kernel_model.proofs.WaiterLemmas.{waits-state}
 use Rattle.pif_rtmutex.proofs.StepLemmas.{row-list, WaitsAt, waits-at, IsDone}
 use Rattle.pif_rtmutex.proofs.CallLemmas.{some_of, ticket-sorted, ticketed-done}
 use Rattle.pif_rtmutex.proofs.rt_mutexes.RtMutexes.set_ticket.Goals as goal

@@ -1,6 +1,6 @@
 use Rattle.std.proofs.Common.{ap, Some}
 use Rattle.pif_rtmutex.specs.Fields.{State}
-use Rattle.pif_owners.specs.States.{States}
+use Rattle.pif_kernel_model.specs.States.{States}
 use Rattle.pif_rtmutex.proofs.FieldLemmas.{state-value, state-contains}
 use Rattle.pif_rtmutex.proofs.rt_mutexes.RtMutexes.state.Goals as goal
 

@@ -1,11 +1,11 @@
 use Rattle.std.proofs.Common.{◌≡◌, ◌∙◌, ap, sym, refl, subst, ℕ, Some, None, arith}
-use Rattle.pif_lists.specs.Table.{NodeLists, holder}
-use Rattle.pif_owners.specs.States.{States, IsThread, IsOwnList, top_node, top_list}
+use Rattle.pif_nodes_model.specs.Table.{NodeLists, holder}
+use Rattle.pif_kernel_model.specs.States.{States, IsThread, IsOwnList, top_node, top_list}
 use Rattle.std.proofs.Common.{inr, Option}
 use Rattle.std.proofs.lemmas.Option.{same_Some}
-use Rattle.pif_owners.specs.Holds.{IsToppedBut}
-use Rattle.pif_owners.specs.Frames.{ChangesList, ChangesTops}
-use Rattle.pif_owners.proofs.ListChanges.{changes-removed, changes-as, in-no_list, tops-changed}
+use Rattle.pif_kernel_model.specs.Holds.{IsToppedBut}
+use Rattle.pif_kernel_model.specs.Frames.{ChangesList, ChangesTops}
+use Rattle.pif_kernel_model.proofs.ListChanges.{changes-removed, changes-as, in-no_list, tops-changed}
 use Rattle.pif_rtmutex.proofs.TopLemmas.{but-taken}
 use Rattle.pif_rtmutex.proofs.rt_mutexes.RtMutexes.take_top.Goals as goal
 

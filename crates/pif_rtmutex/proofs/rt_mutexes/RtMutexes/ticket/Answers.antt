@@ -1,8 +1,8 @@
 use Rattle.std.proofs.Common.{◌≡◌, ◌∙◌, ap, sym, Some, option_map}
-use Rattle.pif_lists.specs.Table.{key_at}
-use Rattle.pif_owners.specs.States.{Row, row_at, wait_of}
-use Rattle.pif_lists.specs.declared.keys.Key.{Key}
-use Rattle.pif_owners.proofs.ViewLemmas.{rank_of-owners_in}
+use Rattle.pif_nodes_model.specs.Table.{key_at}
+use Rattle.pif_kernel_model.specs.States.{Row, row_at, wait_of}
+use Rattle.pif_nodes_model.specs.declared.keys.Key.{Key}
+use Rattle.pif_kernel_model.proofs.ViewLemmas.{rank_of-owners_in}
 use Rattle.pif_rtmutex.proofs.ReadLemmas.{rank_of-none}
 use Rattle.std.proofs.Common.{Option}
 use Rattle.pif_rtmutex.proofs.rt_mutexes.RtMutexes.ticket.Goals as goal

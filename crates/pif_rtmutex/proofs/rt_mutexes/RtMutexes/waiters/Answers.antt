@@ -1,7 +1,7 @@
 use Rattle.std.proofs.Common.{◌≡◌, ◌∙◌, ◌<◌, ap, sym, ℕ, Some, option_map, arith}
 use Rattle.std.specs.FinMap.{get}
 use Rattle.pif_rtmutex.specs.Fields.{State}
-use Rattle.pif_owners.specs.States.{States, wait_list}
+use Rattle.pif_kernel_model.specs.States.{States, wait_list}
 use Rattle.pif_rtmutex.proofs.FieldLemmas.{state-value, state-contains}
 use Rattle.std.proofs.lemmas.Option.{same_Some}
 use Rattle.pif_rtmutex.proofs.rt_mutexes.RtMutexes.waiters.Goals as goal

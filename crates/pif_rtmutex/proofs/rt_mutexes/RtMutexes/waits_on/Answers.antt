@@ -1,7 +1,7 @@
 use Rattle.std.proofs.Common.{◌∙◌, ap, sym}
-use Rattle.pif_owners.specs.States.{Row, row_at}
-use Rattle.pif_owners.proofs.ViewLemmas.{waits_on-owners_in}
-use Rattle.pif_owners.proofs.WaiterLemmas.{waits-state}
+use Rattle.pif_kernel_model.specs.States.{Row, row_at}
+use Rattle.pif_kernel_model.proofs.ViewLemmas.{waits_on-owners_in}
+use Rattle.pif_kernel_model.proofs.WaiterLemmas.{waits-state}
 use Rattle.pif_rtmutex.proofs.rt_mutexes.RtMutexes.waits_on.Goals as goal
 
 pub returns-clause-value : goal.returns-clause-value

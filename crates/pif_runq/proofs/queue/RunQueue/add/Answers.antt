@@ -1,10 +1,10 @@
 use Rattle.std.proofs.Common.{◌≡◌, ◌∙◌, ℕ, ap, subst, arith}
 use Rattle.std.proofs.lemmas.Grind.{common_steps}
-use Rattle.pif_lists.specs.Table.{list_at}
-use Rattle.pif_lists.proofs.ListLemmas.{last_of-has}
-use Rattle.pif_lists.specs.Levels.{IsLevel, list_for}
-use Rattle.pif_lists.specs.Masks.{ChangesBit}
-use Rattle.pif_lists.proofs.LevelLemmas.{appended, levels-joined, Holds-joined}
+use Rattle.pif_nodes_model.specs.Table.{list_at}
+use Rattle.pif_nodes_model.proofs.ListLemmas.{last_of-has}
+use Rattle.pif_nodes_model.specs.Levels.{IsLevel, list_for}
+use Rattle.pif_nodes_model.specs.Masks.{ChangesBit}
+use Rattle.pif_nodes_model.proofs.LevelLemmas.{appended, levels-joined, Holds-joined}
 use Rattle.pif_runq.proofs.queue.RunQueue.add.Goals as goal
 
 pub attach_after-requires-clause-place : goal.attach_after-requires-clause-place

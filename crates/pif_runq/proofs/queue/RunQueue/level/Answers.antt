@@ -1,6 +1,6 @@
 use Rattle.std.proofs.Common.{arith}
 use Rattle.std.proofs.lemmas.Grind.{common_steps}
-use Rattle.pif_lists.proofs.LevelWithLemmas.{queued-by_level}
+use Rattle.pif_nodes_model.proofs.LevelWithLemmas.{queued-by_level}
 use Rattle.pif_runq.proofs.queue.RunQueue.level.Goals as goal
 
 pub returns-then-get-self-clause-level : goal.returns-then-get-self-clause-level

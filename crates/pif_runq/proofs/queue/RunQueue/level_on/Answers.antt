@@ -1,6 +1,6 @@
 use Rattle.std.proofs.Common.{◌≡◌, ◌+◌, ◌-◌, ap, subst, arith}
-use Rattle.pif_lists.specs.Levels.{Queue, IsOnLevel}
-use Rattle.pif_lists.proofs.LevelLemmas.{queued_on, level_found, holder_some}
+use Rattle.pif_nodes_model.specs.Levels.{Queue, IsOnLevel}
+use Rattle.pif_nodes_model.proofs.LevelLemmas.{queued_on, level_found, holder_some}
 use Rattle.pif_runq.proofs.queue.RunQueue.level_on.Goals as goal
 
 pub node_for-node-requires : goal.node_for-node-requires

@@ -1,6 +1,6 @@
 use Rattle.std.proofs.Common.{◌≢◌, ◌∙◌, ap, arith}
-use Rattle.pif_lists.specs.Levels.{IsLevel, level_after_add}
-use Rattle.pif_lists.proofs.LevelLemmas.{moved-away, moved-nowhere}
+use Rattle.pif_nodes_model.specs.Levels.{IsLevel, level_after_add}
+use Rattle.pif_nodes_model.proofs.LevelLemmas.{moved-away, moved-nowhere}
 use Rattle.pif_runq.proofs.queue.RunQueue.move_to.Goals as goal
 
 pub returns-then-level_on-get-clause-levels : goal.returns-then-level_on-get-clause-levels

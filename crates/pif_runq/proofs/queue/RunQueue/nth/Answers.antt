@@ -1,9 +1,9 @@
 use Rattle.std.proofs.Common.{ℕ, ◌-◌, List, sym, ap, ◌∙◌, arith}
 use Rattle.std.specs.List.{slice_get}
-use Rattle.pif_lists.specs.Lists.{has}
-use Rattle.pif_lists.specs.Table.{NodeLists, list_at}
-use Rattle.pif_lists.specs.Levels.{Queue, all_below}
-use Rattle.pif_lists.proofs.Places.{slice_get-has, all_below-found, all_below-passed, all_below-none}
+use Rattle.pif_nodes_model.specs.Lists.{has}
+use Rattle.pif_nodes_model.specs.Table.{NodeLists, list_at}
+use Rattle.pif_nodes_model.specs.Levels.{Queue, all_below}
+use Rattle.pif_nodes_model.proofs.Places.{slice_get-has, all_below-found, all_below-passed, all_below-none}
 use Rattle.pif_runq.proofs.queue.RunQueue.nth.Goals as goal
 
 pub thread_for-requires : goal.thread_for-requires

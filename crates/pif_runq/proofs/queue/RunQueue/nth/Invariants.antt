@@ -1,6 +1,6 @@
 use Rattle.std.proofs.Common.{◌≡◌, ◌-◌}
 use Rattle.std.specs.List.{slice_get}
-use Rattle.pif_lists.specs.Levels.{all_below}
+use Rattle.pif_nodes_model.specs.Levels.{all_below}
 use Rattle.pif_runq.proofs.queue.RunQueue.nth.Given as goal
 
 -- so many stand before the thread on the levels that are left

@@ -1,9 +1,9 @@
 use Rattle.std.proofs.Common.{rules, ◌≡◌, ◌∙◌, ap, sym, Some}
-use Rattle.pif_lists.specs.Lists.{first_of}
-use Rattle.pif_lists.specs.Table.{list_at}
-use Rattle.pif_lists.specs.Levels.{list_for}
-use Rattle.pif_lists.specs.Masks.{IsGreatestBit}
-use Rattle.pif_lists.proofs.LevelLemmas.{first_node-thread, IsFirstOfGreatest-found}
+use Rattle.pif_nodes_model.specs.Lists.{first_of}
+use Rattle.pif_nodes_model.specs.Table.{list_at}
+use Rattle.pif_nodes_model.specs.Levels.{list_for}
+use Rattle.pif_nodes_model.specs.Masks.{IsGreatestBit}
+use Rattle.pif_nodes_model.proofs.LevelLemmas.{first_node-thread, IsFirstOfGreatest-found}
 use Rattle.pif_runq.proofs.queue.RunQueue.pick.Goals as goal
 
 pub thread_for-requires : goal.thread_for-requires

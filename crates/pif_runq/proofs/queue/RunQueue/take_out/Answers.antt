@@ -1,7 +1,7 @@
 use Rattle.std.proofs.Common.{◌∙◌, ap, refl, arith}
-use Rattle.pif_lists.specs.Table.{list_at, holder}
-use Rattle.pif_lists.specs.Levels.{list_for}
-use Rattle.pif_lists.proofs.LevelLemmas.{taken, levels-taken, Holds-taken, bit_stands, some_by_first}
+use Rattle.pif_nodes_model.specs.Table.{list_at, holder}
+use Rattle.pif_nodes_model.specs.Levels.{list_for}
+use Rattle.pif_nodes_model.proofs.LevelLemmas.{taken, levels-taken, Holds-taken, bit_stands, some_by_first}
 use Rattle.pif_runq.proofs.queue.RunQueue.take_out.Goals as goal
 
 pub returns-then-is_none-clause-levels : goal.returns-then-is_none-clause-levels

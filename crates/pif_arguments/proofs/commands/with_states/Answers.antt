@@ -1,6 +1,0 @@
-use Rattle.pif_arguments.specs.Words.{show_app}
-use Rattle.pif_arguments.proofs.commands.with_states.Goals as goal
-
-pub returns : goal.returns
-returns c = λ app is.
-    c.with_job.ensures _ (c.with_command-show.ensures _ show_app (c.with_job-run.ensures app is) c.show_command.ensures)

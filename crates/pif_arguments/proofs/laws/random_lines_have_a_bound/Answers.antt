@@ -1,7 +1,0 @@
-use Rattle.clap.specs.Words.{subcommand_of}
-use Rattle.pif_arguments.specs.Words.{program}
-use Rattle.pif_arguments.proofs.RandomLemmas.{lines_within}
-use Rattle.pif_arguments.proofs.laws.random_lines_have_a_bound.Goals as goal
-
-pub returns : goal.returns
-returns c = λ words recipe e. lines_within (subcommand_of program words) recipe e

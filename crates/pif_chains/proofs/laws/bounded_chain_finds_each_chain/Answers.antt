@@ -1,8 +1,0 @@
-use Rattle.pif_chains.proofs.Following.{reaches-from_within, within-from_reaches}
-use Rattle.pif_chains.proofs.laws.bounded_chain_finds_each_chain.Goals as goal
-
-pub returns-clause-found : goal.returns-clause-found
-returns-clause-found c = reaches-from_within
-
-pub returns-clause-finds : goal.returns-clause-finds
-returns-clause-finds c = within-from_reaches

@@ -1,0 +1,52 @@
+-- The job, the files and the refusals of words, by what a parse met.
+use Rattle.std.proofs.Common.{unwrap_or, ◌≡◌, ◌∙◌, ℕ, true, List, [], Option, Some, None, option_map, codes, Box, ap, refl, sym, subst}
+use Rattle.std.specs.Box.{box_value}
+use Rattle.std.specs.declared.alloc.Global.{Global}
+use Rattle.clap.specs.Words.{App, HasKind, fault_of, is_simple_and_free, HasMatchesOf, Row, Text, matched_of, raw_values, rows_of, subcommand_name_of, subcommand_of, subcommand_rows}
+use Rattle.clap.specs.declared.error.Error.{Error}
+use Rattle.clap.specs.declared.parser.matches.ArgMatches.{ArgMatches}
+use Rattle.clap.specs.declared.parser.matches.ArgMatches.TheViews.{out-ArgMatches, out-SubCommand}
+use Rattle.clap.specs.declared.parser.matches.Found.{Found}
+use Rattle.clap.specs.declared.parser.matches.SubCommand.{SubCommand}
+use Rattle.clap.proofs.WalkLemmas.{raw_values-rows}
+use Rattle.pif_cli_words.specs.declared.jobs.Job.{Job}
+use Rattle.pif_cli_words.specs.Words.{files_by, files_in, files_of, job_by, job_named, job_of, program, refusals_of}
+
+-- words with which the program's commands were parsed have no refusal
+pub refusals-none : (pif : App) (words : List (List ℕ)) → pif ≡ program → (is_simple_and_free pif ≡ true → fault_of pif words ≡ []) → refusals_of words ≡ []
+refusals-none pif words e k = subst (λ a. (is_simple_and_free a ≡ true → fault_of a words ≡ []) → fault_of program words ≡ []) (sym e) (λ f. f refl) k
+
+-- words with which they were not parsed are refused for the reason that was given
+pub refusals-told : (pif : App) (words : List (List ℕ)) (e : Error) → pif ≡ program → (is_simple_and_free pif ≡ true → HasKind (fault_of pif words) e) → HasKind (refusals_of words) e
+refusals-told pif words e same k = subst (λ a. (is_simple_and_free a ≡ true → HasKind (fault_of a words) e) → HasKind (fault_of program words) e) (sym same) (λ f. f refl) k
+
+-- the subcommand that a parse met, by its name and its rows
+met : (o : Option (Box SubCommand Global)) (name : Text) (rows : List Row)
+    → Some name ≡ option_map (λ b. (out-SubCommand (box_value b)).name.now) o
+    → Some rows ≡ option_map (λ (p : Text × List Row). p.1) (subcommand_rows o)
+    → subcommand_rows o ≡ Some (name, rows)
+met None name rows n r = cc
+met (Some b) name rows n r = cc
+
+module _ (pif : App) (words : List (List ℕ)) (m : ArgMatches) (name : Text) (found : Found) (e : pif ≡ program)
+    (has : HasMatchesOf pif words m) (n : Some name ≡ subcommand_name_of m)
+    (r : Some (rows_of found)
+    ≡ option_map (λ (p : Text × List Row). p.1) (subcommand_rows (out-ArgMatches m).subcommand)) where
+  -- the subcommand of the words is the one that a parse met
+  there : subcommand_of program words ≡ Some (name, rows_of found)
+  there =
+      let shown = (subst (λ (a : App). HasMatchesOf a words m) e has refl).1 in
+      sym shown ∙ met (out-ArgMatches m).subcommand name (rows_of found) n r
+
+  -- the job of a parse that met a subcommand, by its name and what was found for it
+  pub job_read : (job : Job) → job ≡ job_named name (rows_of found) → job ≡ job_of words
+  job_read job j = j ∙ sym (ap job_by there)
+
+  -- and its files
+  pub files_read : (files : List Text) → files ≡ files_in (rows_of found) → files ≡ files_of words
+  files_read files f = f ∙ sym (ap files_by there)
+
+-- the files that were found
+pub files_found : (o : Option (List Text)) (found : Found) → o ≡ option_map raw_values (matched_of found (codes "FILE"))
+    → unwrap_or o [] ≡ files_in (rows_of found)
+files_found o found e = ap (λ (l : Option (List Text)). unwrap_or l []) (e ∙ raw_values-rows found (codes "FILE"))

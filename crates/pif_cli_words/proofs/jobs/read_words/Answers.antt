@@ -1,0 +1,25 @@
+use Rattle.std.proofs.Common.{map}
+use Rattle.clap.specs.Words.{found_of}
+use Rattle.clap.proofs.FaultLemmas.{failed_up}
+use Rattle.pif_cli_words.specs.Words.{refusals_of}
+use Rattle.pif_cli_words.proofs.WordsLemmas.{files_read, job_read, refusals-none, refusals-told}
+use Rattle.pif_cli_words.proofs.jobs.read_words.Goals as goal
+
+pub returns-in_err-matches-clause-refusals : goal.returns-in_err-matches-clause-refusals
+returns-in_err-matches-clause-refusals g c =
+    failed_up c.from_residual-in_err-matches.result c.in_err-matches.field-0.0 _
+    (refusals_of (map g.S.AsStr.text c.args.words.now)) c.from_residual-in_err-matches.ensures.1
+    (refusals-told _ _ c.in_err-matches.field-0.0 c.in_ok-program.ensures c.in_err-matches.ensures.kinds)
+
+pub returns-in-Some-clause-refusals : goal.returns-in-Some-clause-refusals
+returns-in-Some-clause-refusals g c = refusals-none _ _ c.in_ok-program.ensures c.in_ok-matches.ensures.kinds
+
+pub returns-in-Some-clause-job : goal.returns-in-Some-clause-job
+returns-in-Some-clause-job g c =
+    job_read _ _ c.in_ok-matches.matches c.in-Some.name.now (found_of c.in-Some.given.now) c.in_ok-program.ensures
+    c.in_ok-matches.ensures.matches c.in-Some.ensures.name c.in-Some.ensures.rows _ c.job_named.ensures
+
+pub returns-in-Some-clause-files : goal.returns-in-Some-clause-files
+returns-in-Some-clause-files g c =
+    files_read _ _ c.in_ok-matches.matches c.in-Some.name.now (found_of c.in-Some.given.now) c.in_ok-program.ensures
+    c.in_ok-matches.ensures.matches c.in-Some.ensures.name c.in-Some.ensures.rows _ c.in_ok-files_in-in-Some.ensures

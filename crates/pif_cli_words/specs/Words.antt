@@ -1,0 +1,142 @@
+-- The words of the program: its commands, and the job, the files and the refusals of words.
+use Rattle.std.specs.Prelude.{ℕ, true, List, [], ◌∷◌, Option, Some, None, unwrap_or, codes, bytes_eq, if◌then◌else◌}
+use Rattle.clap.specs.Lexer.{usize_max}
+use Rattle.clap.specs.Words.{App, Kinds, Row, Rule, Text, all_of, fault_of, first_of, new_app, new_rule, subcommand_of, with_rule, with_subcommand}
+use Rattle.clap.specs.declared.builder.value_parser.ValueParser.TheVariants.{Unsigned}
+use Rattle.pif_script_model.specs.declared.details.Detail.TheVariants.{Changes, All}
+use Rattle.pif_script_model.specs.declared.pictures.Picture.TheVariants.{Drawing, States, Graph}
+use Rattle.pif_cli_words.specs.declared.jobs.Job.{Job}
+use Rattle.pif_cli_words.specs.declared.jobs.Job.TheVariants.{Run, Replay, Trace, Migrate, Show, Picture, Shell, Check, Fill, Random, Drive}
+use Rattle.pif_cli_words.specs.Options.{flag_in, flag_rule, number_between}
+use Rattle.pif_cli_words.specs.Random.{random_app, recipe_in}
+
+-- the file of a command over one input, which may be left out
+abbrev pub file_rule : Rule
+file_rule = new_rule (codes "FILE")
+
+-- a command over one input
+abbrev pub file_app : List ℕ → App
+file_app name = with_rule (new_app name) file_rule
+
+-- a program with one more command over one input, as clap has it
+abbrev pub with_job : App → List ℕ → App
+with_job pif name = with_subcommand pif (file_app name).top
+
+-- the program without its commands, as clap has it: one of them must be given, or its version asked for
+abbrev pub bare_program : App
+bare_program =
+    let pif : App = new_app (codes "pif") in
+    record pif { top = record pif.top { has_version = true; subcommand_required = true } }
+
+-- how many clients `drive` has: a number from 1 to 64, which must be given
+abbrev pub clients_rule : Rule
+clients_rule = record (new_rule (codes "N")) { required = true; parser = Some (Unsigned 1 64) }
+
+-- the command `drive`
+abbrev pub drive_app : App
+drive_app = with_rule (new_app (codes "drive")) clients_rule
+
+-- whether a story is to be filled in, and not checked
+abbrev pub print_rule : Rule
+print_rule = flag_rule (codes "print")
+
+-- the files of a command over any number of inputs
+abbrev pub files_rule : Rule
+files_rule =
+    record (new_rule (codes "FILE")) { range = Some (record { start_inclusive = 0; end_inclusive = usize_max }) }
+
+-- the command `check`
+abbrev pub check_app : App
+check_app = with_rule (with_rule (new_app (codes "check")) print_rule) files_rule
+
+-- the command `show` for a person, with its flag for all there is
+abbrev pub shown_app : App
+shown_app = with_rule (new_app (codes "show")) (flag_rule (codes "all"))
+
+-- the command `show`, for a person or, by a flag, for programs
+abbrev pub show_app : App
+show_app = with_rule (with_rule (with_rule shown_app (flag_rule (codes "json"))) (flag_rule (codes "dot"))) file_rule
+
+-- the command `shell`, which takes no words
+abbrev pub shell_app : App
+shell_app = new_app (codes "shell")
+
+-- a program with the commands that run a script and show its states: `run`, `show` and `draw`
+abbrev pub with_states : App → App
+with_states pif = with_job (with_subcommand (with_job pif (codes "run")) show_app.top) (codes "draw")
+
+-- a program with the commands over scripts and stories that show answers: these, `shell` and `check`
+abbrev pub with_runs : App → App
+with_runs pif = with_subcommand (with_subcommand (with_states pif) shell_app.top) check_app.top
+
+-- a program with the commands over traces: `replay`, `trace` and `migrate`
+abbrev pub with_traces : App → App
+with_traces pif = with_job (with_job (with_job pif (codes "replay")) (codes "trace")) (codes "migrate")
+
+-- the program's commands: `run`, `show`, `draw`, `shell`, `check`, `replay`, `trace`, `migrate`, `random` and `drive`
+abbrev pub program : App
+program = with_subcommand (with_subcommand (with_traces (with_runs bare_program)) random_app.top) drive_app.top
+
+-- why the words are refused, the program's name first; none where they ask for a job
+abbrev pub refusals_of : List (List ℕ) → Kinds
+refusals_of words = fault_of program words
+
+-- how a script is shown: for a person, with what changes or with all there is, or as a picture that a flag names; of
+-- several flags the first of `--json`, `--dot` and `--all` counts
+abbrev pub shown_in : List Row → Job
+shown_in rows =
+    if flag_in (codes "json") rows then Picture States
+    else (if flag_in (codes "dot") rows then Picture Graph
+    else (if flag_in (codes "all") rows then Show All else Show Changes))
+
+-- the job of this name, with what was given to it
+abbrev pub job_named : Text → List Row → Job
+job_named name rows =
+    if bytes_eq name (codes "replay") then Replay
+    else (if bytes_eq name (codes "trace") then Trace
+    else (if bytes_eq name (codes "migrate") then Migrate
+    else (if bytes_eq name (codes "show") then shown_in rows
+    else (if bytes_eq name (codes "draw") then Picture Drawing
+    else (if bytes_eq name (codes "shell") then Shell
+    else (if bytes_eq name (codes "check") then (if flag_in (codes "print") rows then Fill else Check)
+    else (if bytes_eq name (codes "random") then Random (recipe_in rows)
+    else (if bytes_eq name (codes "drive") then Drive (number_between 1 64 (first_of (codes "N") rows)) else Run))))))))
+
+-- the job of a command, by its name and what was given to it
+abbrev pub job_by : Option (Text × List Row) → Job
+job_by (Some command) = job_named command.0 command.1
+job_by None = Run
+
+-- the job that the words ask for
+abbrev pub job_of : List (List ℕ) → Job
+job_of words = job_by (subcommand_of program words)
+
+-- the files that are given to a command
+abbrev pub files_in : List Row → List Text
+files_in rows = unwrap_or (all_of (codes "FILE") rows) []
+
+abbrev pub files_by : Option (Text × List Row) → List Text
+files_by (Some command) = files_in command.1
+files_by None = []
+
+-- the files that the words name, in their order
+abbrev pub files_of : List (List ℕ) → List Text
+files_of words = files_by (subcommand_of program words)
+
+-- the name of the standard input
+abbrev pub standard_name : Text
+standard_name = codes "-"
+
+-- the name of the one input: that of the first file, if there is one
+abbrev pub first_name : List Text → Text
+first_name [] = standard_name
+first_name (file ∷ files) = file
+
+-- the name of the one input that the words give it
+abbrev pub name_of : List (List ℕ) → Text
+name_of words = first_name (files_of words)
+
+-- the inputs of a command: its files, or the standard input where it has none
+abbrev pub inputs_of : List Text → List Text
+inputs_of [] = standard_name ∷ []
+inputs_of (file ∷ files) = file ∷ files

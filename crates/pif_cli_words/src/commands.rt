@@ -1,0 +1,222 @@
+//! The program's commands, as `clap` takes them. A command is handed on as it was made, so that only `with_arg`,
+//! `with_subcommand` and `with_command` ask whether memory was refused.
+ghost use Rattle.std.specs.Prelude.{◌≡◌, IfOk, false};
+ghost use Rattle.clap.specs.Words.{App, app_of, new_app, rule_of, with_rule, with_subcommand};
+ghost use Rattle.pif_cli_words.specs.Commands.{IsApp, IsCommand};
+ghost use Rattle.pif_cli_words.specs.Options.{flag_rule};
+ghost use Rattle.pif_cli_words.specs.Words.{bare_program, check_app, clients_rule, drive_app, file_rule, files_rule, program, show_app, with_job, with_runs, with_states, with_traces};
+
+use crate::helps::{
+    ABOUT, ABOUT_ALL, ABOUT_CHECK, ABOUT_CLIENTS, ABOUT_DOT, ABOUT_DRAW, ABOUT_DRIVE, ABOUT_FILE,
+    ABOUT_FILES, ABOUT_JSON, ABOUT_MIGRATE, ABOUT_PRINT, ABOUT_REPLAY, ABOUT_RUN, ABOUT_SHELL,
+    ABOUT_SHOW, ABOUT_TRACE, EXAMPLE, MORE_CHECK, MORE_DRAW, MORE_DRIVE, MORE_MIGRATE, MORE_REPLAY,
+    MORE_RUN, MORE_SHELL, MORE_SHOW, MORE_TRACE, USAGE_CHECK, USAGE_DRAW, USAGE_DRIVE,
+    USAGE_MIGRATE, USAGE_REPLAY, USAGE_RUN, USAGE_SHELL, USAGE_SHOW, USAGE_TRACE, VERSION,
+};
+use crate::options::flag_given;
+use crate::random::random_command;
+use clap::builder::ValueParser;
+use std::alloc::{AllocError, Global};
+
+/// A command while it is made, or that memory was refused.
+pub type Made<'a> = Result<clap::Command<'a>, AllocError>;
+
+/// A command of this name without arguments, with what help shows of it: what it is about, how it is called, and more at
+/// the end.
+pub fn described<'a>(
+    alloc: Global,
+    name: &'a str,
+    about: &'a str,
+    usage: &'a str,
+    more: &'a str,
+) -> Made<'a>
+    ensures { IsApp (new_app name.now) result }
+{
+    let command = clap::Command::new(alloc, name)
+        .about(about)
+        .override_usage(usage)
+        .after_help(more);
+    Ok(command)
+}
+
+/// A command with one more argument.
+pub fn with_arg<'a>(made: Made<'a>, arg: clap::Arg<'a>) -> Made<'a>
+    requires { arg.global ≡ false }
+    ensures { (app : App) → IsApp app made.entry → IsApp (with_rule app (rule_of arg.entry)) result }
+{
+    match made {
+        Ok(command) => command.arg(arg),
+        Err(error) => Err(error),
+    }
+}
+
+/// A command with one more option that is given or not.
+pub fn with_flag<'a>(alloc: Global, made: Made<'a>, name: &'a str, help: &'a str) -> Made<'a>
+    ensures { (app : App) → IsApp app made.entry → IsApp (with_rule app (flag_rule name.now)) result }
+{
+    with_arg(made, flag_given(alloc, name, help))
+}
+
+/// The program with this command.
+fn with_subcommand<'a>(pif: Made<'a>, command: clap::Command<'a>) -> Made<'a>
+    ensures { (app more : App) → IsApp app pif.entry → IsCommand more command.entry
+        → IsApp (with_subcommand app more.top) result }
+{
+    match pif {
+        Ok(program) => program.subcommand(command),
+        Err(error) => Err(error),
+    }
+}
+
+/// The program with one more command.
+fn with_command<'a>(pif: Made<'a>, made: Made<'a>) -> Made<'a>
+    ensures { (app more : App) → IsApp app pif.entry → IsApp more made.entry → IsApp (with_subcommand app more.top) result }
+{
+    match made {
+        Ok(command) => with_subcommand(pif, command),
+        Err(error) => Err(error),
+    }
+}
+
+/// The program without its commands.
+fn bare_program<'a>(alloc: Global) -> Made<'a>
+    ensures { IsApp bare_program result }
+{
+    let command = clap::Command::new(alloc, "pif")
+        .version(VERSION)
+        .about(ABOUT)
+        .after_help(EXAMPLE)
+        .subcommand_required(true);
+    Ok(command)
+}
+
+/// The file of a command over one input.
+fn file_given<'a>(alloc: Global) -> clap::Arg<'a>
+    ensures rule { rule_of result ≡ file_rule }
+    ensures local { result.global ≡ false }
+{
+    clap::Arg::new(alloc, "FILE").help(ABOUT_FILE)
+}
+
+/// A command with the file of one input.
+fn with_file<'a>(alloc: Global, made: Made<'a>) -> Made<'a>
+    ensures { (app : App) → IsApp app made.entry → IsApp (with_rule app file_rule) result }
+{
+    with_arg(made, file_given(alloc))
+}
+
+/// The program with one more command over one input, which has this name and these texts.
+fn with_job<'a>(
+    alloc: Global,
+    pif: Made<'a>,
+    name: &'a str,
+    about: &'a str,
+    usage: &'a str,
+    more: &'a str,
+) -> Made<'a>
+    ensures { (app : App) → IsApp app pif.entry → IsApp (with_job app name.now) result }
+{
+    let job = with_file(alloc, described(alloc, name, about, usage, more));
+    with_command(pif, job)
+}
+
+/// The files of a command over any number of inputs.
+fn files_given<'a>(alloc: Global) -> clap::Arg<'a>
+    ensures rule { rule_of result ≡ files_rule }
+    ensures local { result.global ≡ false }
+{
+    clap::Arg::new(alloc, "FILE")
+        .num_args(0..)
+        .help(ABOUT_FILES)
+}
+
+/// The command `show`.
+fn show_command<'a>(alloc: Global) -> Made<'a>
+    ensures { IsApp show_app result }
+{
+    let show = described(alloc, "show", ABOUT_SHOW, USAGE_SHOW, MORE_SHOW);
+    let all = with_flag(alloc, show, "all", ABOUT_ALL);
+    let json = with_flag(alloc, all, "json", ABOUT_JSON);
+    let dot = with_flag(alloc, json, "dot", ABOUT_DOT);
+    with_file(alloc, dot)
+}
+
+/// The command `check`.
+fn check_command<'a>(alloc: Global) -> Made<'a>
+    ensures { IsApp check_app result }
+{
+    let check = described(alloc, "check", ABOUT_CHECK, USAGE_CHECK, MORE_CHECK);
+    let print = with_flag(alloc, check, "print", ABOUT_PRINT);
+    with_arg(print, files_given(alloc))
+}
+
+/// The program with the commands that run a script and show its states.
+fn with_states<'a>(alloc: Global, pif: Made<'a>) -> Made<'a>
+    ensures { (app : App) → IsApp app pif.entry → IsApp (with_states app) result }
+{
+    let run = with_job(alloc, pif, "run", ABOUT_RUN, USAGE_RUN, MORE_RUN);
+    let show = with_command(run, show_command(alloc));
+    with_job(alloc, show, "draw", ABOUT_DRAW, USAGE_DRAW, MORE_DRAW)
+}
+
+/// The program with the commands over scripts and stories that show answers.
+fn with_runs<'a>(alloc: Global, pif: Made<'a>) -> Made<'a>
+    ensures { (app : App) → IsApp app pif.entry → IsApp (with_runs app) result }
+{
+    let states = with_states(alloc, pif);
+    let shell = described(alloc, "shell", ABOUT_SHELL, USAGE_SHELL, MORE_SHELL);
+    let shells = with_command(states, shell);
+    with_command(shells, check_command(alloc))
+}
+
+/// The program with the commands over traces.
+fn with_traces<'a>(alloc: Global, pif: Made<'a>) -> Made<'a>
+    ensures { (app : App) → IsApp app pif.entry → IsApp (with_traces app) result }
+{
+    let replay = with_job(
+        alloc,
+        pif,
+        "replay",
+        ABOUT_REPLAY,
+        USAGE_REPLAY,
+        MORE_REPLAY,
+    );
+    let trace = with_job(alloc, replay, "trace", ABOUT_TRACE, USAGE_TRACE, MORE_TRACE);
+    with_job(
+        alloc,
+        trace,
+        "migrate",
+        ABOUT_MIGRATE,
+        USAGE_MIGRATE,
+        MORE_MIGRATE,
+    )
+}
+
+/// How many clients `drive` has.
+fn clients_given<'a>(alloc: Global) -> clap::Arg<'a>
+    ensures rule { rule_of result ≡ clients_rule }
+    ensures local { result.global ≡ false }
+{
+    clap::Arg::new(alloc, "N")
+        .required(true)
+        .value_parser(ValueParser::unsigned(1, 64))
+        .help(ABOUT_CLIENTS)
+}
+
+/// The command `drive`.
+fn drive_command<'a>(alloc: Global) -> Made<'a>
+    ensures { IsApp drive_app result }
+{
+    let drive = described(alloc, "drive", ABOUT_DRIVE, USAGE_DRIVE, MORE_DRIVE);
+    with_arg(drive, clients_given(alloc))
+}
+
+/// The program's commands.
+pub fn program<'a>(alloc: Global) -> Made<'a>
+    ensures { IfOk result (λ c. app_of c ≡ program) }
+{
+    let runs = with_runs(alloc, bare_program(alloc));
+    let traces = with_traces(alloc, runs);
+    let random = with_command(traces, random_command(alloc));
+    with_command(random, drive_command(alloc))
+}

@@ -1,0 +1,137 @@
+//! Jobs: what the words ask for, and over which files.
+ghost use Rattle.std.specs.Prelude.{◌≡◌, IfOk, map};
+ghost use Rattle.clap.specs.Words.{FailsBy, found_of, rows_of};
+ghost use Rattle.pif_cli_words.specs.Words.{refusals_of, job_of, job_named, files_in, files_of, shown_in, first_name};
+
+use crate::commands::program;
+use crate::options::{is_given, small_number_between};
+use crate::random::{Recipe, recipe_in};
+use pif_script_model::{Detail, Picture};
+use std::alloc::{AllocError, Global};
+use std::convert::AsStr;
+
+/// The name of the standard input.
+pub const STANDARD_NAME: &str = "-";
+
+/// What the words ask the program to do.
+#[derive(Clone, Copy)]
+pub enum Job {
+    /// `run`: run a script.
+    Run,
+    /// `replay`: replay a trace.
+    Replay,
+    /// `trace`: write the trace of a script or a story.
+    Trace,
+    /// `migrate`: write a trace as one of version 2.
+    Migrate,
+    /// `show`: run a script or a story, and show it to a person, with what changes by each line, or by `--all` with all
+    /// there is.
+    Show(Detail),
+    /// `draw`, `show --json` and `show --dot`: make a picture of a story.
+    Picture(Picture),
+    /// `shell`: answer a script while a person types it.
+    Shell,
+    /// `check`: check a story.
+    Check,
+    /// `check --print`: fill a story in.
+    Fill,
+    /// `random`: write a random script.
+    Random(Recipe),
+    /// `drive`: let so many clients make calls in threads of their own.
+    Drive(u32),
+}
+
+/// What the words ask for.
+#[derive(Drop)]
+pub struct Asked<'a> {
+    /// The job.
+    pub job: Job,
+    /// The files over which it is to be done, in their order; none where it is the standard input.
+    pub files: Vec<&'a str>,
+}
+
+/// The files that are given to a command.
+fn files_in<'a>(alloc: Global, given: &clap::ArgMatches<'a>) -> Result<Vec<&'a str>, AllocError>
+    ensures { IfOk result (λ files. map (λ file. file.now) files.items ≡ files_in (rows_of (found_of given.now))) }
+{
+    match given.get_strs("FILE") {
+        Some(files) => Ok(Vec::from_slice(alloc, files)?),
+        None => Ok(Vec::new(alloc)),
+    }
+}
+
+/// The job that the words ask for, the program's name first, and the files over which it is to be done.
+pub fn read_words<'a, S: AsStr>(alloc: Global, words: &'a [S]) -> Result<Asked<'a>, clap::Error>
+    ensures refusals { FailsBy (refusals_of (map S.text words.now)) result }
+    ensures job { IfOk result (λ asked. asked.job ≡ job_of (map S.text words.now)) }
+    ensures files { IfOk result (λ asked. map (λ file. file.now) asked.files.items ≡ files_of (map S.text words.now)) }
+{
+    let matches = program(alloc)?.try_get_matches_from(words)?;
+    match matches.subcommand() {
+        Some((name, given)) => Ok(Asked {
+            job: job_named(name, given),
+            files: files_in(alloc, given)?,
+        }),
+        None => Ok(Asked {
+            job: Job::Run,
+            files: Vec::new(alloc),
+        }),
+    }
+}
+
+/// How `show` is to show a script: for a person, or as a picture that its flags name. Of several flags the first of `--json`,
+/// `--dot` and `--all` counts.
+fn shown_in(given: &clap::ArgMatches) -> Job
+    ensures { result ≡ shown_in (rows_of (found_of given.now)) }
+{
+    if is_given(given, "json") {
+        Job::Picture(Picture::States)
+    } else if is_given(given, "dot") {
+        Job::Picture(Picture::Graph)
+    } else if is_given(given, "all") {
+        Job::Show(Detail::All)
+    } else {
+        Job::Show(Detail::Changes)
+    }
+}
+
+/// The job of a command's name, with what was given to it.
+fn job_named(name: &str, given: &clap::ArgMatches) -> Job
+    ensures { result ≡ job_named name.now (rows_of (found_of given.now)) }
+{
+    if name == "replay" {
+        Job::Replay
+    } else if name == "trace" {
+        Job::Trace
+    } else if name == "migrate" {
+        Job::Migrate
+    } else if name == "show" {
+        shown_in(given)
+    } else if name == "draw" {
+        Job::Picture(Picture::Drawing)
+    } else if name == "shell" {
+        Job::Shell
+    } else if name == "check" {
+        if is_given(given, "print") {
+            Job::Fill
+        } else {
+            Job::Check
+        }
+    } else if name == "random" {
+        Job::Random(recipe_in(given))
+    } else if name == "drive" {
+        Job::Drive(small_number_between(given, "N", 1, 64))
+    } else {
+        Job::Run
+    }
+}
+
+/// The name of the one input: that of the first file, if there is one.
+pub fn first_name<'a>(files: &[&'a str]) -> &'a str
+    ensures { result.now ≡ first_name (map (λ file. file.now) files.now) }
+{
+    match files {
+        [] => STANDARD_NAME,
+        [file, ..] => *file,
+    }
+}

@@ -1,0 +1,59 @@
+//! Laws on words: which job they ask for, and why they are refused.
+ghost use Rattle.std.specs.Prelude.{◌≡◌, ◌≤◌, ℕ, List, [], ◌∷◌, codes};
+ghost use Rattle.clap.specs.declared.error.kind.ErrorKind.TheVariants.{DisplayHelp, DisplayVersion, InvalidSubcommand, MissingRequiredArgument, MissingSubcommand, ValueValidation};
+ghost use Rattle.pif_cli_words.specs.Random.{plain_shape};
+ghost use Rattle.pif_cli_words.specs.Words.{refusals_of, job_of, files_of};
+
+use crate::jobs::Job;
+use crate::random::Recipe;
+use pif_script_model::{Detail, Picture};
+
+/// Which words ask for which job: `run`, `show`, `draw`, `shell`, `replay`, `trace` and `migrate` alone, `show` with each of its
+/// flags, `run` with a file, `check` alone, with `--print` and with two files, `random` with a seed and from 1 to 262,144 lines, and `drive` with a number from 1
+/// to 64 do; no word, `--help` and `--version` don't.
+#[tactic(auto, unfolding(clap::proofs::OnLiterals::clap_on_literals))]
+pub fn words_of_the_program()
+    ensures run { (name : List ℕ) → (refusals_of (name ∷ codes "run" ∷ []) ≡ []) × (job_of (name ∷ codes "run" ∷ []) ≡ Job.Run) }
+    ensures replay { (name : List ℕ) → (refusals_of (name ∷ codes "replay" ∷ []) ≡ []) × (job_of (name ∷ codes "replay" ∷ []) ≡ Job.Replay) }
+    ensures trace { (name : List ℕ) → (refusals_of (name ∷ codes "trace" ∷ []) ≡ []) × (job_of (name ∷ codes "trace" ∷ []) ≡ Job.Trace) }
+    ensures migrate { (name : List ℕ) → (refusals_of (name ∷ codes "migrate" ∷ []) ≡ []) × (job_of (name ∷ codes "migrate" ∷ []) ≡ Job.Migrate) }
+    ensures show { (name : List ℕ) → (refusals_of (name ∷ codes "show" ∷ []) ≡ []) × (job_of (name ∷ codes "show" ∷ []) ≡ Job.Show Detail.Changes) }
+    ensures all { (name : List ℕ) → (refusals_of (name ∷ codes "show" ∷ codes "--all" ∷ []) ≡ [])
+        × (job_of (name ∷ codes "show" ∷ codes "--all" ∷ []) ≡ Job.Show Detail.All) }
+    ensures draw { (name : List ℕ) → (refusals_of (name ∷ codes "draw" ∷ []) ≡ [])
+        × (job_of (name ∷ codes "draw" ∷ []) ≡ Job.Picture Picture.Drawing) }
+    ensures json { (name : List ℕ) → (refusals_of (name ∷ codes "show" ∷ codes "--json" ∷ []) ≡ [])
+        × (job_of (name ∷ codes "show" ∷ codes "--json" ∷ []) ≡ Job.Picture Picture.States) }
+    ensures dot { (name : List ℕ) → (refusals_of (name ∷ codes "show" ∷ codes "--dot" ∷ []) ≡ [])
+        × (job_of (name ∷ codes "show" ∷ codes "--dot" ∷ []) ≡ Job.Picture Picture.Graph) }
+    ensures shell { (name : List ℕ) → (refusals_of (name ∷ codes "shell" ∷ []) ≡ []) × (job_of (name ∷ codes "shell" ∷ []) ≡ Job.Shell) }
+    ensures check { (name : List ℕ) → (refusals_of (name ∷ codes "check" ∷ []) ≡ [])
+        × (job_of (name ∷ codes "check" ∷ []) ≡ Job.Check) }
+    ensures fill { (name : List ℕ) → (refusals_of (name ∷ codes "check" ∷ codes "--print" ∷ []) ≡ [])
+        × (job_of (name ∷ codes "check" ∷ codes "--print" ∷ []) ≡ Job.Fill) }
+    ensures file { (name : List ℕ) → (refusals_of (name ∷ codes "run" ∷ codes "a" ∷ []) ≡ [])
+        × (files_of (name ∷ codes "run" ∷ codes "a" ∷ []) ≡ codes "a" ∷ []) }
+    ensures files { (name : List ℕ) → (refusals_of (name ∷ codes "check" ∷ codes "a" ∷ codes "b" ∷ []) ≡ [])
+        × (files_of (name ∷ codes "check" ∷ codes "a" ∷ codes "b" ∷ []) ≡ codes "a" ∷ codes "b" ∷ []) }
+    ensures random { (name : List ℕ) → (refusals_of (name ∷ codes "random" ∷ codes "--seed=7" ∷ codes "--lines=1" ∷ []) ≡ [])
+        × (job_of (name ∷ codes "random" ∷ codes "--seed=7" ∷ codes "--lines=1" ∷ [])
+        ≡ Job.Random (record { seed = 7; lines = 1; shape = plain_shape })) }
+    ensures longest { (name : List ℕ) → refusals_of (name ∷ codes "random" ∷ codes "--seed=7" ∷ codes "--lines=262144" ∷ []) ≡ [] }
+    ensures no_lines { (name : List ℕ) → refusals_of (name ∷ codes "random" ∷ codes "--seed=7" ∷ codes "--lines=0" ∷ []) ≡ ValueValidation ∷ [] }
+    ensures too_long { (name : List ℕ) → refusals_of (name ∷ codes "random" ∷ codes "--seed=7" ∷ codes "--lines=262145" ∷ []) ≡ ValueValidation ∷ [] }
+    ensures no_seed { (name : List ℕ) → refusals_of (name ∷ codes "random" ∷ codes "--lines=1" ∷ []) ≡ MissingRequiredArgument ∷ [] }
+    ensures least { (name : List ℕ) → (refusals_of (name ∷ codes "drive" ∷ codes "1" ∷ []) ≡ []) × (job_of (name ∷ codes "drive" ∷ codes "1" ∷ []) ≡ Job.Drive 1) }
+    ensures most { (name : List ℕ) → (refusals_of (name ∷ codes "drive" ∷ codes "64" ∷ []) ≡ []) × (job_of (name ∷ codes "drive" ∷ codes "64" ∷ []) ≡ Job.Drive 64) }
+    ensures too_few { (name : List ℕ) → refusals_of (name ∷ codes "drive" ∷ codes "0" ∷ []) ≡ ValueValidation ∷ [] }
+    ensures too_many { (name : List ℕ) → refusals_of (name ∷ codes "drive" ∷ codes "65" ∷ []) ≡ ValueValidation ∷ [] }
+    ensures no_number { (name : List ℕ) → refusals_of (name ∷ codes "drive" ∷ []) ≡ MissingRequiredArgument ∷ [] }
+    ensures help { (name : List ℕ) → refusals_of (name ∷ codes "--help" ∷ []) ≡ DisplayHelp ∷ [] }
+    ensures help_command { (name : List ℕ) → refusals_of (name ∷ codes "help" ∷ []) ≡ DisplayHelp ∷ InvalidSubcommand ∷ [] }
+    ensures version { (name : List ℕ) → refusals_of (name ∷ codes "--version" ∷ []) ≡ DisplayVersion ∷ [] }
+    ensures none { (name : List ℕ) → refusals_of (name ∷ []) ≡ MissingSubcommand ∷ [] }
+{}
+
+/// Whatever the words are, a random script that they ask for has 262,144 lines at most, so that a run of it has no fault.
+pub fn random_lines_have_a_bound()
+    ensures { (words : List (List ℕ)) (recipe : Recipe) → (job_of words ≡ Job.Random recipe) → recipe.lines ≤ 262144 }
+{}

@@ -1,0 +1,115 @@
+ghost use Rattle.pif_job_draw.specs.Pictures.{FillsStoryTo, PicturesTo, WritesText};
+
+use pif_job_check::fill_noting;
+use pif_script::{CliFault, Notice, write_whole};
+use pif_script_model::Picture;
+use pif_story_drawing::picture_of;
+use pif_types::NoMemory;
+use std::alloc::Global;
+use std::io::{Read, Write};
+
+/// Draws a story, or a script, as an SVG image: a lane for each thread over the commands, with what the thread does, the
+/// mutexes that it holds, and its effective priority above its base priority; and arrows, if a mutex is handed over or a
+/// thread is signalled. The story is read to its end before anything is written, and it and its drawing are kept in memory.
+/// What is drawn is for reading, and may change. `notice` keeps the command that is a fault; if there is none, it is left
+/// as it is.
+///
+/// # Errors
+///
+/// `Script` with the line of the first fault, as of `fill`; `Read`, if the reader fails; and `NoMemory`: nothing was
+/// written then. `Write`, if the writer fails or takes no byte.
+pub fn draw<R: Read, W: Write>(
+    alloc: Global,
+    reader: &mut R,
+    writer: &mut W,
+    notice: &mut Notice,
+) -> Result<(), CliFault>
+    ensures { PicturesTo (R.remaining reader.old) (R.remaining reader.new) (W.contents writer.old) (W.contents writer.new) result }
+{
+    write_picture(Picture::Drawing, alloc, reader, writer, notice)
+}
+
+/// Writes the states of a story, or a script: for each command a line with one JSON object, of the command, its answer,
+/// and then each thread, mutex and condition variable, the run queue, and the chains of waiting. The story is read to
+/// its end before anything is written, and it and the states are kept in memory. `notice` is as of `draw`.
+///
+/// # Errors
+///
+/// Those of `draw`.
+pub fn write_states<R: Read, W: Write>(
+    alloc: Global,
+    reader: &mut R,
+    writer: &mut W,
+    notice: &mut Notice,
+) -> Result<(), CliFault>
+    ensures { PicturesTo (R.remaining reader.old) (R.remaining reader.new) (W.contents writer.old) (W.contents writer.new) result }
+{
+    write_picture(Picture::States, alloc, reader, writer, notice)
+}
+
+/// Writes who waits for whom, through which mutex, at the end of a story, or a script: a graph in the language of
+/// Graphviz. The story is read to its end before anything is written, and it and the graph are kept in memory. `notice`
+/// is as of `draw`.
+///
+/// # Errors
+///
+/// Those of `draw`.
+pub fn write_graph<R: Read, W: Write>(
+    alloc: Global,
+    reader: &mut R,
+    writer: &mut W,
+    notice: &mut Notice,
+) -> Result<(), CliFault>
+    ensures { PicturesTo (R.remaining reader.old) (R.remaining reader.new) (W.contents writer.old) (W.contents writer.new) result }
+{
+    write_picture(Picture::Graph, alloc, reader, writer, notice)
+}
+
+/// Writes this picture of a story, or a script. The story is read to its end before anything is written, and it and the
+/// picture are kept in memory. `notice` is as of `draw`.
+///
+/// # Errors
+///
+/// Those of `draw`.
+pub fn write_picture<R: Read, W: Write>(
+    picture: Picture,
+    alloc: Global,
+    reader: &mut R,
+    writer: &mut W,
+    notice: &mut Notice,
+) -> Result<(), CliFault>
+    ensures { PicturesTo (R.remaining reader.old) (R.remaining reader.new) (W.contents writer.old) (W.contents writer.new) result }
+{
+    let story = answered(alloc, reader, notice)?;
+    write_text(picture_of(alloc, picture, story.as_slice()), writer)
+}
+
+/// Reads a story to its end, and has its answers filled in; `notice` keeps the command that is a fault.
+///
+/// # Errors
+///
+/// Those of `fill`, but that no write fails.
+fn answered<R: Read>(
+    alloc: Global,
+    reader: &mut R,
+    notice: &mut Notice,
+) -> Result<Vec<u8>, CliFault>
+    ensures { FillsStoryTo (R.remaining reader.old) (R.remaining reader.new) result }
+{
+    let mut story = Vec::new(alloc);
+    match fill_noting(alloc, b"", reader, &mut story, notice) {
+        Ok(()) => Ok(story),
+        Err(CliFault::Write) => Err(CliFault::NoMemory),
+        Err(fault) => Err(fault),
+    }
+}
+
+/// Writes a text whole, if there was memory for it.
+fn write_text<W: Write>(text: Result<String, NoMemory>, writer: &mut W) -> Result<(), CliFault>
+    ensures { WritesText (W.contents writer.old) (W.contents writer.new) result }
+{
+    match text {
+        Ok(text) => write_whole(writer, text.as_bytes()),
+        Err(NoMemory) => Err(CliFault::NoMemory),
+    }
+}

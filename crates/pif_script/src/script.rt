@@ -1,0 +1,142 @@
+ghost use Rattle.std.specs.Prelude.{◌+◌, ◌≤◌, ◌<◌, ◌≡◌, Ok, true, [], length, OnOk};
+ghost use Rattle.arrayvec.specs.ArrayVec.{array_vec_len};
+ghost use Rattle.pif_script_model.specs.Scripts.{start, closed_at};
+ghost use Rattle.pif_script_model.specs.Runs.{RunsFrom, RunsPart, Feeds, Flushes, WritesEnd, Stops};
+ghost use Rattle.pif_script.specs.Scanners.{scan_of};
+
+use crate::listener::{ANSWER_ROOM, CHUNK, END_ROOM, FULL, Listener, OUTPUT_ROOM, Output};
+use crate::notices::Notice;
+use crate::scanner::Scanner;
+use crate::writing::write_whole;
+use pif_script_model::{CliFault, End, Ending, Stop};
+use std::alloc::Global;
+use std::io::{Read, Write};
+
+/// Reads a script or a trace to its end, or to the first line that ends it. What its lines are answered is written,
+/// chunk by chunk, before more is read, and at last what is said at its end, or of the line that ends it. `notice` keeps
+/// that line, and is left as it is where there is none.
+///
+/// # Errors
+///
+/// `Script` and `Differs` with the line that ends it; `Read` and `Write`, where the reader or the writer fails; and
+/// `NoMemory`, where nothing was written.
+pub fn read_script<L: Listener + Drop, R: Read, W: Write>(
+    alloc: Global,
+    reader: &mut R,
+    writer: &mut W,
+    notice: &mut Notice,
+) -> Result<(), CliFault>
+    ensures { RunsFrom L.hearing start (R.remaining reader.old) (R.remaining reader.new) (W.contents writer.old) (W.contents writer.new) result }
+{
+    let mut scanner = Scanner::<L>::new();
+    let mut output = Output::new();
+    loop {
+        if !turn(alloc, &mut scanner, &mut output, reader, writer, notice)? {
+            return Ok(());
+        }
+    }
+}
+
+/// Reads a chunk, and writes what its lines are answered. Answers whether the input goes on.
+fn turn<L: Listener + Drop, R: Read, W: Write>(
+    alloc: Global,
+    scanner: &mut Scanner<L>,
+    output: &mut Output,
+    reader: &mut R,
+    writer: &mut W,
+    notice: &mut Notice,
+) -> Result<bool, CliFault>
+    ensures answer { RunsPart L.hearing (scan_of scanner.old) (scan_of scanner.new) (R.remaining reader.old) (R.remaining reader.new) (W.contents writer.old) (W.contents writer.new) result }
+    ensures taken { result ≡ Ok true → scanner.old.taken < scanner.new.taken }
+{
+    let mut chunk = [0u8; CHUNK];
+    let count = match reader.read(&mut chunk) {
+        Ok(count) => count,
+        Err(_) => return Err(CliFault::Read),
+    };
+    output.clear();
+    if count == 0 {
+        return close(scanner, output, writer, notice);
+    }
+    feed(alloc, scanner, &chunk[..count], output, writer, notice)?;
+    Ok(true)
+}
+
+/// Reads bytes, and writes what their lines are answered.
+fn feed<L: Listener + Drop, W: Write>(
+    alloc: Global,
+    scanner: &mut Scanner<L>,
+    bytes: &[u8],
+    output: &mut Output,
+    writer: &mut W,
+    notice: &mut Notice,
+) -> Result<(), CliFault>
+    requires { output.old.items ≡ [] }
+    ensures answer { Feeds L.hearing (scan_of scanner.old) bytes.now (scan_of scanner.new) (W.contents writer.old) (W.contents writer.new) result }
+    ensures taken { OnOk result (scanner.new.taken ≡ scanner.old.taken + length bytes.now) }
+{
+    let mut rest = bytes;
+    while !rest.is_empty() {
+        make_room(output, writer)?;
+        match scanner.take_some(alloc, rest, output) {
+            Ok(count) => rest = &rest[count..],
+            Err(Stop::Ended(end)) => {
+                notice.keep(scanner.line(), &end.ending);
+                return Err(stop::<L, W>(end, output, writer));
+            }
+            Err(Stop::NoMemory) => return Err(CliFault::NoMemory),
+        }
+    }
+    write_whole(writer, output.as_slice())
+}
+
+/// Writes the output where there may be no room for one more answer in it.
+fn make_room<W: Write>(output: &mut Output, writer: &mut W) -> Result<(), CliFault>
+    ensures answer { Flushes (W.contents writer.old) (W.contents writer.new) output.old.items output.new.items result }
+    ensures room { OnOk result (array_vec_len output.new + ANSWER_ROOM + END_ROOM ≤ OUTPUT_ROOM) }
+{
+    if output.len() < FULL {
+        return Ok(());
+    }
+    write_whole(writer, output.as_slice())?;
+    output.clear();
+    Ok(())
+}
+
+/// Writes what is said where the script ends here. The input does not go on.
+fn close<L: Listener + Drop, W: Write>(
+    scanner: &Scanner<L>,
+    output: &mut Output,
+    writer: &mut W,
+    notice: &mut Notice,
+) -> Result<bool, CliFault>
+    requires { output.old.items ≡ [] }
+    ensures { WritesEnd (W.contents writer.old) (W.contents writer.new) L.hearing.said_of (closed_at L.hearing (scan_of scanner.now)) result }
+{
+    match scanner.close(output) {
+        Ok(()) => {
+            write_whole(writer, output.as_slice())?;
+            Ok(false)
+        }
+        Err(end) => {
+            notice.keep(scanner.line(), &end.ending);
+            Err(stop::<L, W>(end, output, writer))
+        }
+    }
+}
+
+/// Writes the output, and behind it what is said of an end.
+pub fn stop<L: Listener + Drop, W: Write>(end: End, output: &mut Output, writer: &mut W) -> CliFault
+    requires { array_vec_len output.old + END_ROOM ≤ OUTPUT_ROOM }
+    ensures { Stops (W.contents writer.old) (W.contents writer.new) output.old.items (L.hearing.said_of end) end result }
+{
+    let End { line, ending } = end;
+    L::report(end, output);
+    match write_whole(writer, output.as_slice()) {
+        Ok(()) => match ending {
+            Ending::Fault(cause) => CliFault::Script(line, cause),
+            Ending::Differs(_) => CliFault::Differs(line),
+        },
+        Err(failed) => failed,
+    }
+}

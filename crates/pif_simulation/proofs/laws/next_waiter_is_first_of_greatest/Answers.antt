@@ -1,5 +1,0 @@
-use Rattle.pif_chains.proofs.Next.{next_is_next}
-use Rattle.pif_simulation.proofs.laws.next_waiter_is_first_of_greatest.Goals as goal
-
-pub returns : goal.returns
-returns c = next_is_next

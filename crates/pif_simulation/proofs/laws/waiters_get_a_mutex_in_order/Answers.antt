@@ -1,5 +1,0 @@
-use Rattle.pif_chains.proofs.kernel.Orders.{order-none, order-next}
-use Rattle.pif_simulation.proofs.laws.waiters_get_a_mutex_in_order.Goals as goal
-
-pub returns : goal.returns
-returns c = record { none = order-none; next = order-next }

@@ -1,0 +1,10 @@
+//! The blocks of transcripts: what one says of a job, by its lines, and the streams between which the job is done.
+//! docs/TRANSCRIPTS.md has the lines. `pif_test_transcripts` does the jobs.
+#![tactic(auto)]
+
+mod block;
+mod marks;
+mod streams;
+
+pub use block::Block;
+pub use streams::{Kept, Sink, Source};

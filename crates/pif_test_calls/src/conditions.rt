@@ -1,0 +1,425 @@
+//! Waits, signals and broadcasts.
+use super::driver::{Ask, Reply, Wish, new_parts, play};
+use pif_kernel::{Chains, PiKernel};
+use pif_kernel_linked::LinkedChains;
+use pif_mutex::{Parts, Progress};
+use pif_plain::PlainChains;
+use pif_types::{CondId, Kind, Limits, MutexId, Request, Tid};
+use std::alloc::Global;
+use std::process::Abort;
+use std::test::Fail;
+
+/// Plays tables under limits of four threads, two mutexes, and one variable that may be used three times.
+fn try_all<R: Abort>(rt: &R, alloc: Global, tables: &[&[(Ask, Reply)]]) -> Result<(), Fail> {
+    let limits = Limits::new(4, 2, 1, 3).ok_or("limits")?;
+    play(rt, alloc, limits, tables)
+}
+
+/// Two mutexes, a variable that is bound to mutex 1, and two threads of priorities 10 and 20.
+const TWO: [(Ask, Reply); 5] = [
+    (Ask::AddMutex(Kind::Normal, false), Reply::Added(1)),
+    (Ask::AddMutex(Kind::Normal, false), Reply::Added(2)),
+    (Ask::AddCond(1), Reply::Added(1)),
+    (Ask::AddThread(10), Reply::Added(1)),
+    (Ask::AddThread(20), Reply::Added(2)),
+];
+
+const HANDED: [(Ask, Reply); 10] = [
+    (
+        Ask::Call(1, Wish::Lock(1)),
+        Reply::Ended(2, Progress::Done(0)),
+    ),
+    (
+        Ask::Call(1, Wish::Wait(1, 1)),
+        Reply::Ended(4, Progress::Waits),
+    ),
+    (Ask::Word(1), Reply::Bits(0)),
+    (Ask::Status(1), Reply::ParkedOn(1)),
+    (
+        Ask::Call(2, Wish::Signal(1)),
+        Reply::Ended(3, Progress::Done(0)),
+    ),
+    (Ask::Word(1), Reply::Bits(1)),
+    (Ask::Uses(1), Reply::Bits(1)),
+    (
+        Ask::Call(2, Wish::Signal(1)),
+        Reply::Ended(3, Progress::Done(0)),
+    ),
+    (Ask::Uses(1), Reply::Bits(2)),
+    (Ask::Finish(1), Reply::Ended(1, Progress::Done(0))),
+];
+
+#[test]
+fn signal_hands_the_mutex_to_one_that_waits(rt: HostRuntime) -> Result<(), Fail> {
+    try_all(&rt, rt.alloc(), &[&TWO, &HANDED])
+}
+
+const NOT_LOST: [(Ask, Reply); 9] = [
+    (
+        Ask::Call(1, Wish::Lock(1)),
+        Reply::Ended(2, Progress::Done(0)),
+    ),
+    (Ask::Begin(1, Wish::Wait(1, 1)), Reply::Done),
+    (Ask::Go(1), Reply::Step(Progress::Went)),
+    (Ask::Go(1), Reply::Step(Progress::Went)),
+    (Ask::Go(1), Reply::Step(Progress::Went)),
+    (
+        Ask::Call(2, Wish::Signal(1)),
+        Reply::Ended(3, Progress::Done(0)),
+    ),
+    (Ask::Word(1), Reply::Bits(0)),
+    (Ask::Uses(1), Reply::Bits(1)),
+    (Ask::Finish(1), Reply::Ended(2, Progress::Done(0))),
+];
+
+#[test]
+fn signal_before_the_park_is_not_lost(rt: HostRuntime) -> Result<(), Fail> {
+    try_all(&rt, rt.alloc(), &[&TWO, &NOT_LOST])
+}
+
+const ROBUST: [(Ask, Reply); 10] = [
+    (Ask::AddMutex(Kind::Normal, true), Reply::Added(1)),
+    (Ask::AddCond(1), Reply::Added(1)),
+    (Ask::AddThread(10), Reply::Added(1)),
+    (Ask::AddThread(20), Reply::Added(2)),
+    (
+        Ask::Call(1, Wish::Lock(1)),
+        Reply::Ended(7, Progress::Done(0)),
+    ),
+    (
+        Ask::Call(1, Wish::Wait(1, 1)),
+        Reply::Ended(7, Progress::Waits),
+    ),
+    (Ask::Word(1), Reply::Bits(0)),
+    (
+        Ask::Call(2, Wish::Signal(1)),
+        Reply::Ended(3, Progress::Done(0)),
+    ),
+    (Ask::Word(1), Reply::Bits(1)),
+    (Ask::Finish(1), Reply::Ended(5, Progress::Done(0))),
+];
+
+#[test]
+fn wait_takes_a_robust_mutex_over_again(rt: HostRuntime) -> Result<(), Fail> {
+    try_all(&rt, rt.alloc(), &[&ROBUST])
+}
+
+const ERRORS_ADDED: [(Ask, Reply); 5] = [
+    (Ask::AddMutex(Kind::Recursive, false), Reply::Added(1)),
+    (Ask::AddMutex(Kind::Normal, false), Reply::Added(2)),
+    (Ask::AddCond(1), Reply::Added(1)),
+    (Ask::AddThread(10), Reply::Added(1)),
+    (Ask::AddThread(20), Reply::Added(2)),
+];
+
+const ERRORS: [(Ask, Reply); 12] = [
+    (
+        Ask::Call(1, Wish::Wait(1, 2)),
+        Reply::Ended(1, Progress::Done(22)),
+    ),
+    (
+        Ask::Call(1, Wish::Wait(1, 1)),
+        Reply::Ended(1, Progress::Done(1)),
+    ),
+    (
+        Ask::Call(1, Wish::Lock(1)),
+        Reply::Ended(2, Progress::Done(0)),
+    ),
+    (
+        Ask::Call(1, Wish::Lock(1)),
+        Reply::Ended(1, Progress::Done(0)),
+    ),
+    (
+        Ask::Call(1, Wish::Wait(1, 1)),
+        Reply::Ended(1, Progress::Done(22)),
+    ),
+    (
+        Ask::Call(2, Wish::Broadcast(1)),
+        Reply::Ended(3, Progress::Done(0)),
+    ),
+    (
+        Ask::Call(2, Wish::Signal(1)),
+        Reply::Ended(3, Progress::Done(0)),
+    ),
+    (
+        Ask::Call(2, Wish::Signal(1)),
+        Reply::Ended(3, Progress::Done(0)),
+    ),
+    (Ask::Uses(1), Reply::Bits(3)),
+    (
+        Ask::Call(2, Wish::Signal(1)),
+        Reply::Ended(1, Progress::Done(75)),
+    ),
+    (Ask::Uses(1), Reply::Bits(3)),
+    (Ask::Word(1), Reply::Bits(1)),
+];
+
+#[test]
+fn wait_and_signal_name_their_errors(rt: HostRuntime) -> Result<(), Fail> {
+    try_all(&rt, rt.alloc(), &[&ERRORS_ADDED, &ERRORS])
+}
+
+/// Thread 1 has priority 5, and threads 2, 3 and 4 have 10, 30 and 20 and wait on the variable.
+const THREE_WAIT: [(Ask, Reply); 12] = [
+    (Ask::AddMutex(Kind::Normal, false), Reply::Added(1)),
+    (Ask::AddCond(1), Reply::Added(1)),
+    (Ask::AddThread(5), Reply::Added(1)),
+    (Ask::AddThread(10), Reply::Added(2)),
+    (Ask::AddThread(30), Reply::Added(3)),
+    (Ask::AddThread(20), Reply::Added(4)),
+    (
+        Ask::Call(2, Wish::Lock(1)),
+        Reply::Ended(2, Progress::Done(0)),
+    ),
+    (
+        Ask::Call(2, Wish::Wait(1, 1)),
+        Reply::Ended(4, Progress::Waits),
+    ),
+    (
+        Ask::Call(3, Wish::Lock(1)),
+        Reply::Ended(2, Progress::Done(0)),
+    ),
+    (
+        Ask::Call(3, Wish::Wait(1, 1)),
+        Reply::Ended(4, Progress::Waits),
+    ),
+    (
+        Ask::Call(4, Wish::Lock(1)),
+        Reply::Ended(2, Progress::Done(0)),
+    ),
+    (
+        Ask::Call(4, Wish::Wait(1, 1)),
+        Reply::Ended(4, Progress::Waits),
+    ),
+];
+
+const WOKEN: [(Ask, Reply); 9] = [
+    (Ask::Parked(1, 0), Reply::Thread(3)),
+    (Ask::Parked(1, 1), Reply::Thread(4)),
+    (Ask::Parked(1, 2), Reply::Thread(2)),
+    (Ask::Parked(1, 3), Reply::Nobody),
+    (
+        Ask::Call(1, Wish::Lock(1)),
+        Reply::Ended(2, Progress::Done(0)),
+    ),
+    (
+        Ask::Call(1, Wish::Broadcast(1)),
+        Reply::Ended(3, Progress::Done(0)),
+    ),
+    (Ask::Word(1), Reply::Bits(0x8000_0001)),
+    (Ask::Effective(1), Reply::Prio(30)),
+    (Ask::Parked(1, 0), Reply::Nobody),
+];
+
+const HANDED_ON: [(Ask, Reply); 12] = [
+    (
+        Ask::Call(1, Wish::Unlock(1)),
+        Reply::Ended(3, Progress::Done(0)),
+    ),
+    (Ask::Word(1), Reply::Bits(0x8000_0003)),
+    (Ask::Effective(1), Reply::Prio(5)),
+    (Ask::Finish(3), Reply::Ended(1, Progress::Done(0))),
+    (
+        Ask::Call(3, Wish::Unlock(1)),
+        Reply::Ended(3, Progress::Done(0)),
+    ),
+    (Ask::Word(1), Reply::Bits(0x8000_0004)),
+    (Ask::Finish(4), Reply::Ended(1, Progress::Done(0))),
+    (
+        Ask::Call(4, Wish::Unlock(1)),
+        Reply::Ended(3, Progress::Done(0)),
+    ),
+    (Ask::Word(1), Reply::Bits(0x8000_0002)),
+    (Ask::Finish(2), Reply::Ended(1, Progress::Done(0))),
+    (
+        Ask::Call(2, Wish::Unlock(1)),
+        Reply::Ended(3, Progress::Done(0)),
+    ),
+    (Ask::Word(1), Reply::Bits(0x0000_0000)),
+];
+
+#[test]
+fn broadcast_wakes_by_priority(rt: HostRuntime) -> Result<(), Fail> {
+    try_all(&rt, rt.alloc(), &[&THREE_WAIT, &WOKEN, &HANDED_ON])
+}
+
+const GREATEST: [(Ask, Reply); 13] = [
+    (Ask::AddMutex(Kind::Normal, false), Reply::Added(1)),
+    (Ask::AddCond(1), Reply::Added(1)),
+    (Ask::AddThread(10), Reply::Added(1)),
+    (Ask::AddThread(10), Reply::Added(2)),
+    (Ask::AddThread(30), Reply::Added(3)),
+    (
+        Ask::Call(2, Wish::Lock(1)),
+        Reply::Ended(2, Progress::Done(0)),
+    ),
+    (
+        Ask::Call(2, Wish::Wait(1, 1)),
+        Reply::Ended(4, Progress::Waits),
+    ),
+    (
+        Ask::Call(3, Wish::Lock(1)),
+        Reply::Ended(2, Progress::Done(0)),
+    ),
+    (
+        Ask::Call(3, Wish::Wait(1, 1)),
+        Reply::Ended(4, Progress::Waits),
+    ),
+    (
+        Ask::Call(1, Wish::Signal(1)),
+        Reply::Ended(3, Progress::Done(0)),
+    ),
+    (Ask::Word(1), Reply::Bits(0x0000_0003)),
+    (Ask::Finish(3), Reply::Ended(1, Progress::Done(0))),
+    (Ask::Finish(2), Reply::Ended(1, Progress::Waits)),
+];
+
+#[test]
+fn signal_takes_greatest_priority(rt: HostRuntime) -> Result<(), Fail> {
+    try_all(&rt, rt.alloc(), &[&GREATEST])
+}
+
+/// Thread 2 is parked as the owner of mutex 2: who locks that boosts it, and so it goes before thread 3.
+const REKEYED_ADDED: [(Ask, Reply); 7] = [
+    (Ask::AddMutex(Kind::Normal, false), Reply::Added(1)),
+    (Ask::AddMutex(Kind::Normal, false), Reply::Added(2)),
+    (Ask::AddCond(1), Reply::Added(1)),
+    (Ask::AddThread(10), Reply::Added(1)),
+    (Ask::AddThread(10), Reply::Added(2)),
+    (Ask::AddThread(15), Reply::Added(3)),
+    (Ask::AddThread(40), Reply::Added(4)),
+];
+
+const REKEYED: [(Ask, Reply); 12] = [
+    (
+        Ask::Call(2, Wish::Lock(2)),
+        Reply::Ended(2, Progress::Done(0)),
+    ),
+    (
+        Ask::Call(2, Wish::Lock(1)),
+        Reply::Ended(2, Progress::Done(0)),
+    ),
+    (
+        Ask::Call(2, Wish::Wait(1, 1)),
+        Reply::Ended(4, Progress::Waits),
+    ),
+    (
+        Ask::Call(3, Wish::Lock(1)),
+        Reply::Ended(2, Progress::Done(0)),
+    ),
+    (
+        Ask::Call(3, Wish::Wait(1, 1)),
+        Reply::Ended(4, Progress::Waits),
+    ),
+    (Ask::Parked(1, 0), Reply::Thread(3)),
+    (
+        Ask::Call(4, Wish::Lock(2)),
+        Reply::Ended(3, Progress::Waits),
+    ),
+    (Ask::Effective(2), Reply::Prio(40)),
+    (Ask::Parked(1, 0), Reply::Thread(2)),
+    (
+        Ask::Call(1, Wish::Signal(1)),
+        Reply::Ended(3, Progress::Done(0)),
+    ),
+    (Ask::Word(1), Reply::Bits(0x0000_0002)),
+    (Ask::Finish(2), Reply::Ended(1, Progress::Done(0))),
+];
+
+#[test]
+fn parked_thread_is_rekeyed(rt: HostRuntime) -> Result<(), Fail> {
+    try_all(&rt, rt.alloc(), &[&REKEYED_ADDED, &REKEYED])
+}
+
+/// Mutexes 1 and 65 share a bucket of the kernel on linked lists.
+const FOUR_THREADS: [(Ask, Reply); 4] = [
+    (Ask::AddThread(10), Reply::Added(1)),
+    (Ask::AddThread(20), Reply::Added(2)),
+    (Ask::AddThread(10), Reply::Added(3)),
+    (Ask::AddThread(20), Reply::Added(4)),
+];
+
+const TWO_HELD: [(Ask, Reply); 9] = [
+    (
+        Ask::Call(1, Wish::Lock(1)),
+        Reply::Ended(2, Progress::Done(0)),
+    ),
+    (
+        Ask::Call(2, Wish::Lock(1)),
+        Reply::Ended(3, Progress::Waits),
+    ),
+    (
+        Ask::Call(3, Wish::Lock(65)),
+        Reply::Ended(2, Progress::Done(0)),
+    ),
+    (
+        Ask::Call(4, Wish::Lock(65)),
+        Reply::Ended(3, Progress::Waits),
+    ),
+    (
+        Ask::Call(3, Wish::Unlock(65)),
+        Reply::Ended(3, Progress::Done(0)),
+    ),
+    (Ask::Word(65), Reply::Bits(0x8000_0004)),
+    (Ask::Word(1), Reply::Bits(0x8000_0001)),
+    (Ask::Effective(1), Reply::Prio(20)),
+    (Ask::Effective(3), Reply::Prio(10)),
+];
+
+#[test]
+fn two_mutexes_of_one_bucket(rt: HostRuntime) -> Result<(), Fail> {
+    let limits = Limits::new(4, 65, 1, 1).ok_or("limits")?;
+    let mut mutexes = [(Ask::AddMutex(Kind::Normal, false), Reply::Added(1)); 65];
+    for place in 0..65 {
+        mutexes[place] = (
+            Ask::AddMutex(Kind::Normal, false),
+            Reply::Added(1 + place as u32),
+        );
+    }
+    play(
+        &rt,
+        rt.alloc(),
+        limits,
+        &[&FOUR_THREADS, &mutexes, &TWO_HELD],
+    )
+}
+
+/// What the parts say beside the answers of calls: the limits, how many of each were added, and the open call of a
+/// thread.
+#[test]
+fn parts_tell_counts_and_open_calls(rt: HostRuntime) -> Result<(), Fail> {
+    tell_on::<PlainChains, HostRuntime>(&rt, rt.alloc())?;
+    tell_on::<LinkedChains, HostRuntime>(&rt, rt.alloc())
+}
+
+fn tell_on<C: Chains + Drop, R: Abort>(rt: &R, alloc: Global) -> Result<(), Fail> {
+    let limits = Limits::new(4, 2, 1, 3).ok_or("limits")?;
+    let mut parts = new_parts::<C>(alloc, limits, 1)?;
+    super::driver::check(rt, &mut parts, &TWO);
+    tell(rt, &mut parts)
+}
+
+fn tell<K: PiKernel + Drop>(rt: &impl Abort, parts: &mut Parts<K>) -> Result<(), Fail> {
+    let t1 = Tid::new(1).ok_or("a thread")?;
+    let wait = Request::Wait(
+        CondId::new(1).ok_or("a variable")?,
+        MutexId::new(1).ok_or("a mutex")?,
+    );
+    assert_eq!(rt; Some(parts.limits()), Limits::new(4, 2, 1, 3));
+    assert_eq!(rt;
+        (parts.threads(), parts.mutexes(), parts.conds()),
+        (2, 2, 1)
+    );
+    super::driver::check(rt, parts, &[(Ask::Begin(1, Wish::Wait(1, 1)), Reply::Done)]);
+    assert_eq!(rt; open_call(parts, t1), Some(wait));
+    Ok(())
+}
+
+/// The open call of a thread. `None` where it has none, or was not added.
+fn open_call<K: PiKernel + Drop>(parts: &Parts<K>, t: Tid) -> Option<Request> {
+    if t.get() <= parts.threads() {
+        parts.open_call(t)
+    } else {
+        None
+    }
+}

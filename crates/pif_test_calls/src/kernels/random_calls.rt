@@ -1,0 +1,141 @@
+//! Random lists of kernel calls on both kernels, on words that no library wrote too: each call has the same answer on
+//! both, and leaves the same words, statuses, priorities and pick.
+use super::super::driver::{Reply, see};
+use super::{Ask, Scene};
+use pif_kernel_linked::LinkedChains;
+use pif_plain::PlainChains;
+use rand_core::{Rng, SeedableRng};
+use rand_xoshiro::SplitMix64;
+use std::alloc::Global;
+use std::process::Abort;
+use std::test::Fail;
+
+const THREADS: u32 = 9;
+
+const MUTEXES: u32 = 5;
+
+const LISTS: u32 = 1000;
+
+const ASKED: u32 = 250;
+
+type Plain = Scene<PlainChains>;
+
+type Linked = Scene<LinkedChains>;
+
+// Asks both kernels, and sees that they answer the same. Whether it could be asked: a call may want a ready thread.
+fn ask(rt: &impl Abort, plain: &mut Plain, linked: &mut Linked, ask: Ask) -> bool {
+    let reply = plain.answer(ask);
+    see(rt, linked.answer(ask), reply, 0);
+    reply.is_some()
+}
+
+// The number in the word of a mutex, which may be nobody's.
+fn holder(plain: &Plain, m: u32) -> u32 {
+    match plain.read(Ask::Word(m)) {
+        Some(Reply::Bits(bits)) => bits & 0x3fff_ffff,
+        _ => 0,
+    }
+}
+
+// Sees that both have the same words, statuses, priorities and pick.
+fn compare(rt: &impl Abort, plain: &mut Plain, linked: &mut Linked) {
+    ask(rt, plain, linked, Ask::Pick);
+    for number in 1..THREADS + 1 {
+        ask(rt, plain, linked, Ask::Status(number));
+        ask(rt, plain, linked, Ask::Effective(number));
+        ask(rt, plain, linked, Ask::Word(number));
+    }
+}
+
+fn levels(rng: &mut SplitMix64) -> [u32; 9] {
+    let mut levels = [0; 9];
+    for place in 0..9 {
+        levels[place] = level(rng);
+    }
+    levels
+}
+
+fn level(rng: &mut SplitMix64) -> u32 {
+    1 + rng.next_u32() % 6 * 15
+}
+
+// A random call or end, of a random thread and mutex, or by the one whose number is in the word of the mutex.
+fn random(rng: &mut SplitMix64, plain: &Plain) -> Ask {
+    let t = 1 + rng.next_u32() % THREADS;
+    let m = 1 + rng.next_u32() % MUTEXES;
+    if rng.next_u32() % 64 == 0 {
+        return Ask::End(t, m);
+    }
+    call(rng, t, m, holder(plain, m))
+}
+
+fn call(rng: &mut SplitMix64, t: u32, m: u32, holder: u32) -> Ask {
+    let c = 1 + rng.next_u32() % 2;
+    match rng.next_u32() % 32 {
+        0..=9 => Ask::Lock(t, m),
+        10 => Ask::TryLock(t, m),
+        11..=16 => Ask::Unlock(holder, m),
+        17..=19 => Ask::Park(t, c, 0, c),
+        20 => Ask::Park(t, c, rng.next_u32() % 2, m),
+        21 | 22 => Ask::Requeue(c, 0, c, 1, rng.next_u32() % 3),
+        23 => Ask::Requeue(c, 0, m, rng.next_u32() % 2, t),
+        24 | 25 => Ask::SetPrio(t, rng.next_u32() % 12 * 9),
+        26..=28 => Ask::Expire(t),
+        29 => Ask::Stop(t),
+        30 => Ask::Store(m, word(rng, t)),
+        _ => Ask::StoreUses(c, rng.next_u32() % 8 / 7),
+    }
+}
+
+// A word that no library wrote: the number of a thread, or any, with any flags.
+fn word(rng: &mut SplitMix64, t: u32) -> u32 {
+    let flags = rng.next_u32() & 0xc000_0000;
+    match rng.next_u32() % 4 {
+        0 => flags,
+        1 | 2 => flags | t,
+        _ => rng.next_u32(),
+    }
+}
+
+// Makes a random list of calls on new kernels, and counts those that could be made. Many threads have equal priorities,
+// and the first ticket is so late that tickets are numbered anew.
+fn play_list(
+    rt: &impl Abort,
+    alloc: Global,
+    rng: &mut SplitMix64,
+    calls: &mut u32,
+) -> Result<(), Fail> {
+    let levels = levels(rng);
+    let first = u64::MAX - u64::from(rng.next_u32() % 64);
+    let mut plain = Scene::new(alloc, &levels, MUTEXES, first)?;
+    let mut linked = Scene::new(alloc, &levels, MUTEXES, first)?;
+    play_calls(rt, rng, &mut plain, &mut linked, calls);
+    Ok(())
+}
+
+fn play_calls(
+    rt: &impl Abort,
+    rng: &mut SplitMix64,
+    plain: &mut Plain,
+    linked: &mut Linked,
+    calls: &mut u32,
+) {
+    for _ in 0..ASKED {
+        let call = random(rng, plain);
+        if ask(rt, plain, linked, call) {
+            *calls = calls.saturating_add(1);
+        }
+        compare(rt, plain, linked);
+    }
+}
+
+#[test]
+fn kernels_agree_on_random_calls(rt: HostRuntime) -> Result<(), Fail> {
+    let mut rng = SplitMix64::seed_from_u64(1);
+    let mut calls = 0;
+    for _ in 0..LISTS {
+        play_list(&rt, rt.alloc(), &mut rng, &mut calls)?;
+    }
+    assert!(rt; calls >= 100_000, "{calls} calls");
+    Ok(())
+}

@@ -1,0 +1,168 @@
+//! Random events on both kernels: calls in any interleaving, one step at a time, the end of threads at any point, and
+//! time that goes on. Each event has the same answer on both, and leaves the same words, statuses, priorities and
+//! orders.
+use super::driver::{Ask, Reply, Wish, answer, new_parts, see};
+use pif_kernel::KernelOn;
+use pif_kernel_linked::LinkedChains;
+use pif_mutex::Parts;
+use pif_plain::PlainChains;
+use pif_types::{Kind, Limits};
+use rand_core::{Rng, SeedableRng};
+use rand_xoshiro::SplitMix64;
+use std::alloc::Global;
+use std::process::Abort;
+use std::test::Fail;
+
+const THREADS: u32 = 8;
+
+/// The mutexes that are locked: two of one bucket, and two of another. Between them are others.
+const LOCKED: [u32; 5] = [1, 2, 3, 65, 66];
+
+const LISTS: u32 = 400;
+
+const EVENTS: u32 = 200;
+
+type Plain = Parts<KernelOn<PlainChains>>;
+
+type Linked = Parts<KernelOn<LinkedChains>>;
+
+/// Asks both parts, and sees that they answer the same. Whether it could be asked.
+fn ask(rt: &impl Abort, plain: &mut Plain, linked: &mut Linked, ask: Ask) -> bool {
+    let reply = answer(plain, ask);
+    see(rt, answer(linked, ask), reply, 0);
+    reply.is_some()
+}
+
+/// Adds mutexes of random kinds, two variables, and threads of random priorities, of which many are equal.
+fn fill(rt: &impl Abort, plain: &mut Plain, linked: &mut Linked, rng: &mut SplitMix64) {
+    for _ in 0..66 {
+        let robust = rng.next_u32() % 2 == 0;
+        ask(rt, plain, linked, Ask::AddMutex(kind(rng), robust));
+    }
+    ask(rt, plain, linked, Ask::AddCond(1));
+    ask(rt, plain, linked, Ask::AddCond(65));
+    for _ in 0..THREADS {
+        ask(rt, plain, linked, Ask::AddThread(level(rng)));
+    }
+}
+
+/// The owner of a mutex by its word, or nobody's number.
+fn owner(plain: &mut Plain, m: u32) -> u32 {
+    match answer(plain, Ask::Word(m)) {
+        Some(Reply::Bits(bits)) => bits & 0x3fff_ffff,
+        _ => 0,
+    }
+}
+
+/// A random event.
+fn event(rng: &mut SplitMix64, plain: &mut Plain, time: &mut u32) -> Ask {
+    let m = LOCKED[(rng.next_u32() % 5) as usize];
+    let owner = owner(plain, m);
+    let t = 1 + rng.next_u32() % THREADS;
+    match rng.next_u32() % 64 {
+        0 => Ask::End(t),
+        1 | 2 => {
+            *time = time.saturating_add(1);
+            Ask::Tick(*time)
+        }
+        3..=14 => Ask::Call(t, wish(rng, m, *time)),
+        15..=18 => Ask::Call(owner, Wish::Unlock(m)),
+        19..=30 => Ask::Begin(t, wish(rng, m, *time)),
+        _ => Ask::Go(t),
+    }
+}
+
+/// Sees that both have the same words, statuses, priorities and orders.
+fn compare(rt: &impl Abort, plain: &mut Plain, linked: &mut Linked) {
+    ask(rt, plain, linked, Ask::Pick);
+    for m in LOCKED {
+        ask(rt, plain, linked, Ask::Word(m));
+        ask(rt, plain, linked, Ask::Waiter(m, 0));
+        ask(rt, plain, linked, Ask::Waiter(m, 1));
+    }
+    for number in 0..THREADS {
+        ask(rt, plain, linked, Ask::Status(1 + number));
+        ask(rt, plain, linked, Ask::Effective(1 + number));
+        ask(rt, plain, linked, Ask::Ready(number));
+        ask(rt, plain, linked, Ask::Parked(1, number));
+        ask(rt, plain, linked, Ask::Parked(2, number));
+    }
+}
+
+fn level(rng: &mut SplitMix64) -> u32 {
+    1 + rng.next_u32() % 6 * 15
+}
+
+fn kind(rng: &mut SplitMix64) -> Kind {
+    match rng.next_u32() % 8 {
+        0 | 1 => Kind::Recursive,
+        2 => Kind::Normal,
+        _ => Kind::ErrorCheck,
+    }
+}
+
+/// A random request, on this mutex or on a variable.
+fn wish(rng: &mut SplitMix64, m: u32, time: u32) -> Wish {
+    let deadline = time.saturating_add(rng.next_u32() % 3);
+    match rng.next_u32() % 32 {
+        0..=9 => Wish::Lock(m),
+        10 | 11 => Wish::TryLock(m),
+        12 | 13 => Wish::TimedLock(m, deadline),
+        14 | 15 => Wish::Unlock(m),
+        16 => Wish::Consistent(m),
+        17..=20 => Wish::Wait(1, 1),
+        21 | 22 => Wish::Wait(2, 65),
+        23 => Wish::Wait(1, m),
+        24 => Wish::TimedWait(1, 1, deadline),
+        25 | 26 => Wish::Signal(1),
+        27 => Wish::Signal(2),
+        28 => Wish::Broadcast(1),
+        29 => Wish::Broadcast(2),
+        _ => Wish::SetPrio(1 + rng.next_u32() % THREADS, rng.next_u32() % 12 * 9),
+    }
+}
+
+/// Plays a random list of events on new parts, and counts those that could happen. The first ticket is so late that
+/// tickets are numbered anew.
+fn play_list(
+    rt: &impl Abort,
+    alloc: Global,
+    rng: &mut SplitMix64,
+    events: &mut u32,
+) -> Result<(), Fail> {
+    let limits = Limits::new(THREADS, 66, 2, 100).ok_or("limits")?;
+    let first = u64::MAX - u64::from(rng.next_u32() % 64);
+    let mut plain = new_parts(alloc, limits, first)?;
+    let mut linked = new_parts(alloc, limits, first)?;
+    play_events(rt, rng, &mut plain, &mut linked, events);
+    Ok(())
+}
+
+fn play_events(
+    rt: &impl Abort,
+    rng: &mut SplitMix64,
+    plain: &mut Plain,
+    linked: &mut Linked,
+    events: &mut u32,
+) {
+    let mut time = 0;
+    fill(rt, plain, linked, rng);
+    for _ in 0..EVENTS {
+        let event = event(rng, plain, &mut time);
+        if ask(rt, plain, linked, event) {
+            *events = events.saturating_add(1);
+        }
+        compare(rt, plain, linked);
+    }
+}
+
+#[test]
+fn kernels_agree_on_random_events(rt: HostRuntime) -> Result<(), Fail> {
+    let mut rng = SplitMix64::seed_from_u64(1);
+    let mut events = 0;
+    for _ in 0..LISTS {
+        play_list(&rt, rt.alloc(), &mut rng, &mut events)?;
+    }
+    assert!(rt; events >= 30_000, "{events} events");
+    Ok(())
+}

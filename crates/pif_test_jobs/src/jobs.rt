@@ -1,0 +1,83 @@
+//! What the tests have done between two streams.
+
+use pif_job_check::{check, fill};
+use pif_job_draw::{draw, write_graph, write_states};
+use pif_job_shell::{NoShelf, shell};
+use pif_job_show::{show, show_all, show_story};
+use pif_job_trace::trace_story;
+use pif_script::Notice;
+use pif_script_model::Detail;
+use pif_test_streams::{Ended, Part, Stream, Task};
+use std::alloc::Global;
+use std::process::Abort;
+
+/// In what detail a story is shown; for `None` its trace is written.
+pub type Telling = Option<Detail>;
+
+/// A job that reads and writes.
+#[derive(Clone, Copy)]
+pub enum Job {
+    /// Checks a story of the name `story`.
+    Check,
+    /// Fills it in.
+    Fill,
+    /// Shows a script.
+    Show,
+    /// Shows a script with all of its core.
+    ShowAll,
+    Tell(Telling),
+    Draw,
+    States,
+    Graph,
+    /// Talks with a shell that has no prompt and saves nothing.
+    Talk,
+}
+
+/// Shows a story in this detail, or writes its trace.
+fn tell(
+    telling: Telling,
+    alloc: Global,
+    reader: &mut Stream<'_>,
+    writer: &mut Stream<'_>,
+    notice: &mut Notice,
+) -> Ended {
+    match telling {
+        Some(detail) => show_story(detail, alloc, reader, writer, notice),
+        None => trace_story(alloc, reader, writer, notice),
+    }
+}
+
+/// Does a job.
+pub fn do_job(
+    job: Job,
+    alloc: Global,
+    reader: &mut Stream<'_>,
+    writer: &mut Stream<'_>,
+    notice: &mut Notice,
+) -> Ended {
+    match job {
+        Job::Check => check(alloc, b"story", reader, writer),
+        Job::Fill => fill(alloc, b"story", reader, writer),
+        Job::Show => show(alloc, reader, writer),
+        Job::ShowAll => show_all(alloc, reader, writer),
+        Job::Tell(telling) => tell(telling, alloc, reader, writer, notice),
+        Job::Draw => draw(alloc, reader, writer, notice),
+        Job::States => write_states(alloc, reader, writer, notice),
+        Job::Graph => write_graph(alloc, reader, writer, notice),
+        Job::Talk => shell(alloc, &NoShelf, false, reader, writer),
+    }
+}
+
+impl<R: Abort> Task<R> for Job {
+    fn do_it(self, alloc: Global, reader: &mut Stream<'_>, writer: &mut Stream<'_>) -> Ended {
+        do_job(self, alloc, reader, writer, &mut Notice::new())
+    }
+
+    fn assert_done(rt: &R, is_wanted: bool, read: &[Part<'_>], ended: Ended, count: usize) {
+        assert!(rt; is_wanted, "{read:?}: {ended:?}, {count} bytes");
+    }
+
+    fn assert_ended(rt: &R, is_wanted: bool, ended: Ended) {
+        assert!(rt; is_wanted, "{ended:?}");
+    }
+}

@@ -1,0 +1,96 @@
+//! Holds the program `pif` to transcripts: what each job is asked for and reads, and what it has to answer. Each word
+//! names a file of transcripts. Printed are the names that stand in it, what differs, and how many jobs were done.
+#![tactic(auto)]
+
+use pif_cli::command;
+use pif_test_blocks::{Block, Kept, Sink, Source};
+use std::alloc::Global;
+use std::rt::Files;
+use std::str::from_utf8;
+use std::sync::Wait;
+use std::thread::Threads;
+use std::{env, fs, io};
+
+/// Does what a block asks for. Answers the status, and how many bytes of the input are left.
+fn do_job<R: Threads + Wait + Sync>(
+    rt: &R,
+    alloc: Global,
+    block: &Block<'_>,
+    output: &mut Sink,
+    errors: &mut Kept,
+) -> (u8, usize) {
+    let mut input = Source::new(block.input.text(), block.each_read, block.breaks);
+    let words = block.words.as_slice();
+    let status = command(alloc, rt, words, &mut input, output, errors);
+    (status, input.left())
+}
+
+/// Prints what a job has written, if it is text.
+fn print_written(rt: &impl Print, written: &[u8]) -> io::Result<()> {
+    match from_utf8(written) {
+        Ok(text) => println!(rt; "{text}"),
+        Err(_) => println!(rt; "no text"),
+    }
+}
+
+/// Prints what a job has answered, which is not what stands in its block.
+fn print_difference(rt: &impl Print, status: u8, output: &[u8], errors: &[u8]) -> io::Result<()> {
+    println!(rt; "differs; status {status}, output:")?;
+    print_written(rt, output)?;
+    println!(rt; "errors:")?;
+    print_written(rt, errors)
+}
+
+/// Does what a block asks for, and compares. Answers whether it asks for a job.
+fn play<R: Threads + Wait + Sync + Print>(
+    rt: &R,
+    alloc: Global,
+    block: &Block<'_>,
+) -> io::Result<bool> {
+    if block.words.is_empty() {
+        return Ok(false);
+    }
+    let mut output = Sink::new(block.room);
+    let mut errors = Kept::new();
+    let (status, left) = do_job(rt, alloc, block, &mut output, &mut errors);
+    if !block.is_met(status, left, output.text(), errors.text()) {
+        print_difference(rt, status, output.text(), errors.text())?;
+    }
+    Ok(true)
+}
+
+/// Plays the blocks of a text, between which an empty line stands. Answers how many jobs were done.
+fn play_all<R: Threads + Wait + Sync + Print>(
+    rt: &R,
+    alloc: Global,
+    text: &str,
+) -> io::Result<u32> {
+    let mut count = 0_u32;
+    for lines in text.split("\n\n") {
+        let block = Block::of(lines);
+        if !block.name.is_empty() {
+            println!(rt; "{}", block.name)?;
+        }
+        if play(rt, alloc, &block)? {
+            count = count.saturating_add(1);
+        }
+    }
+    Ok(count)
+}
+
+/// Plays the file of this name.
+fn play_file<R: Threads + Wait + Sync + Print + Files + AllocGlobal>(
+    rt: &R,
+    name: &str,
+) -> io::Result<()> {
+    let text = fs::read_to_string(rt, name)?;
+    let count = play_all(rt, rt.alloc(), text.as_str())?;
+    println!(rt; "{name}: {count} jobs")
+}
+
+fn main(rt: HostRuntime) -> io::Result<()> {
+    for name in env::args(&rt)?.skip(1) {
+        play_file(&rt, name.as_str())?;
+    }
+    Ok(())
+}

@@ -1,0 +1,46 @@
+ghost use Rattle.std.specs.Prelude.{◌≡◌, MatchOption};
+ghost use Rattle.pif_types.specs.declared.errors.Errno.{Errno};
+ghost use Rattle.pif_types.specs.Numbers.{number_of};
+ghost use Rattle.pif_text_core.specs.Names.{errno_name};
+
+use pif_types::{Answer, Errno};
+
+/// The error of which this is the number, as <errno.h> of Linux on x86-64 has it. `None` for 0, and for a number of which
+/// there is no `Errno`.
+pub fn errno_of(answer: Answer) -> Option<Errno>
+    ensures { MatchOption result ((errno : Errno) → (number_of errno ≡ answer) → ⊥) (λ errno. number_of errno ≡ answer) }
+{
+    match answer {
+        1 => Some(Errno::NotPermitted),
+        3 => Some(Errno::NoSuchThread),
+        11 => Some(Errno::Again),
+        14 => Some(Errno::Fault),
+        16 => Some(Errno::Busy),
+        22 => Some(Errno::Invalid),
+        35 => Some(Errno::Deadlock),
+        75 => Some(Errno::Overflow),
+        110 => Some(Errno::TimedOut),
+        130 => Some(Errno::OwnerDead),
+        131 => Some(Errno::NotRecoverable),
+        _ => None,
+    }
+}
+
+/// The name of an error, as `EDEADLK`.
+pub fn errno_name(errno: Errno) -> &'static str
+    ensures { result.now ≡ errno_name errno }
+{
+    match errno {
+        Errno::NotPermitted => "EPERM",
+        Errno::NoSuchThread => "ESRCH",
+        Errno::Again => "EAGAIN",
+        Errno::Fault => "EFAULT",
+        Errno::Busy => "EBUSY",
+        Errno::Invalid => "EINVAL",
+        Errno::Deadlock => "EDEADLK",
+        Errno::Overflow => "EOVERFLOW",
+        Errno::TimedOut => "ETIMEDOUT",
+        Errno::OwnerDead => "EOWNERDEAD",
+        Errno::NotRecoverable => "ENOTRECOVERABLE",
+    }
+}
