@@ -1,0 +1,103 @@
+/* How a history ends, and of which program it is. */
+#include <stdio.h>
+#include <stdlib.h>
+#include <sys/wait.h>
+#include <unistd.h>
+
+#include "features.h"
+
+static pthread_mutex_t mutex;
+
+static void many_calls(void)
+{
+    make_inheriting(&mutex);
+    for (int i = 0; i < 20; i++)
+        lock_and_unlock(&mutex);
+}
+
+static void *lock_it(void *unused)
+{
+    (void)unused;
+    pthread_mutex_lock(&mutex);
+    return NULL;
+}
+
+/* Two threads wait for each other; the test ends them by a signal. */
+static void hangs(void)
+{
+    make_inheriting(&mutex);
+    pthread_mutex_lock(&mutex);
+    run_to_end(lock_it, NULL);
+}
+
+static void alarm_of_its_own(void)
+{
+    alarm(1);
+    hangs();
+}
+
+static void later_than_all(void)
+{
+    make_inheriting(&mutex);
+    lock_and_unlock(&mutex);
+    skipped_seconds = 4294;
+    lock_and_unlock(&mutex);
+    skipped_seconds = 4295;
+    lock_and_unlock(&mutex);
+}
+
+static void child_of_recorded(void)
+{
+    make_inheriting(&mutex);
+    pthread_mutex_lock(&mutex);
+    pid_t child = fork();
+    if (child == 0) {
+        pthread_mutex_unlock(&mutex);
+        exit(0);
+    }
+    waitpid(child, NULL, 0);
+    pthread_mutex_unlock(&mutex);
+}
+
+/* The parent makes no call, as many drivers of tests. */
+static void child_alone(void)
+{
+    pid_t child = fork();
+
+    if (child == 0) {
+        make_inheriting(&mutex);
+        lock_and_unlock(&mutex);
+        exit(0);
+    }
+    waitpid(child, NULL, 0);
+}
+
+static void starts_another(void)
+{
+    char path[4096], command[4200];
+    ssize_t length = readlink("/proc/self/exe", path, sizeof path - 1);
+
+    path[length < 0 ? 0 : length] = '\0';
+    make_inheriting(&mutex);
+    pthread_mutex_lock(&mutex);
+    snprintf(command, sizeof command, "'%s' many_calls", path);
+    if (system(command) != 0)
+        abort();
+    pthread_mutex_unlock(&mutex);
+}
+
+static void *do_nothing(void *unused) { return unused; }
+
+static void no_call(void) { run_to_end(do_nothing, NULL); }
+
+const Feature end_features[] = {
+    {"many_calls", "twenty locks and unlocks, for RECORD_MAX", many_calls},
+    {"hangs", "two threads wait for good", hangs},
+    {"alarm_of_its_own", "the same, up to SIGALRM", alarm_of_its_own},
+    {"later_than_all", "calls behind 2^32 microseconds", later_than_all},
+    {"child_of_recorded", "a fork behind the first call", child_of_recorded},
+    {"child_alone", "a fork before the first call", child_alone},
+    {"starts_another", "a recorded program starts another one", starts_another},
+    {"no_call", "a program with a thread and no call", no_call},
+    {NULL, NULL, NULL},
+};

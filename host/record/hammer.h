@@ -1,0 +1,46 @@
+/* What the hammer is told, what its threads share, and what one thread does. */
+#ifndef PIF_HAMMER_H
+#define PIF_HAMMER_H
+
+#include <pthread.h>
+#include <stdatomic.h>
+#include <stdbool.h>
+#include <stdint.h>
+
+enum { MOST_THREADS = 16, MOST_MUTEXES = 4, MOST_VARIABLES = 4, MOST_ANSWERS = 134 };
+enum { STATUS_DONE, STATUS_WORDS, STATUS_THREADS = 6, STATUS_CANNOT_ASK = 7 };
+
+typedef struct {
+    unsigned threads, mutexes, variables, calls, seconds;
+    unsigned seed;
+    unsigned trylocks, timed, waits, ends, priorities; /* per cent */
+    bool fifo, kinds, robust, plain;
+} Orders;
+
+typedef struct {
+    pthread_mutex_t mutex;
+    int type;
+    bool is_robust;
+} Mutex;
+
+/* A place for threads, one behind another: when one ends, the next goes on with what is left of its calls. */
+typedef struct {
+    unsigned number, left;
+    uint64_t random;
+    unsigned held[MOST_MUTEXES];
+    pthread_t thread;
+    _Atomic bool has_ended; /* or is about to */
+    bool is_running;
+} Slot;
+
+extern Orders orders;
+extern Mutex mutexes[MOST_MUTEXES];
+extern pthread_cond_t variables[MOST_VARIABLES];
+extern _Atomic unsigned waiting[MOST_VARIABLES];
+extern _Atomic unsigned long answers[MOST_ANSWERS];
+
+unsigned choose(Slot *, unsigned below);
+bool happens(Slot *, unsigned per_cent);
+void *work(void *slot);
+
+#endif

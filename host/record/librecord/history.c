@@ -1,0 +1,188 @@
+/* Makes the history of all threads' records: in order, cut where the first of them is missing. It may run in a signal's
+   handler, so that it calls nothing that may lock. */
+#define _GNU_SOURCE
+#include <errno.h>
+#include <signal.h>
+#include <string.h>
+
+#include "record.h"
+
+enum { NANOSECONDS_OF_TICK = 1000 };
+enum { NOT_WRITTEN, IS_BEING_WRITTEN, WRITTEN };
+
+static _Atomic int stage;
+
+bool is_call(const Record *record) { return record->what <= CALL_SETPRIO; }
+
+bool is_wait(const Record *record) { return record->what == CALL_WAIT || record->what == CALL_TIMEDWAIT; }
+
+bool is_begin(const Record *record, uint64_t place) { return record->begin_place == place; }
+
+uint64_t time_at(const Record *record, uint64_t place)
+{
+    return is_begin(record, place) ? record->begin_time : record->answer_time;
+}
+
+/* Rounded up, so that no implementation is judged early. */
+uint64_t ticks_of(const History *history, uint64_t time)
+{
+    return time <= history->start ? 0 : (time - history->start + NANOSECONDS_OF_TICK - 1) / NANOSECONDS_OF_TICK;
+}
+
+/* Rounded down, likewise. None behind the last tick is ever reached. */
+uint64_t ticks_of_deadline(const History *history, uint64_t deadline)
+{
+    uint64_t ticks = deadline <= history->start ? 0 : (deadline - history->start) / NANOSECONDS_OF_TICK;
+
+    return ticks > UINT32_MAX ? UINT32_MAX : ticks;
+}
+
+static bool is_kept(const Object *object) { return atomic_load(&object->left_out) == KEPT; }
+
+/* Of a call: whether it has lines in the history. */
+bool is_written(const Record *record)
+{
+    bool is_answered = atomic_load(&record->answer_place) != 0;
+
+    if (atomic_load(&record->thread->cancelled))
+        return false;
+    if (record->what == CALL_SETPRIO)
+        return record->named->number != 0 && !(is_answered && record->answer == EPERM);
+    if (record->bad_time && is_answered && record->answer == EINVAL)
+        return false;
+    if (!is_kept(record->object) || (is_wait(record) && !is_kept(record->mutex)))
+        return false;
+    bool is_use = record->what == CALL_SIGNAL || record->what == CALL_BROADCAST;
+    return !is_use || record->object->first_variable != NULL;
+}
+
+static void collect_thread(History *history, Thread *thread)
+{
+    uint32_t used = atomic_load_explicit(&thread->used, memory_order_acquire);
+
+    for (uint32_t i = 0; i < used; i++) {
+        Record *record = &thread->records[i];
+        uint64_t answer = atomic_load_explicit(&record->answer_place, memory_order_acquire);
+        if (record->begin_place < history->cut)
+            history->at[record->begin_place] = record;
+        if (answer != 0 && answer < history->cut)
+            history->at[answer] = record;
+    }
+}
+
+/* What has a place and isn't there yet is of a thread that hasn't gone on: its call hasn't begun, or it stays open. */
+static bool collect(History *history)
+{
+    uint64_t last = atomic_fetch_add(&next_place, 1), lost = atomic_load(&lost_place);
+
+    history->cut = lost < last ? lost : last;
+    history->at = map_memory((size_t)history->cut * sizeof *history->at);
+    if (history->at == NULL)
+        return false;
+    for (Thread *thread = atomic_load(&all_threads); thread != NULL; thread = thread->next)
+        collect_thread(history, thread);
+    return true;
+}
+
+/* A tick is a number below 2^32 - 1, so that a deadline behind all of them can be written as that. */
+static void cut_by_time(History *history)
+{
+    uint64_t greatest = 0;
+
+    for (uint64_t place = 1; place < history->cut; place++) {
+        const Record *record = history->at[place];
+        if (record == NULL)
+            continue;
+        uint64_t time = time_at(record, place);
+        if (history->start == 0)
+            history->start = time;
+        greatest = time > greatest ? time : greatest;
+        if (ticks_of(history, greatest) >= UINT32_MAX) {
+            history->cut = place;
+            history->is_late = true;
+        }
+    }
+}
+
+static void note_place(Record *record, uint64_t place)
+{
+    if (record->what == THREAD_ADDED)
+        record->named->last_place = place;
+    else if (record->what == THREAD_DYING)
+        record->named->dying_place = place;
+    else if (record->what == THREAD_ENDED)
+        record->named->ended_place = place;
+    else {
+        record->thread->last_place = place;
+        record->thread->open = is_begin(record, place) ? record : NULL;
+    }
+}
+
+/* `dying` stands at its stamp, or behind a call that came later. Who was joined without a stamp left by other ways, and
+   was alive at its last line. A thread with a call open isn't dying, unless it was joined. */
+static void place_death(Thread *thread)
+{
+    bool may_die = thread->dying_place != 0 || thread->ended_place != 0;
+
+    if (may_die && thread->last_place > thread->dying_place)
+        thread->dying_place = thread->open != NULL && thread->ended_place == 0 ? 0 : thread->last_place;
+    thread->open = NULL;
+}
+
+static void note_threads(History *history)
+{
+    for (uint64_t place = 1; place < history->cut; place++)
+        if (history->at[place] != NULL)
+            note_place(history->at[place], place);
+    for (Thread *thread = atomic_load(&all_threads); thread != NULL; thread = thread->next)
+        place_death(thread);
+}
+
+static void make_history(void)
+{
+    History history;
+
+    memset(&history, 0, sizeof history);
+    if (!collect(&history) || !make_clock(&history)) {
+        say("no memory to write the history", 0, NULL);
+        return;
+    }
+    cut_by_time(&history);
+    note_threads(&history);
+    leave_out_cancelled(&history);
+    number_all(&history);
+    if (history.no_memory || !open_text(history_file)) {
+        say(history.no_memory ? "no memory to write the history" : "RECORD_FILE cannot be opened", 0, NULL);
+        return;
+    }
+    write_lines(&history);
+    if (!close_text())
+        say("RECORD_FILE cannot be written", 0, NULL);
+    say_left_out(&history);
+}
+
+void say_no_history(void)
+{
+    History none;
+
+    memset(&none, 0, sizeof none);
+    say_left_out(&none);
+}
+
+/* Once. A second thread waits for the first, which no signal interrupts. */
+void write_history(void)
+{
+    int expected = NOT_WRITTEN;
+    sigset_t all, before;
+
+    sigfillset(&all);
+    pthread_sigmask(SIG_BLOCK, &all, &before);
+    if (atomic_compare_exchange_strong(&stage, &expected, IS_BEING_WRITTEN)) {
+        atomic_store(&recording, false);
+        make_history();
+        atomic_store(&stage, WRITTEN);
+    }
+    while (atomic_load(&stage) != WRITTEN)
+        rest();
+    pthread_sigmask(SIG_SETMASK, &before, NULL);
+}

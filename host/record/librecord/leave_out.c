@@ -1,0 +1,98 @@
+/* What is left out with all calls on it, so that no history has half of an object; and what is said of it. */
+#define _GNU_SOURCE
+#include "record.h"
+
+/* What a cancelled thread used is in a state that the history would not show. */
+static bool leave_out_of_call(Record *record)
+{
+    bool is_changed = false;
+
+    if (atomic_load(&record->thread->cancelled)) {
+        is_changed = leave_out(record->object, WITH_CANCELLED);
+        is_changed |= is_wait(record) && leave_out(record->mutex, WITH_CANCELLED);
+    }
+    if (!is_wait(record))
+        return is_changed;
+    if (atomic_load(&record->object->left_out) != KEPT)
+        is_changed |= leave_out(record->mutex, WITH_LEFT_OUT);
+    if (atomic_load(&record->mutex->left_out) != KEPT)
+        is_changed |= leave_out(record->object, WITH_LEFT_OUT);
+    return is_changed;
+}
+
+void leave_out_cancelled(History *history)
+{
+    bool is_changed = true;
+
+    while (is_changed) {
+        is_changed = false;
+        for (uint64_t place = 1; place < history->cut; place++) {
+            Record *record = history->at[place];
+            if (record != NULL && is_call(record) && record->what != CALL_SETPRIO && is_begin(record, place))
+                is_changed |= leave_out_of_call(record);
+        }
+    }
+}
+
+static void say_some(uint64_t number, const char *what)
+{
+    if (number != 0)
+        say(what, number, "");
+}
+
+static uint64_t cancelled_threads(void)
+{
+    uint64_t number = 0;
+
+    for (Thread *thread = atomic_load(&all_threads); thread != NULL; thread = thread->next)
+        number += atomic_load(&thread->cancelled);
+    return number;
+}
+
+typedef struct {
+    uint64_t bad_times, refused, unwaited;
+} Dropped;
+
+static Dropped count_dropped(const History *history)
+{
+    Dropped dropped = {0, 0, 0};
+
+    for (uint64_t place = 1; place < history->cut; place++) {
+        const Record *record = history->at[place];
+        if (record == NULL || !is_call(record) || !is_begin(record, place) || is_written(record))
+            continue;
+        if (atomic_load(&record->thread->cancelled))
+            continue;
+        if (record->what == CALL_SETPRIO)
+            dropped.refused += record->named->number != 0;
+        else if (atomic_load(&record->object->left_out) != KEPT)
+            continue;
+        else if (record->bad_time)
+            dropped.bad_times++;
+        else
+            dropped.unwaited++;
+    }
+    return dropped;
+}
+
+void say_left_out(const History *history)
+{
+    Dropped dropped = count_dropped(history);
+
+    say_some(left_out(PROTECTED), "left out: mutexes with PTHREAD_PRIO_PROTECT: ");
+    say_some(left_out(SHARED), "left out: mutexes and variables shared between processes: ");
+    say_some(counted(C11_OBJECTS), "left out: mutexes and variables of C11 (mtx_t, cnd_t): ");
+    say_some(cancelled_threads(), "left out: threads that were cancelled inside a call: ");
+    say_some(left_out(WITH_CANCELLED), "left out: mutexes and variables that such threads used: ");
+    say_some(left_out(WITH_LEFT_OUT), "left out: mutexes and variables used together with one that is left out: ");
+    say_some(dropped.bad_times, "left out: calls with a time that is none, answered EINVAL: ");
+    say_some(dropped.unwaited, "left out: signals and broadcasts of variables on which nobody waited: ");
+    say_some(dropped.refused, "left out: calls that give a priority, answered EPERM: ");
+    say_some(counted(FOREIGN_PRIORITIES), "left out: calls that give a policy or a priority which a history has not: ");
+    say_some(counted(UNKNOWN_THREADS), "left out: calls that name a thread which isn't recorded: ");
+    say_some(counted(CALLS_IN_CALLS), "left out: calls inside other calls of the same thread: ");
+    if (atomic_load(&lost_place) <= history->cut)
+        say("cut where a thread had more records than RECORD_MAX, or memory was short: ", most_records, "");
+    if (history->is_late)
+        say("cut behind 4294967294 microseconds", 0, NULL);
+}

@@ -1,0 +1,197 @@
+/* librecord.so: records what a program of glibc calls on mutexes and condition variables, as a history.
+   This file starts it and ends it: the calls below it, its environment, forks, and signals that end the program. */
+#define _GNU_SOURCE
+#include <dlfcn.h>
+#include <limits.h>
+#include <signal.h>
+#include <stdlib.h>
+#include <string.h>
+#include <unistd.h>
+
+#include "record.h"
+
+enum { MOST_RECORDS = 262144 };
+enum { NOT_READY, STARTS, READY };
+
+Real real;
+bool records_all;
+uint32_t most_records = MOST_RECORDS;
+_Atomic bool recording;
+const char *history_file;
+
+static _Atomic int readiness;
+static __thread bool is_starting; /* then an allocation may lock a mutex of the program's */
+static _Atomic bool taken; /* a call is recorded, so this is the program whose history is written */
+static _Atomic uint64_t counts[COUNTS];
+static pid_t process;
+
+/* Lets any other thread run, whatever the priorities are. */
+void rest(void)
+{
+    struct timespec pause = {0, 100000};
+
+    nanosleep(&pause, NULL);
+}
+
+void count(Count what) { atomic_fetch_add(&counts[what], 1); }
+
+uint64_t counted(Count what) { return atomic_load(&counts[what]); }
+
+static void forget_counts(void)
+{
+    for (Count what = 0; what < COUNTS; what++)
+        atomic_store(&counts[what], 0);
+    forget_reasons();
+}
+
+static void *below(const char *name) { return dlsym(RTLD_NEXT, name); }
+
+/* Of glibc's calls on condition variables there are two versions on some machines, and the old one is of another form.
+   A library between this one and glibc has its own. */
+static void *new_below(const char *name)
+{
+    void *first = below(name), *versioned = dlvsym(RTLD_NEXT, name, "GLIBC_2.3.2");
+    Dl_info of_first, of_versioned;
+
+    if (versioned == NULL || dladdr(first, &of_first) == 0 || dladdr(versioned, &of_versioned) == 0)
+        return first;
+    return of_first.dli_fbase == of_versioned.dli_fbase ? versioned : first;
+}
+
+static void find_calls(void)
+{
+    *(void **)&real.lock = below("pthread_mutex_lock");
+    *(void **)&real.unlock = below("pthread_mutex_unlock");
+    *(void **)&real.trylock = below("pthread_mutex_trylock");
+    *(void **)&real.timedlock = below("pthread_mutex_timedlock");
+    *(void **)&real.clocklock = below("pthread_mutex_clocklock");
+    *(void **)&real.consistent = below("pthread_mutex_consistent");
+    *(void **)&real.mutex_init = below("pthread_mutex_init");
+    *(void **)&real.mutex_destroy = below("pthread_mutex_destroy");
+    *(void **)&real.cond_init = new_below("pthread_cond_init");
+    *(void **)&real.cond_destroy = new_below("pthread_cond_destroy");
+    *(void **)&real.wait = new_below("pthread_cond_wait");
+    *(void **)&real.timedwait = new_below("pthread_cond_timedwait");
+    *(void **)&real.clockwait = below("pthread_cond_clockwait");
+    *(void **)&real.signal = new_below("pthread_cond_signal");
+    *(void **)&real.broadcast = new_below("pthread_cond_broadcast");
+    *(void **)&real.create = below("pthread_create");
+    *(void **)&real.join = below("pthread_join");
+    *(void **)&real.exit = below("pthread_exit");
+    *(void **)&real.setschedprio = below("pthread_setschedprio");
+    *(void **)&real.setschedparam = below("pthread_setschedparam");
+    *(void **)&real.mtx_init = below("mtx_init");
+    *(void **)&real.cnd_init = below("cnd_init");
+}
+
+/* Once a call of this process is recorded, its children record nothing. */
+static void in_child(void)
+{
+    if (atomic_load(&taken))
+        atomic_store(&recording, false);
+    else
+        process = getpid();
+    forget_counts();
+}
+
+/* The program may go to another directory. */
+static const char *whole_path(const char *file)
+{
+    static char path[2 * PATH_MAX];
+
+    if (file[0] == '/' || getcwd(path, PATH_MAX) == NULL)
+        path[0] = '\0';
+    else
+        strcat(path, "/");
+    if (strlen(file) >= PATH_MAX)
+        return NULL;
+    return strcat(path, file);
+}
+
+static void read_environment(void)
+{
+    const char *file = getenv("RECORD_FILE"), *all = getenv("RECORD_ALL"), *most = getenv("RECORD_MAX");
+
+    records_all = all != NULL && strcmp(all, "1") == 0;
+    unsigned long long number = most == NULL ? 0 : strtoull(most, NULL, 10);
+    if (number > 0)
+        most_records = number > UINT32_MAX ? UINT32_MAX : (uint32_t)number;
+    else if (most != NULL && file != NULL)
+        say("RECORD_MAX is no number, and is passed over", 0, NULL);
+    if (file != NULL && file[0] != '\0')
+        history_file = whole_path(file);
+}
+
+static void start(void)
+{
+    find_calls();
+    read_environment();
+    process = getpid();
+    if (history_file == NULL)
+        return;
+    if (make_key() && pthread_atfork(NULL, NULL, in_child) == 0)
+        atomic_store(&recording, true);
+    else
+        say("nothing is recorded: no key for a thread's end", 0, NULL);
+}
+
+__attribute__((constructor)) void be_ready(void)
+{
+    int stage = NOT_READY;
+
+    if (atomic_load_explicit(&readiness, memory_order_acquire) == READY || is_starting)
+        return;
+    if (atomic_compare_exchange_strong(&readiness, &stage, STARTS)) {
+        is_starting = true;
+        start();
+        is_starting = false;
+        atomic_store_explicit(&readiness, READY, memory_order_release);
+    }
+    while (atomic_load_explicit(&readiness, memory_order_acquire) != READY)
+        rest();
+}
+
+/* A signal that would end the program ends it, with its history written first. */
+static void end_by_signal(int number)
+{
+    if (getpid() == process)
+        write_history();
+    signal(number, SIG_DFL);
+    raise(number);
+}
+
+static void write_at_signal(int number)
+{
+    struct sigaction present, ours;
+
+    if (sigaction(number, NULL, &present) != 0 || present.sa_handler != SIG_DFL)
+        return;
+    memset(&ours, 0, sizeof ours);
+    ours.sa_handler = end_by_signal;
+    sigaction(number, &ours, NULL);
+}
+
+/* At the first call. From here on this program is the one that is recorded: those that it starts find no RECORD_FILE.
+   The variable's name is changed where it stands, since another thread may read the environment now. */
+void take_the_file(void)
+{
+    extern char **environ;
+
+    if (atomic_load_explicit(&taken, memory_order_relaxed) || atomic_exchange(&taken, true))
+        return;
+    for (char **entry = environ; entry != NULL && *entry != NULL; entry++)
+        if (strncmp(*entry, "RECORD_FILE=", 12) == 0)
+            (*entry)[0] = '_';
+    write_at_signal(SIGTERM);
+    write_at_signal(SIGALRM);
+}
+
+__attribute__((destructor)) static void end_of_program(void)
+{
+    if (history_file == NULL || getpid() != process)
+        return;
+    if (atomic_load(&taken))
+        write_history();
+    else
+        say_no_history();
+}

@@ -1,0 +1,171 @@
+/* Stamps and records. One counter gives the order of all: a begin takes its place before the real call is entered, an
+   answer after it has returned. The clock is read behind that, so that the history's time is never behind the real. */
+#define _GNU_SOURCE
+#include <errno.h>
+
+#include "record.h"
+
+/* A place that no deadline, and no difference of two times, reaches. */
+enum { SECOND = 1000000000, FAR_SECONDS = 1000000000 };
+
+_Atomic uint64_t next_place = 1, lost_place = UINT64_MAX;
+
+/* Takes a place; nothing before is done after it, nor anything behind before it. A locked addition is a whole fence on
+   x86-64. */
+static uint64_t take_place(void)
+{
+#ifdef __x86_64__
+    return atomic_fetch_add(&next_place, 1);
+#else
+    atomic_thread_fence(memory_order_seq_cst);
+    uint64_t place = atomic_fetch_add(&next_place, 1);
+    atomic_thread_fence(memory_order_seq_cst);
+    return place;
+#endif
+}
+
+uint64_t now(void)
+{
+    struct timespec time;
+
+    clock_gettime(CLOCK_MONOTONIC, &time);
+    return (uint64_t)time.tv_sec * SECOND + (uint64_t)time.tv_nsec;
+}
+
+/* From the first record that finds no room on, nothing is recorded: the history ends before it. */
+void stop_recording(void)
+{
+    uint64_t place = atomic_fetch_add(&next_place, 1), present = atomic_load(&lost_place);
+
+    while (place < present && !atomic_compare_exchange_weak(&lost_place, &present, place))
+        ;
+    atomic_store(&recording, false);
+}
+
+static bool find_room(Thread *thread)
+{
+    if (thread->records == NULL)
+        thread->records = map_memory((size_t)most_records * sizeof *thread->records);
+    return thread->records != NULL && thread->used < most_records;
+}
+
+/* It isn't seen by who writes the history before it is stamped. */
+Record *new_record(Thread *thread, What what)
+{
+    if ((thread->records == NULL || thread->used >= most_records) && !find_room(thread)) {
+        stop_recording();
+        return NULL;
+    }
+    Record *record = &thread->records[thread->used];
+    record->thread = thread;
+    record->what = what;
+    return record;
+}
+
+void stamp_begin(Thread *thread, Record *record)
+{
+    record->begin_place = take_place();
+    record->begin_time = now();
+    atomic_store_explicit(&thread->used, thread->used + 1, memory_order_release);
+}
+
+/* A call inside of another is that library's own, or one of a signal's handler. */
+static Record *new_call(What what)
+{
+    Thread *thread = this_thread();
+
+    if (thread == NULL)
+        return NULL;
+    if (thread->in_call) {
+        count(CALLS_IN_CALLS);
+        return NULL;
+    }
+    take_the_file();
+    Record *record = new_record(thread, what);
+    thread->in_call = record != NULL;
+    return record;
+}
+
+Record *begin_call(What what, Object *object, Object *mutex)
+{
+    Record *record = object == NULL ? NULL : new_call(what);
+
+    if (record == NULL)
+        return NULL;
+    record->object = object;
+    record->mutex = mutex;
+    stamp_begin(record->thread, record);
+    return record;
+}
+
+/* On the monotonic clock. That is read before the clock of the deadline, so that the answer is never too late. */
+static uint64_t monotonic_deadline(clockid_t clock, const struct timespec *deadline)
+{
+    int64_t start = (int64_t)now();
+    struct timespec present;
+
+    clock_gettime(clock, &present);
+    int64_t seconds = 0, far = FAR_SECONDS;
+    if (__builtin_sub_overflow(deadline->tv_sec, present.tv_sec, &seconds))
+        seconds = deadline->tv_sec < 0 ? -far : far;
+    seconds = seconds < -far ? -far : seconds > far ? far : seconds;
+    int64_t time = start + seconds * SECOND + (deadline->tv_nsec - present.tv_nsec);
+    return time < 0 ? 0 : (uint64_t)time;
+}
+
+static bool is_time(clockid_t clock, const struct timespec *time)
+{
+    return (clock == CLOCK_REALTIME || clock == CLOCK_MONOTONIC) && time->tv_nsec >= 0 && time->tv_nsec < SECOND;
+}
+
+Record *begin_timed(What what, Object *object, Object *mutex, clockid_t clock, const struct timespec *deadline)
+{
+    if (object == NULL)
+        return NULL;
+    bool is_good = is_time(clock, deadline);
+    uint64_t time = is_good ? monotonic_deadline(clock, deadline) : 0;
+    Record *record = new_call(what);
+    if (record == NULL)
+        return NULL;
+    record->object = object;
+    record->mutex = mutex;
+    record->deadline = time;
+    record->bad_time = !is_good;
+    stamp_begin(record->thread, record);
+    return record;
+}
+
+Record *begin_setprio(Thread *named, int64_t priority)
+{
+    Record *record = new_call(CALL_SETPRIO);
+
+    if (record == NULL)
+        return NULL;
+    atomic_store(&named->is_set, true);
+    record->named = named;
+    record->priority = priority;
+    stamp_begin(record->thread, record);
+    return record;
+}
+
+void answer_call(Record *record, int answer)
+{
+    if (record == NULL)
+        return;
+    uint64_t place = take_place();
+    record->answer_time = now();
+    record->answer = (int16_t)answer;
+    atomic_store_explicit(&record->answer_place, place, memory_order_release);
+    record->thread->in_call = false;
+}
+
+/* The thread was cancelled inside the call, and runs its cleanup handlers. */
+void leave_call(void *value)
+{
+    Record *record = value;
+
+    if (record == NULL)
+        return;
+    record->thread->in_call = false;
+    atomic_store(&record->thread->cancelled, true);
+}

@@ -1,0 +1,132 @@
+/* The calls on condition variables, as the program makes them. */
+#define _GNU_SOURCE
+#include "record.h"
+
+/* Waits with a mutex that isn't recorded: no signal of this variable matters, up to a wait with one that is. */
+static void forget_variable(pthread_cond_t *variable)
+{
+    Object *present = held_at(&variables, (uintptr_t)variable);
+
+    if (!atomic_load(&recording) || (present != NULL && atomic_load(&present->left_out) != KEPT))
+        return;
+    Object *other = new_object(OF_OTHERS);
+    if (other == NULL)
+        return;
+    if (present != NULL)
+        other->clock = present->clock;
+    hold_at(&variables, (uintptr_t)variable, other);
+}
+
+static Object *variable_of_wait(pthread_cond_t *variable)
+{
+    Object *present = recorded_variable(variable);
+
+    if (present == NULL || atomic_load(&present->left_out) != OF_OTHERS)
+        return present;
+    Object *added = new_object(KEPT);
+    if (added == NULL)
+        return NULL;
+    added->clock = present->clock;
+    replace_at(&variables, (uintptr_t)variable, present, added);
+    return held_at(&variables, (uintptr_t)variable);
+}
+
+/* The variable of a wait that is recorded, and its mutex; or NULL. */
+static Object *objects_of_wait(pthread_cond_t *variable, pthread_mutex_t *mutex, Object **with)
+{
+    be_ready();
+    *with = recorded_mutex(mutex);
+    if (*with == NULL) {
+        forget_variable(variable);
+        return NULL;
+    }
+    Object *present = variable_of_wait(variable);
+    if (present == NULL || atomic_load(&present->left_out) == KEPT)
+        return present;
+    leave_out(*with, WITH_LEFT_OUT);
+    return NULL;
+}
+
+int pthread_cond_wait(pthread_cond_t *variable, pthread_mutex_t *mutex)
+{
+    Object *with, *waited = objects_of_wait(variable, mutex, &with);
+    Record *call = begin_call(CALL_WAIT, waited, with);
+    int answer;
+
+    pthread_cleanup_push(leave_call, call);
+    answer = real.wait(variable, mutex);
+    pthread_cleanup_pop(0);
+    answer_call(call, answer);
+    return answer;
+}
+
+int pthread_cond_timedwait(pthread_cond_t *variable, pthread_mutex_t *mutex, const struct timespec *deadline)
+{
+    Object *with, *waited = objects_of_wait(variable, mutex, &with);
+    clockid_t clock = waited == NULL ? CLOCK_REALTIME : waited->clock;
+    Record *call = begin_timed(CALL_TIMEDWAIT, waited, with, clock, deadline);
+    int answer;
+
+    pthread_cleanup_push(leave_call, call);
+    answer = real.timedwait(variable, mutex, deadline);
+    pthread_cleanup_pop(0);
+    answer_call(call, answer);
+    return answer;
+}
+
+int pthread_cond_clockwait(pthread_cond_t *variable, pthread_mutex_t *mutex, clockid_t clock,
+                           const struct timespec *deadline)
+{
+    Object *with, *waited = objects_of_wait(variable, mutex, &with);
+    Record *call = begin_timed(CALL_TIMEDWAIT, waited, with, clock, deadline);
+    int answer;
+
+    pthread_cleanup_push(leave_call, call);
+    answer = real.clockwait(variable, mutex, clock, deadline);
+    pthread_cleanup_pop(0);
+    answer_call(call, answer);
+    return answer;
+}
+
+static Record *begin_use(What what, pthread_cond_t *variable)
+{
+    be_ready();
+    Object *used = recorded_variable(variable);
+    bool is_kept = used != NULL && atomic_load_explicit(&used->left_out, memory_order_relaxed) == KEPT;
+    return begin_call(what, is_kept ? used : NULL, NULL);
+}
+
+int pthread_cond_signal(pthread_cond_t *variable)
+{
+    Record *call = begin_use(CALL_SIGNAL, variable);
+    int answer = real.signal(variable);
+
+    answer_call(call, answer);
+    return answer;
+}
+
+int pthread_cond_broadcast(pthread_cond_t *variable)
+{
+    Record *call = begin_use(CALL_BROADCAST, variable);
+    int answer = real.broadcast(variable);
+
+    answer_call(call, answer);
+    return answer;
+}
+
+/* mtx_t and cnd_t of C11 are used inside of the library, where no call can be seen. */
+int mtx_init(void *mutex, int type)
+{
+    be_ready();
+    if (atomic_load(&recording))
+        count(C11_OBJECTS);
+    return real.mtx_init(mutex, type);
+}
+
+int cnd_init(void *variable)
+{
+    be_ready();
+    if (atomic_load(&recording))
+        count(C11_OBJECTS);
+    return real.cnd_init(variable);
+}

@@ -1,0 +1,192 @@
+/* A log of calls for an implementation of your own, on bare metal too: a ring in memory, written out as a history.
+
+   It needs a C99 compiler, and no library, no allocation and no lock. Before it is included say how to count:
+
+       #define PIF_COUNTER() my_counter()
+       #include "pif_record.h"
+
+   PIF_COUNTER() answers 1, 2, 3 and so on, each number once, whichever thread or interrupt asks: an atomic addition
+   with sequential consistency, or an addition while interrupts are off. In one source file stands before it
+
+       #define PIF_RECORD_HERE
+
+   which puts the memory there. Then say
+
+       PIF_ADD("thread %u", priority);             what there is, from one thread at a time: threads, mutexes
+       PIF_ADD("mutex normal robust");             and variables, each numbered from 1 in this order
+       PIF_BEGIN(t, "lock m%u", m);                before the call is entered
+       PIF_ANSWER(t, a);                           after it has returned a: 0, or the number of an error
+       PIF_LINE("tick %u", time);                  any other line of a history: tick, dying, end, rests, prio
+       PIF_FORGET();                               now every mutex is free and no call is open: start anew here
+       lost = pif_dump(put);                       writes it, a character at a time, while nothing else is recorded
+
+   A line has up to four numbers, each by %u. Its text stays where it is and isn't copied. Where more lines than
+   PIF_RECORD_LINES came since the last PIF_FORGET, the first of them are lost. Then the dump is no whole history: it
+   says so in a comment, and answers how many lines are lost. */
+#ifndef PIF_RECORD_H
+#define PIF_RECORD_H
+
+#ifndef PIF_COUNTER
+#error "define PIF_COUNTER() before pif_record.h is included"
+#endif
+
+#ifndef PIF_RECORD_LINES
+#define PIF_RECORD_LINES 4096 /* of calls, kept in the ring */
+#endif
+
+#ifndef PIF_RECORD_ADDED
+#define PIF_RECORD_ADDED 64 /* threads, mutexes and variables */
+#endif
+
+#define PIF_RECORD_NUMBERS 4
+
+#ifdef __cplusplus
+extern "C" {
+#endif
+
+#ifdef __GNUC__
+#define PIF_RECORD_PRINTF(text, first) __attribute__((format(printf, text, first)))
+#else
+#define PIF_RECORD_PRINTF(text, first)
+#endif
+
+#define PIF_ADD(...) pif_add(__VA_ARGS__)
+#define PIF_BEGIN(thread, ...) pif_note(PIF_COUNTER(), "begin t", (thread), __VA_ARGS__)
+#define PIF_ANSWER(thread, answer) pif_note(PIF_COUNTER(), "answer t", (thread), "%u", (unsigned)(answer))
+#define PIF_LINE(...) pif_note(PIF_COUNTER(), (const char *)0, 0, __VA_ARGS__)
+#define PIF_FORGET() pif_forget(PIF_COUNTER())
+
+void pif_add(const char *format, ...) PIF_RECORD_PRINTF(1, 2);
+void pif_note(unsigned long place, const char *front, unsigned thread, const char *format, ...)
+    PIF_RECORD_PRINTF(4, 5);
+void pif_forget(unsigned long place);
+unsigned long pif_dump(void (*put)(char));
+
+#ifdef PIF_RECORD_HERE
+
+#include <stdarg.h>
+
+typedef struct {
+    volatile unsigned long place; /* 0: nothing stands here, or it is being written */
+    const char *front;            /* and the thread behind it; or none */
+    unsigned thread;
+    const char *format;
+    unsigned numbers[PIF_RECORD_NUMBERS];
+} PifLine;
+
+static PifLine pif_lines[PIF_RECORD_LINES], pif_added[PIF_RECORD_ADDED];
+static unsigned pif_added_count;
+static unsigned long pif_first = 1;
+
+static void pif_keep(PifLine *line, const char *format, va_list numbers)
+{
+    unsigned count = 0;
+
+    line->format = format;
+    for (const char *at = format; *at != '\0'; at++)
+        if (at[0] == '%' && at[1] == 'u' && count < PIF_RECORD_NUMBERS)
+            line->numbers[count++] = va_arg(numbers, unsigned);
+}
+
+void pif_add(const char *format, ...)
+{
+    va_list numbers;
+
+    if (pif_added_count == PIF_RECORD_ADDED)
+        return;
+    va_start(numbers, format);
+    pif_keep(&pif_added[pif_added_count++], format, numbers);
+    va_end(numbers);
+}
+
+/* A place is given to one thread, so no other one writes this line until the ring has gone round. */
+void pif_note(unsigned long place, const char *front, unsigned thread, const char *format, ...)
+{
+    PifLine *line = &pif_lines[place % PIF_RECORD_LINES];
+    va_list numbers;
+
+    line->place = 0;
+    line->front = front;
+    line->thread = thread;
+    va_start(numbers, format);
+    pif_keep(line, format, numbers);
+    va_end(numbers);
+    line->place = place;
+}
+
+void pif_forget(unsigned long place) { pif_first = place + 1; }
+
+static void pif_put_number(void (*put)(char), unsigned long number)
+{
+    if (number >= 10)
+        pif_put_number(put, number / 10);
+    put((char)('0' + number % 10));
+}
+
+static void pif_put_text(void (*put)(char), const char *text)
+{
+    while (*text != '\0')
+        put(*text++);
+}
+
+static void pif_put_line(void (*put)(char), const PifLine *line)
+{
+    unsigned count = 0;
+
+    if (line->front != 0) {
+        pif_put_text(put, line->front);
+        pif_put_number(put, line->thread);
+        put(' ');
+    }
+    for (const char *at = line->format; *at != '\0'; at++) {
+        if (at[0] == '%' && at[1] == 'u' && count < PIF_RECORD_NUMBERS) {
+            pif_put_number(put, line->numbers[count++]);
+            at++;
+        } else {
+            put(*at);
+        }
+    }
+    put('\n');
+}
+
+static unsigned long pif_last(void)
+{
+    unsigned long last = 0;
+
+    for (unsigned at = 0; at < PIF_RECORD_LINES; at++)
+        if (pif_lines[at].place > last)
+            last = pif_lines[at].place;
+    return last;
+}
+
+static void pif_put_lost(void (*put)(char), unsigned long lost)
+{
+    pif_put_text(put, "# lost before this line: ");
+    pif_put_number(put, lost);
+    put('\n');
+}
+
+/* How many lines are lost. */
+unsigned long pif_dump(void (*put)(char))
+{
+    unsigned long last = pif_last(), lost = 0;
+
+    for (unsigned at = 0; at < pif_added_count; at++)
+        pif_put_line(put, &pif_added[at]);
+    if (last >= pif_first && last - pif_first >= PIF_RECORD_LINES)
+        lost = last - pif_first - PIF_RECORD_LINES + 1;
+    if (lost > 0)
+        pif_put_lost(put, lost);
+    for (unsigned long place = pif_first + lost; place <= last; place++)
+        if (pif_lines[place % PIF_RECORD_LINES].place == place)
+            pif_put_line(put, &pif_lines[place % PIF_RECORD_LINES]);
+    return lost;
+}
+
+#endif
+
+#ifdef __cplusplus
+}
+#endif
+
+#endif

@@ -1,0 +1,34 @@
+/* pif_record.h with a ring of four lines: what is lost is said, and what is forgotten is gone. */
+#include <stdio.h>
+
+static unsigned long places;
+
+#define PIF_COUNTER() (++places)
+#define PIF_RECORD_LINES 4
+#define PIF_RECORD_HERE
+#include "../pif_record.h"
+
+static void put(char character) { putchar(character); }
+
+static void lock_and_unlock(unsigned thread)
+{
+    PIF_BEGIN(thread, "timedlock m%u %u", 1u, 20u);
+    PIF_ANSWER(thread, 0);
+    PIF_BEGIN(thread, "unlock m%u", 1u);
+    PIF_ANSWER(thread, 0);
+}
+
+int main(void)
+{
+    PIF_ADD("thread %u", 10u);
+    PIF_ADD("mutex normal robust");
+    lock_and_unlock(1);
+    printf("lost %lu\n", pif_dump(put));
+    PIF_LINE("tick %u", 7u);
+    printf("lost %lu\n", pif_dump(put));
+    PIF_FORGET();
+    printf("lost %lu\n", pif_dump(put));
+    PIF_LINE("tick %u", 9u);
+    printf("lost %lu\n", pif_dump(put));
+    return 0;
+}
