@@ -17,6 +17,7 @@ typedef struct {
     unsigned seconds; /* after which the process is ended */
     unsigned most;    /* threads, and mutexes, if the script names no limits */
     unsigned pace_ms; /* for each command, where deadlines are planned */
+    bool late;        /* who was woken doesn't run before who makes the next step, unless its priority is greater */
 } Choice;
 
 /* Runs the script; the answer is a status, and is STATUS_DONE if there was such a process. */

@@ -64,7 +64,7 @@ typedef struct {
 
 struct Host;
 
-typedef struct {
+typedef struct Worker {
     struct Host *host;
     uint32_t number;
     pthread_t handle;
@@ -72,6 +72,10 @@ typedef struct {
     int orders[2]; /* a pipe: each byte is one order to go on */
     _Atomic Stage stage;
     atomic_bool told; /* the script was told `waits`: hold it behind its wait */
+    atomic_uint turn;        /* how many threads had run when it ran last; turns.c */
+    int noted;               /* its priority then */
+    int level, level_before; /* that which the last step left, and the one before; 0 where it isn't ready */
+    bool placed;             /* its place among its equals was seen */
     bool ended, open;
     Request request;
     int answer;
@@ -93,6 +97,10 @@ typedef struct Host {
     uint32_t limits[4];
     uint32_t time;
     bool lost; /* from here on nothing can be asked */
+    bool picks, late;       /* the script asks `pick`; who was woken is late */
+    Worker *_Atomic keeper; /* the thread that keeps the processor */
+    atomic_uint turns;
+    unsigned seen; /* the turns before the last step */
     unsigned look_ms, pace_ms;
     FILE *output;
 } Host;
@@ -115,9 +123,19 @@ bool is_late(Host *host);                         /* behind a command: did a dea
 bool start_worker(Host *host, Worker *worker, uint32_t priority);
 bool end_worker(Worker *worker);
 void order(Worker *worker);
+void rouse(Worker *worker); /* lets it run, with nothing to do */
 bool wait_in_kernel(Worker *worker); /* behind a wait in the kernel: was it held? */
 Worker *this_worker(void);
 void pause_us(long us);
+
+/* turns.c: who has the processor */
+bool asks_pick(const Script *script);
+void keep_processor(Worker *worker);               /* a thread behind its step */
+void note_turn(Worker *worker);                    /* a thread before it blocks */
+void order_in_turn(Host *host, Worker *worker);
+void take_turns(Host *host);                       /* behind a step */
+void place_added(Host *host, Worker *worker);
+const Worker *first_in_turn(Host *host, bool *known);
 
 /* look.c: /proc/self/task */
 bool is_in_futex(pid_t thread);

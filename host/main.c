@@ -21,6 +21,8 @@ static const char help[] =
     "  --seconds N   ends a script that takes longer; 20 if it isn't named. If the machine is too slow for the\n"
     "                deadlines, the script runs again at a quarter of the pace, with four times the seconds\n"
     "  --most N      takes N threads and mutexes at most, also more than `pif run` does; 1024 if it isn't named\n"
+    "  --late        who made a step keeps the processor until another thread has to run: who was woken by it is\n"
+    "                late, unless its priority is greater. `pick` isn't asked then\n"
     "  --versions    prints the kernel and the library that are asked\n"
     "  --help        prints this\n"
     "\n"
@@ -167,7 +169,8 @@ static bool read_number(const char *text, unsigned most, unsigned *number)
 static int read_options(int count, char **texts, Choice *choice)
 {
     static const struct option options[] = {{"help", no_argument, NULL, 'h'}, {"versions", no_argument, NULL, 'v'},
-        {"seconds", required_argument, NULL, 's'}, {"most", required_argument, NULL, 'm'}, {NULL, 0, NULL, 0}};
+        {"seconds", required_argument, NULL, 's'}, {"most", required_argument, NULL, 'm'},
+        {"late", no_argument, NULL, 'l'}, {NULL, 0, NULL, 0}};
     int option;
 
     opterr = 0;
@@ -176,6 +179,8 @@ static int read_options(int count, char **texts, Choice *choice)
             return printf("%s%s", usage, help) < 0 ? STATUS_INPUT_OUTPUT : STATUS_DONE;
         if (option == 'v')
             return print_versions(stdout), STATUS_DONE;
+        if (option == 'l')
+            choice->late = true;
         if (option == '?')
             return refuse("no such option, or no number behind it");
         if (option == 's' && !read_number(optarg, 86400, &choice->seconds))

@@ -77,11 +77,20 @@ static void settle(Host *host)
     }
 }
 
-static int say_outcome(Host *host, Worker *worker, const char *word)
+/* Lets all that were woken run, but for what is late: it runs once nobody above it keeps the processor. */
+static void settle_all(Host *host)
 {
+    if (host->keeper != NULL)
+        return;
     settle(host);
     pass_deadlines(host);
     settle(host);
+    take_turns(host);
+}
+
+static int say_outcome(Host *host, Worker *worker, const char *word)
+{
+    settle_all(host);
     return *word == 'a' ? say(host, "answer %d", worker->answer) : say(host, "%s", word);
 }
 
@@ -90,9 +99,14 @@ static const char *go(Host *host, Worker *worker)
 {
     if (worker->stage != WORKS && worker->stage != ANSWERED) {
         renew_deadline(host, worker);
-        order(worker);
+        order_in_turn(host, worker);
     }
-    return outcome(host, worker);
+    const char *word = outcome(host, worker);
+    if (*word == 'w' && word[1] == 'a')
+        host->keeper = NULL;
+    if (host->picks)
+        take_turns(host);
+    return word;
 }
 
 static const char *finish(Host *host, Worker *worker)
@@ -142,6 +156,15 @@ static bool is_without_handle(const Host *host, const Command *command)
            (command->request.thread > host->worker_count || command->request.thread == 0);
 }
 
+/* Takes the processor from who keeps it, and lets all that are late run. */
+static void let_go(Host *host)
+{
+    if (host->keeper == NULL)
+        return;
+    host->keeper = NULL;
+    settle(host);
+}
+
 static int do_call(Host *host, const Command *command)
 {
     const char *refusal = begin_refusal(host, command);
@@ -180,6 +203,8 @@ static int do_go(Host *host, const Command *command)
     host->lost = host->way == GLIBC && command->verb == GO;
     if (host->lost)
         return say(host, "%s", not_asked);
+    if (worker->stage == WORKS)
+        let_go(host);
     const char *word = command->verb == GO ? go(host, worker) : finish(host, worker);
     return say_outcome(host, worker, word);
 }
@@ -190,9 +215,11 @@ static int do_end(Host *host, const Command *command)
 
     if (refusal != NULL)
         return say(host, "%s", refusal);
+    let_go(host);
     if (!end_worker(worker_of(host, command->name)))
         return STATUS_THREADS;
     settle(host);
+    take_turns(host);
     return say(host, "ended");
 }
 
@@ -200,9 +227,11 @@ static int do_tick(Host *host, const Command *command)
 {
     if (command->numbers[0] < host->time)
         return say(host, "refused past");
+    let_go(host);
     host->time = command->numbers[0];
     pass_deadlines(host);
     settle(host);
+    take_turns(host);
     return say(host, "ticked");
 }
 
@@ -216,7 +245,11 @@ static int add_thread(Host *host, const Command *command)
         return say(host, "refused toomany");
     Worker *worker = &host->workers[host->worker_count++];
     worker->number = host->worker_count;
-    return start_worker(host, worker, priority) ? say(host, "t%u", host->worker_count) : STATUS_THREADS;
+    let_go(host);
+    if (!start_worker(host, worker, priority))
+        return STATUS_THREADS;
+    place_added(host, worker);
+    return say(host, "t%u", host->worker_count);
 }
 
 static int add_mutex(Host *host, const Command *command)
@@ -296,6 +329,16 @@ static int say_priority(Host *host, const Command *command)
     return worker->ended ? say(host, "dead") : say(host, "%d", effective_priority(worker->kernel_id));
 }
 
+static int say_pick(Host *host)
+{
+    bool known;
+    const Worker *worker = first_in_turn(host, &known);
+
+    if (!known)
+        return say(host, "%s", not_asked);
+    return worker == NULL ? say(host, "none") : say(host, "t%u", worker->number);
+}
+
 static int set_limits(Host *host, const Command *command)
 {
     for (int i = 0; i < 4; i++)
@@ -320,7 +363,7 @@ static int do_command(Host *host, const Command *command)
     case HEALTH: return say_health(host, command);
     case CONDWORD: return say_condword(host, command);
     case PRIO: return say_priority(host, command);
-    case PICK: return say(host, "%s", not_asked);
+    case PICK: return say_pick(host);
     }
     return STATUS_FAULT;
 }

@@ -9,6 +9,8 @@
 
 enum { STACK_BYTES = 262144, END_SIGNAL = SIGUSR1 };
 
+enum { GO_ON, ROUSE }; /* the bytes of its pipe */
+
 static __thread Worker *own;
 
 Worker *this_worker(void) { return own; }
@@ -28,24 +30,40 @@ static void end_now(int signal)
     syscall(SYS_exit, 0);
 }
 
-/* A thread without work blocks in `read`, so that whoever blocks in the futex call waits. */
-static void take_order(Worker *worker)
+static char read_byte(const Worker *worker)
 {
     char byte;
 
     while (read(worker->orders[0], &byte, 1) != 1)
         if (errno != EINTR)
             syscall(SYS_exit, 0);
+    return byte;
+}
+
+static void write_byte(const Worker *worker, char byte)
+{
+    while (write(worker->orders[1], &byte, 1) != 1)
+        if (errno != EINTR)
+            _exit(STATUS_INPUT_OUTPUT);
+}
+
+/* A thread without work blocks in `read`, so that whoever blocks in the futex call waits. */
+static void take_order(Worker *worker)
+{
+    keep_processor(worker);
+    do
+        note_turn(worker);
+    while (read_byte(worker) == ROUSE);
 }
 
 void order(Worker *worker)
 {
     worker->told = false;
     worker->stage = WORKS;
-    while (write(worker->orders[1], "", 1) != 1)
-        if (errno != EINTR)
-            _exit(STATUS_INPUT_OUTPUT);
+    write_byte(worker, GO_ON);
 }
+
+void rouse(Worker *worker) { write_byte(worker, ROUSE); }
 
 bool wait_in_kernel(Worker *worker)
 {
