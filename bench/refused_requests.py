@@ -1,15 +1,20 @@
 #!/usr/bin/env python3
-"""Refuses each request for memory of the built program in turn, by a `malloc` and `realloc` that refuse the Nth: for a
-run, a run that is shown, a replay, a trace, help, a wrong word and two clients in real threads. Each time the status must
-be 4, with nothing on standard output and one line on standard error, or, of the clients, 6 with `fault threads`; or all
-must be as with no refusal, since the standard library asks again for some. And the same of the test `desk_keeps_receipts`
-of pif_test_drive, which asks again for what was refused, by `resume` where a call is open, and fails where any answer,
-the book or its replayed trace changes. And of the benchmark `new_core` of pif_bench, which makes cores: there the status
-must be 1, whichever request of `Core::new`, and of `LinkedKernel::new` in it, is refused. The status is 0 where all is
-so. It needs a C compiler, and is no part of the gate.
+"""Refuses each request for memory of the built program in turn, by a `malloc` and a `realloc` that refuse the Nth: for
+a run, a run that is shown, a replay, a trace, help, a wrong word and two clients in real threads. Each time it must end
+for that: with status 4, nothing on standard output and `pif: out of memory` on standard error, or with status 6 and
+`fault threads` where a thread could not be started. Or all must be as with no refusal, since the standard library asks
+again for some. With the words of a job behind the program it is that job alone, over an example.
 
-    bench/refused_requests.py       once they are built: by ./pif, in crates/pif_test_drive by `rt test`, and in
-                                    crates/pif_bench by `rt run`
+Two rows more are asked where they are built. The test `desk_keeps_receipts` of pif_test_drive (by `rt test` there) asks
+again for what was refused, by `resume` where a call is open: no answer, book or replayed trace may change. The
+benchmark `new_core` of pif_bench (by `rt run` there) makes cores: whichever request of `Core::new` is refused, the
+status is 1.
+
+    bench/refused_requests.py [PROGRAM [WORD..]]        PROGRAM is crates/pif/out/pif by default
+
+Prints a line for each row, and how many differ; a row in which no request was seen is one of them. A program of a
+checked run (`rt try`) has a `malloc` of its own, so that none is seen. The status is 0 if none differs, 1 if one does,
+and 2 if there is no program or no C compiler.
 """
 
 import os
@@ -18,12 +23,22 @@ import subprocess
 import sys
 import tempfile
 from pathlib import Path
+from typing import NamedTuple
 
 TOP = Path(__file__).resolve().parent.parent
 PROGRAM = TOP / "crates/pif/out/pif"
-TESTS = TOP / "crates/pif_test_drive/out/pif_drive_tests_tests"
+TESTS = TOP / "crates/pif_test_drive/out/pif_test_drive_tests"
 BENCH = TOP / "crates/pif_bench/out/pif_bench"
 SCRIPT = TOP / "examples/holder_is_boosted_until_it_unlocks.pif"
+
+# How the program ends for a refused request: its status, what it prints, and what it prints of the error.
+REFUSALS = ((4, b"", b"pif: out of memory\n"), (6, b"fault threads\n", b"pif: a thread cannot be started\n"))
+
+# The jobs of the program, each with its status. A replay reads the trace of the script, the others the script.
+JOBS = (("run", 0), ("show", 0), ("replay", 0), ("trace", 0), ("--help", 0), ("walk", 1), ("drive 2", 0))
+
+# What a benchmark measures is another number each time.
+MEASURED = re.compile(rb"[0-9]+(\.[0-9]+)? (ns|ps|bare pairs)")
 
 REFUSE = r"""
 #define _GNU_SOURCE
@@ -57,62 +72,96 @@ void *realloc(void *old, size_t size) {
 """
 
 
-def run(room, command, text, number):
-    """Runs a command with this request refused: its status, what it wrote, and whether a request was refused."""
+class Row(NamedTuple):
+    """What is run: its name, its words, its input, its status with no refusal, and whether an end is that of a refused
+    request."""
+
+    name: str
+    words: list
+    text: bytes
+    status: int
+    is_refusal: object
+
+
+class Stopped(Exception):
+    """Why nothing can be asked."""
+
+
+def run(room, row, number):
+    """Runs a row with this request refused: its status, what it printed, and whether a request was refused."""
     left = room / "refused"
     left.unlink(missing_ok=True)
     variables = dict(os.environ, LD_PRELOAD=str(room / "refuse.so"), REFUSED_REQUEST=str(number), REFUSED=str(left))
-    done = subprocess.run(command, input=text, capture_output=True, env=variables, timeout=120)
-    # How long a benchmark took is another number each time.
-    return (done.returncode, re.sub(rb"[0-9]+ ns", b"ns", done.stdout), done.stderr), left.exists()
+    done = subprocess.run(row.words, input=row.text, capture_output=True, env=variables, timeout=120)
+    return (done.returncode, MEASURED.sub(b"", done.stdout), done.stderr), left.exists()
 
 
-def is_refusal(ended, refusal):
-    """Whether a run ended for a refused request, for which its program has this status."""
-    status, output, errors = ended
-    one_line = errors.count(b"\n") == 1
-    return one_line and (status == refusal and output == b"" or status == 6 and output == b"fault threads\n")
-
-
-def sweep(room, name, command, text, same_alone, refusal):
-    """Refuses each request in turn, and says what came out; whether all was as it must be."""
-    whole, _ = run(room, command, text, 0)
-    number, same = 0, []
-    while True:
-        number += 1
-        ended, refused = run(room, command, text, number)
-        if not refused:
-            break
+def sweep(room, row):
+    """Refuses each request of a row in turn, and prints what came out; whether all was as it must be."""
+    whole, _ = run(room, row, 0)
+    if whole[0] != row.status:
+        print("%s: with no refusal the status is %d" % (row.name, whole[0]))
+        return False
+    number, same = 1, []
+    ended, refused = run(room, row, number)
+    while refused:
         if ended == whole:
             same.append(number)
-        elif same_alone or not is_refusal(ended, refusal):
-            print("%s: with request %d refused: %s" % (name, number, ended))
+        elif not row.is_refusal(ended):
+            print("%s: with request %d refused: %s" % (row.name, number, ended))
             return False
-    told = "all as with no refusal" if same_alone else "as with no refusal at %d" % len(same)
-    print("%s: status %d, %d requests, each refused alone: %s" % (name, whole[0], number - 1, told))
+        number += 1
+        ended, refused = run(room, row, number)
+    if number == 1:
+        print("%s: no request was seen" % row.name)
+        return False
+    print("%s: %d requests, each refused alone; as with no refusal at %d" % (row.name, number - 1, len(same)))
     return True
+
+
+def rows_of(program, words):
+    """The rows: of the program those of JOBS, or the one of these words; and the two that may be built beside it."""
+    script = SCRIPT.read_bytes()
+    trace = subprocess.run([program, "trace"], input=script, stdout=subprocess.PIPE, check=True).stdout
+    for job, status in [(" ".join(words), 0)] if words else JOBS:
+        text = trace if job == "replay" else script
+        yield Row("pif " + job, [program] + (words or job.split(" ")), text, status, lambda ended: ended in REFUSALS)
+    if words:
+        return
+    if TESTS.is_file():
+        yield Row("desk_keeps_receipts", [TESTS, "desks::desk_keeps_receipts"], b"", 0, lambda ended: False)
+    if BENCH.is_file():
+        yield Row("pif_bench new_core", [BENCH, "new_core"], b"", 0,
+                  lambda ended: ended[:2] == (1, b"") and ended[2].count(b"\n") == 1)
+
+
+def make_library(room):
+    """The library with the two functions, in this folder."""
+    (room / "refuse.c").write_text(REFUSE)
+    try:
+        made = subprocess.run(["cc", "-O1", "-shared", "-fPIC", "-o", room / "refuse.so", room / "refuse.c", "-ldl"])
+    except FileNotFoundError as error:
+        raise Stopped("there is no C compiler, cc") from error
+    if made.returncode != 0:
+        raise Stopped("cc made no library")
 
 
 def main():
     if sys.argv[1:] in (["-h"], ["--help"]):
         print(__doc__, end="")
         return 0
-    script = SCRIPT.read_bytes()
-    trace = subprocess.run([PROGRAM, "trace"], input=script, stdout=subprocess.PIPE).stdout if PROGRAM.is_file() else b""
-    jobs = [(["run"], script), (["show"], script), (["replay"], trace), (["trace"], script), (["--help"], b""),
-            (["walk"], b""), (["drive", "2"], b"")]
-    sweeps = [("pif " + " ".join(words), [PROGRAM] + words, text, False, 4) for words, text in jobs]
-    sweeps.append(("desk_keeps_receipts", [TESTS, "desks::desk_keeps_receipts"], b"", True, 4))
-    sweeps.append(("pif_bench new_core", [BENCH, "new_core"], b"", False, 1))
-    with tempfile.TemporaryDirectory() as folder:
-        room = Path(folder)
-        (room / "refuse.c").write_text(REFUSE)
-        subprocess.run(["cc", "-O1", "-shared", "-fPIC", "-o", room / "refuse.so", room / "refuse.c", "-ldl"], check=True)
-        done = [sweep(room, *each) for each in sweeps if each[1][0].is_file()]
-    missing = [str(each[1][0]) for each in sweeps if not each[1][0].is_file()]
-    for path in sorted(set(missing)):
-        print("bench/refused_requests.py: there is no %s" % path, file=sys.stderr)
-    return 0 if done and all(done) and not missing else 1
+    program = Path(sys.argv[1] if len(sys.argv) > 1 else PROGRAM).resolve()
+    try:
+        if not program.is_file():
+            raise Stopped("there is no program %s; ./pif builds it" % program)
+        with tempfile.TemporaryDirectory() as folder:
+            make_library(Path(folder))
+            done = [sweep(Path(folder), row) for row in rows_of(program, sys.argv[2:])]
+    except Stopped as why:
+        print("refused_requests: %s" % why, file=sys.stderr)
+        return 2
+    print("%d rows, %d differ" % (len(done), done.count(False)))
+    return 0 if all(done) else 1
 
 
 if __name__ == "__main__":

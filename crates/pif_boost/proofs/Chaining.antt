@@ -1,26 +1,36 @@
 -- The chain from a thread, followed hop by hop, up to another thread.
-use Rattle.std.proofs.Common.{◌≡◌, ◌⊎◌, ℕ, ◌<◌, ◌≤◌, ◌+◌, List, [], ◌∷◌, length, Some, None, refl, sym, ap, ◌∙◌, subst, inl, inr, arith}
+use Rattle.std.proofs.Common.{◌≡◌, ◌⊎◌, ℕ, ◌<◌, ◌≤◌, ◌+◌, List, [], ◌∷◌, length, Option, Some, None, refl, sym, ap, ◌∙◌, subst, inl, inr, arith}
+use Rattle.std.specs.Prelude.{option_and_then, unwrap_or}
 use Rattle.std.proofs.lemmas.Bool.{cases_eq, cases_lt}
 use Rattle.pif_nodes_model.specs.Table.{NodeLists}
 use Rattle.pif_model.specs.Graph.{Reaches}
 use Rattle.pif_model.specs.Graph.Reaches.{here, hop}
-use Rattle.pif_model_lemmas.proofs.Hops.{alone}
 use Rattle.pif_kernel_model.specs.Owners.{Owners, owner_at, waits_on, waits_for, WaitsFor, AreSoundOwners}
 use Rattle.pif_kernel_model.specs.States.{States, owners_in}
 use Rattle.pif_kernel_model.specs.Holds.{HoldsStates}
 use Rattle.pif_kernel_model.proofs.ViewLemmas.{length-seats}
 use Rattle.pif_kernel_model.specs.Boosts.{IsThread}
-use Rattle.pif_kernel_model.proofs.Greatest.{nobody_waits, out_waits, waits_for-none, waits_for-owner}
-use Rattle.pif_boost.proofs.Hops.{IsOnWay, onway-start, onway-hop, onway-few}
+use Rattle.pif_kernel_model.proofs.Greatest.{nobody_waits, out_waits, waits_for-owner}
+use Rattle.pif_kernel_model.proofs.Ways.{IsOnWay, onway-start, onway-hop, onway-few}
+
+-- for whom a thread waits has a row
+pub owned-below : (m : States) (table : NodeLists) → HoldsStates m table → (u : ℕ)
+    → waits_for (owners_in m table) u < length (owners_in m table).seats
+owned-below m table holds u = by_state (waits_on (owners_in m table) u)
+  where
+    by_owner : (k : ℕ) (o : Option ℕ) → owner_at (owners_in m table) k ≡ o → unwrap_or o 0 < length (owners_in m table).seats
+    by_owner k None e = omega (arith, holds.waiters.sound.least)
+    by_owner k (Some o) e = omega (arith, holds.waiters.owned k o e, length-seats m table, holds.waiters.rows)
+
+    by_state : (o : Option ℕ) → unwrap_or (option_and_then (owner_at (owners_in m table)) o) 0 < length (owners_in m table).seats
+    by_state None = omega (arith, holds.waiters.sound.least)
+    by_state (Some k) = by_owner k (owner_at (owners_in m table) k) refl
 
 -- so many threads of the chain from `owner` are not `t`, and `at` is next: it reaches `t` just where `owner` does
 pub record IsChaining (v : Owners) (owner t hops at : ℕ) : Type 0 where
   pub back : Reaches (WaitsFor v) at t → Reaches (WaitsFor v) owner t
   pub on : Reaches (WaitsFor v) owner t → Reaches (WaitsFor v) at t
   pub way : (hops ≡ 0) ⊎ ((passed : List ℕ) × (length passed ≡ hops) × IsOnWay v passed at)
-
-pub chaining-start : (v : Owners) (owner t : ℕ) → IsChaining v owner t 0 owner
-chaining-start v owner t = record { back = λ r. r; on = λ r. r; way = inl refl }
 
 module _ (m : States) (table : NodeLists) (holds : HoldsStates m table) (owner t hops at : ℕ)
     (c : IsChaining (owners_in m table) owner t hops at) where
@@ -83,7 +93,3 @@ module _ (m : States) (table : NodeLists) (holds : HoldsStates m table) (owner t
   -- it ends at `t`
   pub chaining-found : at ≡ t → Reaches (WaitsFor v) owner t
   chaining-found e = c.back (here e)
-
-  -- it ends at another thread, which waits for nobody
-  pub chaining-done : (at ≡ t → ⊥) → waits_on v at ≡ None → Reaches (WaitsFor v) owner t → ⊥
-  chaining-done ne none r = ne (alone (waits_for v) (waits_for-none v at none) (c.on r))

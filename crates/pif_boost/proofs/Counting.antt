@@ -1,11 +1,12 @@
 -- How many threads a walk has passed: each of them has another effective priority than before, and no other thread has.
-use Rattle.std.proofs.Common.{◌≡◌, ◌≢◌, ◌⊎◌, ℕ, ◌<◌, ◌≤◌, ◌+◌, ◌-◌, true, false, eqb, List, [], ◌∷◌, length, refl, sym, ap, ◌∙◌, subst, inl, inr, arith}
+use Rattle.std.proofs.Common.{◌≡◌, ◌≢◌, ◌⊎◌, ℕ, ◌<◌, ◌+◌, ◌-◌, true, false, eqb, List, [], ◌∷◌, length, refl, sym, ap, ◌∙◌, subst, inl, inr, arith}
 use Rattle.std.specs.List.{list_any}
-use Rattle.std.proofs.lemmas.Bool.{cases_eq, cases_lt, eqb-true, eq-eqb, or_cases, or_left, or_right, false_from_ne_true, true≢false}
+use Rattle.std.proofs.lemmas.Bool.{cases_eq, eqb-true, eq-eqb, or_cases, or_left, or_right, false_from_ne_true, true≢false}
 use Rattle.pif_kernel_model.specs.Owners.{Owners, waits_for, AreSoundOwners}
 use Rattle.pif_kernel_model.specs.Boosts.{local_of, greatest_base}
 use Rattle.pif_boost.specs.Hops.{after_hops, IsHopCount}
-use Rattle.pif_boost.proofs.Hops.{IsWalked, walked-local, IsOnWay, onway-apart}
+use Rattle.pif_kernel_model.proofs.Ways.{IsOnWay, onway-apart}
+use Rattle.pif_boost.proofs.Hops.{IsWalked, walked-local}
 
 -- a walk from `start` has passed these threads, the last one first, and stands at the next
 pub record IsCounted (v now : Owners) (start : ℕ) (passed : List ℕ) (at : ℕ) : Type 0 where
@@ -102,23 +103,3 @@ module _ (v now : Owners) (start : ℕ) (passed : List ℕ) (at : ℕ) (sound : 
           λ e. true≢false (sym m ∙ ap (λ (y : ℕ). list_any (eqb y) passed) e ∙ onway-apart v sound passed at way) in
           c.changed (reached i) m
           (sym (same (reached i) apart) ∙ walked-local v final sound ends walked (reached i) (way.threads (reached i) m).1 ∙ s)
-
--- no other number is that of the hops: the greater of two would go on after the end of the other
-pub counted_alike : (v : Owners) (start a b : ℕ) → IsHopCount v start a → IsHopCount v start b → a ≡ b
-counted_alike v start a b x y = by_order (cases_lt a b) (cases_lt b a)
-  where
-    longer : (c d : ℕ) → IsHopCount v start c → IsHopCount v start d → c < d → ⊥
-    longer c d z w l = by_end z.last
-      where
-        on : c - 1 + 1 < d
-        on = omega (arith, z.some, l)
-
-        by_end : ((greatest_base v (after_hops (waits_for v) start (c - 1)) ≡ local_of v (after_hops (waits_for v) start (c - 1)))
-            ⊎ (waits_for v (after_hops (waits_for v) start (c - 1)) ≡ 0)) → ⊥
-        by_end (inl e) = w.changed (c - 1) on e
-        by_end (inr e) = w.waits (c - 1) on e
-
-    by_order : ((a < b) ⊎ (b ≤ a)) → ((b < a) ⊎ (a ≤ b)) → a ≡ b
-    by_order (inl l) o = absurd (longer a b x y l)
-    by_order (inr p) (inl l) = absurd (longer b a y x l)
-    by_order (inr p) (inr q) = omega (arith, p, q)

@@ -1,19 +1,15 @@
--- A walk along one chain: after each hop nothing is left to repair but the thread at which it stands, and no thread
--- comes twice.
-use Rattle.std.proofs.Common.{◌≡◌, ◌≢◌, ◌⊎◌, ℕ, ◌<◌, ◌≤◌, ◌+◌, max, Bool, true, false, ◌==◌, eqb, List, [], ◌∷◌, length, Option, Some, None, refl, sym, ap, ◌∙◌, subst, inl, inr, arith, length-set}
+-- A walk along one chain: after each hop nothing is left to repair but the thread at which it stands.
+use Rattle.std.proofs.Common.{◌≡◌, ◌≢◌, ◌⊎◌, ℕ, ◌<◌, ◌≤◌, max, Bool, true, ◌==◌, length, Option, Some, None, refl, sym, ap, ◌∙◌, subst, inl, inr, arith, length-set}
 use Rattle.std.specs.Prelude.{option_map, option_and_then, unwrap_or}
-use Rattle.std.specs.List.{list_any, IsDistinct}
 use Rattle.std.proofs.Math.Path.{fun_ext}
-use Rattle.std.proofs.lemmas.Bool.{cases_eq, eqb-true, eq-eqb, or_cases, false_from_ne_true}
+use Rattle.std.proofs.lemmas.Bool.{cases_eq, eqb-true, eq-eqb}
 use Rattle.std.proofs.lemmas.List.{get_or-set_same, get_or-set_other}
-use Rattle.std.proofs.lemmas.Map.Keys.{IsDistinct-cons}
-use Rattle.std.proofs.lemmas.Map.Steps.{length-le_from_distinct_below}
 use Rattle.pif_nodes_model.specs.declared.keys.Key.{Key}
 use Rattle.pif_model.specs.Graph.{greatest_where, Reaches}
 use Rattle.pif_model.specs.Graph.Reaches.{here}
-use Rattle.pif_model_lemmas.proofs.Following.{all_apart, no_repeats, greatest_where_above}
+use Rattle.pif_model_lemmas.proofs.Following.{greatest_where_above}
 use Rattle.pif_model_lemmas.proofs.Greatest.{greatest_where_most}
-use Rattle.pif_model_lemmas.proofs.Hops.{Reaches-then, alone}
+use Rattle.pif_model_lemmas.proofs.Hops.{alone}
 use Rattle.pif_kernel_model.specs.Owners.{Owners, Task, Wait, no_task, task_at, owner_at, waits_on, waits_for, rank_of, WaitsFor, with_task, AreSoundOwners}
 use Rattle.pif_kernel_model.specs.Boosts.{IsThread, base_of, local_of, greatest_base, greatest_waiting, with_rank_priority, with_effective, IsRepaired, IsRepairedBut}
 use Rattle.pif_kernel_model.proofs.Repairs.{ranked-state}
@@ -250,74 +246,3 @@ module _ (v now : Owners) (old : AreSoundOwners v) (sound : AreSoundOwners now) 
         locals = λ t th ne. w.repaired.locals t th (λ e. (let one : 1 ≤ t = th.0 in absurd (omega (arith, e))));
         ranks = w.repaired.ranks;
       }
-
--- THE WAY
-
--- x is reached from t over one hop or more
-abbrev IsAhead : Owners → ℕ → ℕ → Type 0
-IsAhead v x at = (y : ℕ) × WaitsFor v x y × Reaches (WaitsFor v) y at
-
--- a walk has passed so many threads, each of which waits for the one at which it stands over one hop or more
-pub record IsOnWay (v : Owners) (passed : List ℕ) (at : ℕ) : Type 0 where
-  pub distinct : IsDistinct eqb passed
-  pub threads : (x : ℕ) → list_any (eqb x) passed ≡ true → IsThread v x
-  pub ahead : (x : ℕ) → list_any (eqb x) passed ≡ true → IsAhead v x at
-  pub thread : IsThread v at
-
-pub onway-start : (v : Owners) (at : ℕ) → IsThread v at → IsOnWay v [] at
-onway-start v at th =
-    record {
-      distinct = no_repeats;
-      threads = λ x h. absurd (no_member h);
-      ahead = λ x h. absurd (no_member h);
-      thread = th;
-    }
-  where
-    no_member : false ≡ true → ⊥
-    no_member h = cc
-
-module _ (v : Owners) (sound : AreSoundOwners v) (passed : List ℕ) (at : ℕ) (o : IsOnWay v passed at) where
-  -- it stands at none of them
-  pub onway-apart : list_any (eqb at) passed ≡ false
-  onway-apart = false_from_ne_true (list_any (eqb at) passed) (λ h. let c = o.ahead at h in sound.acyclic at c.0 c.1 c.2)
-
-  distinct_more : IsDistinct eqb (at ∷ passed)
-  distinct_more = IsDistinct-cons eqb at passed (all_apart at passed onway-apart) o.distinct
-
-  thread_more : (x : ℕ) → list_any (eqb x) (at ∷ passed) ≡ true → IsThread v x
-  thread_more x h = by_place (or_cases (eqb x at) (list_any (eqb x) passed) h)
-    where
-      by_place : ((eqb x at ≡ true) ⊎ (list_any (eqb x) passed ≡ true)) → IsThread v x
-      by_place (inl e) = subst (IsThread v) (sym (eqb-true x at e)) o.thread
-      by_place (inr m) = o.threads x m
-
-  -- a hop to the thread for which it waits
-  pub onway-hop : (u : ℕ) → WaitsFor v at u → IsThread v u → IsOnWay v (at ∷ passed) u
-  onway-hop u a th =
-      record {
-        distinct = distinct_more;
-        threads = thread_more;
-        ahead = λ x h. by_place x (or_cases (eqb x at) (list_any (eqb x) passed) h);
-        thread = th;
-      }
-    where
-      by_place : (x : ℕ) → ((eqb x at ≡ true) ⊎ (list_any (eqb x) passed ≡ true)) → IsAhead v x u
-      by_place x (inl e) = (u, subst (λ (y : ℕ). WaitsFor v y u) (sym (eqb-true x at e)) a, here refl)
-      by_place x (inr m) = let c = o.ahead x m in (c.0, c.1, Reaches-then c.2 a)
-
-  -- there are more threads than were passed
-  pub onway-few : length passed + 2 ≤ length v.seats
-  onway-few =
-      omega (
-        arith,
-        length-le_from_distinct_below (0 ∷ at ∷ passed) (length v.seats)
-            (IsDistinct-cons eqb 0 (at ∷ passed) (all_apart 0 (at ∷ passed) no_zero) distinct_more)
-            (λ x h. by_place x (or_cases (eqb x 0) (list_any (eqb x) (at ∷ passed)) h)),
-      )
-    where
-      no_zero : list_any (eqb 0) (at ∷ passed) ≡ false
-      no_zero = false_from_ne_true (list_any (eqb 0) (at ∷ passed)) (λ h. let th = thread_more 0 h in absurd (omega (arith, th.0)))
-
-      by_place : (x : ℕ) → ((eqb x 0 ≡ true) ⊎ (list_any (eqb x) (at ∷ passed) ≡ true)) → x < length v.seats
-      by_place x (inl e) = omega (arith, eqb-true x 0 e, sound.least)
-      by_place x (inr m) = (thread_more x m).1

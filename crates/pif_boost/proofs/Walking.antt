@@ -22,7 +22,8 @@ use Rattle.pif_kernel_model.specs.BoostFrames.{StandsBefore, SameBeyond}
 use Rattle.pif_boost.specs.Done.{IsDone}
 use Rattle.pif_boost.specs.Hops.{after_hops, IsHopCount}
 use Rattle.pif_kernel_model.proofs.Greatest.{nobody_base, waits_for-none}
-use Rattle.pif_boost.proofs.Hops.{greatest_where_on, IsWalked, walked-start, walked-waits, walked-stop, walked-hop, walked-local, walked-done, walked-settled, ends-hop, most-hop, IsOnWay, onway-start, onway-hop, onway-few}
+use Rattle.pif_kernel_model.proofs.Ways.{IsOnWay, onway-start, onway-hop, onway-few}
+use Rattle.pif_boost.proofs.Hops.{greatest_where_on, IsWalked, walked-start, walked-waits, walked-stop, walked-hop, walked-local, walked-done, walked-settled, ends-hop, most-hop}
 use Rattle.pif_boost.proofs.Counting.{IsCounted, counted-start, counted-here, counted-hop, counted-done}
 use Rattle.pif_boost.proofs.Ends.{AllBut, stop_levels, end_levels}
 use Rattle.pif_kernel_model.proofs.BoostFrameLemmas.{states-leave, queue-leaves, beyond-queue, beyond-states, beyond-both, outside-none, outside-both, outside-rows}

@@ -7,6 +7,7 @@
 mod causes;
 mod drive;
 mod files;
+mod hosts;
 mod messages;
 mod process;
 mod random;

@@ -3,7 +3,9 @@ ghost use Rattle.std.specs.declared.io.ErrorKind.{ErrorKind as IoErrorKind};
 ghost use Rattle.pif_cli.specs.Words.{EndsOver, HadNoWords};
 
 use crate::files::command_over_files;
+use crate::hosts::Host;
 use crate::messages::Message;
+use crate::shelves::FileShelf;
 use crate::statuses::Status;
 use crate::words::{fail, show};
 use pif_script::CliFault;
@@ -28,14 +30,18 @@ pub fn command_at_terminal<
         (W.contents output.old) (W.contents output.new) (E.contents errors.old) (E.contents errors.new) result }
 {
     match words_of(process) {
-        Ok(words) => Status::new(command_over_files(
-            process,
-            is_terminal,
-            words.as_slice(),
-            input,
-            output,
-            errors,
-        )),
+        Ok(words) => {
+            let shelf = FileShelf::new(process);
+            let mut host = Host {
+                alloc: process.alloc(),
+                process,
+                shelf: &shelf,
+                is_terminal,
+                output,
+                errors,
+            };
+            Status::new(command_over_files(words.as_slice(), input, &mut host))
+        }
         Err(error) => Status::new(refuse(error.kind(), errors)),
     }
 }

@@ -7,6 +7,7 @@ ghost use Rattle.pif_cli.specs.Words.{Did, Does, as_job, EndsBy, HadNoMemory, Re
 
 use crate::causes::{message_of, plain_message};
 use crate::drive::drive;
+use crate::hosts::Host;
 use crate::random::write_random;
 use crate::statuses::{JobFault, fault_status, job_fault_status};
 use clap::error::ErrorKind;
@@ -14,7 +15,7 @@ use pif_cli_words::{Job, first_name, near_command, read_words};
 use pif_job_check::{check_noting, fill_noting};
 use pif_job_draw::write_picture;
 use pif_job_replay::{migrate_noting, replay_noting};
-use pif_job_shell::{NoShelf, shell};
+use pif_job_shell::{NoShelf, Shelf, shell};
 use pif_job_show::show_story;
 use pif_job_trace::trace_story;
 use pif_script::{CliFault, Notice, run_noting, write_whole};
@@ -34,53 +35,53 @@ fn as_job(done: Result<(), CliFault>) -> Result<(), JobFault>
     }
 }
 
-/// Does a job over these streams, of which the input has this name, and has `notice` keep the line that ends it.
-fn do_job<T: Threads + Wait + Sync, R: Read, W: Write>(
+/// Does a job over an input of this name, and has `notice` keep the line that ends it. The errors are told nothing.
+fn do_job<P: Threads + Wait + Sync, S: Shelf, R: Read, W: Write, E: Write>(
     job: Job,
     name: &str,
-    alloc: Global,
-    rt: &T,
     input: &mut R,
-    output: &mut W,
+    host: &mut Host<P, S, W, E>,
     notice: &mut Notice,
 ) -> Result<(), JobFault>
-    ensures { Does job name.now (R.remaining input.old) (R.remaining input.new)
-        (W.contents output.old) (W.contents output.new) result }
+    ensures same_output { host.new.output.ghost_name ≡ host.old.output.ghost_name }
+    ensures same_errors { host.new.errors ≡ host.old.errors }
+    ensures does { Does job name.now (R.remaining input.old) (R.remaining input.new)
+        (W.contents host.old.output.now) (W.contents host.new.output.now) result }
 {
+    let alloc = host.alloc;
     match job {
-        Job::Run => as_job(run_noting(alloc, input, output, notice)),
-        Job::Replay => as_job(replay_noting(alloc, input, output, notice)),
-        Job::Trace => as_job(trace_story(alloc, input, output, notice)),
-        Job::Migrate => as_job(migrate_noting(alloc, input, output, notice)),
-        Job::Show(detail) => as_job(show_story(detail, alloc, input, output, notice)),
-        Job::Picture(picture) => as_job(write_picture(picture, alloc, input, output, notice)),
-        Job::Shell => as_job(shell(alloc, &NoShelf, false, input, output)),
-        Job::Check => as_job(check_noting(alloc, name.as_bytes(), input, output, notice)),
-        Job::Fill => as_job(fill_noting(alloc, name.as_bytes(), input, output, notice)),
-        Job::Random(recipe) => write_random(alloc, recipe, output),
-        Job::Drive(clients) => drive(alloc, rt, clients, output),
+        Job::Run => as_job(run_noting(alloc, input, host.output, notice)),
+        Job::Replay => as_job(replay_noting(alloc, input, host.output, notice)),
+        Job::Trace => as_job(trace_story(alloc, input, host.output, notice)),
+        Job::Migrate => as_job(migrate_noting(alloc, input, host.output, notice)),
+        Job::Show(detail) => as_job(show_story(detail, alloc, input, host.output, notice)),
+        Job::Picture(picture) => as_job(write_picture(picture, alloc, input, host.output, notice)),
+        Job::Shell => as_job(shell(alloc, host.shelf, host.is_terminal, input, host.output)),
+        Job::Check => as_job(check_noting(alloc, name.as_bytes(), input, host.output, notice)),
+        Job::Fill => as_job(fill_noting(alloc, name.as_bytes(), input, host.output, notice)),
+        Job::Random(recipe) => write_random(alloc, recipe, host.output),
+        Job::Drive(clients) => drive(alloc, host.process, clients, host.output),
     }
 }
 
-/// Does a job over these streams, of which the input has this name, and tells `errors` of a fault. Answers the status,
-/// which is that of the job where `errors` fails, too.
-pub fn do_and_tell<T: Threads + Wait + Sync, R: Read, W: Write, E: Write>(
+/// Does a job over an input of this name, and tells the errors of a fault. Answers the status, which is that of the job
+/// where the errors cannot be told, too.
+pub fn do_and_tell<P: Threads + Wait + Sync, S: Shelf, R: Read, W: Write, E: Write>(
     job: Job,
     name: &str,
-    alloc: Global,
-    rt: &T,
     input: &mut R,
-    output: &mut W,
-    errors: &mut E,
+    host: &mut Host<P, S, W, E>,
 ) -> u8
-    ensures { Did job name.now (R.remaining input.old) (R.remaining input.new)
-        (W.contents output.old) (W.contents output.new) (E.contents errors.old) (E.contents errors.new) result }
+    ensures same_output { host.new.output.ghost_name ≡ host.old.output.ghost_name }
+    ensures same_errors { host.new.errors.ghost_name ≡ host.old.errors.ghost_name }
+    ensures did { Did job name.now (R.remaining input.old) (R.remaining input.new) (W.contents host.old.output.now)
+        (W.contents host.new.output.now) (E.contents host.old.errors.now) (E.contents host.new.errors.now) result }
 {
     let mut notice = Notice::new();
-    match do_job(job, name, alloc, rt, input, output, &mut notice) {
+    match do_job(job, name, input, host, &mut notice) {
         Ok(()) => 0,
         Err(fault) => {
-            message_of(job, name, fault, &notice).tell(errors);
+            message_of(job, name, fault, &notice).tell(host.errors);
             job_fault_status(fault)
         }
     }
@@ -200,7 +201,15 @@ pub fn command<T: Threads + Wait + Sync, S: AsStr, R: Read, W: Write, E: Write>(
     match read_words(alloc, words) {
         Ok(asked) => {
             let name = first_name(asked.files.as_slice());
-            do_and_tell(asked.job, name, alloc, rt, input, output, errors)
+            let mut host = Host {
+                alloc,
+                process: rt,
+                shelf: &NoShelf,
+                is_terminal: false,
+                output,
+                errors,
+            };
+            do_and_tell(asked.job, name, input, &mut host)
         }
         Err(error) => refuse(alloc, error, near_command(words), output, errors),
     }

@@ -242,7 +242,7 @@ Standard error says what went wrong, and in which line. Without --json and
 --dot only commands are counted as lines, from 1.
 
 Example:
-  pif show --json examples/unusable_mutex.story | examples/perfetto > trace.json";
+  pif show --json examples/unusable_mutex.story | tools/perfetto > trace.json";
 
 /// The end of the help of `draw`.
 pub const MORE_DRAW: &str =

@@ -33,8 +33,8 @@
 //! cmp_requeue_pi is for the mutex to which the variable is bound: a signal takes 1 thread, a broadcast up to 1,025.
 //!
 //! A wait at any other place, where it gives its mutex up, locks it, takes it over or leaves it, takes a step of
-//! `pif_mutex::advance`, whose table has those places. `wait` has the lines of a wait, and `uses` those that signal and
-//! broadcast share, all over the `State` of `pif_mutex`; `step` has which line a step is, and keeps the parts sound.
+//! `pif_mutex`, whose table has those places. `wait` has the lines of a wait, and `uses` those that signal and
+//! broadcast share, all over the `State` of `pif_mutex`; `step` has which line a step is, by a trait of `Parts`.
 #![tactic(auto)]
 
 mod step;

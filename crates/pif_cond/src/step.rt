@@ -5,17 +5,18 @@ ghost use Rattle.pif_model.specs.declared.lines.Place;
 ghost use Rattle.pif_model.specs.declared.lines.WakeStep;
 ghost use Rattle.pif_model.specs.PiKernel.{is_living};
 ghost use Rattle.pif_model.specs.Table.{line_at, cell_at, has_thread, has_cond};
-ghost use Rattle.pif_model.specs.Lines.{line_of, use_line, go_outcome};
+ghost use Rattle.pif_model.specs.Lines.{use_line, go_outcome};
+ghost use Rattle.pif_model.specs.Soundness.{belongs};
 ghost use Rattle.pif_mutex.specs.Mutexes.{is_of_mutexes};
 ghost use Rattle.pif_mutex.specs.Outcomes.{outcome_of};
 ghost use Rattle.pif_model_simulation.specs.Steppable.{CallMayStep};
-ghost use Rattle.pif_cond.specs.Conditions.{is_of_conditions, is_of_wait, is_own};
+ghost use Rattle.pif_cond.specs.Conditions.{is_of_conditions};
 
 use crate::uses::{use_exchange, use_load, use_reload, use_requeue};
-use crate::wait::{wait_expire, wait_load, wait_park, wait_parked, wait_uses};
+use crate::wait::{wait_load, wait_park, wait_stay_parked, wait_uses};
 use pif_kernel_calls::PiKernel;
 use pif_model::{Line, Place, WakeStep};
-use pif_mutex::{Parts, Progress, State, told};
+use pif_mutex::{Lines, Parts, Progress, State};
 use pif_types::{CondId, Errno, MutexId, Request, Tid};
 
 /// The thread, which lives and has a wait, a signal or a broadcast open, takes one step of it: one access of one word,
@@ -54,61 +55,42 @@ pub fn advance_at<K: PiKernel + Drop>(
     ensures once { (m : ℕ) → (cell_at parts.new m).word.number ≢ (cell_at parts.old m).word.number
         → (cell_at parts.new m).word.number ≢ 0 → (cell_at parts.new m).count ≡ 1 }
 {
-    // This looks at a part, so that the proof has that the parts are sound.
-    let _limits = parts.state.limits();
-    if is_own(&request, &place) {
-        go(&mut parts.state, request, place, t)
-    } else {
-        advance_on_mutex(parts, t)
+    parts.take::<CondLines>(request, place, t)
+}
+
+/// The lines of a wait, a signal and a broadcast.
+struct CondLines;
+
+impl Lines for CondLines {
+    ghost use Rattle.pif_cond.specs.Conditions.{is_of_conditions};
+
+    ghost include = { is_of_conditions };
+
+    #[inline(always)]
+    fn take<K: PiKernel + Drop>(
+        state: &mut State<K>,
+        request: Request,
+        place: Place,
+        t: Tid,
+    ) -> Progress {
+        go(state, request, place, t)
     }
 }
 
-/// One step of a wait on its mutex, in a function of its own, so that its locals cost the steps on the variable nothing.
-#[inline(never)]
-fn advance_on_mutex<K: PiKernel + Drop>(parts: &mut Parts<K>, t: Tid) -> Progress
-    requires living { is_living parts.old.kernel t ≡ true }
-    requires call { is_of_mutexes (line_at parts.old t) ≡ true }
-    ensures line { outcome_of result parts.new ≡ go_outcome (line_at parts.old t) t parts.old }
-    ensures once { (m : ℕ) → (cell_at parts.new m).word.number ≢ (cell_at parts.old m).word.number
-        → (cell_at parts.new m).word.number ≢ 0 → (cell_at parts.new m).count ≡ 1 }
-{
-    pif_mutex::advance(parts, t)
-}
-
-/// Whether a call takes a step of its own on a condition variable at this place.
-fn is_own(request: &Request, place: &Place) -> bool
-    ensures { result ≡ is_own request.now place.now }
-{
-    match request {
-        Request::Wait(_, _) => is_of_wait(place),
-        Request::Signal(_) | Request::Broadcast(_) => true,
-        _ => false,
-    }
-}
-
-/// Whether a wait takes a step of its own at this place.
-fn is_of_wait(place: &Place) -> bool
-    ensures { result ≡ is_of_wait place.now }
-{
-    match place {
-        Place::Load | Place::LoadUses | Place::Park(_) | Place::StayParked => true,
-        _ => false,
-    }
-}
-
-/// One step of the open call of `t`, which is this request at this place, on a condition variable. A wait that is due
-/// expires, and does nothing else. A signal and a broadcast are never due.
+/// One step of the open call of `t`, which is this request at this place: a wait, a signal or a broadcast. A wait that
+/// is due expires, and does nothing else. A signal and a broadcast are never due.
 #[inline(always)]
 #[tactic(auto, unfolding(pif_model::specs::Lines::line_of, pif_model::specs::Lines::use_line), using(crate::proofs::Stepping::signal_goes, crate::proofs::Stepping::broadcast_goes))]
 fn go<K: PiKernel + Drop>(state: &mut State<K>, request: Request, place: Place, t: Tid) -> Progress
     requires living { is_living state.old.kernel t ≡ true }
-    requires own { is_own request place ≡ true }
+    requires conditions { is_of_conditions (Line.At request place) ≡ true }
+    requires belongs { belongs request place ≡ true }
     requires call { CallMayStep state.old t request place }
     requires below { (v : ℕ) → place ≡ Place.Wake (WakeStep.CountUse v) → v < state.old.limits.signals }
     ensures { outcome_of result state.new ≡ go_outcome (Line.At request place) t state.old }
 {
     match request {
-        Request::Wait(c, m) => go_wait(state, place, c, m, t),
+        Request::Wait(c, m) => wait_step(state, request, place, c, m, t),
         Request::Signal(c) | Request::Broadcast(c) => match place {
             Place::Wake(step) => use_step(state, request, step, c, t),
             _ => state.answer(t, Errno::Invalid.number()),
@@ -117,53 +99,47 @@ fn go<K: PiKernel + Drop>(state: &mut State<K>, request: Request, place: Place, 
     }
 }
 
-/// One step of a wait, which is not one on its mutex, or its expiry, if it is due.
+/// One step of a wait. Where it is not on the variable it is one on the mutex.
 #[inline(always)]
-#[tactic(auto, unfolding(pif_model::specs::Lines::go_outcome, pif_model::specs::Lines::expires_at))]
-fn go_wait<K: PiKernel + Drop>(
+#[tactic(auto, using(crate::proofs::Stepping::load_goes, crate::proofs::Stepping::uses_goes, crate::proofs::Stepping::park_goes))]
+fn wait_step<K: PiKernel + Drop>(
     state: &mut State<K>,
+    request: Request,
     place: Place,
     c: CondId,
     m: MutexId,
     t: Tid,
 ) -> Progress
+    requires is { request ≡ Request.Wait c m }
     requires living { is_living state.old.kernel t ≡ true }
-    requires own { is_of_wait place ≡ true }
+    requires belongs { belongs (Request.Wait c m) place ≡ true }
     requires call { CallMayStep state.old t (Request.Wait c m) place }
     ensures { outcome_of result state.new ≡ go_outcome (Line.At (Request.Wait c m) place) t state.old }
 {
-    let request = Request::Wait(c, m);
-    if state.is_due_at(&request, &place, t) {
-        wait_expire(state, c, m, t)
-    } else {
-        let expired = state.timer(t).expired;
-        let progress = wait_step(state, place, c, m, t);
-        told(&request, expired, progress)
+    match place {
+        Place::Load => wait_load(state, request, c, m, t),
+        Place::LoadUses => wait_uses(state, request, c, m, t),
+        Place::Park(uses) => wait_park(state, request, uses, c, m, t),
+        Place::StayParked => wait_stay_parked(state, request, m, t),
+        _ => wait_on_mutex(state, request, place, t),
     }
 }
 
-/// One step of a wait, which is not one on its mutex.
-#[inline(always)]
-#[tactic(auto, unfolding(pif_model::specs::Lines::line_of))]
-fn wait_step<K: PiKernel + Drop>(
+/// One step of a wait on its mutex. It is a function of its own, so that its locals cost the steps on the variable
+/// nothing.
+#[inline(never)]
+fn wait_on_mutex<K: PiKernel + Drop>(
     state: &mut State<K>,
+    request: Request,
     place: Place,
-    c: CondId,
-    m: MutexId,
     t: Tid,
 ) -> Progress
-    requires known { has_thread state.old t ≡ true }
-    requires own { is_of_wait place ≡ true }
-    requires call { CallMayStep state.old t (Request.Wait c m) place }
-    ensures { outcome_of result state.new ≡ line_of (Request.Wait c m) place t state.old }
+    requires living { is_living state.old.kernel t ≡ true }
+    requires call { CallMayStep state.old t request place }
+    requires mutexes { is_of_mutexes (Line.At request place) ≡ true }
+    ensures { outcome_of result state.new ≡ go_outcome (Line.At request place) t state.old }
 {
-    match place {
-        Place::Load => wait_load(state, c, m, t),
-        Place::LoadUses => wait_uses(state, c, m, t),
-        Place::Park(uses) => wait_park(state, uses, c, m, t),
-        Place::StayParked => wait_parked(state, c, m, t),
-        _ => unreachable!(),
-    }
+    state.go(request, place, t)
 }
 
 /// One step of a signal or a broadcast.

@@ -1,14 +1,13 @@
-ghost use Rattle.std.specs.Prelude.{◌≡◌, true, false};
-ghost use Rattle.pif_types.specs.declared.requests.Request;
-ghost use Rattle.pif_model.specs.declared.lines.Place;
-ghost use Rattle.pif_model.specs.Lines.{wait_load, wait_uses, wait_park, wait_parked, expires_at};
-ghost use Rattle.pif_model.specs.PiKernel.{is_living, is_ready};
-ghost use Rattle.pif_model.specs.Table.{has_thread, has_mutex, has_cond, status_at};
+ghost use Rattle.std.specs.Prelude.{ℕ, ◌≡◌, true, false, if◌then◌else◌};
+ghost use Rattle.pif_model.specs.Deadlines.{ran_out};
+ghost use Rattle.pif_model.specs.Lines.{wait_load, wait_uses, wait_park, own_exchange, lock_queued, goes_to, expired_in, go_outcome};
+ghost use Rattle.pif_model.specs.PiKernel.{is_living, is_ready, is_woken_again};
+ghost use Rattle.pif_model.specs.Table.{has_thread, has_mutex, has_cond, status_at, timer_at, with_timer};
 ghost use Rattle.pif_mutex.specs.Outcomes.{outcome_of};
 
 use pif_kernel_calls::{PiKernel, Status, Woken};
-use pif_model::{GiveStep, Place, Purpose, Timer};
-use pif_mutex::{Progress, State};
+use pif_model::{GiveStep, Line, Place, Purpose, Timer};
+use pif_mutex::{Progress, State, told};
 use pif_types::{CondId, Errno, MutexId, Request, Tid};
 use pif_word::number;
 
@@ -18,10 +17,12 @@ use pif_word::number;
 #[tactic(auto, unfolding(pif_model::specs::Lines::wait_load))]
 pub(crate) fn wait_load<K: PiKernel + Drop>(
     state: &mut State<K>,
+    request: Request,
     c: CondId,
     m: MutexId,
     t: Tid,
 ) -> Progress
+    requires is { request ≡ Request.Wait c m }
     requires known { has_thread state.old t ≡ true }
     requires cond { has_cond state.old c ≡ true }
     requires mutex { has_mutex state.old m ≡ true }
@@ -34,7 +35,7 @@ pub(crate) fn wait_load<K: PiKernel + Drop>(
     } else if state.count(m) > 1 {
         state.answer(t, Errno::Invalid.number())
     } else {
-        state.go_on(Request::Wait(c, m), Place::LoadUses, t)
+        state.go_on(request, Place::LoadUses, t)
     }
 }
 
@@ -42,10 +43,12 @@ pub(crate) fn wait_load<K: PiKernel + Drop>(
 #[tactic(auto, unfolding(pif_model::specs::Lines::wait_uses))]
 pub(crate) fn wait_uses<K: PiKernel + Drop>(
     state: &mut State<K>,
+    request: Request,
     c: CondId,
     m: MutexId,
     t: Tid,
 ) -> Progress
+    requires is { request ≡ Request.Wait c m }
     requires known { has_thread state.old t ≡ true }
     requires cond { has_cond state.old c ≡ true }
     requires mutex { has_mutex state.old m ≡ true }
@@ -53,7 +56,7 @@ pub(crate) fn wait_uses<K: PiKernel + Drop>(
 {
     let uses = state.uses(c);
     state.go_by(
-        Request::Wait(c, m),
+        request,
         m,
         Place::Give(GiveStep::SetPending, Purpose::ToPark(uses)),
         Place::Give(GiveStep::Release, Purpose::ToPark(uses)),
@@ -68,16 +71,17 @@ pub(crate) fn wait_uses<K: PiKernel + Drop>(
 #[tactic(auto, unfolding(pif_model::specs::Lines::wait_park, pif_model::specs::Lines::wait_by), using(pif_model_simulation::proofs::events::KernelLeaves::wait_requeue_keeps_threads))]
 pub(crate) fn wait_park<K: PiKernel + Drop>(
     state: &mut State<K>,
+    request: Request,
     uses: u32,
     c: CondId,
     m: MutexId,
     t: Tid,
 ) -> Progress
+    requires is { request ≡ Request.Wait c m }
     requires known { has_thread state.old t ≡ true }
     requires ready { is_ready (status_at state.old t) ≡ true }
     ensures { outcome_of result state.new ≡ wait_park uses c m t state.old }
 {
-    let request = Request::Wait(c, m);
     match state.wait_requeue_pi(t, c, uses, m) {
         Ok(()) => state.wait(request, Place::StayParked, t),
         Err(Errno::Again) => state.go_on(request, Place::Exchange, t),
@@ -85,20 +89,44 @@ pub(crate) fn wait_park<K: PiKernel + Drop>(
     }
 }
 
+/// A wait that was parked: where it is due it expires, and else it goes on as it was parked. Once it has expired it is
+/// answered ETIMEDOUT in place of 0.
+#[inline(never)]
+pub(crate) fn wait_stay_parked<K: PiKernel + Drop>(
+    state: &mut State<K>,
+    request: Request,
+    m: MutexId,
+    t: Tid,
+) -> Progress
+    requires is { (c : ℕ) × (request ≡ Request.Wait c m) }
+    requires known { has_thread state.old t ≡ true }
+    requires mutex { has_mutex state.old m ≡ true }
+    requires living { is_living state.old.kernel t ≡ true }
+    ensures { outcome_of result state.new ≡ go_outcome (Line.At request Place.StayParked) t state.old }
+{
+    if state.is_due_at(&request, &Place::StayParked, t) {
+        wait_expire(state, request, t)
+    } else {
+        let expired = state.timer(t).expired;
+        let progress = wait_parked(state, request, m, t);
+        told(&request, expired, progress)
+    }
+}
+
 /// Parked, or queued since, and waits; or woken to lock the mutex, which is the exchange of a lock; or made the owner,
 /// which goes on as a lock that was queued.
-#[tactic(auto, unfolding(pif_model::specs::Lines::wait_parked))]
-pub(crate) fn wait_parked<K: PiKernel + Drop>(
+fn wait_parked<K: PiKernel + Drop>(
     state: &mut State<K>,
-    c: CondId,
+    request: Request,
     m: MutexId,
     t: Tid,
 ) -> Progress
     requires known { has_thread state.old t ≡ true }
     requires mutex { has_mutex state.old m ≡ true }
-    ensures { outcome_of result state.new ≡ wait_parked c m t state.old }
+    ensures { outcome_of result state.new
+        ≡ (if is_woken_again (status_at state.old t) then own_exchange request t m state.old
+        else lock_queued request t m state.old) }
 {
-    let request = Request::Wait(c, m);
     match state.status(t) {
         Status::Ready(Woken::Again) => state.own_exchange(request, t, m),
         _ => state.lock_queued(request, t, m),
@@ -109,17 +137,13 @@ pub(crate) fn wait_parked<K: PiKernel + Drop>(
 /// again, for which no deadline counts (POSIX, pthread_cond_timedwait).
 #[cold]
 #[inline(never)]
-#[tactic(auto, unfolding(pif_model::specs::Lines::expires_at, pif_model::specs::Lines::expired_in), using(pif_model_simulation::proofs::events::KernelLeaves::expire_keeps_threads))]
-pub(crate) fn wait_expire<K: PiKernel + Drop>(
-    state: &mut State<K>,
-    c: CondId,
-    m: MutexId,
-    t: Tid,
-) -> Progress
+#[tactic(auto, unfolding(pif_model::specs::Lines::expired_in), using(pif_model_simulation::proofs::events::KernelLeaves::expire_keeps_threads))]
+fn wait_expire<K: PiKernel + Drop>(state: &mut State<K>, request: Request, t: Tid) -> Progress
     requires known { has_thread state.old t ≡ true }
     requires living { is_living state.old.kernel t ≡ true }
     requires unready { is_ready (status_at state.old t) ≡ false }
-    ensures { outcome_of result state.new ≡ expires_at (Request.Wait c m) Place.StayParked t state.old }
+    ensures { outcome_of result state.new
+        ≡ goes_to t request Place.Exchange (with_timer t (ran_out (timer_at state.old t)) (expired_in t state.old)) }
 {
     let deadline = state.timer(t).deadline;
     state.expire(t);
@@ -130,5 +154,5 @@ pub(crate) fn wait_expire<K: PiKernel + Drop>(
             expired: true,
         },
     );
-    state.go_on(Request::Wait(c, m), Place::Exchange, t)
+    state.go_on(request, Place::Exchange, t)
 }

@@ -10,10 +10,10 @@ use Rattle.pif_model.specs.Posix.{Mutex, Variable, World, is_blocked_on, thread_
 use Rattle.pif_model.specs.Posix.{is_living as lives}
 use Rattle.pif_model.specs.PiKernel.{is_living, is_ready, has_seat, seat_at, is_among, level_at, effective_in, ready_in}
 use Rattle.pif_model.specs.Table.{Table, cell_at, has_thread, has_mutex, has_cond, status_at, bound_to}
-use Rattle.pif_model.specs.Calls.{base_answer, status_answer, open_call_answer, owner_answer, kind_answer, bound_answer, waiter_answer, parked_answer, ready_answer}
-use Rattle.pif_model.specs.Standing.{Stands, IsDoing, IsPick, call_of, owner_of, waiters_of}
+use Rattle.pif_model.specs.Calls.{base_answer, status_answer, open_call_answer, owner_answer, kind_answer, bound_answer, waiter_answer, parked_answer, ready_answer, IsPathAnswer}
+use Rattle.pif_model.specs.Standing.{Stands, IsDoing, IsPick, call_of, owner_of, waiters_of, IsPathFrom}
 use Rattle.pif_model_simulation.proofs.Shown.{mutexes_shown, variables_shown, base_seen, mutex_seen, variable_seen}
-use Rattle.pif_model_simulation.proofs.Looks.{doing_seen, open_seen, owner_seen, waiters_seen, parked_seen, ready_seen}
+use Rattle.pif_model_simulation.proofs.Looks.{doing_seen, open_seen, owner_seen, waiters_seen, parked_seen, ready_seen, path_seen}
 use Rattle.pif_model_lemmas.proofs.kernel.Settled.{effective_range}
 use Rattle.pif_model_lemmas.proofs.kernel.Orders.{first-levels_below}
 use Rattle.pif_core.proofs.StandsAfter.{said_by, pick_stands}
@@ -91,6 +91,10 @@ module _ (s : Table) (h : List Entry) (r : List World) (w : World) (st : Stands 
   ready_answered n o e = if_some (λ t. (lives w t ≡ true) × (rests w t ≡ false)) o
       (λ t q. subst (λ u. (lives u t ≡ true) × (rests u t ≡ false)) (sym st.shows)
       (ready_seen st.sound st.shadow n t (sym e ∙ q)))
+
+  -- the path of a thread is its own
+  pub path_answered : (t : ℕ) (us : List ℕ) → IsPathAnswer t s us → IsPathFrom w t us
+  path_answered t us p = subst (λ u. IsPathFrom u t us) (sym st.shows) (path_seen st.sound st.shadow t us p)
 
   -- no thread stands on level 0, since an effective priority is 1 at least
   level_zero : level_at s.kernel.levels 0 ≡ []

@@ -16,8 +16,8 @@ use Rattle.pif_model.specs.Lines.{Outcome, first_place, begun_table, is_open, ta
 use Rattle.pif_model_lemmas.proofs.kernel.Facts.{living-added}
 use Rattle.pif_model_simulation.proofs.Bound.{ends_within_24}
 use Rattle.pif_model_simulation.proofs.Shown.{begin_allowed}
-use Rattle.pif_calls.specs.Calls.{call_outcome}
-use Rattle.pif_calls.proofs.CallLemmas.{goes_on-other, goes_on-last, call_other}
+use Rattle.pif_model_simulation.specs.Calls.{call_outcome}
+use Rattle.pif_model_simulation.proofs.CallLemmas.{goes_on-other, goes_on-last, call_other}
 
 -- an event that is refused, and one that is not
 pub event_refused : (e : Event) (s : Table) (r : Refusal) → table_refusal s e ≡ Some r

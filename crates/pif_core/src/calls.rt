@@ -2,7 +2,7 @@ ghost use Rattle.std.specs.Prelude.{ℕ, ◌≡◌, ◌≢◌, None};
 ghost use Rattle.pif_model.specs.declared.events.Seen.TheVariants.{Went};
 ghost use Rattle.pif_model.specs.Standing.{WhereStands};
 ghost use Rattle.pif_model.specs.Lines.{table_refusal};
-ghost use Rattle.pif_calls.specs.Calls.{StandsOn, call_outcome, after_call, after_finish, finish_outcome};
+ghost use Rattle.pif_model_simulation.specs.Calls.{StandsOn, call_outcome, after_call, after_finish, finish_outcome};
 
 use crate::Core;
 use pif_model::{Event, Seen};
@@ -16,7 +16,7 @@ impl Core {
     /// A whole call: the thread begins it, and goes on as in `finish`. `Refused` says that nothing has changed: the
     /// thread was never added or the call names what was never added (`NoSuch`), the thread has ended (`Dead`), or it
     /// has a call open already (`Busy`).
-    #[tactic(auto, unfolding(pif_calls::specs::Calls::call_outcome))]
+    #[tactic(auto, unfolding(pif_model_simulation::specs::Calls::call_outcome))]
     pub fn call(&mut self, thread: Tid, request: Request) -> Seen
         ensures seen { result ≡ (call_outcome thread request self.old).seen }
         ensures after { self.new ≡ (call_outcome thread request self.old).after }

@@ -10,7 +10,7 @@ ghost use Rattle.pif_model.specs.Table.{new_table, line_at, cell_at, has_thread,
 ghost use Rattle.pif_model.specs.Lines.{table_refusal, accepted_outcome, event_outcome, go_outcome, is_open, ClosesOrWaits};
 ghost use Rattle.pif_model.specs.Calls.{add_thread_answer, add_thread_after, add_mutex_answer, add_mutex_after, add_cond_answer, add_cond_after, effective_answer, word_answer, health_answer, cond_word_answer, pick_answer, threads_answer, waiting_answer};
 ghost use Rattle.pif_mutex.specs.Outcomes.{outcome_of};
-ghost use Rattle.pif_calls.specs.Calls.{finish_outcome};
+ghost use Rattle.pif_model_simulation.specs.Calls.{finish_outcome};
 
 use pif_kernel_linked::LinkedKernel;
 use pif_model::{Entry, Event, Line, Place, Seen, Status};
@@ -355,7 +355,7 @@ impl Core {
         if let Some(refusal) = self.thread_refusal(thread) {
             return Seen::Refused(refusal);
         }
-        match self.parts.state.line(thread) {
+        match self.parts.line(thread) {
             Line::At(request, place) => self.go(request, place, thread),
             Line::Idle => Seen::Refused(Refusal::Idle),
         }
@@ -411,7 +411,7 @@ impl Core {
         ensures seen { result ≡ (event_outcome (Event.Go thread) self.old).seen }
         ensures after { self.new ≡ (event_outcome (Event.Go thread) self.old).after }
     {
-        match self.parts.state.line(thread) {
+        match self.parts.line(thread) {
             Line::At(request, place) => self.go(request, place, thread),
             Line::Idle => unreachable!(),
         }

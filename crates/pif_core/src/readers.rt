@@ -2,11 +2,12 @@ ghost use Rattle.std.specs.Prelude.{◌≡◌, ◌+◌, true, false, length, IfS
 ghost use Rattle.std.specs.List.{slice_get};
 ghost use Rattle.pif_model.specs.Posix.{is_thread, is_mutex, is_variable, is_blocked_on, thread_at, mutex_at, variable_at, rests};
 ghost use Rattle.pif_model.specs.Posix.{is_living as lives};
-ghost use Rattle.pif_model.specs.Standing.{WhereStands, IsDoing, IsPick, call_of, owner_of, waiters_of};
-ghost use Rattle.pif_model.specs.Calls.{base_answer, status_answer, open_call_answer, owner_answer, kind_answer, bound_answer, waiter_answer, parked_answer, ready_answer};
+ghost use Rattle.pif_model.specs.Standing.{WhereStands, IsDoing, IsPick, call_of, owner_of, waiters_of, IsPathFrom};
+ghost use Rattle.pif_model.specs.Calls.{base_answer, status_answer, open_call_answer, owner_answer, kind_answer, bound_answer, waiter_answer, parked_answer, ready_answer, order_answer, IsPathAnswer};
 
 use crate::cores::Core;
-use pif_model::Status;
+use arrayvec::ArrayVec;
+use pif_model::{Order, Status};
 use pif_types::{CondId, Kind, MutexId, Prio, Request, Tid};
 
 impl Core {
@@ -120,6 +121,28 @@ impl Core {
             → IsPick w (unwrap_or result 0)) }
     {
         self.parts.ready(place)
+    }
+
+    /// The thread of an order before which `place` others stand, 0 for the first: what `waiter`, `parked` or `ready`
+    /// answers. `None` where so few stand in it.
+    pub fn nth(&self, order: Order, place: u32) -> Option<Tid>
+        ensures { result ≡ order_answer order place self.now }
+    {
+        match order {
+            Order::Waiters(mutex) => self.waiter(mutex, place),
+            Order::Parked(cond) => self.parked(cond, place),
+            Order::Ready => self.ready(place),
+        }
+    }
+
+    /// The threads along whom each waits for, in order: `thread`, the owner of the mutex for which it waits, also one
+    /// that has ended, and so on, up to the one that waits for nobody. Each comes once, and `thread` is alone where it
+    /// waits for no mutex. None where it was never added or has ended.
+    pub fn path(&self, thread: Tid) -> ArrayVec<Tid, 1024>
+        ensures value { IsPathAnswer thread self.now result.items }
+        ensures path { WhereStands self.now (λ h r w. IsPathFrom w thread result.items) }
+    {
+        self.parts.path(thread)
     }
 
     /// What a thread does that was added.

@@ -16,14 +16,14 @@ use Rattle.pif_model.specs.Standing.{Stands}
 use Rattle.pif_model.specs.Table.{Table}
 use Rattle.pif_model.specs.Lines.{Outcome, event_outcome, accepted_outcome, table_refusal, by_refusal, goes_on}
 use Rattle.pif_model_simulation.proofs.runs.Holders.{holder_owns}
-use Rattle.pif_calls.specs.Calls.{StandsOn, call_outcome, after_call, after_finish, steps_before, went}
+use Rattle.pif_model_simulation.specs.Calls.{StandsOn, call_outcome, after_call, after_finish, steps_before, went}
 use Rattle.pif_core_callers.specs.declared.locking.Held.{Held}
 use Rattle.pif_core_callers.specs.declared.locking.Held.TheVariants.{InOrder, OwnerDied}
 use Rattle.pif_core_callers.specs.declared.waiting.Awaited.TheVariants.{Met}
 use Rattle.pif_core_callers.specs.Waiting.{awaited_by, if_resumed, if_waited}
 use Rattle.pif_core_callers.specs.Holding.{HoldsOn, CountsOn, lock_finds, locked_by, if_died, after_lock}
-use Rattle.pif_calls.proofs.CallLemmas.{call_other, call_refused, called-other}
-use Rattle.pif_calls.proofs.StandingLemmas.{along, call_stands, finish_stands, next_stands}
+use Rattle.pif_model_simulation.proofs.CallLemmas.{call_other, call_refused, called-other}
+use Rattle.pif_model_simulation.proofs.StandingLemmas.{along, call_stands, finish_stands, next_stands}
 
 -- steps that went change no open call
 went_open : (n t u : ℕ) (h : List Entry) → open_call u (went n t h) ≡ open_call u h

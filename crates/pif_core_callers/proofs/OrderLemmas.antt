@@ -36,9 +36,9 @@ use Rattle.pif_model_simulation.proofs.Facts.{call_own, call_behind, call_died}
 use Rattle.pif_model_simulation.proofs.Lined.{tl}
 use Rattle.pif_model_simulation.proofs.Shown.{go_allowed, mutex_seen}
 use Rattle.pif_model_simulation.proofs.Simulation.{event_kept}
-use Rattle.pif_calls.specs.Calls.{call_outcome}
+use Rattle.pif_model_simulation.specs.Calls.{call_outcome}
 use Rattle.pif_core_callers.specs.Holding.{IsFineIn}
-use Rattle.pif_calls.proofs.CallLemmas.{call_other, goes_on-other, goes_on-went, goes_on-zero}
+use Rattle.pif_model_simulation.proofs.CallLemmas.{call_other, goes_on-other, goes_on-went, goes_on-zero}
 use Rattle.pif_core_callers.proofs.FineLemmas.{begin_line, shown_fine}
 use Rattle.pif_core_callers.proofs.GoCases.{go_cases}
 use Rattle.pif_core_callers.proofs.HoldLemmas.{allowed, begun, rest}

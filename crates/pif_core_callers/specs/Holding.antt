@@ -12,7 +12,7 @@ use Rattle.pif_model.specs.History.{hold_count, holds, open_call}
 use Rattle.pif_model.specs.Table.{Table}
 use Rattle.pif_core_callers.specs.declared.locking.Held.{Held}
 use Rattle.pif_core_callers.specs.declared.locking.Held.TheVariants.{InOrder, OwnerDied}
-use Rattle.pif_calls.specs.Calls.{StandsOn, call_outcome}
+use Rattle.pif_model_simulation.specs.Calls.{StandsOn, call_outcome}
 
 -- whether a lock that was answered so has taken the mutex: 0, or EOWNERDEAD
 abbrev pub locked_by : Seen → Result Held Seen

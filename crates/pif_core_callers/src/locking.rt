@@ -4,7 +4,7 @@ ghost use Rattle.pif_model.specs.declared.events.Seen.TheVariants.{Answered};
 ghost use Rattle.pif_model.specs.Posix.{mutex_at};
 ghost use Rattle.pif_model.specs.History.{hold_count, open_call};
 ghost use Rattle.pif_model.specs.Standing.{WhereStands};
-ghost use Rattle.pif_calls.specs.Calls.{StandsOn, call_outcome, after_call, after_finish, finish_outcome};
+ghost use Rattle.pif_model_simulation.specs.Calls.{StandsOn, call_outcome, after_call, after_finish, finish_outcome};
 ghost use Rattle.pif_core_callers.specs.declared.locking.Held.TheVariants.{InOrder};
 ghost use Rattle.pif_core_callers.specs.Holding.{CountsOn, HoldsOn, IsFineIn, lock_finds, locked_by, if_died, if_taken, after_lock, repaired_by, unlocked_by};
 

@@ -2,7 +2,7 @@ ghost use Rattle.std.specs.Prelude.{ℕ, ◌≡◌, ◌+◌, true, false, Some};
 ghost use Rattle.pif_types.specs.declared.requests.Request.TheVariants.{Wait};
 ghost use Rattle.pif_model.specs.History.{hold_count, open_call};
 ghost use Rattle.pif_model.specs.Standing.{WhereStands};
-ghost use Rattle.pif_calls.specs.Calls.{StandsOn, call_outcome, after_call, after_finish, finish_outcome};
+ghost use Rattle.pif_model_simulation.specs.Calls.{StandsOn, call_outcome, after_call, after_finish, finish_outcome};
 ghost use Rattle.pif_core_callers.specs.Holding.{HoldsOn};
 ghost use Rattle.pif_core_callers.specs.declared.waiting.Awaited.TheVariants.{Met};
 ghost use Rattle.pif_core_callers.specs.Waiting.{awaited_by, if_resumed, if_waited, resumed_by};

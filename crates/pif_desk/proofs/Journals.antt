@@ -9,7 +9,7 @@ use Rattle.pif_types.specs.declared.errors.Refusal.TheVariants.{Past}
 use Rattle.pif_model.specs.declared.events.Event.{Event}
 use Rattle.pif_model.specs.declared.events.Event.TheVariants.{Begin, Go as Goes, End as Ends, Tick}
 use Rattle.pif_model.specs.declared.events.Seen.{Seen}
-use Rattle.pif_model.specs.declared.events.Seen.TheVariants.{Begun, Went, Waits, Answered, Ended, Ticked, Refused}
+use Rattle.pif_model.specs.declared.events.Seen.TheVariants.{Refused}
 use Rattle.pif_model.specs.declared.events.Entry.{Entry}
 use Rattle.pif_model.specs.declared.events.Entry.TheVariants.{Step as Happened}
 use Rattle.pif_model.specs.Posix.{World, refusal_of, Step, IsRun}
@@ -21,7 +21,7 @@ use Rattle.pif_desk.specs.declared.log.Mark.{Mark}
 use Rattle.pif_desk.specs.declared.log.Mark.TheVariants.{Nothing}
 use Rattle.pif_desk.specs.declared.log.Act.{Act}
 use Rattle.pif_desk.specs.declared.log.Act.TheVariants.{Begin as Begins, Go, End}
-use Rattle.pif_desk.specs.Logs.{Log, event_of, mark_of, mark_in, begins, is_begun, is_answer_to, is_answer_of, log_after, calls_of}
+use Rattle.pif_desk.specs.Logs.{Log, event_of, mark_of, mark_in, is_answer_to, is_answer_of, log_after, calls_of}
 use Rattle.pif_desk.specs.Rooms.{ClientState, history_of, IsExact, StandsAfter}
 
 -- one entry more is the newest of the history
@@ -121,21 +121,3 @@ pub exact_after_tick : (n : ℕ) (seen : Seen) (j k : List Entry) → k ≡ j ++
     → (c : ClientState) → IsExact c j → IsExact c k
 exact_after_tick n seen j k more c exact =
     exact ∙ ap (calls_of c.thread) (sym (ap history_of more ∙ history-more j (Happened (Tick n) seen)))
-
--- a call that has begun was the beginning of one
-pub begins-from_begun : (act : Act) (seen : Seen) → is_begun (mark_of act seen) ≡ true → begins act ≡ true
-begins-from_begun (Begins q) seen e = refl
-begins-from_begun Go Begun e = e
-begins-from_begun Go Went e = e
-begins-from_begun Go Waits e = e
-begins-from_begun Go (Answered a) e = e
-begins-from_begun Go Ended e = e
-begins-from_begun Go Ticked e = e
-begins-from_begun Go (Refused r) e = e
-begins-from_begun End Begun e = e
-begins-from_begun End Went e = e
-begins-from_begun End Waits e = e
-begins-from_begun End (Answered a) e = e
-begins-from_begun End Ended e = e
-begins-from_begun End Ticked e = e
-begins-from_begun End (Refused r) e = e

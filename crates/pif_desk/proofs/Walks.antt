@@ -1,13 +1,12 @@
 -- A walk over a journal from its end, step by step.
 use Rattle.std.proofs.Common.{◌≡◌, ◌≢◌, ℕ, ◌+◌, ◌-◌, ◌≤◌, ◌<◌, Bool, true, false, List, [], ◌∷◌, length, take, get_or, reverse, Option, Some, None, refl, sym, ap, ◌∙◌, subst, arith, if◌then◌else◌}
 use Rattle.std.specs.Prelude.{◌↔◌}
-use Rattle.std.proofs.lemmas.List.{reverse-append, length-reverse, take_more, take_all, length-take-le}
-use Rattle.pif_types.specs.declared.requests.Request.{Request}
+use Rattle.std.proofs.lemmas.List.{reverse-append, length-reverse, take_more, length-take-le}
 use Rattle.pif_model.specs.declared.events.Entry.{Entry}
 use Rattle.pif_desk.specs.declared.log.Reply.{Reply}
 use Rattle.pif_desk.specs.declared.log.Call.{Call}
 use Rattle.pif_desk.specs.declared.log.Mark.{Mark}
-use Rattle.pif_desk.specs.Logs.{Log, log_of, with_reply, new_call, begun, with_answer, log_after_end, mark_in, log_after, no_calls, calls_of}
+use Rattle.pif_desk.specs.Logs.{Log, mark_in, log_after, no_calls, calls_of}
 use Rattle.pif_desk.specs.Rooms.{history_of}
 use Rattle.pif_desk.specs.Settling.{with_reply_if_any, IsRestOfLog}
 
@@ -19,115 +18,13 @@ pub reverse-take_more : {A : Type 0} (xs : List A) (n : ℕ) (d : A) → n < len
 reverse-take_more {A} xs n d h = ap (λ (l : List A). reverse l) (take_more xs n d h)
     ∙ reverse-append (take n xs) (get_or xs n d ∷ [])
 
-first_of : {A : Type 0} {x y : A} {xs ys : List A} → x ∷ xs ≡ y ∷ ys → x ≡ y
-first_of {A} {x} e = ap (λ (l : List A). get_or l 0 x) e
-
-abbrev rest_of : {A : Type 0} → List A → List A
-rest_of [] = []
-rest_of (x ∷ xs) = xs
-
-behind : {A : Type 0} {x y : A} {xs ys : List A} → x ∷ xs ≡ y ∷ ys → xs ≡ ys
-behind e = ap rest_of e
-
-not_empty : {A : Type 0} {x : A} {xs : List A} → x ∷ xs ≢ []
-not_empty {A} {x} {xs} e = let n = ap (λ (l : List A). length l) e in omega (arith, n)
-
 -- REPLIES
-
--- a reply that was seen closes a call that begins
-pending-open : (q : Request) (r : Option Reply) (cs : List Call)
-    → with_reply_if_any r (new_call q ∷ cs) ≡ (record { request = q; reply = r }) ∷ cs
-pending-open q None cs = refl
-pending-open q (Some r) cs = refl
-
--- of two replies the earlier one closes the call
-pending-reply : (p : Option Reply) (r : Reply) (cs : List Call) → with_reply_if_any p (with_reply r cs) ≡ with_reply r cs
-pending-reply None r cs = refl
-pending-reply (Some p) r [] = refl
-pending-reply (Some p) r (c ∷ cs) = refl
 
 pub pending-none : (p : Option Reply) → with_reply_if_any p [] ≡ []
 pending-none None = refl
 pending-none (Some r) = refl
 
--- STEPS
-
-module _ (calls : List Call) (e : Bool) (left : ℕ) (reply : Option Reply) (seen : Bool) where
-  -- an answer
-  pub back_over_answer : (a at : ℕ) (l : Log)
-      → IsRestOfLog calls e left reply seen (with_answer a at l) ↔ IsRestOfLog calls e left (Some (record {
-        answer = a;
-        at = at;
-      })) seen l
-  back_over_answer a at l = (
-    (λ h. record {
-      calls_left = sym (pending-reply reply (record { answer = a; at = at }) l.calls)
-          ∙ h.calls_left;
-      ended_left = h.ended_left;
-    }),
-    (λ h. record {
-      calls_left = pending-reply reply (record { answer = a; at = at }) l.calls
-          ∙ h.calls_left;
-      ended_left = h.ended_left;
-    }),
-  )
-
-  -- an end
-  pub back_over_end : (l : Log) → IsRestOfLog calls e left reply seen (log_after_end l) ↔ IsRestOfLog calls e left reply true l
-  back_over_end l = (
-    (λ h. record { calls_left = h.calls_left; ended_left = sym (either seen) ∙ h.ended_left }),
-    (λ h. record { calls_left = h.calls_left; ended_left = either seen ∙ h.ended_left }),
-  )
-    where
-      either : (b : Bool) → (if b then true else true) ≡ true
-      either true = refl
-      either false = refl
-
-  -- a call where none is left
-  pub no_call_left : left ≡ 0 → (q : Request) (l : Log) → IsRestOfLog calls e left reply seen (begun q l) → ⊥
-  no_call_left z q l h =
-      not_empty (sym (pending-open q reply l.calls) ∙ h.calls_left ∙ ap (λ n. reverse (take n calls)) z)
-
-  module _ (n : ℕ) (is : left ≡ n + 1) (room : n < length calls) (d : Call) where
-    split : reverse (take left calls) ≡ get_or calls n d ∷ reverse (take n calls)
-    split = ap (λ k. reverse (take k calls)) is ∙ reverse-take_more calls n d room
-
-    -- the call that is left
-    pub back_over_same : (q : Request) → get_or calls n d ≡ record { request = q; reply = reply } → (l : Log)
-        → IsRestOfLog calls e left reply seen (begun q l) ↔ IsRestOfLog calls e n None seen l
-    back_over_same q same l = (
-      (λ h. record {
-        calls_left = behind (sym (pending-open q reply l.calls) ∙ h.calls_left ∙ split);
-        ended_left = h.ended_left;
-      }),
-      (λ h. record {
-        calls_left = pending-open q reply l.calls ∙ ap (λ cs. (record { request = q; reply = reply }) ∷ cs) h.calls_left
-            ∙ ap (λ (c : Call). c ∷ reverse (take n calls)) (sym same) ∙ sym split;
-        ended_left = h.ended_left;
-      }),
-    )
-
-    -- another call is left
-    pub no_such_call : (q : Request) → (get_or calls n d ≡ record { request = q; reply = reply } → ⊥) → (l : Log)
-        → IsRestOfLog calls e left reply seen (begun q l) → ⊥
-    no_such_call q other l h = other (sym (first_of (sym (pending-open q reply l.calls) ∙ h.calls_left ∙ split)))
-
 -- THE WHOLE WALK
-
--- before the walk all is left
-pub all_left : (calls : List Call) (e : Bool) (l : Log)
-    → (log_of calls e ≡ l) ↔ IsRestOfLog calls e (length calls) None false l
-all_left calls e l = (
-  (λ h. record {
-    calls_left = ap (λ (x : Log). x.calls) (sym h)
-        ∙ ap (λ (cs : List Call). reverse cs) (sym (take_all (length calls) calls (omega arith)));
-    ended_left = ap (λ (x : Log). x.ended) (sym h);
-  }),
-  (λ h. (
-      let same = h.calls_left ∙ ap (λ (cs : List Call). reverse cs) (take_all (length calls) calls (omega arith)) in
-      λ i. record { calls = sym same i; ended = sym h.ended_left i }
-      )),
-)
 
 -- after the walk none is
 pub none_left : (calls : List Call) (e : Bool) (left : ℕ) (reply : Option Reply) (seen : Bool) → left ≤ length calls

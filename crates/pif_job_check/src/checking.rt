@@ -77,7 +77,7 @@ fn tell(
 
 /// What a story comes to that may be too large.
 #[tactic(auto, unfolding(pif_story_model::specs::Checks::verdict_beside))]
-fn judge<'a>(
+pub fn judge<'a>(
     story: &'a [u8],
     answers: Option<&'a [u8]>,
     fault: Option<(u64, Cause)>,

@@ -1,9 +1,10 @@
 //! Pictures of stories and of scripts, which are stories without answers: a drawing for people, and the states after
 //! each line and a graph of who waits for whom for programs.
 //!
-//! A story is read to its end and has its answers filled in first. So a picture is made only of a story without a
-//! fault, and a story with one ends as filling it in ends. Then `pif_story_drawing` plays the commands again, and writes down
-//! what it sees. Each picture is kept in memory, and is written whole.
+//! A story is read to its end, and its script is run, which gives each command with its answer. So a picture is made
+//! only of a story without a fault, and a story with one ends as filling it in ends. Then `pif_story_drawing` plays
+//! the commands again, of which it reads none anew, and writes down what it sees. Each picture is kept in memory, and
+//! is written whole.
 #![tactic(auto)]
 
 mod pictures;

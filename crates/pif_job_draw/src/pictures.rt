@@ -1,7 +1,8 @@
-ghost use Rattle.pif_job_draw.specs.Pictures.{FillsStoryTo, PicturesTo, WritesText};
+ghost use Rattle.pif_job_check.specs.Rows.{FillsRows};
+ghost use Rattle.pif_job_draw.specs.Pictures.{PicturesTo};
 
-use pif_job_check::fill_noting;
-use pif_script::{CliFault, Notice, write_whole};
+use pif_job_check::fill_rows;
+use pif_script::{CliFault, Notice, read_all, write_whole};
 use pif_script_model::Picture;
 use pif_story_drawing::picture_of;
 use pif_types::NoMemory;
@@ -80,36 +81,27 @@ pub fn write_picture<R: Read, W: Write>(
 ) -> Result<(), CliFault>
     ensures { PicturesTo (R.remaining reader.old) (R.remaining reader.new) (W.contents writer.old) (W.contents writer.new) result }
 {
-    let story = answered(alloc, reader, notice)?;
-    write_text(picture_of(alloc, picture, story.as_slice()), writer)
+    let story = read_all(alloc, reader)?;
+    let text = picture_text(picture, alloc, story.as_slice(), notice)?;
+    write_whole(writer, text.as_bytes())
 }
 
-/// Reads a story to its end, and has its answers filled in; `notice` keeps the command that is a fault.
+/// This picture of a story that is in memory; `notice` keeps the command that is a fault.
 ///
 /// # Errors
 ///
-/// Those of `fill`, but that no write fails.
-fn answered<R: Read>(
+/// Those of `fill_rows`.
+fn picture_text(
+    picture: Picture,
     alloc: Global,
-    reader: &mut R,
+    story: &[u8],
     notice: &mut Notice,
-) -> Result<Vec<u8>, CliFault>
-    ensures { FillsStoryTo (R.remaining reader.old) (R.remaining reader.new) result }
+) -> Result<String, CliFault>
+    ensures { FillsRows story.now result }
 {
-    let mut story = Vec::new(alloc);
-    match fill_noting(alloc, b"", reader, &mut story, notice) {
-        Ok(()) => Ok(story),
-        Err(CliFault::Write) => Err(CliFault::NoMemory),
-        Err(fault) => Err(fault),
-    }
-}
-
-/// Writes a text whole, if there was memory for it.
-fn write_text<W: Write>(text: Result<String, NoMemory>, writer: &mut W) -> Result<(), CliFault>
-    ensures { WritesText (W.contents writer.old) (W.contents writer.new) result }
-{
-    match text {
-        Ok(text) => write_whole(writer, text.as_bytes()),
+    let rows = fill_rows(alloc, story, notice)?;
+    match picture_of(alloc, picture, story, rows.as_slice()) {
+        Ok(text) => Ok(text),
         Err(NoMemory) => Err(CliFault::NoMemory),
     }
 }

@@ -1,2 +1,5 @@
 pub mod StoryLemmas
 pub mod TalkLemmas
+pub mod LineLemmas
+pub mod RunLemmas
+pub mod SessionLemmas

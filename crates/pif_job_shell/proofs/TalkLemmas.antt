@@ -4,7 +4,7 @@ use Rattle.std.proofs.KnownBytes.{Consumes-trans}
 use Rattle.pif_text_model.specs.Extends.{Stays}
 use Rattle.pif_script_model.specs.declared.faults.CliFault.{CliFault}
 use Rattle.pif_script_model.specs.declared.faults.CliFault.TheVariants.{Differs, NoMemory, Read, Script, Write}
-use Rattle.pif_sessions.specs.Lines.{Reads}
+use Rattle.pif_job_shell.specs.Lines.{Reads}
 use Rattle.pif_job_shell.specs.Talks.{TalksTo, TurnsTo}
 
 -- what was read so far, and what a turn reads

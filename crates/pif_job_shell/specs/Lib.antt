@@ -1,3 +1,5 @@
 pub mod Replies
 pub mod Stories
 pub mod Talks
+pub mod Lines
+pub mod Sessions

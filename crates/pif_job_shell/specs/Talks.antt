@@ -3,7 +3,7 @@ use Rattle.std.specs.Prelude.{ℕ, List, Bool, false, Option, Result, Ok, Err}
 use Rattle.pif_text_model.specs.Extends.{Stays}
 use Rattle.pif_script_model.specs.declared.faults.CliFault.{CliFault}
 use Rattle.pif_script_model.specs.declared.faults.CliFault.TheVariants.{Differs, NoMemory, Read, Script, Write}
-use Rattle.pif_sessions.specs.Lines.{Reads, ReadsOn}
+use Rattle.pif_job_shell.specs.Lines.{Reads, ReadsOn}
 
 -- a part of a conversation, which goes on if this is true
 abbrev pub TurnsTo : (before after held holds : Option (List ℕ)) → Result Bool CliFault → Type 0

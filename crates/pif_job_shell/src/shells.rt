@@ -1,14 +1,15 @@
 ghost use Rattle.pif_text_model.specs.Extends.{Stays};
 ghost use Rattle.pif_job_shell.specs.Talks.{TalksTo, TurnsTo};
 
+use crate::helps::help_of;
+use crate::lines::{Found, Lines};
+use crate::remarks::{Remark, say_refusal, too_many, undone_words};
 use crate::replies::reply_line;
+use crate::sessions::Session;
 use crate::shelves::{SaveFault, Shelf};
 use crate::stories::story_of;
+use crate::wishes::{Wish, name_of, wish_of};
 use pif_script::{CliFault, write_whole};
-use pif_sessions::{
-    Found, Lines, Remark, Session, Wish, help_of, name_of, say_refusal, too_many, undone_words,
-    wish_of,
-};
 use pif_text::{Command, Text, command_text};
 use pif_text_core::{Unwritten, write_state};
 use pif_types::NoMemory;

@@ -1,8 +1,8 @@
 ghost use Rattle.std.specs.Prelude.{IfOk};
 ghost use Rattle.pif_job_shell.specs.Stories.{IsStoryOf};
 
+use crate::sessions::Session;
 use pif_job_check::fill;
-use pif_sessions::Session;
 use pif_types::NoMemory;
 use std::alloc::Global;
 

@@ -4,7 +4,7 @@
 //! | Module | What it has |
 //! |---|---|
 //! | `shown` | a core as a listener that is shown, and a second one, which does the same a command later |
-//! | `showing` | a script, shown |
+//! | `showing` | a script that is in memory, shown |
 //! | `stories` | the script that is left of a story, shown |
 #![tactic(auto)]
 
@@ -12,5 +12,4 @@ mod showing;
 mod shown;
 mod stories;
 
-pub use showing::{show, show_all, show_noting};
 pub use stories::show_story;

@@ -1,126 +1,52 @@
-ghost use Rattle.std.specs.Prelude.{◌≡◌, ◌+◌, ◌≤◌, ◌<◌, Ok, None, true, List, ℕ, length, OnOk};
+ghost use Rattle.std.specs.Prelude.{◌≡◌, ◌+◌, ◌≤◌, None, Some, List, [], ℕ};
 ghost use Rattle.std.specs.Io.KnownBytes.{Keeps};
 ghost use Rattle.arrayvec.specs.ArrayVec.{array_vec_len};
 ghost use Rattle.pif_text_model.specs.Extends.{Stays};
-ghost use Rattle.pif_script_model.specs.Scripts.{closed_at};
 ghost use Rattle.pif_script_model.specs.Running.{script};
-ghost use Rattle.pif_script_model.specs.Runs.{WritesEnd, Feeds, Stops, RunsPart};
+ghost use Rattle.pif_script_model.specs.Runs.{Feeds, RunsFrom, Stops};
 ghost use Rattle.pif_script.specs.Scanners.{scan_of};
 ghost use Rattle.pif_script_model.specs.Showing.{OrUnwritten, ShowsTo, Silent};
 
 use crate::shown::Shown;
 use pif_script::{
-    CHUNK, CliFault, END_ROOM, End, MOST_LINE, Notice, OUTPUT_ROOM, Output, Scanner, Stop, append,
-    stop, write_whole,
+    CliFault, END_ROOM, End, MOST_LINE, Notice, OUTPUT_ROOM, Output, Scanner, Stop, append, stop,
+    write_whole,
 };
 use pif_script_model::Detail;
 use pif_text_core::{Unwritten, errno_name, write_changes, write_state};
 use pif_types::Errno;
 use std::alloc::Global;
-use std::io::{Read, Write};
+use std::io::Write;
 
 /// The most bytes in which a line is told, with what stands before it and its LF.
 const LINE_ROOM: usize = MOST_LINE + 3;
 
-/// Runs a script as `run` does, and shows it to a person: for each line the line itself behind `> `, what it is
-/// answered, with the name of an error behind its number, what has changed in the core by it, as `pif_text_core` writes it,
-/// and an empty line. Behind the first line all of the core is told. The line of a fault is told so, too, and nothing of
-/// the core behind it. This text is for reading, and may change; what is proved of it is that it stands behind what the
-/// writer held.
+/// Runs the script that a text in memory is, and shows it as `show_story` says.
 ///
 /// # Errors
 ///
 /// Those of `run`, for the same bytes. At `NoMemory` nothing was written.
-pub fn show<R: Read, W: Write>(
-    alloc: Global,
-    reader: &mut R,
-    writer: &mut W,
-) -> Result<(), CliFault>
-    ensures { ShowsTo (R.remaining reader.old) (R.remaining reader.new) (W.contents writer.old) (W.contents writer.new) result }
-{
-    show_noting(Detail::Changes, alloc, reader, writer, &mut Notice::new())
-}
-
-/// Shows a script as `show` does, but tells all of the core behind each line.
-///
-/// # Errors
-///
-/// Those of `show`.
-pub fn show_all<R: Read, W: Write>(
-    alloc: Global,
-    reader: &mut R,
-    writer: &mut W,
-) -> Result<(), CliFault>
-    ensures { ShowsTo (R.remaining reader.old) (R.remaining reader.new) (W.contents writer.old) (W.contents writer.new) result }
-{
-    show_noting(Detail::All, alloc, reader, writer, &mut Notice::new())
-}
-
-/// Shows a script in this detail, as `show` or `show_all` does, and has `notice` keep the line of the fault; where there is none, `notice` is left as
-/// it is.
-///
-/// # Errors
-///
-/// Those of `show`.
-pub fn show_noting<R: Read, W: Write>(
+pub fn show_script<W: Write>(
     detail: Detail,
     alloc: Global,
-    reader: &mut R,
+    text: &[u8],
     writer: &mut W,
     notice: &mut Notice,
 ) -> Result<(), CliFault>
-    ensures { ShowsTo (R.remaining reader.old) (R.remaining reader.new) (W.contents writer.old) (W.contents writer.new) result }
+    ensures { ShowsTo (Some text.now) (Some []) (W.contents writer.old) (W.contents writer.new) result }
 {
     let mut scanner = Scanner::<Shown>::new();
     let mut output = Output::new();
-    loop {
-        if !turn(
-            detail,
-            alloc,
-            &mut scanner,
-            &mut output,
-            reader,
-            writer,
-            notice,
-        )? {
-            return Ok(());
-        }
-    }
-}
-
-/// Reads a chunk, and shows its lines. Answers whether the input goes on.
-fn turn<R: Read, W: Write>(
-    detail: Detail,
-    alloc: Global,
-    scanner: &mut Scanner<Shown>,
-    output: &mut Output,
-    reader: &mut R,
-    writer: &mut W,
-    notice: &mut Notice,
-) -> Result<bool, CliFault>
-    ensures answer { OrUnwritten (RunsPart script (scan_of scanner.old) (scan_of scanner.new) (R.remaining reader.old) (R.remaining reader.new) None None) result }
-    ensures stays { Stays (W.contents writer.old) (W.contents writer.new) }
-    ensures silent { Silent (scan_of scanner.old) (scan_of scanner.new) (W.contents writer.old) (W.contents writer.new) result }
-    ensures taken { result ≡ Ok true → scanner.old.taken < scanner.new.taken }
-{
-    let mut chunk = [0u8; CHUNK];
-    let count = match reader.read(&mut chunk) {
-        Ok(count) => count,
-        Err(_) => return Err(CliFault::Read),
-    };
-    if count == 0 {
-        return close(scanner, output, writer, notice);
-    }
     feed(
         detail,
         alloc,
-        scanner,
-        &chunk[..count],
-        output,
+        &mut scanner,
+        text,
+        &mut output,
         writer,
         notice,
     )?;
-    Ok(true)
+    close(&scanner, &mut output, writer, notice)
 }
 
 /// Reads bytes, and shows their lines.
@@ -136,7 +62,6 @@ fn feed<W: Write>(
     ensures answer { OrUnwritten (Feeds script (scan_of scanner.old) bytes.now (scan_of scanner.new) None None) result }
     ensures stays { Stays (W.contents writer.old) (W.contents writer.new) }
     ensures silent { Silent (scan_of scanner.old) (scan_of scanner.new) (W.contents writer.old) (W.contents writer.new) result }
-    ensures taken { OnOk result (scanner.new.taken ≡ scanner.old.taken + length bytes.now) }
 {
     for byte in bytes {
         begin_line(*byte, scanner, output);
@@ -238,20 +163,20 @@ fn write_core<W: Write>(detail: Detail, shown: &Shown, writer: &mut W) -> Result
     }
 }
 
-/// Ends where the input does. It does not go on.
+/// Ends where the script does.
 fn close<W: Write>(
     scanner: &Scanner<Shown>,
     output: &mut Output,
     writer: &mut W,
     notice: &mut Notice,
-) -> Result<bool, CliFault>
-    ensures answer { OrUnwritten (WritesEnd None None script.said_of (closed_at script (scan_of scanner.now))) result }
+) -> Result<(), CliFault>
+    ensures answer { OrUnwritten (RunsFrom script (scan_of scanner.now) (Some []) (Some []) None None) result }
     ensures stays { Stays (W.contents writer.old) (W.contents writer.new) }
     ensures silent { Silent (scan_of scanner.now) (scan_of scanner.now) (W.contents writer.old) (W.contents writer.new) result }
 {
     output.clear();
     match scanner.close(output) {
-        Ok(()) => Ok(false),
+        Ok(()) => Ok(()),
         Err(end) => Err(stop_showing(end, scanner, output, writer, notice)),
     }
 }

@@ -1,15 +1,20 @@
 ghost use Rattle.pif_story_model.specs.Showing.{ShowsStoryTo};
 
-use crate::showing::show_noting;
+use crate::showing::show_script;
 use pif_script::{CliFault, Notice};
 use pif_script_model::Detail;
 use pif_story::read_script_of_story;
 use std::alloc::Global;
 use std::io::{Read, Write};
 
-/// Shows the script that is left of a story as `show_noting` shows a script: reads the bytes of the story to the end, and
-/// then runs the script, and has `notice` keep the line of its fault. A script is a story too. Lines are counted in the
-/// script that is left, from 1. Answers that are written in the story are not compared.
+/// Shows the script that is left of a story to a person: reads the bytes of the story to the end, and then runs the
+/// script as `run` does. A script is a story too. For each line of the script it writes the line itself behind `> `,
+/// what it is answered, with the name of an error behind its number, what has changed in the core by it, as
+/// `pif_text_core` writes it, or all of the core if that is the detail, and an empty line. Behind the first line all
+/// of the core is told. The line of a fault is told so, too, and nothing of the core behind it; `notice` keeps it,
+/// and is left as it is if there is none. Lines are counted in the script that is left, from 1. Answers that are
+/// written in the story are not compared. This text is for reading, and may change; what is proved of it is that it
+/// stands behind what the writer held.
 ///
 /// # Errors
 ///
@@ -26,5 +31,5 @@ pub fn show_story<R: Read, W: Write>(
     ensures { ShowsStoryTo (R.remaining reader.old) (R.remaining reader.new) (W.contents writer.old) (W.contents writer.new) result }
 {
     let script = read_script_of_story(alloc, reader)?;
-    show_noting(detail, alloc, &mut script.as_slice(), writer, notice)
+    show_script(detail, alloc, script.as_slice(), writer, notice)
 }

@@ -4,7 +4,7 @@ ghost use Rattle.pif_types.specs.Bounds.{Bounds};
 ghost use Rattle.pif_model.specs.Table.{Table};
 ghost use Rattle.pif_model.specs.declared.events.Event.TheVariants as event;
 ghost use Rattle.pif_model.specs.Lines.{event_outcome, goes_on};
-ghost use Rattle.pif_calls.specs.Calls.{call_outcome};
+ghost use Rattle.pif_model_simulation.specs.Calls.{call_outcome};
 ghost use Rattle.pif_script_model.specs.Running.{run_outcome};
 ghost use Rattle.pif_script_model.specs.Traces.{entry_line};
 ghost use Rattle.pif_script_model.specs.Transcripts.{Transcribed, call_entries, entry_lines, event_entry, going_entries, is_added, row, run_entries, single_line, transcript, was_made};

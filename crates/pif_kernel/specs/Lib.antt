@@ -1,1 +1,3 @@
 pub use Rattle.pif_model.specs.PiKernel
+pub mod Answers
+pub mod Found

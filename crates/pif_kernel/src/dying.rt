@@ -2,11 +2,11 @@ ghost use Rattle.std.specs.Prelude.{◌≡◌};
 ghost use Rattle.pif_model.specs.declared.lines.Status.TheVariants.{Ended};
 ghost use Rattle.pif_model.specs.PiKernel.{seat_at, after_death, after_deaths};
 ghost use Rattle.pif_model.specs.RobustList.{robust_at, walk_of};
-ghost use Rattle.pif_kernel_state.specs.Inside.{IsSoundInside, kernel_of};
-ghost use Rattle.pif_kernel_state.specs.Systems.{system_of};
+ghost use Rattle.pif_kernel_model.specs.Inside.{IsSoundInside, kernel_of};
+ghost use Rattle.pif_kernel_model.specs.Systems.{system_of};
 
-use pif_kernel_chains::Chains;
-use pif_kernel_steps::Parts;
+use crate::chains::Chains;
+use crate::parts::Parts;
 use pif_robust::RobustLists;
 use pif_types::{MutexId, Tid};
 use pif_word::{Cell, Words, inherit_word, number, orphan_word};

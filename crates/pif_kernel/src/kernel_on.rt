@@ -1,15 +1,16 @@
 ghost use Rattle.std.specs.Prelude.{◌≡◌, ◌≤◌, IfOk};
 ghost use Rattle.pif_model.specs.PiKernel.{new_kernel, IsKernel};
-ghost use Rattle.pif_kernel_state.specs.Inside.{kernel_of, next_ticket};
+ghost use Rattle.pif_kernel_model.specs.Inside.{kernel_of, next_ticket};
 
+use crate::chains::Chains;
 use crate::dying::pass_all_on;
-use crate::requeueing::take_all;
-use pif_kernel_calls::PiKernel;
-use pif_kernel_chains::Chains;
-use pif_kernel_refusals::{
+use crate::parts::Parts;
+use crate::refusals::{
     Found, test_lock, test_parking, test_requeue, test_set_prio, test_try_lock, test_unlock,
 };
-use pif_kernel_steps::Parts;
+use crate::requeueing::take_all;
+use arrayvec::ArrayVec;
+use pif_kernel_calls::PiKernel;
 use pif_model::{Status, Took};
 use pif_robust::RobustLists;
 use pif_types::{CondId, Errno, Limits, MutexId, NoMemory, Prio, Tid};
@@ -24,8 +25,8 @@ pub struct KernelOn<C: Chains + Drop> {
 }
 
 impl<C: Chains + Drop> Model for KernelOn<C> {
-    ghost use Rattle.pif_kernel_state.specs.Inside.{Inside as InsideSeen, IsSoundInside};
-    ghost use Rattle.pif_kernel_state.specs.Codes.{inside_code};
+    ghost use Rattle.pif_kernel_model.specs.Inside.{Inside as InsideSeen, IsSoundInside};
+    ghost use Rattle.pif_kernel_model.specs.Codes.{inside_code};
 
     ghost Value = { InsideSeen };
 
@@ -87,6 +88,10 @@ impl<C: Chains + Drop> PiKernel for KernelOn<C> {
 
     fn ready(&self, place: u32) -> Option<Tid> {
         self.parts.ready(place)
+    }
+
+    fn path(&self, t: Tid) -> ArrayVec<Tid, 1024> {
+        self.parts.path(t)
     }
 
     fn pick(&self) -> Option<Tid> {

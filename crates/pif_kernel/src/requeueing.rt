@@ -2,12 +2,12 @@ ghost use Rattle.std.specs.Prelude.{◌≡◌, true, min, ◌+◌, ◌<◌};
 ghost use Rattle.pif_model.specs.PiKernel.{seat_at, is_parked, has_parked, parked_count, may_queue, after_taking, after_takings};
 ghost use Rattle.pif_word.specs.declared.cells.Cell.TheVariants.{Mutex};
 ghost use Rattle.pif_word.specs.WordMap.{HasCell};
-ghost use Rattle.pif_kernel_state.specs.Inside.{IsSoundInside, kernel_of};
-ghost use Rattle.pif_kernel_state.specs.Systems.{system_of};
-ghost use Rattle.pif_kernel_state.specs.Takings.{FitsWord};
+ghost use Rattle.pif_kernel_model.specs.Inside.{IsSoundInside, kernel_of};
+ghost use Rattle.pif_kernel_model.specs.Systems.{system_of};
+ghost use Rattle.pif_kernel_model.specs.Takings.{FitsWord};
 
-use pif_kernel_chains::Chains;
-use pif_kernel_steps::Parts;
+use crate::chains::Chains;
+use crate::parts::Parts;
 use pif_model::Woken;
 use pif_types::{CondId, MutexId, Tid};
 use pif_word::{Cell, Words, mark_word, number, taken_word};

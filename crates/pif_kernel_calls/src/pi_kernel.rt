@@ -1,10 +1,11 @@
 ghost use Rattle.std.specs.Prelude.{◌≡◌, ◌≤◌, ◌==◌, true, false, length, if◌then◌else◌, Some, None};
 ghost use Rattle.std.specs.List.{slice_get};
-ghost use Rattle.pif_model.specs.PiKernel.{Kernel, IsKernel, seat_at, has_seat, is_living, is_ready, effective_in, pick_in, waiters_in, parked_in, ready_in, kernel_after_add, lock_answer, words_after_lock, kernel_after_lock, try_lock_answer, words_after_try_lock, unlock_answer, words_after_unlock, kernel_after_unlock, set_prio_answer, kernel_after_set_prio, kernel_after_stop, kernel_after_expire, wait_requeue_answer, kernel_after_wait_requeue, requeue_answer, after_requeue, after_exit};
+ghost use Rattle.pif_model.specs.PiKernel.{Kernel, IsKernel, seat_at, has_seat, is_living, is_ready, effective_in, pick_in, waiters_in, parked_in, ready_in, IsPathIn, kernel_after_add, lock_answer, words_after_lock, kernel_after_lock, try_lock_answer, words_after_try_lock, unlock_answer, words_after_unlock, kernel_after_unlock, set_prio_answer, kernel_after_set_prio, kernel_after_stop, kernel_after_expire, wait_requeue_answer, kernel_after_wait_requeue, requeue_answer, after_requeue, after_exit};
 ghost use Rattle.pif_model.specs.RobustList.{robust_at, walk_of, without_robust};
 ghost use Rattle.pif_word.specs.WordMap.{words_of};
 ghost use Rattle.pif_kernel_calls.specs.Answers.{unit_answer};
 
+use arrayvec::ArrayVec;
 use pif_model::{Status, Took};
 use pif_robust::RobustLists;
 use pif_types::{CondId, Errno, MutexId, Prio, Tid};
@@ -57,6 +58,11 @@ pub trait PiKernel {
     /// first, and of each level in order of joining (sched(7), SCHED_FIFO). `None` where so few are ready.
     fn ready(&self, place: u32) -> Option<Tid>
         ensures value { result ≡ slice_get (ready_in (meaning self.now)) place };
+
+    /// The threads from `t` on along whom each waits for, in order: `t`, the owner of the mutex on which it is queued,
+    /// and so on, up to the one that waits for nobody. Each comes once. None where no living thread has the number `t`.
+    fn path(&self, t: Tid) -> ArrayVec<Tid, 1024>
+        ensures path { IsPathIn (meaning self.now) t result.items };
 
     /// The thread that runs next: the first that joined the greatest level (sched(7), SCHED_FIFO). `None` where none is
     /// ready.

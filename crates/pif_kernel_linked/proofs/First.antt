@@ -12,7 +12,7 @@ use Rattle.pif_kernel_model.specs.Parked.{parked_at}
 use Rattle.pif_kernel_model.specs.Buckets.{Buckets, HoldsBuckets}
 use Rattle.pif_kernel_model.specs.Buckets.{HasRoomForBuckets}
 use Rattle.pif_kernel_model.proofs.Rooms.{no_buckets, room-made}
-use Rattle.pif_kernel_state.specs.Inside.{no_keys}
+use Rattle.pif_kernel_model.specs.Inside.{no_keys}
 use Rattle.pif_nodes_model.proofs.EmptyTables.{empty_table, empty_lists, empty_nodes, empty_list, empty_free, empty_level}
 use Rattle.pif_kernel_linked.specs.Parkings.{parkings_in}
 use Rattle.pif_kernel_linked.specs.Linked.{key_count, key_of, keys_in, StandLinked, IsLinked}

@@ -11,8 +11,8 @@ use Rattle.pif_kernel_model.specs.Entries.{found_in}
 use Rattle.pif_kernel_model.specs.QueueFrames.{KeepsOthers}
 use Rattle.pif_kernel_model.specs.Parked.{Parked, parked_at, parking_node, parked_with_ticket}
 use Rattle.pif_kernel_model.specs.Buckets.{Buckets, HoldsBuckets}
-use Rattle.pif_kernel_state.specs.Chained.{KeepsLevels}
-use Rattle.pif_kernel_state.specs.Tickets.{is_named}
+use Rattle.pif_kernel_model.specs.Chained.{KeepsLevels}
+use Rattle.pif_kernel_model.specs.Tickets.{is_named}
 use Rattle.pif_kernel_linked.specs.Parkings.{AreParked, parkings_by, parkings_in}
 use Rattle.pif_kernel_linked.specs.Linked.{IsLinked}
 use Rattle.pif_kernel_linked.proofs.ParkingLemmas.{park_parkings}

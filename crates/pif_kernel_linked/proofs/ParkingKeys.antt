@@ -1,13 +1,11 @@
 -- Parked threads get another priority, or other tickets of the same order: they stay in the order in which they were.
-use Rattle.std.proofs.Common.{◌≡◌, ◌≢◌, ◌⊎◌, ℕ, ◌+◌, ◌≤◌, ◌==◌, nat_lt, true, false, inl, inr, if◌then◌else◌, map, Option, Some, None, refl, sym, ap, ◌∙◌, arith}
-use Rattle.std.proofs.Math.Path.{fun_ext}
-use Rattle.std.proofs.lemmas.Bool.{cases_eq}
+use Rattle.std.proofs.Common.{◌≡◌, ℕ, ◌+◌, ◌≤◌, ◌==◌, nat_lt, false, if◌then◌else◌, map, Option, Some, None, refl, sym, ap, ◌∙◌, arith}
 use Rattle.std.proofs.lemmas.Bool.Decides.{nat_tests}
 use Rattle.pif_model_lemmas.proofs.Waiting.{by_test}
 use Rattle.pif_kernel_model.specs.Parked.{Parked, parked_with_prio, parked_with_ticket}
-use Rattle.pif_queue.specs.Numbered.{ticket_in, ticket_by, HaveTickets, AreNumbered}
+use Rattle.pif_queue.specs.Numbered.{ticket_in, ticket_by, AreNumbered}
 use Rattle.pif_kernel_model.specs.Arrivals.{in_order}
-use Rattle.pif_kernel_linked.specs.Parkings.{parked_cond, parked_target, parked_prio, parking_of, pairs_by, parkings_by, AreParked, ByPriority}
+use Rattle.pif_kernel_linked.specs.Parkings.{parked_cond, parked_target, parked_prio, parking_of, pairs_by, parkings_by, AreParked}
 use Rattle.pif_kernel_linked.proofs.ParkingLemmas.{parkings_alike}
 use Rattle.pif_kernel_linked.proofs.ParkingOrder.{order_alike}
 
@@ -61,20 +59,6 @@ module _ (at now : ℕ → Option Parked) (n next t prio : ℕ) (h : AreParked a
             h.once u v x.0 w.0 x.1 w.1 (sym x.3 ∙ same ∙ w.3);
       }
 
-  -- by the priorities of which that of the one is the new one
-  pub by_priority-rekey : (local : ℕ → ℕ) → prio ≡ local t
-      → ((u : ℕ) (x : Parked) → u ≢ t → at u ≡ Some x → x.rank.prio ≡ local u) → ByPriority now local
-  by_priority-rekey local there by u y e = by_thread (cases_eq u t)
-    where
-      by_thread : ((u ≡ t) ⊎ (u ≡ t → ⊥)) → y.rank.prio ≡ local u
-      by_thread (inl same) =
-          let here : (u == t) ≡ true = grind (arith, nat_tests) in
-          let is : parked_with_prio prio (at u) ≡ Some y = sym (change u ∙ rw here refl) ∙ e in
-          (some_with_prio prio (at u) y is).4 ∙ there ∙ ap local (sym same)
-      by_thread (inr ne) =
-          let other : (u == t) ≡ false = grind (arith, nat_tests) in
-          by u y ne (sym (change u ∙ rw other refl) ∙ e)
-
   pub rekey_parkings : parkings_by now n ≡ parkings_by at n
   rekey_parkings =
       ap (map (parking_of now))
@@ -104,10 +88,6 @@ prio_with_ticket (Some x) = refl
 some_with_ticket : (o : Option Parked) (y : Parked) → parked_with_ticket 0 (Some y) ≡ parked_with_ticket 0 o → (x : Parked) × (o ≡ Some x)
 some_with_ticket None y e = absurd cc
 some_with_ticket (Some x) y e = (x, refl)
-
--- each parked thread has a ticket of its own
-pub have_tickets : (at : ℕ → Option Parked) (n next : ℕ) → AreParked at n next → HaveTickets at
-have_tickets at n next h = record { least = h.least; once = h.once }
 
 module _ (at now : ℕ → Option Parked) (n next end : ℕ) (h : AreParked at n next) (r : AreNumbered at now end) where
   was_kept : (u : ℕ) (y : Parked) → now u ≡ Some y
@@ -143,9 +123,6 @@ module _ (at now : ℕ → Option Parked) (n next end : ℕ) (h : AreParked at n
             (sym (ap ticket_in x.1) ∙ equal_before u v (ap ticket_in e ∙ same ∙ sym (ap ticket_in f)) ∙ ap ticket_in w.1);
       }
 
-  pub by_priority-renumber : (local : ℕ → ℕ) → ByPriority at local → ByPriority now local
-  by_priority-renumber local by u y e = let x = was_kept u y e in x.3 ∙ by u x.0 x.1
-
   pub renumber_parkings : parkings_by now n ≡ parkings_by at n
   renumber_parkings =
       ap (map (parking_of now))
@@ -154,8 +131,3 @@ module _ (at now : ℕ → Option Parked) (n next end : ℕ) (h : AreParked at n
       (λ i u. same_but_ticket parked_cond cond_with_ticket (now u) (at u) (r.kept u) i))
       ∙ parkings_alike at now (pairs_by at n)
       (λ u e. same_but_ticket parked_target target_with_ticket (now u) (at u) (r.kept u))
-
--- the same thread by thread is the same
-pub same_parkings : (at now : ℕ → Option Parked) (n : ℕ) → ((u : ℕ) → now u ≡ at u)
-    → parkings_by now n ≡ parkings_by at n
-same_parkings at now n same = λ i. parkings_by (fun_ext same i) n

@@ -13,11 +13,11 @@ use Rattle.pif_kernel_model.specs.Parked.{Parked}
 use Rattle.pif_queue.specs.Numbered.{ticket_in}
 use Rattle.pif_kernel_model.specs.Arrivals.{Rise}
 use Rattle.pif_kernel_model.specs.Arrivals.{in_order}
-use Rattle.pif_kernel_state.specs.Tickets.{is_named}
+use Rattle.pif_kernel_model.specs.Tickets.{is_named}
 use Rattle.pif_kernel_model.proofs.InOrder.{in_order-is}
 use Rattle.pif_kernel_model.proofs.ArrivalLaws.{rise_push}
 use Rattle.pif_kernel_model.proofs.WaitersWithout.{rise_without, waiter_kept}
-use Rattle.pif_kernel_linked.specs.Parkings.{parked_cond, parked_target, parking_of, pairs_by, parkings_by, AreParked, ByPriority}
+use Rattle.pif_kernel_linked.specs.Parkings.{parked_cond, parked_target, parking_of, pairs_by, parkings_by, AreParked}
 use Rattle.pif_kernel_linked.proofs.ParkingOrder.{order_within, order_all, order_rises}
 
 -- who has a variable is parked
@@ -112,12 +112,6 @@ module _ (at : ℕ → Option Parked) (n next : ℕ) (h : AreParked at n next) w
       let x = paired_parked u w.0 w.1 in let wrong : None ≡ Some x.0 = sym e ∙ x.1 in absurd cc)
       (λ y k. refl) refl
 
-  -- the same of the parked threads themselves
-  pub named_parked : (u : ℕ) → is_named u (parked_pairs (parkings_by at n)) ≡ true → (x : Parked) × (at u ≡ Some x)
-  named_parked u e =
-      let w = pair-from_named (pairs_by at n) u (ap (names u) (sym (pairs_seen at (pairs_by at n))) ∙ e) in
-      let x = paired_parked u w.0 w.1 in (x.0, x.1)
-
   pub parked_named : (u : ℕ) (x : Parked) → at u ≡ Some x → is_named u (parked_pairs (parkings_by at n)) ≡ true
   parked_named u x e =
       ap (names u) (pairs_seen at (pairs_by at n))
@@ -129,9 +123,6 @@ module _ (at : ℕ → Option Parked) (n next : ℕ) (h : AreParked at n next) w
       by_option : (o : Option Parked) → at u ≡ o → at u ≡ None
       by_option None k = k
       by_option (Some x) k = absurd (true≢false (sym (parked_named u x k) ∙ e))
-
-  pub parked_unnamed : (u : ℕ) → at u ≡ None → is_named u (parked_pairs (parkings_by at n)) ≡ false
-  parked_unnamed u e = ap (names u) (pairs_seen at (pairs_by at n)) ∙ paired_none u e
 
   -- a list in order of tickets that has just those that are parked is the one that is found
   pairs_are : (ws : List (ℕ × ℕ)) (end : ℕ) → Rise ticket 1 ws end
@@ -213,9 +204,6 @@ module _ (at now : ℕ → Option Parked) (n next t : ℕ) (h : AreParked at n n
               (λ v z f s. h.once u v y z e f s)) u y e v z f same;
         }
 
-    pub by_priority-park : (local : ℕ → ℕ) → x.rank.prio ≡ local t → ByPriority at local → ByPriority now local
-    by_priority-park local e by = by_parked (λ u y. y.rank.prio ≡ local u) e by
-
     -- it stands behind the others
     park_pairs : pairs_by now n ≡ pairs_by at n ++ (t, x.cond) ∷ []
     park_pairs =
@@ -283,9 +271,6 @@ module _ (at now : ℕ → Option Parked) (n next t : ℕ) (h : AreParked at n n
           below = λ u y e. h.below u y (was_parked u y e).1;
           once = λ u v y z e f. h.once u v y z (was_parked u y e).1 (was_parked v z f).1;
         }
-
-    pub by_priority-unpark : (local : ℕ → ℕ) → ByPriority at local → ByPriority now local
-    by_priority-unpark local by u y e = by u y (was_parked u y e).1
 
     unpark_pairs : pairs_by now n ≡ without (pairs_by at n) t
     unpark_pairs =

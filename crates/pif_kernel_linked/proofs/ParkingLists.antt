@@ -16,7 +16,7 @@ use Rattle.pif_model_lemmas.proofs.kernel.Orders.{order-none, order-next, ordere
 use Rattle.pif_model_lemmas.proofs.Waiting.{by_test, names, has_waiter-from_pair, next-is_waiter, pair-from_named}
 use Rattle.pif_kernel_model.specs.Parked.{Place, Parked, ParkedLists, place_at, IsThread, IsCond, variable_list, parking_node, thread_of_node, parked_with, parked_at, parked_on, IsParkedNode, StandsIn, StandParked, IsTopParked, HasNoParked, HasTarget}
 use Rattle.pif_queue.specs.Numbered.{ticket_in}
-use Rattle.pif_kernel_state.specs.Takings.{first_parked, have_target}
+use Rattle.pif_kernel_model.specs.Takings.{first_parked, have_target}
 use Rattle.pif_kernel_model.proofs.ArrivalLaws.{rise_once}
 use Rattle.pif_kernel_model.proofs.WaiterRows.{InRow, in_row, all_ordered, row_first}
 use Rattle.pif_kernel_linked.specs.Parkings.{parked_target, parked_prio, parking_of, pairs_by, parkings_in, AreParked, ByPriority}

@@ -15,7 +15,7 @@ use Rattle.pif_kernel_model.specs.Entries.{Found, found_in}
 use Rattle.pif_kernel_model.specs.QueueFrames.{KeepsOthers}
 use Rattle.pif_kernel_model.specs.Parked.{Parked, parked_at, parked_with_prio, parked_with_ticket}
 use Rattle.pif_kernel_model.specs.Buckets.{Buckets, HoldsBuckets}
-use Rattle.pif_kernel_state.specs.Chained.{KeepsLevels}
+use Rattle.pif_kernel_model.specs.Chained.{KeepsLevels}
 use Rattle.pif_kernel_linked.specs.Parkings.{AreParked, parkings_in}
 use Rattle.pif_kernel_linked.specs.Linked.{key_count, key_of, keys_in, IsLaidOut, StandLinked, FitsWords, FitsParked, IsLinked}
 use Rattle.pif_kernel_linked.proofs.Keys.{at_same, at_other}

@@ -20,8 +20,8 @@ use Rattle.pif_kernel_model.specs.Parked.{Place, IsParkedNode, place_at, parked_
 use Rattle.pif_kernel_model.specs.Parked.{variable_list}
 use Rattle.pif_kernel_model.specs.Buckets.{Buckets, HoldsBuckets}
 use Rattle.pif_model.specs.PiKernel.{parked_pairs}
-use Rattle.pif_kernel_state.specs.Tickets.{is_named}
-use Rattle.pif_kernel_state.specs.Chained.{Chained, KeepsLevels}
+use Rattle.pif_kernel_model.specs.Tickets.{is_named}
+use Rattle.pif_kernel_model.specs.Chained.{Chained, KeepsLevels}
 use Rattle.pif_kernel_linked.specs.Parkings.{parkings_in}
 use Rattle.pif_kernel_linked.specs.Linked.{keys_in, IsLaidOut, StandLinked, FitsParked, IsLinked}
 use Rattle.pif_kernel_linked.proofs.ParkingLemmas.{unnamed_parked}

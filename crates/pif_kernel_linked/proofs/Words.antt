@@ -14,7 +14,7 @@ use Rattle.pif_kernel_model.specs.Entries.{Found, entry_at, found_in}
 use Rattle.pif_kernel_model.specs.QueueFrames.{KeepsOthers}
 use Rattle.pif_kernel_model.specs.Parked.{parked_at}
 use Rattle.pif_kernel_model.specs.Buckets.{Buckets, HoldsBuckets}
-use Rattle.pif_kernel_state.specs.Chained.{KeepsLevels}
+use Rattle.pif_kernel_model.specs.Chained.{KeepsLevels}
 use Rattle.pif_kernel_linked.specs.Parkings.{parkings_by}
 use Rattle.pif_kernel_linked.specs.Linked.{key_count, key_of, keys_in, IsWordOf, IsLaidOut, StandLinked, IsLinked}
 use Rattle.pif_kernel_linked.proofs.Keys.{at_same, at_other, keys_changed, keys_found, found_some, row_word}

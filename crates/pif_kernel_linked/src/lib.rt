@@ -1,5 +1,5 @@
 //! The kernel in a core: `LinkedKernel` is `KernelOn` of `pif_kernel` over `LinkedChains`, whose parts stand in one table
-//! of nodes. For T threads that has these lists and nodes:
+//! of nodes. For T threads that table has these lists and nodes:
 //!
 //! ```text
 //! lists              of                                  nodes           of
@@ -19,5 +19,7 @@
 #![tactic(auto)]
 
 mod linked;
+mod linked_kernel;
 
-pub use linked::{LinkedChains, LinkedKernel};
+pub use linked::LinkedChains;
+pub use linked_kernel::LinkedKernel;

@@ -7,8 +7,9 @@ ghost use Rattle.pif_kernel_model.specs.Parked.{parked_at, parked_with_prio, par
 ghost use Rattle.pif_kernel_model.specs.Buckets.{HoldsBuckets};
 ghost use Rattle.pif_kernel_linked.specs.Parkings.{AreParked, parkings_in};
 
-use pif_boost::{walk_to, would_close};
-use pif_kernel::{Chains, KernelOn};
+use arrayvec::ArrayVec;
+use pif_boost::{path, walk_to, would_close};
+use pif_kernel::Chains;
 use pif_kernel_model::Key;
 use pif_nodes::NodeTable;
 use pif_queue::Buckets;
@@ -40,12 +41,9 @@ pub struct LinkedChains {
     next: u64,
 }
 
-/// A kernel on linked chains.
-pub type LinkedKernel = KernelOn<LinkedChains>;
-
 impl Model for LinkedChains {
     ghost use Rattle.pif_kernel_model.specs.States.{owners_in};
-    ghost use Rattle.pif_kernel_state.specs.Chained.{Chained, chained_code};
+    ghost use Rattle.pif_kernel_model.specs.Chained.{Chained, chained_code};
     ghost use Rattle.pif_kernel_linked.specs.Parkings.{parkings_in};
     ghost use Rattle.pif_kernel_linked.specs.Linked.{keys_in, IsLinked};
 
@@ -202,6 +200,10 @@ impl Chains for LinkedChains {
 
     fn would_close(&self, t: Tid, owner: Tid) -> bool {
         would_close(&self.owners, &self.table, t, owner)
+    }
+
+    fn path(&self, start: Tid) -> ArrayVec<Tid, 1024> {
+        path(&self.owners, &self.table, start)
     }
 }
 

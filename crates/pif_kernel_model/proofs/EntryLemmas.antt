@@ -1,11 +1,10 @@
 -- Where the owner state of a word stands.
-use Rattle.std.proofs.Common.{◌≡◌, ◌≢◌, ◌⊎◌, ℕ, ◌+◌, ◌%◌, ◌<◌, true, eqb, List, Option, Some, None, IsSome, option_map, refl, sym, ◌∙◌, ap, subst, inl, inr, arith}
+use Rattle.std.proofs.Common.{◌≡◌, ◌≢◌, ◌⊎◌, ℕ, ◌+◌, ◌%◌, ◌<◌, true, eqb, Option, Some, None, IsSome, option_map, refl, sym, ◌∙◌, ap, subst, inl, inr, arith}
 use Rattle.std.proofs.Math.Nat.{mod-lt}
-use Rattle.std.proofs.lemmas.Bool.{eqb-true, eq-eqb, false≢true}
-use Rattle.std.specs.List.{filter}
-use Rattle.pif_nodes_model.specs.Lists.{has, first_of}
+use Rattle.std.proofs.lemmas.Bool.{eqb-true, eq-eqb}
+use Rattle.pif_nodes_model.specs.Lists.{has}
 use Rattle.pif_nodes_model.specs.Table.{NodeLists, list_at, holder}
-use Rattle.pif_kernel_model.specs.Entries.{Entries, Found, no_entries, bucket_of, node_of, row_of, word_of_node, node_with, found_at, found_in, IsRow, IsEntered, HoldsEntries, HasRoomForEntries}
+use Rattle.pif_kernel_model.specs.Entries.{Entries, Found, bucket_of, node_of, row_of, word_of_node, node_with, found_at, found_in, IsRow, IsEntered, HoldsEntries}
 use Rattle.pif_kernel_model.proofs.Firsts.{option-cases, first-passes, passes-first}
 
 -- a bucket is one of 64
@@ -73,29 +72,3 @@ no-node e t w none = by_node (option-cases (node_with e t w))
     by_node (inl is) = is
     by_node (inr some) =
         let wrong : Some (found_at e some.0) ≡ None = sym (ap (option_map (found_at e)) some.1) ∙ none in absurd cc
-
--- with no word
-module _ (first_list first_node rows : ℕ) (t : NodeLists) (room : HasRoomForEntries (no_entries first_list first_node rows) t) where
-  abbrev e : Entries
-  e = no_entries first_list first_node rows
-
-  nobody : (b n : ℕ) → b < 64 → has n (list_at t (first_list + b)) ≡ true → ⊥
-  nobody b n l there = false≢true (sym (ap (has n) (room.empty b l)) ∙ there)
-
-  pub holds-no_entries : HoldsEntries e t
-  holds-no_entries =
-      record {
-        apart = room.apart;
-        lists = room.lists;
-        nodes = room.nodes;
-        entered = λ b n l there. absurd (nobody b n l there);
-        alone = λ r l row held.
-            let wrong : None ≡ Some l = sym (room.free r row) ∙ held in absurd cc;
-        once = λ r s row other held held-other word.
-            let wrong : IsSome {T = ℕ} None = subst IsSome (room.free r row) held in absurd (false≢true wrong);
-      }
-
-  pub none-found : (w : ℕ) → found_in e t w ≡ None
-  none-found w =
-      ap (λ (xs : List ℕ). option_map (found_at e) (first_of (filter (λ n. eqb (word_of_node e n) w) xs)))
-      (room.empty (w % 64) (bucket-below w))

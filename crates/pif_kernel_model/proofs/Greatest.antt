@@ -83,10 +83,6 @@ greatest_base-nobody v s =
 pub greatest_base-least : (v : Owners) (t : ℕ) → t < length v.seats → base_of v t ≤ greatest_base v t
 greatest_base-least v t lt = effective_own (length v.seats) (waits_for v) (base_of v) t lt
 
--- nor more than 99
-pub greatest_base-most : (v : Owners) (t : ℕ) → AreSoundOwners v → t < length v.seats → greatest_base v t ≤ 99
-greatest_base-most v t s lt = let best = greatest_base-attained v t lt in omega (arith, best.3, (s.seats best.0).base)
-
 -- what a thread is to have depends on base priorities and waits alone
 pub greatest_base-same : (old new : Owners) → length new.seats ≡ length old.seats → ((x : ℕ) → waits_for new x ≡ waits_for old x) → ((x : ℕ) → base_of new x ≡ base_of old x)
     → (t : ℕ) → greatest_base new t ≡ greatest_base old t

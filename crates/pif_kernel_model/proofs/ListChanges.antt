@@ -146,10 +146,6 @@ outside-then m was mid now a b =
       node_count = b.node_count ∙ a.node_count;
     }
 
-pub outside-nothing : (m : States) (t : NodeLists) → SameOutsideStates m t t
-outside-nothing m t =
-    record { lists = λ j o. refl; keys = λ j p o h. refl; holders = λ p o. refl; list_count = refl; node_count = refl }
-
 -- a change of a list of top waiters
 pub tops-changed : (m : States) (was now : NodeLists) (o u : ℕ) → HoldsWaiters m was → IsThread m o → IsThread m u
     → ((j : ℕ) → holder was (top_node m u) ≡ Some j → IsOwnList m j)
@@ -176,31 +172,3 @@ tops-changed m was now o u h i j from c =
         let row : m.first_list + (l - m.first_list) ≡ l = omega arith in
         let is = h.waiters (l - m.first_list) n (omega arith) (ap (λ q. has n (list_at was q)) row ∙ e) in
         absurd (omega (arith, is.is_thread, is.node, same))
-
--- one change of top waiters after another
-pub tops-then : (m : States) (was mid now : NodeLists) → ChangesTops m was mid → ChangesTops m mid now
-    → ChangesTops m was now
-tops-then m was mid now a b =
-    record {
-      waiters =
-          record {
-            lists = λ l low high. b.waiters.lists l low high ∙ a.waiters.lists l low high;
-            keys = λ l n low high h. b.waiters.keys l n low high (ap (has n) (a.waiters.lists l low high) ∙ h)
-                ∙ a.waiters.keys l n low high h;
-            list_count = b.waiters.list_count ∙ a.waiters.list_count;
-            node_count = b.waiters.node_count ∙ a.waiters.node_count;
-          };
-      outside = outside-then m was mid now a.outside b.outside;
-      holders = λ n low. b.holders n low ∙ a.holders n low;
-      apart = b.apart;
-    }
-
-pub tops-nothing : (m : States) (t : NodeLists) → IsApart t → ChangesTops m t t
-tops-nothing m t apart =
-    record {
-      waiters =
-          record { lists = λ l low high. refl; keys = λ l n low high h. refl; list_count = refl; node_count = refl };
-      outside = outside-nothing m t;
-      holders = λ n low. refl;
-      apart = apart;
-    }

@@ -8,7 +8,7 @@ use Rattle.pif_nodes_model.specs.declared.keys.Key.{Key}
 use Rattle.pif_model.specs.Graph.{Reaches}
 use Rattle.pif_kernel_model.specs.Owners.{Wait, Task, Owners, no_task, no_owners, task_at, owner_at, count, state_of, waits_on, waits_for, WaitsFor, IsAcyclic, HasNoWaiter, with_task, with_wait, with_owner, without_state, IsSeat, AreSoundOwners}
 use Rattle.pif_model_lemmas.proofs.Cycles.{NoCycle-fewer, NoCycle-hop, NoCycle-still, reaches-alone}
-use Rattle.pif_kernel_model.proofs.MapLemmas.{get-insert_same, get-insert_other, get-remove_same, get-remove_other}
+use Rattle.pif_kernel_model.proofs.MapLemmas.{get-insert_same, get-insert_other, get-remove_other}
 
 -- after a write of a seat, a thread has that one, or the seat that it had
 pub task_at-with_task : (t : ℕ) (x : Task) (v : Owners) (u : ℕ)
@@ -170,9 +170,6 @@ owner_at-with_owner_same k owner v = get-insert_same v.owners k owner k refl
 
 pub owner_at-with_owner_other : (k owner : ℕ) (v : Owners) (j : ℕ) → j ≢ k → owner_at (with_owner k owner v) j ≡ owner_at v j
 owner_at-with_owner_other k owner v j n = get-insert_other v.owners k owner j n
-
-pub owner_at-without_state_same : (k : ℕ) (v : Owners) → owner_at (without_state k v) k ≡ None
-owner_at-without_state_same k v = get-remove_same v.owners k k refl
 
 pub owner_at-without_state_other : (k : ℕ) (v : Owners) (j : ℕ) → j ≢ k → owner_at (without_state k v) j ≡ owner_at v j
 owner_at-without_state_other k v j n = get-remove_other v.owners k j n

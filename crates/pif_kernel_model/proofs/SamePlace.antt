@@ -1,5 +1,5 @@
 -- Owner states whose lists and nodes are where those of others were.
-use Rattle.std.proofs.Common.{◌≡◌, ℕ, ◌≤◌, ap, arith}
+use Rattle.std.proofs.Common.{◌≡◌, ap}
 use Rattle.pif_kernel_model.specs.States.{States}
 
 -- the lists and nodes of these owner states are where those of the others were
@@ -39,7 +39,3 @@ same_place_handed m now e = record {
   node = ap (λ (x : States). x.first_node) e;
   threads = ap (λ (x : States). x.threads) e;
 }
-
--- for as many threads there is room beside them
-pub room_kept : (m now : States) (room : ℕ) → SamePlace m now → m.threads ≤ room → now.threads ≤ room
-room_kept m now room place few = omega (arith, place.threads, few)

@@ -22,10 +22,6 @@ pub record Found : Type 0 where
   pub key : ℕ
   pub row : ℕ
 
--- the number of buckets
-abbrev pub bucket_count : ℕ
-bucket_count = 64
-
 abbrev pub no_entry : Entry
 no_entry = record { word = 0; key = 0 }
 

@@ -13,3 +13,13 @@ pub mod Buckets
 pub mod QueueFrames
 pub mod Boosts
 pub mod BoostFrames
+pub mod Inside
+pub mod Codes
+pub mod Leaving
+pub mod Tickets
+pub mod Systems
+pub mod Takings
+pub mod Orders
+pub mod Chained
+pub mod Fields
+pub mod Opened

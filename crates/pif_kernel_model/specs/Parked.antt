@@ -74,11 +74,7 @@ IsNodeOfThread p n = (p.first_node ≤ n) × (n < p.first_node + p.threads)
 abbrev pub KeepsNodes : ParkedLists → ℕ → NodeLists → NodeLists → Type 0
 KeepsNodes p u was now = (v : ℕ) → IsThread p v → v ≢ u → holder now (parking_node p v) ≡ holder was (parking_node p v)
 
--- the variable of a place, and its target; 0 if there is none
-abbrev pub variable_in : Option Place → ℕ
-variable_in None = 0
-variable_in (Some x) = x.cond
-
+-- the target of a place; 0 if there is none
 abbrev pub target_in : Option Place → ℕ
 target_in None = 0
 target_in (Some x) = x.target

@@ -1,17 +1,19 @@
 -- What the public calls of a core answer, and the table that they leave, by the table before.
-use Rattle.std.specs.Prelude.{ℕ, ◌-◌, Bool, true, false, ◌==◌, length, Option, Some, None, option_map, Result, Ok, Err, if◌then◌else◌}
+use Rattle.std.specs.Prelude.{ℕ, ◌-◌, Bool, true, false, ◌==◌, length, List, Option, Some, None, option_map, Result, Ok, Err, if◌then◌else◌}
 use Rattle.std.specs.List.{slice_get}
 use Rattle.pif_types.specs.declared.errors.AddFault.{AddFault}
 use Rattle.pif_types.specs.declared.errors.AddFault.TheVariants.{TooMany, BadPrio, NoSuch}
 use Rattle.pif_types.specs.declared.requests.Health.{Health}
 use Rattle.pif_types.specs.declared.requests.Kind.{Kind}
 use Rattle.pif_types.specs.declared.requests.Request.{Request}
+use Rattle.pif_model.specs.declared.events.Order.{Order}
+use Rattle.pif_model.specs.declared.events.Order.TheVariants.{Waiters, Parked, Ready}
 use Rattle.pif_model.specs.declared.lines.Line.{Line}
 use Rattle.pif_model.specs.declared.lines.Line.TheVariants.{Idle, At}
 use Rattle.pif_model.specs.declared.lines.Status.{Status}
 use Rattle.pif_model.specs.Graph.{is_priority}
 use Rattle.pif_model.specs.Word.{bits_of, health_in}
-use Rattle.pif_model.specs.PiKernel.{is_living, is_ready, seat_at, effective_in, pick_in, waiters_in, parked_in, ready_in}
+use Rattle.pif_model.specs.PiKernel.{is_living, is_ready, seat_at, effective_in, pick_in, waiters_in, parked_in, ready_in, IsPathIn}
 use Rattle.pif_model.specs.Table.{Table, cell_at, line_at, timer_at, status_at, has_thread, has_mutex, has_cond, bound_to, uses_of, has_thread_room, has_mutex_room, has_cond_room, thread_added, mutex_added, cond_added}
 use Rattle.pif_model.specs.Lines.{is_open, is_due_in}
 use Rattle.pif_model.specs.Deadlines.{with_deadline_if_any}
@@ -122,3 +124,13 @@ parked_answer c place s = slice_get (parked_in s.kernel c) place
 -- the ready thread before which this many others run
 abbrev pub ready_answer : ℕ → Table → Option ℕ
 ready_answer place s = slice_get (ready_in s.kernel) place
+
+-- the thread of an order before which this many others stand
+abbrev pub order_answer : Order → ℕ → Table → Option ℕ
+order_answer (Waiters m) place s = waiter_answer m place s
+order_answer (Parked c) place s = parked_answer c place s
+order_answer Ready place s = ready_answer place s
+
+-- these are the threads from a living one on along whom each waits for, in order, up to the one that waits for nobody
+abbrev pub IsPathAnswer : ℕ → Table → List ℕ → Type 0
+IsPathAnswer t s us = IsPathIn s.kernel t us

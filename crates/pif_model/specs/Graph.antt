@@ -1,7 +1,7 @@
 -- Priority inheritance over a graph of threads. Both machines hand in the same three things: which thread a thread
 -- waits for (0: none), base priorities, and the waiters in order of arrival. (RT-mutex design.)
 -- Threads are numbered from 1; the number 0 is nobody.
-use Rattle.std.specs.Prelude.{ℕ, zero, suc, ◌≡◌, ◌<◌, ◌≤◌, Bool, true, false, ◌==◌, nat_lt, max, List, [], ◌∷◌, map, if◌then◌else◌}
+use Rattle.std.specs.Prelude.{ℕ, zero, suc, ◌≡◌, ◌≢◌, ◌<◌, ◌≤◌, Bool, true, false, ◌==◌, nat_lt, max, List, [], ◌∷◌, map, if◌then◌else◌}
 use Rattle.std.specs.List.{filter, list_any}
 use Rattle.std.specs.Prelude.{◌++◌}
 
@@ -84,3 +84,9 @@ pub record IsNextWaiter (effective : ℕ → ℕ) (ws : List (ℕ × ℕ)) (m u 
   pub place : ws ≡ earlier ++ (u, m) ∷ later
   pub above_earlier : (v : ℕ) → list_any (λ w. if w.0 == v then w.1 == m else false) earlier ≡ true → effective v < effective u
   pub above_later : (v : ℕ) → list_any (λ w. if w.0 == v then w.1 == m else false) later ≡ true → effective v ≤ effective u
+
+-- these are the threads from t on along whom each waits for, in order: t, the one for which it waits, and so on, up to
+-- the one that waits for nobody; none where t is nobody. There is one such list at most, and no thread stands in it twice
+abbrev pub IsPath : (ℕ → ℕ) → ℕ → List ℕ → Type 0
+IsPath waits_for t [] = t ≡ 0
+IsPath waits_for t (u ∷ us) = (u ≡ t) × (u ≢ 0) × IsPath waits_for (waits_for u) us

@@ -14,7 +14,7 @@ use Rattle.pif_model.specs.declared.lines.Woken.{Woken}
 use Rattle.pif_model.specs.declared.lines.Woken.TheVariants.{Fresh as WokenFresh, Owns as WokenOwns, Again as WokenAgain, Expired as WokenExpired}
 use Rattle.pif_model.specs.declared.lines.Took.{Took}
 use Rattle.pif_model.specs.declared.lines.Took.TheVariants.{Owns as TookOwns, Queued as TookQueued}
-use Rattle.pif_model.specs.Graph.{is_priority, reaches_within, effective_among, next_waiter, has_waiter, without, waiting_order}
+use Rattle.pif_model.specs.Graph.{is_priority, reaches_within, effective_among, next_waiter, has_waiter, without, waiting_order, IsPath}
 use Rattle.pif_model.specs.Word.{Words, free_word, taken_word, mark_word, hand_word, orphan_word, inherit_word, word_at, has_word, set_word, cond_word_at, has_cond_word}
 
 -- a thread, as the kernel knows it
@@ -103,6 +103,11 @@ waits_for k u = state_at k (queued_on (seat_at k u).status)
 -- the effective priority of t: the greatest base priority of t and of all that wait for it through any chain
 abbrev pub effective_in : Kernel → ℕ → ℕ
 effective_in k t = effective_among (length k.seats) (waits_for k) (λ u. (seat_at k u).base) t
+
+-- these are the threads from t on along whom each waits for, in order, up to the one that waits for nobody; none where t
+-- doesn't live
+abbrev pub IsPathIn : Kernel → ℕ → List ℕ → Type 0
+IsPathIn k t us = IsPath (waits_for k) (if is_living k t then t else 0) us
 
 -- the next waiter of m, 0 where there is none
 abbrev pub next_in : Kernel → ℕ → ℕ

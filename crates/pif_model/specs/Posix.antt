@@ -25,7 +25,7 @@ use Rattle.pif_model.specs.declared.events.Entry.TheVariants.{Thread as AddThrea
 use Rattle.pif_model.specs.Graph.{is_priority, without}
 use Rattle.pif_model.specs.Refusals.{begin_refused, go_refused, end_refused, tick_refused}
 use Rattle.pif_model.specs.Deadlines.{plain, no_timer, timer_of, ran_out, is_reached, told_result}
-pub use Rattle.pif_model.specs.World.{Health, Progress, Call, Memory, Thread, Mutex, Variable, World, no_memory, nobody, no_mutex, no_variable, empty_world, thread_at, mutex_at, variable_at, is_thread, is_living, is_mutex, is_variable, with_thread, with_mutex, with_variable, with_call_by, at_progress, with_progress, WaitsFor, waits_for, effective_of, next_of, leads_to, is_lost, is_idle, sleeps, rests, is_blocked, variable_of, is_call_blocked, is_blocked_on, is_found, is_still_blocked}
+pub use Rattle.pif_model.specs.World.{Health, Progress, Call, Memory, Thread, Mutex, Variable, World, no_memory, nobody, no_mutex, no_variable, empty_world, thread_at, mutex_at, variable_at, is_thread, is_living, is_mutex, is_variable, with_thread, with_mutex, with_call_by, at_progress, with_progress, WaitsFor, waits_for, effective_of, next_of, leads_to, is_lost, is_idle, sleeps, rests, is_blocked, variable_of, is_call_blocked, is_blocked_on, is_found, is_still_blocked}
 use Rattle.pif_model.specs.World.Health.{Fine, Inconsistent, Unusable}
 use Rattle.pif_model.specs.World.Progress.{Fresh, Waiting, Stuck, Leaving, Has, Checked, Enlisted, Blocked, Owing, Used}
 

@@ -5,9 +5,9 @@ use Rattle.pif_types.specs.declared.requests.Request.{Request}
 use Rattle.pif_model.specs.declared.events.Entry.{Entry}
 use Rattle.pif_model.specs.declared.lines.Status.{Status}
 use Rattle.pif_model.specs.declared.lines.Status.TheVariants.{Ready, Queued, Parked, Stopped, Ended}
-use Rattle.pif_model.specs.Graph.{has_waiter, waiting_order, IsEffective}
+use Rattle.pif_model.specs.Graph.{has_waiter, waiting_order, IsEffective, IsPath}
 use Rattle.pif_model.specs.Word.{Word, free_word}
-use Rattle.pif_model.specs.Posix.{Call, World, WaitsFor, IsRun, thread_at, mutex_at, variable_at, is_thread, is_blocked_on, rests, effective_of}
+use Rattle.pif_model.specs.Posix.{Call, World, WaitsFor, IsRun, thread_at, mutex_at, variable_at, is_thread, is_blocked_on, rests, waits_for, effective_of}
 use Rattle.pif_model.specs.Posix.{is_living as lives}
 use Rattle.pif_model.specs.World.Health.{Fine, Inconsistent, Unusable}
 use Rattle.pif_model.specs.World.Progress.{Stuck}
@@ -87,3 +87,8 @@ owner_of w m =
 -- the waiters of m in the order in which they get it, as long as no priority changes and nobody comes or goes
 abbrev pub waiters_of : World → ℕ → List ℕ
 waiters_of w m = waiting_order (effective_of w) w.waiters m
+
+-- us are the threads from t on along whom each waits for, in order, up to the one that waits for nobody: after each one
+-- stands the owner of the mutex for which it waits; none where t doesn't live
+abbrev pub IsPathFrom : World → ℕ → List ℕ → Type 0
+IsPathFrom w t us = IsPath (waits_for w) (if lives w t then t else 0) us

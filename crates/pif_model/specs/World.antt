@@ -149,10 +149,6 @@ with_thread t x w = record w { threads = set w.threads t x }
 abbrev pub with_mutex : ℕ → Mutex → World → World
 with_mutex m x w = record w { mutexes = set w.mutexes m x }
 
--- c as x
-abbrev pub with_variable : ℕ → Variable → World → World
-with_variable c x w = record w { variables = set w.variables c x }
-
 -- t's call as this makes it
 abbrev pub with_call_by : ℕ → (Option Call → Option Call) → World → World
 with_call_by t f w = with_thread t (record (thread_at w t) { call = f (thread_at w t).call }) w

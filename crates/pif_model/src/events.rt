@@ -33,6 +33,19 @@ pub enum Seen {
     Refused(Refusal),
 }
 
+/// An order in which threads stand. Those of greatest effective priority come first.
+#[derive(Clone, Copy)]
+pub enum Order {
+    /// The waiters of a mutex, in the order in which they get it: of equals the first in arrival comes first.
+    Waiters(MutexId),
+    /// The threads that are parked on a condition variable, in the order in which they are woken: of equals the first
+    /// that was parked comes first.
+    Parked(CondId),
+    /// The ready threads, in the order in which they run: of equals the first that joined them comes first (SCHED_FIFO,
+    /// sched(7)).
+    Ready,
+}
+
 /// One entry of a core's history: an addition that was made, or an event with what it was answered.
 #[derive(Clone, Copy, Debug, PartialEq, Eq, Hash)]
 pub enum Entry {

@@ -6,7 +6,7 @@
 mod events;
 mod lines;
 
-pub use events::{Entry, Event, Seen};
+pub use events::{Entry, Event, Order, Seen};
 pub use lines::{
     Footing, GiveStep, Line, LinkStep, Place, Purpose, Relock, RepairStep, Status, TakeStep, Timer,
     Took, WakeStep, Woken,

@@ -54,12 +54,6 @@ has-neither m xs ys h k = has-append m xs ys ∙ or_from (has_entry xs m) (has_e
 pub apart : (k m : ℕ) (xs : List ℕ) → has_entry xs k ≡ true → has_entry xs m ≡ false → k ≡ m → ⊥
 apart k m xs h lack e = both_ways (has_entry xs m) lack (subst (λ (z : ℕ). has_entry xs z ≡ true) e h)
 
--- another mutex than the one between them is on two lists as it is with it
-has-between : (k m : ℕ) (front back : List ℕ) → (k ≡ m → ⊥) →
-    has_entry (front ++ m ∷ back) k ≡ has_entry (front ++ back) k
-has-between k m [] back ne = rw (ne_eqb k m ne) refl
-has-between k m (x ∷ xs) back ne = ap (λ b. eqb k x || b) (has-between k m xs back ne)
-
 -- a list that has m is m between two others
 pub has_split : (m : ℕ) (xs : List ℕ) → has_entry xs m ≡ true → (front back : List ℕ) × (xs ≡ front ++ m ∷ back)
 has_split m [] h = absurd cc

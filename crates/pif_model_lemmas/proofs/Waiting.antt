@@ -27,28 +27,6 @@ Once ws = IsDistinct eqb (map (λ (w : ℕ × ℕ). w.0) ws)
 
 -- WHO WAITS
 
--- one more waiter changes nothing for the others
-pub waited_by-append_other : (ws : List (ℕ × ℕ)) (t m u : ℕ) → t ≢ u → waited_by (ws ++ (t, m) ∷ []) u ≡ waited_by ws u
-unfolding waited_by
-waited_by-append_other [] t m u n = rw (ne_eqb t u n) refl
-waited_by-append_other (w ∷ ws) t m u n = rw (waited_by-append_other ws t m u n) refl
-
--- who was not in the queue waits for the mutex with which it joins
-pub waited_by-append_same : (ws : List (ℕ × ℕ)) (t m : ℕ) → names t ws ≡ false → waited_by (ws ++ (t, m) ∷ []) t ≡ m
-unfolding waited_by
-waited_by-append_same [] t m h = rw (eq-eqb t t refl) refl
-waited_by-append_same (w ∷ ws) t m h =
-    let p = or_parts (w.0 == t) (names t ws) h in
-    rw p.0 (waited_by-append_same ws t m p.1)
-
--- who is nowhere in the queue waits for 0
-pub waited_by-unnamed : (ws : List (ℕ × ℕ)) (u : ℕ) → names u ws ≡ false → waited_by ws u ≡ 0
-unfolding waited_by
-waited_by-unnamed [] u h = refl
-waited_by-unnamed (w ∷ ws) u h =
-    let p = or_parts (w.0 == u) (names u ws) h in
-    rw p.0 (waited_by-unnamed ws u p.1)
-
 -- where nobody waits for 0, who waits for 0 is nowhere in the queue
 pub unnamed-from_0 : (ws : List (ℕ × ℕ)) (u : ℕ) → has_waiter ws 0 ≡ false → waited_by ws u ≡ 0 → names u ws ≡ false
 unfolding waited_by
@@ -188,19 +166,6 @@ named-without_same (w ∷ ws) u =
     without-first (λ x. names u x ≡ false) w ws u
     (λ e. named-without_same ws u)
     (λ e. or_from (w.0 == u) (names u (without ws u)) (ne_eqb w.0 u e) (named-without_same ws u))
-
--- the others wait as before
-pub waited_by-without_other : (ws : List (ℕ × ℕ)) (u v : ℕ) → v ≢ u → waited_by (without ws u) v ≡ waited_by ws v
-unfolding waited_by
-waited_by-without_other [] u v n = refl
-waited_by-without_other (w ∷ ws) u v n =
-    without-first (λ x. waited_by x v ≡ (if w.0 == v then w.1 else waited_by ws v)) w ws u
-    (λ e. rw (ne_eqb w.0 v (λ h. n (sym h ∙ e))) (waited_by-without_other ws u v n))
-    (λ e. ap (λ x. if w.0 == v then w.1 else x) (waited_by-without_other ws u v n))
-
--- u waits for nothing
-pub waited_by-without_same : (ws : List (ℕ × ℕ)) (u : ℕ) → waited_by (without ws u) u ≡ 0
-waited_by-without_same ws u = waited_by-unnamed (without ws u) u (named-without_same ws u)
 
 -- a mutex for which nobody waits has no waiter afterwards
 pub has_waiter-without_none : (ws : List (ℕ × ℕ)) (u k : ℕ) → has_waiter ws k ≡ false → has_waiter (without ws u) k ≡ false

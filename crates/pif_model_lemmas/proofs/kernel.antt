@@ -14,7 +14,6 @@ pub mod Queued
 pub mod Woken
 pub mod Handed
 pub mod Added
-pub mod Calls
 pub mod Picks
 pub mod Places
 pub mod Left

@@ -1,5 +1,5 @@
 -- What a health word and OWNER_DIED say of a mutex's health.
-use Rattle.std.proofs.Common.{arith, ◌≡◌, ◌≢◌, ℕ, Bool, true, false, ◌==◌, refl, sym, ap, ◌∙◌, if◌then◌else◌, eqb-true}
+use Rattle.std.proofs.Common.{◌≡◌, ◌≢◌, ℕ, Bool, true, false, ◌==◌, refl, sym, ap, ◌∙◌, if◌then◌else◌, eqb-true}
 use Rattle.std.proofs.lemmas.Bool.{true≢false, eqb-false}
 use Rattle.pif_model.specs.Posix.{Health}
 use Rattle.pif_model.specs.World.Health.{Fine, Inconsistent, Unusable}
@@ -61,11 +61,3 @@ pub inconsistent-word : (h : ℕ) (d : Bool) → d ≡ false → health_of h d �
 inconsistent-word h d u = health-cases (λ x. x ≡ Inconsistent → h ≡ 1) h d
     (λ f e. absurd (inconsistent_not_unusable (sym e))) (λ f e. f) (λ f g i e. absurd (true≢false (sym i ∙ u)))
     (λ f g i e. absurd (fine_not_inconsistent e))
-
-pub inconsistent-died : (h : ℕ) (d : Bool) → h ≡ 0 → health_of h d ≡ Inconsistent → d ≡ true
-inconsistent-died h d z = health-cases (λ x. x ≡ Inconsistent → d ≡ true) h d
-    (λ f e. absurd (inconsistent_not_unusable (sym e))) (λ f e. absurd (one f z)) (λ f g i e. i)
-    (λ f g i e. absurd (fine_not_inconsistent e))
-  where
-    one : h ≡ 1 → h ≡ 0 → ⊥
-    one e f = omega arith

@@ -30,3 +30,5 @@ pub mod Effective
 pub mod Picks
 pub mod Bound
 pub mod Looks
+pub mod CallLemmas
+pub mod StandingLemmas

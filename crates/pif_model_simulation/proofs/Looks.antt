@@ -1,5 +1,5 @@
 -- What a sound table shows a person who looks at it: what each thread does, its open call, who owns a mutex, who waits
--- for it in which order, who is parked on a variable, and who is ready.
+-- for it in which order, who is parked on a variable, who is ready, and for whom a thread waits through its chain.
 use Rattle.std.proofs.Common.{◌≡◌, ◌≢◌, ◌<◌, ◌≤◌, ◌⊎◌, ◌==◌, ℕ, zero, suc, Bool, true, false, List, [], ◌∷◌, length, Some, None, option_map, refl, sym, ap, ◌∙◌, subst, inl, inr, eq-eqb, true≢false, if◌then◌else◌, Option}
 use Rattle.std.specs.List.{slice_get}
 use Rattle.std.proofs.lemmas.Bool.{or_cases, or_left, or_right, cases_eq, cases_lt}
@@ -12,17 +12,17 @@ use Rattle.pif_model.specs.declared.lines.Place.{Place}
 use Rattle.pif_model.specs.declared.lines.Place.TheVariants.{StayQueued, StayStopped, StayParked}
 use Rattle.pif_model.specs.declared.lines.Status.{Status}
 use Rattle.pif_model.specs.declared.lines.Status.TheVariants.{Ready, Queued, Parked, Stopped, Ended}
-use Rattle.pif_model.specs.Graph.{waiting_order}
+use Rattle.pif_model.specs.Graph.{waiting_order, IsPath}
 use Rattle.pif_model.specs.Word.{Word, word_at}
-use Rattle.pif_model.specs.PiKernel.{Seat, has_seat, has_ended, is_living, is_ready, is_among, parked_pairs, effective_in, level_at, levels_below, waiters_in, parked_in, ready_in}
+use Rattle.pif_model.specs.PiKernel.{Seat, has_seat, has_ended, is_living, is_ready, is_among, parked_pairs, effective_in, level_at, levels_below, waiters_in, parked_in, ready_in, IsPathIn}
 use Rattle.pif_model.specs.Table.{Table, Cell, cell_at, has_thread, has_mutex, uses_of, status_at, line_at, timer_at}
 use Rattle.pif_model.specs.Calls.{request_at, owner_by, open_call_answer, owner_answer}
-use Rattle.pif_model.specs.Posix.{Health, Call, Mutex, thread_at, variable_of, named_by, is_call_blocked, is_blocked_on, rests}
+use Rattle.pif_model.specs.Posix.{Health, Call, Mutex, thread_at, variable_of, named_by, is_call_blocked, is_blocked_on, rests, waits_for}
 use Rattle.pif_model.specs.Posix.{is_living as lives}
 use Rattle.pif_model.specs.World.Progress.{Stuck}
 use Rattle.pif_model.specs.Projection.{Shadow, health_at, progress_at, call_at, world_of}
 use Rattle.pif_model.specs.Soundness.{Use, use_at, needs, MeetsAll, LineIsSound, IsSound}
-use Rattle.pif_model.specs.Standing.{IsDoing, call_of, owner_of, waiters_of}
+use Rattle.pif_model.specs.Standing.{IsDoing, call_of, owner_of, waiters_of, IsPathFrom}
 use Rattle.pif_model.specs.Deadlines.{with_deadline_if_any}
 use Rattle.pif_model_lemmas.proofs.Numbers.{from_within}
 use Rattle.pif_model_lemmas.proofs.Waiting.{by_test, pairs}
@@ -31,7 +31,7 @@ use Rattle.pif_model_lemmas.proofs.kernel.Orders.{ordered-is_waiter}
 use Rattle.pif_model_simulation.proofs.Hole.{each_thread, each_absent}
 use Rattle.pif_model_simulation.proofs.Shown.{is_thread_seen, mutex_seen, timer_seen, call_seen, call_seen_of, living_seen}
 use Rattle.pif_model_simulation.proofs.Steps.{rests_ready}
-use Rattle.pif_model_simulation.proofs.Effective.{effective_seen}
+use Rattle.pif_model_simulation.proofs.Effective.{waits_seen_but, effective_seen}
 
 -- WHO STANDS IN AN ORDER
 
@@ -201,3 +201,9 @@ module _ {s : Table} (h : IsSound s) (y : Shadow) where
       (if is_ready (status_at s t) then effective_in s.kernel t == on.0 else false)
       (sym (h.kernel.level t on.0) ∙ on.1) in
       runs_ready t added.0 (both (is_ready (status_at s t)) (effective_in s.kernel t == on.0) added.1).0
+
+  -- a living thread has the same path in both machines, and no other thread has one
+  pub path_seen : (t : ℕ) (us : List ℕ) → IsPathIn s.kernel t us → IsPathFrom (world_of s y) t us
+  path_seen t us p =
+      subst (λ b. IsPath (waits_for (world_of s y)) (if b then t else 0) us) (sym (living_seen s y t h.all.shape))
+      (subst (λ f. IsPath f (if is_living s.kernel t then t else 0) us) (waits_seen_but h.all h.kernel y) p)

@@ -1,23 +1,14 @@
 -- What a sound mutex says of its waiters, its owner state and its health, and what a new word leaves of it.
-use Rattle.std.proofs.Common.{◌≡◌, ◌≢◌, ℕ, Bool, true, false, cond, ◌==◌, List, [], ◌∷◌, map, filter, refl, sym, ap, ◌∙◌, if◌then◌else◌, eqb-true, eq-eqb, ap₂}
+use Rattle.std.proofs.Common.{◌≡◌, ◌≢◌, ℕ, Bool, true, false, cond, ◌==◌, List, [], ◌∷◌, map, filter, refl, sym, ap, ◌∙◌, if◌then◌else◌, eq-eqb, ap₂}
 use Rattle.std.proofs.lemmas.Bool.{true≢false, or_parts}
 use Rattle.pif_model.specs.Graph.{has_waiter, first_greatest, next_waiter}
-use Rattle.pif_model.specs.Word.{Word, is_bare}
+use Rattle.pif_model.specs.Word.{Word}
 use Rattle.pif_model.specs.World.Health.{Fine}
 use Rattle.pif_model.specs.Table.{Cell}
 use Rattle.pif_model.specs.Projection.{health_of}
 use Rattle.pif_model.specs.Soundness.{CountIsSound, CellIsSound}
 use Rattle.pif_model_lemmas.proofs.Waiting.{by_test}
 use Rattle.pif_model_simulation.proofs.Kept.{held_once}
-
--- a word that passes the test of a compare-exchange
-pub bare : (w : Word) (t : ℕ) → is_bare w t ≡ true → (w.waiters ≡ false) × (w.number ≡ t)
-bare w t = by_test (λ a. (if a then false else (if w.died then false else w.number == t)) ≡ true
-    → (w.waiters ≡ false) × (w.number ≡ t)) w.waiters
-    (λ e h. absurd (true≢false (sym h)))
-    (λ e. by_test (λ b. (if b then false else w.number == t) ≡ true → (w.waiters ≡ false) × (w.number ≡ t)) w.died
-    (λ d h. absurd (true≢false (sym h)))
-    (λ d h. (e, eqb-true w.number t h)))
 
 -- where the kernel has no owner state, or the word no flag, nobody waits
 module _ {added : ℕ → Bool} {waited : Bool} {c : Cell} (h : CellIsSound added waited c) where

@@ -10,14 +10,14 @@ use Rattle.pif_model.specs.PiKernel.{is_ready, is_living, pick_in}
 use Rattle.pif_model.specs.Table.{Table, cell_at, has_thread, has_mutex, uses_of, status_at}
 use Rattle.pif_model.specs.Projection.{Shadow, mutex_shown, world_of, health_of}
 use Rattle.pif_model.specs.Soundness.{CellIsSound, IsSound}
-use Rattle.pif_model.specs.Standing.{IsPick, IsPossible, IsPossibleHealth, IsPossibleUses, ArePossible}
+use Rattle.pif_model.specs.Standing.{IsPick, IsPossible, IsPossibleHealth, IsPossibleUses}
 use Rattle.pif_model_lemmas.proofs.Waiting.{by_test}
 use Rattle.pif_model_lemmas.proofs.kernel.Picks.{pick_law, pick_some}
 use Rattle.pif_model_lemmas.proofs.kernel.Facts.{living-added, ready-not_ended}
 use Rattle.pif_model_simulation.proofs.Shown.{mutex_seen, variable_seen, living_seen}
 use Rattle.pif_model_simulation.proofs.Effective.{effective_seen}
 use Rattle.pif_model_simulation.proofs.Steps.{rests_ready, rests_not_ready}
-use Rattle.pif_model_simulation.proofs.Healths.{fine-undied, health-unusable, health-inconsistent, unusable-word, inconsistent-word, inconsistent-died}
+use Rattle.pif_model_simulation.proofs.Healths.{fine-undied, health-unusable, health-inconsistent, unusable-word, inconsistent-word}
 
 -- what was added and may run lives
 living-from_ready : (s : Table) (t : ℕ) → has_thread s t ≡ true → is_ready (status_at s t) ≡ true
@@ -106,11 +106,6 @@ module _ {s : Table} (h : IsSound s) (y : Shadow) where
     died_behind_inconsistent e n = by_test (λ b. (cell_at s m).word.died ≡ b → b ≡ true) (cell_at s m).word.died
         (λ _ _. refl)
         (λ _ d. absurd (n (inconsistent-word (cell_at s m).health (cell_at s m).word.died d (sym health ∙ e)))) refl
-
-    -- and so are both together
-    pub both_are_possible : ArePossible (world_of s y) m (cell_at s m).word (cell_at s m).health
-    both_are_possible e z =
-        inconsistent-died (cell_at s m).health (cell_at s m).word.died z (sym health ∙ e)
 
   -- the condition word of a variable is how often it was used
   pub uses_are_possible : (c : ℕ) → IsPossibleUses (world_of s y) c (uses_of s c)

@@ -40,15 +40,6 @@ place_at {A = A} f (suc n) i d h = ap (λ (l : List A). get_or l i d) (map-appen
     go before (inl l) = get_or_append_left (map f (places n)) (f n ∷ []) d i (omega (arith, long)) ∙ before l
     go before (inr m) = let e : n ≡ i = omega arith in get_or_push (map f (places n)) (f n) d i (long ∙ e) ∙ ap f e
 
--- a list is made place by place of what stands in it
-pub by_places : {A : Type 0} (f : ℕ → A) (n : ℕ) (xs : List A) (d : A) → length xs ≡ n
-    → ((i : ℕ) → i < n → f i ≡ get_or xs i d) → map f (places n) ≡ xs
-by_places f n xs d e h = ext_get_or d (map f (places n)) xs (long ∙ sym e)
-    (λ i k. (let k' : i < n = omega (arith, long) in place_at f n i d k' ∙ h i k'))
-  where
-    long : length (map f (places n)) ≡ n
-    long = length-map (places n) f ∙ length-places n
-
 -- two worlds are one where they have the same threads and mutexes, place by place, and the same variables, waiters and
 -- time
 pub same_world : (v w : World) → length v.threads ≡ length w.threads

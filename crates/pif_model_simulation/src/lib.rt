@@ -1,6 +1,10 @@
 //! The proof that each step of the table machine is an entry of the POSIX machine and keeps the invariant, and the laws
 //! over whole histories. The proof is in `proofs/`, and `pif_core` cites it; the functions here do nothing, and state
 //! laws in their contracts.
+//!
+//! `specs/Calls.antt` says what a whole call comes to, as `Core::call` and `Core::finish` make it: its outcome, and the
+//! entries that it adds to a history. `CallLemmas` and `StandingLemmas` say what follows, and that a core stands after
+//! these.
 #![tactic(auto)]
 
 mod laws;

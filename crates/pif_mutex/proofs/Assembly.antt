@@ -4,7 +4,7 @@ use Rattle.pif_types.specs.Bounds.{Bounds}
 use Rattle.pif_types.specs.declared.errors.Errno.{Errno}
 use Rattle.pif_model.specs.declared.lines.Took.{Took}
 use Rattle.pif_model.specs.declared.lines.Took.TheVariants.{Owns as TookOwns, Queued as TookQueued}
-use Rattle.pif_model.specs.Word.{Word, Words, free_word, orphan_word, inherit_word, word_of, word_at, has_word, set_word, set_health_word, set_cond_word}
+use Rattle.pif_model.specs.Word.{Word, Words, free_word, orphan_word, inherit_word, word_of, word_at, has_word, set_word, set_cond_word}
 use Rattle.pif_model.specs.Word.{free_words as words_free}
 use Rattle.pif_model.specs.PiKernel.{Kernel, System, IsKernel, has_seat, seat_at, has_ended, is_living, state_at, next_in, words_after_lock, kernel_after_lock, words_after_try_lock, words_after_unlock, kernel_after_hand_over, kernel_after_unlock, kernel_after_set_prio, kernel_after_stop, kernel_after_expire, kernel_after_wait_requeue, after_requeue, kernel_after_leaving, after_death, after_deaths, after_exit}
 use Rattle.pif_model.specs.RobustList.{Robust, RobustRow, no_robust_row, with_robust, without_robust}
@@ -36,10 +36,6 @@ as_long_twice ws vs us h k =
 -- a write of one word leaves as many
 set_long : (ws : Words) (m : ℕ) (x : Word) → IsAsLong ws (set_word ws m x)
 set_long ws m x = record { mutexes = length-set ws.mutexes m x; healths = refl; conds = refl }
-
--- and so does one of a health word
-set_health_long : (ws : Words) (m h : ℕ) → IsAsLong ws (set_health_word ws m h)
-set_health_long ws m h = record { mutexes = refl; healths = length-set ws.healths m h; conds = refl }
 
 -- and one of a condition word
 set_cond_long : (ws : Words) (c n : ℕ) → IsAsLong ws (set_cond_word ws c n)
@@ -235,16 +231,6 @@ module _ {s : Table} (h : IsAssembled s) where
   pub uses_assembled : (b : Bool) (c n : ℕ) (ws : Words)
       → ws ≡ (if b then set_cond_word s.words c n else s.words) → IsAssembled (record s { words = ws })
   uses_assembled b c n ws = either_assembled b (set_cond_word s.words c n) ws (set_cond_long s.words c n)
-
-  -- after a write of a word
-  pub written_assembled : (m : ℕ) (x : Word) (ws : Words) → ws ≡ set_word s.words m x
-      → IsAssembled (record s { words = ws })
-  written_assembled = exchanged_assembled true
-
-  -- after a write of a health word
-  pub health_assembled : (m x : ℕ) (ws : Words) → ws ≡ set_health_word s.words m x
-      → IsAssembled (record s { words = ws })
-  health_assembled m x ws = either_assembled true (set_health_word s.words m x) ws (set_health_long s.words m x)
 
   -- after lock_pi
   pub lock_assembled : (t m : ℕ) (r : Result Took Errno) (ws : Words) (k : Kernel) → ws ≡ words_after_lock t m r s.words

@@ -15,7 +15,8 @@ impl<K: PiKernel + Drop> State<K> {
     /// A stalled mutex is answered EINVAL with no access. Else loads the word, and who is not the owner is answered
     /// EPERM.
     #[tactic(auto, unfolding(pif_model::specs::Lines::consistent_load))]
-    pub(crate) fn consistent_load(&mut self, t: Tid, m: MutexId) -> Progress
+    pub(crate) fn consistent_load(&mut self, request: Request, t: Tid, m: MutexId) -> Progress
+        requires is { request ≡ Request.Consistent m }
         requires known { has_thread self.old t ≡ true }
         requires mutex { has_mutex self.old m ≡ true }
         ensures { outcome_of result self.new ≡ consistent_load t m self.old }
@@ -23,11 +24,7 @@ impl<K: PiKernel + Drop> State<K> {
         if !self.is_robust(m) {
             self.answer(t, Errno::Invalid.number())
         } else if number(self.word(m)) == t.get() {
-            self.go_on(
-                Request::Consistent(m),
-                Place::Repair(RepairStep::CheckHealth),
-                t,
-            )
+            self.go_on(request, Place::Repair(RepairStep::CheckHealth), t)
         } else {
             self.answer(t, Errno::NotPermitted.number())
         }
@@ -35,17 +32,14 @@ impl<K: PiKernel + Drop> State<K> {
 
     /// Loads the health word. A mutex that is not inconsistent is answered EINVAL.
     #[tactic(auto, unfolding(pif_model::specs::Lines::consistent_health))]
-    pub(crate) fn consistent_health(&mut self, t: Tid, m: MutexId) -> Progress
+    pub(crate) fn consistent_health(&mut self, request: Request, t: Tid, m: MutexId) -> Progress
+        requires is { request ≡ Request.Consistent m }
         requires known { has_thread self.old t ≡ true }
         requires mutex { has_mutex self.old m ≡ true }
         ensures { outcome_of result self.new ≡ consistent_health t m self.old }
     {
         if self.health(m) == INCONSISTENT {
-            self.go_on(
-                Request::Consistent(m),
-                Place::Repair(RepairStep::StoreFine),
-                t,
-            )
+            self.go_on(request, Place::Repair(RepairStep::StoreFine), t)
         } else {
             self.answer(t, Errno::Invalid.number())
         }

@@ -55,7 +55,8 @@
 //! the kernel calls; `deadlines` what a request is without its deadline, and which calls are due; `kinds` what a lock by
 //! the owner does; `end` the end of a thread; and `step` which line a step is.
 //! All are methods of `State`, which keeps only that the parts fit together; `Parts` keeps besides that they are sound,
-//! by which each open call may take its next step.
+//! by which each open call may take its next step. `lines` has the trait by which `Parts` lend their state to one
+//! line, of this crate or of pif_cond.
 #![tactic(auto)]
 
 mod consistent;
@@ -64,6 +65,7 @@ mod end;
 mod giving;
 mod kernel;
 mod kinds;
+mod lines;
 mod linking;
 mod lists;
 mod lock;
@@ -79,6 +81,7 @@ mod try_lock;
 mod unlock;
 
 pub use deadlines::told;
+pub use lines::{Lines, MutexLines};
 pub use parts::{Parts, advance, advance_at};
 pub use progress::Progress;
 pub use state::State;

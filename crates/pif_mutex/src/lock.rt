@@ -1,14 +1,15 @@
 ghost use Rattle.std.specs.Prelude.{◌≡◌, true, false};
 ghost use Rattle.pif_model.specs.PiKernel.{is_living, is_ready};
 ghost use Rattle.pif_model.specs.Table.{has_thread, has_mutex, status_at};
-ghost use Rattle.pif_model.specs.Lines.{lock_load, lock_kernel, lock_queued, lock_stop, expires_at};
+ghost use Rattle.pif_model.specs.Lines.{lock_load, lock_kernel, lock_queued, lock_stop, ends_by, expired_in, go_outcome};
+ghost use Rattle.pif_model.specs.NamedNumbers.{ETIMEDOUT};
 ghost use Rattle.pif_mutex.specs.Outcomes.{outcome_of};
 
 use crate::kinds::relock_of;
 use crate::progress::Progress;
 use crate::state::State;
 use pif_kernel_calls::PiKernel;
-use pif_model::{Footing, Place, Relock, Status, TakeStep, Took};
+use pif_model::{Footing, Line, Place, Relock, Status, TakeStep, Took};
 use pif_types::{Errno, MutexId, Request, Tid};
 use pif_word::number;
 
@@ -79,25 +80,57 @@ impl<K: PiKernel + Drop> State<K> {
         }
     }
 
-    /// The deadline of a lock that is queued or stopped is reached: the kernel call expire. A stalled mutex is answered
-    /// ETIMEDOUT, and of a robust one the pending field is cleared next.
-    #[cold]
+    /// A lock that is queued, or was handed the mutex: where it is due it expires, else it goes on as it was queued.
     #[inline(never)]
-    #[tactic(auto, unfolding(pif_model::specs::Lines::expires_at, pif_model::specs::Lines::expired_in), using(pif_model_simulation::proofs::events::KernelLeaves::expire_keeps_threads))]
-    pub(crate) fn lock_expire(&mut self, place: Place, t: Tid, m: MutexId) -> Progress
+    #[tactic(auto, using(crate::proofs::Locking::due_lock_goes))]
+    pub(crate) fn lock_stay_queued(&mut self, request: Request, t: Tid, m: MutexId) -> Progress
+        requires is { request ≡ Request.Lock m }
+        requires known { has_thread self.old t ≡ true }
+        requires mutex { has_mutex self.old m ≡ true }
+        requires living { is_living self.old.kernel t ≡ true }
+        ensures { outcome_of result self.new ≡ go_outcome (Line.At (Request.Lock m) Place.StayQueued) t self.old }
+    {
+        if self.is_due_at(&request, &Place::StayQueued, t) {
+            self.lock_expire(request, Footing::Unowned, t, m)
+        } else {
+            self.lock_queued(request, t, m)
+        }
+    }
+
+    /// A lock that has stopped for good: where it is due it expires, else it waits.
+    #[inline(never)]
+    #[tactic(auto, using(crate::proofs::Locking::due_lock_goes))]
+    pub(crate) fn lock_stay_stopped(&mut self, request: Request, t: Tid, m: MutexId) -> Progress
+        requires is { request ≡ Request.Lock m }
         requires known { has_thread self.old t ≡ true }
         requires mutex { has_mutex self.old m ≡ true }
         requires living { is_living self.old.kernel t ≡ true }
         requires unready { is_ready (status_at self.old t) ≡ false }
-        ensures { outcome_of result self.new ≡ expires_at (Request.Lock m) place t self.old }
+        ensures { outcome_of result self.new ≡ go_outcome (Line.At (Request.Lock m) Place.StayStopped) t self.old }
+    {
+        if self.is_due_at(&request, &Place::StayStopped, t) {
+            self.lock_expire(request, Footing::HadStopped, t, m)
+        } else {
+            Progress::Waits
+        }
+    }
+
+    /// The deadline of a lock that is queued or stopped is reached: the kernel call expire. A stalled mutex is answered
+    /// ETIMEDOUT, and of a robust one the pending field is cleared next, on this footing.
+    #[cold]
+    #[inline(never)]
+    #[tactic(auto, unfolding(pif_model::specs::Lines::expired_in), using(pif_model_simulation::proofs::events::KernelLeaves::expire_keeps_threads))]
+    fn lock_expire(&mut self, request: Request, footing: Footing, t: Tid, m: MutexId) -> Progress
+        requires known { has_thread self.old t ≡ true }
+        requires mutex { has_mutex self.old m ≡ true }
+        requires living { is_living self.old.kernel t ≡ true }
+        requires unready { is_ready (status_at self.old t) ≡ false }
+        ensures { outcome_of result self.new
+            ≡ ends_by t request m (Place.Clear footing ETIMEDOUT) ETIMEDOUT (expired_in t self.old) }
     {
         let answer = Errno::TimedOut.number();
-        let expired = match place {
-            Place::StayQueued => Place::Clear(Footing::Unowned, answer),
-            _ => Place::Clear(Footing::HadStopped, answer),
-        };
         self.expire(t);
-        self.end_by(Request::Lock(m), m, expired, answer, t)
+        self.end_by(request, m, Place::Clear(footing, answer), answer, t)
     }
 
     /// Stops for good.

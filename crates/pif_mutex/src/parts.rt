@@ -5,13 +5,15 @@ ghost use Rattle.pif_model.specs.PiKernel.{IsKernel, new_kernel, is_living, is_r
 ghost use Rattle.pif_model.specs.Table.{new_table, line_at, timer_at, cell_at, status_at, has_thread, has_mutex, has_thread_room, has_mutex_room, has_cond_room, thread_added, mutex_added, cond_added};
 ghost use Rattle.pif_model.specs.Lines.{go_outcome, is_open, first_place, begun_table, is_due_in, table_refusal, ended_table};
 ghost use Rattle.pif_model.specs.Deadlines.{with_deadline_if_any};
-ghost use Rattle.pif_model.specs.Calls.{request_at, effective_answer, base_answer, owner_answer, kind_answer, bound_answer, waiter_answer, parked_answer, ready_answer, word_answer, health_answer, cond_word_answer, pick_answer};
+ghost use Rattle.pif_model.specs.Calls.{request_at, effective_answer, base_answer, owner_answer, kind_answer, bound_answer, waiter_answer, parked_answer, ready_answer, IsPathAnswer, word_answer, health_answer, cond_word_answer, pick_answer};
 ghost use Rattle.pif_mutex.specs.Outcomes.{outcome_of};
 ghost use Rattle.pif_mutex.specs.Mutexes.{is_of_mutexes};
 
 use crate::deadlines::{plain, timer_of, with_deadline_if_any};
+use crate::lines::{Lines, MutexLines};
 use crate::progress::Progress;
 use crate::state::State;
+use arrayvec::ArrayVec;
 use pif_kernel_calls::PiKernel;
 use pif_model::{Event, Line, Place, Status, WakeStep};
 use pif_types::{CondId, Health, Kind, Limits, MutexId, NoMemory, Prio, Request, Tid};
@@ -24,9 +26,7 @@ use std::marker::Model;
 /// time. Only `new` takes memory.
 #[derive(Drop)]
 pub struct Parts<K: PiKernel + Drop> {
-    /// The parts between two accesses of an event, where they are sound. Whoever changes them leaves them sound, which
-    /// the invariant of this type asks.
-    pub state: State<K>,
+    state: State<K>,
 }
 
 impl<K: PiKernel + Drop> Model for Parts<K> {
@@ -301,6 +301,14 @@ impl<K: PiKernel + Drop> Parts<K> {
         self.state.kernel.ready(place)
     }
 
+    /// The threads from a living one on along whom each waits for, in order: the thread, the owner of the mutex on which
+    /// it is queued, and so on, up to the one that waits for nobody. None where no living thread has that number.
+    pub fn path(&self, t: Tid) -> ArrayVec<Tid, 1024>
+        ensures { IsPathAnswer t self.now result.items }
+    {
+        self.state.kernel.path(t)
+    }
+
     /// The 32 bits of the word of a mutex. `None` where it was never added.
     pub fn word(&self, m: MutexId) -> Option<u32>
         ensures value { result ≡ word_answer m self.now }
@@ -343,6 +351,20 @@ impl<K: PiKernel + Drop> Parts<K> {
         ensures { result ≡ pick_answer self.now }
     {
         self.state.pick()
+    }
+
+    /// A thread takes one line, which is one of `L`: it lives, and stands at this place of its open call, which is this
+    /// request. Whoever owns a mutex after the line and did not before holds it once.
+    #[inline(always)]
+    pub fn take<L: Lines>(&mut self, request: Request, place: Place, t: Tid) -> Progress
+        requires living { is_living self.old.kernel t ≡ true }
+        requires line { line_at self.old t ≡ Line.At request place }
+        requires included { L.include (line_at self.old t) ≡ true }
+        ensures line { outcome_of result self.new ≡ go_outcome (line_at self.old t) t self.old }
+        ensures once { (m : ℕ) → (cell_at self.new m).word.number ≢ (cell_at self.old m).word.number
+            → (cell_at self.new m).word.number ≢ 0 → (cell_at self.new m).count ≡ 1 }
+    {
+        L::take(&mut self.state, request, place, t)
     }
 }
 
@@ -391,5 +413,5 @@ pub fn advance_at<K: PiKernel + Drop>(
     ensures once { (m : ℕ) → (cell_at parts.new m).word.number ≢ (cell_at parts.old m).word.number
         → (cell_at parts.new m).word.number ≢ 0 → (cell_at parts.new m).count ≡ 1 }
 {
-    parts.state.go(request, place, t)
+    parts.take::<MutexLines>(request, place, t)
 }

@@ -1,12 +1,12 @@
-ghost use Rattle.std.specs.Prelude.{◌≡◌, true, false};
+ghost use Rattle.std.specs.Prelude.{ℕ, ◌≡◌, true, false};
 ghost use Rattle.pif_model.specs.PiKernel.{is_living, is_ready};
 ghost use Rattle.pif_model.specs.RobustList.{robust_at, is_listed, IsUnlisted, IsHalfLinkedByNoOther};
 ghost use Rattle.pif_model.specs.Soundness.{is_half_linked};
 ghost use Rattle.pif_model.specs.Table.{has_thread, has_mutex, status_at};
-ghost use Rattle.pif_model.specs.Lines.{line_of, locking_line, shared_line, giving_line, take_line, give_line, counts_at, expires_at, go_outcome};
+ghost use Rattle.pif_model.specs.Lines.{line_of, locking_line, shared_line, giving_line, take_line, give_line, go_outcome};
 ghost use Rattle.pif_mutex.specs.Outcomes.{outcome_of};
 ghost use Rattle.pif_model_simulation.specs.Steppable.{CallMayStep, may_wait_at, is_link_next, is_unlink_step, is_unlink};
-ghost use Rattle.pif_mutex.specs.Mutexes.{is_of_mutexes};
+ghost use Rattle.pif_mutex.specs.Mutexes.{is_of_mutexes, is_on_mutex};
 
 use crate::deadlines::told;
 use crate::progress::Progress;
@@ -15,86 +15,25 @@ use pif_kernel_calls::PiKernel;
 use pif_model::{GiveStep, Line, LinkStep, Place, Purpose, RepairStep, TakeStep};
 use pif_types::{Errno, MutexId, Request, Tid};
 
-/// Whether a thread may wait at this place of its call: queued, parked, or stopped for good.
-#[inline(always)]
-fn may_wait_at(place: &Place) -> bool
-    ensures { result ≡ may_wait_at place.now }
-{
-    matches!(
-        place,
-        Place::StayQueued | Place::StayStopped | Place::StayParked
-    )
-}
-
 /// Which line a step is, by request and place. The lines of a mutex that nobody waits for are inlined here. Each other
 /// line is a function of its own, so that its locals cost the common ones nothing.
 impl<K: PiKernel + Drop> State<K> {
-    /// One step of the open call of `t`, which is this request at this place: one on mutexes. A call that is due expires,
-    /// and does nothing else. A lock that doesn't wait, and an unlock, are never due.
+    /// One step of the open call of `t`, which is this request at this place: one on mutexes. A call that is due
+    /// expires, and does nothing else.
     #[inline(always)]
-    #[tactic(auto, using(crate::proofs::Locking::lock_goes, crate::proofs::Locking::unlock_goes))]
-    pub(crate) fn go(&mut self, request: Request, place: Place, t: Tid) -> Progress
+    #[tactic(auto, using(crate::proofs::Locking::unlock_goes, crate::proofs::Locking::try_lock_goes, crate::proofs::Locking::consistent_goes, crate::proofs::Locking::set_prio_goes, crate::proofs::Locking::timed_lock_goes, crate::proofs::Locking::timed_wait_goes))]
+    pub fn go(&mut self, request: Request, place: Place, t: Tid) -> Progress
         requires living { is_living self.old.kernel t ≡ true }
         requires call { CallMayStep self.old t request place }
         requires mutexes { is_of_mutexes (Line.At request place) ≡ true }
         ensures { outcome_of result self.new ≡ go_outcome (Line.At request place) t self.old }
     {
         match request {
-            Request::Lock(m) if !may_wait_at(&place) => self.lock_step(place, t, m),
-            Request::Unlock(m) => self.unlock_step(place, t, m),
-            _ => self.go_timed(request, place, t),
-        }
-    }
-
-    /// The same for a call that may be due.
-    #[inline(never)]
-    #[tactic(auto, unfolding(pif_model::specs::Lines::go_outcome))]
-    fn go_timed(&mut self, request: Request, place: Place, t: Tid) -> Progress
-        requires living { is_living self.old.kernel t ≡ true }
-        requires call { CallMayStep self.old t request place }
-        requires mutexes { is_of_mutexes (Line.At request place) ≡ true }
-        ensures { outcome_of result self.new ≡ go_outcome (Line.At request place) t self.old }
-    {
-        if self.is_due_at(&request, &place, t) {
-            self.expire_at(request, place, t)
-        } else {
-            let expired = self.timer(t).expired;
-            let progress = self.step(request, place, t);
-            told(&request, expired, progress)
-        }
-    }
-
-    /// The expiry of the open call of `t`, which is this request at this place, where its deadline counts: a lock.
-    #[cold]
-    #[inline(never)]
-    #[tactic(auto, using(crate::proofs::Locking::due_locks))]
-    fn expire_at(&mut self, request: Request, place: Place, t: Tid) -> Progress
-        requires living { is_living self.old.kernel t ≡ true }
-        requires call { CallMayStep self.old t request place }
-        requires mutexes { is_of_mutexes (Line.At request place) ≡ true }
-        requires counts { counts_at request place (status_at self.old t) ≡ true }
-        ensures { outcome_of result self.new ≡ expires_at request place t self.old }
-    {
-        match request {
-            Request::Lock(m) => self.lock_expire(place, t, m),
-            _ => unreachable!(),
-        }
-    }
-
-    /// The line of the open call of `t`, which is this request at this place: one on mutexes.
-    #[tactic(auto, unfolding(pif_model::specs::Lines::line_of), using(crate::proofs::Locking::wait_locks))]
-    fn step(&mut self, request: Request, place: Place, t: Tid) -> Progress
-        requires known { has_thread self.old t ≡ true }
-        requires call { CallMayStep self.old t request place }
-        requires mutexes { is_of_mutexes (Line.At request place) ≡ true }
-        ensures { outcome_of result self.new ≡ line_of request place t self.old }
-    {
-        match request {
-            Request::Lock(m) => self.lock_step(place, t, m),
-            Request::TryLock(m) => self.try_lock_step(place, t, m),
-            Request::Unlock(m) => self.unlock_step(place, t, m),
-            Request::Consistent(m) => self.consistent_step(place, t, m),
-            Request::Wait(_, m) => self.locking_step(request, place, t, m),
+            Request::Lock(m) => self.lock_step(request, place, t, m),
+            Request::TryLock(m) => self.try_lock_step(request, place, t, m),
+            Request::Unlock(m) => self.unlock_step(request, place, t, m),
+            Request::Consistent(m) => self.consistent_step(request, place, t, m),
+            Request::Wait(_, m) => self.wait_step(request, place, t, m),
             Request::Signal(_) | Request::Broadcast(_) => unreachable!(),
             Request::SetPrio(other, prio) => self.set_prio_step(place, t, other, prio),
             // A begun call has no deadline in its request.
@@ -104,20 +43,36 @@ impl<K: PiKernel + Drop> State<K> {
         }
     }
 
-    /// One step of a lock.
+    /// One step of a lock, or its expiry, if it is due. It is due only where it waits.
     #[inline(always)]
-    #[tactic(auto, unfolding(pif_model::specs::Lines::line_of))]
-    fn lock_step(&mut self, place: Place, t: Tid, m: MutexId) -> Progress
-        requires known { has_thread self.old t ≡ true }
+    #[tactic(auto, unfolding(pif_model::specs::Lines::line_of), using(crate::proofs::Locking::lock_goes))]
+    fn lock_step(&mut self, request: Request, place: Place, t: Tid, m: MutexId) -> Progress
+        requires is { request ≡ Request.Lock m }
+        requires living { is_living self.old.kernel t ≡ true }
         requires call { CallMayStep self.old t (Request.Lock m) place }
-        ensures { outcome_of result self.new ≡ line_of (Request.Lock m) place t self.old }
+        ensures { outcome_of result self.new ≡ go_outcome (Line.At (Request.Lock m) place) t self.old }
     {
-        let request = Request::Lock(m);
         match place {
             Place::Load => self.lock_load(request, t, m),
             Place::NamePending => self.name_pending(request, Place::Exchange, t, m),
+            Place::StayQueued => self.lock_stay_queued(request, t, m),
+            Place::StayStopped => self.lock_stay_stopped(request, t, m),
             _ => self.locking_step(request, place, t, m),
         }
+    }
+
+    /// One step of a wait on its mutex. Once it has expired it is answered ETIMEDOUT in place of 0.
+    #[inline(never)]
+    fn wait_step(&mut self, request: Request, place: Place, t: Tid, m: MutexId) -> Progress
+        requires is { (c : ℕ) × (request ≡ Request.Wait c m) }
+        requires known { has_thread self.old t ≡ true }
+        requires call { CallMayStep self.old t request place }
+        requires mutexes { is_on_mutex place ≡ true }
+        ensures { outcome_of result self.new ≡ go_outcome (Line.At request place) t self.old }
+    {
+        let expired = self.timer(t).expired;
+        let progress = self.locking_step(request, place, t, m);
+        told(&request, expired, progress)
     }
 
     /// One step of a request that may queue for `m`: of a lock from the exchange on, or of a wait.
@@ -143,17 +98,18 @@ impl<K: PiKernel + Drop> State<K> {
     }
 
     /// One step of a trylock.
+    #[inline(never)]
     #[tactic(auto, unfolding(pif_model::specs::Lines::line_of))]
-    fn try_lock_step(&mut self, place: Place, t: Tid, m: MutexId) -> Progress
+    fn try_lock_step(&mut self, request: Request, place: Place, t: Tid, m: MutexId) -> Progress
+        requires is { request ≡ Request.TryLock m }
         requires known { has_thread self.old t ≡ true }
         requires call { CallMayStep self.old t (Request.TryLock m) place }
         ensures { outcome_of result self.new ≡ line_of (Request.TryLock m) place t self.old }
     {
-        let request = Request::TryLock(m);
         match place {
-            Place::Load => self.try_load(t, m),
+            Place::Load => self.try_load(request, t, m),
             Place::NamePending => self.name_pending(request, Place::Exchange, t, m),
-            Place::CallKernel => self.try_kernel(t, m),
+            Place::CallKernel => self.try_kernel(request, t, m),
             _ => self.shared_step(request, place, t, m),
         }
     }
@@ -259,14 +215,15 @@ impl<K: PiKernel + Drop> State<K> {
     /// One step of an unlock.
     #[inline(always)]
     #[tactic(auto, unfolding(pif_model::specs::Lines::line_of))]
-    fn unlock_step(&mut self, place: Place, t: Tid, m: MutexId) -> Progress
+    fn unlock_step(&mut self, request: Request, place: Place, t: Tid, m: MutexId) -> Progress
+        requires is { request ≡ Request.Unlock m }
         requires known { has_thread self.old t ≡ true }
         requires call { CallMayStep self.old t (Request.Unlock m) place }
         ensures { outcome_of result self.new ≡ line_of (Request.Unlock m) place t self.old }
     {
         match place {
-            Place::Load => self.unlock_load(t, m),
-            _ => self.giving_step(Request::Unlock(m), place, t, m),
+            Place::Load => self.unlock_load(request, t, m),
+            _ => self.giving_step(request, place, t, m),
         }
     }
 
@@ -274,14 +231,15 @@ impl<K: PiKernel + Drop> State<K> {
     #[cold]
     #[inline(never)]
     #[tactic(auto, unfolding(pif_model::specs::Lines::line_of, pif_model::specs::Lines::repair_line))]
-    fn consistent_step(&mut self, place: Place, t: Tid, m: MutexId) -> Progress
+    fn consistent_step(&mut self, request: Request, place: Place, t: Tid, m: MutexId) -> Progress
+        requires is { request ≡ Request.Consistent m }
         requires known { has_thread self.old t ≡ true }
         requires call { CallMayStep self.old t (Request.Consistent m) place }
         ensures { outcome_of result self.new ≡ line_of (Request.Consistent m) place t self.old }
     {
         match place {
-            Place::Load => self.consistent_load(t, m),
-            Place::Repair(RepairStep::CheckHealth) => self.consistent_health(t, m),
+            Place::Load => self.consistent_load(request, t, m),
+            Place::Repair(RepairStep::CheckHealth) => self.consistent_health(request, t, m),
             Place::Repair(RepairStep::StoreFine) => self.consistent_store(t, m),
             _ => self.answer(t, Errno::Invalid.number()),
         }

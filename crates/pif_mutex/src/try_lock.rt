@@ -16,19 +16,14 @@ use pif_word::number;
 impl<K: PiKernel + Drop> State<K> {
     /// Loads the word. The owner holds the mutex once more, if a lock by it counts, and else is answered EBUSY.
     #[tactic(auto, unfolding(pif_model::specs::Lines::try_load))]
-    pub(crate) fn try_load(&mut self, t: Tid, m: MutexId) -> Progress
+    pub(crate) fn try_load(&mut self, request: Request, t: Tid, m: MutexId) -> Progress
+        requires is { request ≡ Request.TryLock m }
         requires known { has_thread self.old t ≡ true }
         requires mutex { has_mutex self.old m ≡ true }
         ensures { outcome_of result self.new ≡ try_load t m self.old }
     {
         if number(self.word(m)) != t.get() {
-            return self.go_by(
-                Request::TryLock(m),
-                m,
-                Place::NamePending,
-                Place::Exchange,
-                t,
-            );
+            return self.go_by(request, m, Place::NamePending, Place::Exchange, t);
         }
         match relock_of(self.kind(m)) {
             Relock::Counts => self.lock_again(t, m),
@@ -41,13 +36,13 @@ impl<K: PiKernel + Drop> State<K> {
     #[cold]
     #[inline(never)]
     #[tactic(auto, unfolding(pif_model::specs::Lines::try_kernel, pif_model::specs::Lines::try_by))]
-    pub(crate) fn try_kernel(&mut self, t: Tid, m: MutexId) -> Progress
+    pub(crate) fn try_kernel(&mut self, request: Request, t: Tid, m: MutexId) -> Progress
+        requires is { request ≡ Request.TryLock m }
         requires known { has_thread self.old t ≡ true }
         requires mutex { has_mutex self.old m ≡ true }
         requires ready { is_ready (status_at self.old t) ≡ true }
         ensures { outcome_of result self.new ≡ try_kernel t m self.old }
     {
-        let request = Request::TryLock(m);
         match self.trylock_pi(t, m) {
             Ok(()) => self.end_by(request, m, Place::Take(TakeStep::LoadWord), 0, t),
             Err(Errno::Again) => {

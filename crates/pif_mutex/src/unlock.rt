@@ -16,7 +16,8 @@ impl<K: PiKernel + Drop> State<K> {
     /// less.
     #[inline(always)]
     #[tactic(auto, unfolding(pif_model::specs::Lines::unlock_load))]
-    pub(crate) fn unlock_load(&mut self, t: Tid, m: MutexId) -> Progress
+    pub(crate) fn unlock_load(&mut self, request: Request, t: Tid, m: MutexId) -> Progress
+        requires is { request ≡ Request.Unlock m }
         requires known { has_thread self.old t ≡ true }
         requires mutex { has_mutex self.old m ≡ true }
         ensures { outcome_of result self.new ≡ unlock_load t m self.old }
@@ -30,7 +31,7 @@ impl<K: PiKernel + Drop> State<K> {
             self.answer(t, 0)
         } else {
             self.go_by(
-                Request::Unlock(m),
+                request,
                 m,
                 Place::Give(GiveStep::SetPending, Purpose::ToUnlock),
                 Place::Give(GiveStep::Release, Purpose::ToUnlock),

@@ -9,7 +9,7 @@ use Rattle.std.specs.Option.{is_some}
 use Rattle.pif_nodes_model.specs.Lists.{has, first_of, last_or, last_of, put_after, insert_after, list_without, HasNoRepeats}
 use Rattle.pif_nodes_model.specs.Table.{NodeLists, list_at, holder, with_list, IsApart}
 use Rattle.pif_nodes_model.proofs.ListLemmas.{has-head, has-append, last_some, last_split, first_of-has, put_after-split, HasNoRepeats-taken, without_absent}
-use Rattle.pif_nodes_model.specs.Levels.{Queue, IsLevel, list_for, node_for, thread_for, IsThreadNode, level_of, Holds, IsQueued, IsOnLevel, IsFirstOfGreatest, level_after_add, level_after_move, SameOutside}
+use Rattle.pif_nodes_model.specs.Levels.{Queue, IsLevel, list_for, node_for, thread_for, IsThreadNode, level_of, Holds, IsQueued, IsOnLevel, IsFirstOfGreatest, level_after_add, level_after_move}
 use Rattle.pif_nodes_model.specs.Masks.{ChangesBit, IsGreatestBit}
 
 -- whether a node is that of u is whether its thread is u
@@ -74,16 +74,6 @@ list_at-changed q t r xs lr fits = get_or-set_same t.lists (list_for q r) xs [] 
 
 pub list_at-other : (q : Queue) (t : NodeLists) (r p : ℕ) (xs : List ℕ) → IsLevel r → IsLevel p → (p ≡ r → ⊥) → list_at (with_list t (list_for q r) xs) (list_for q p) ≡ list_at t (list_for q p)
 list_at-other q t r p xs lr lp ne = get_or-set_other t.lists (list_for q r) (list_for q p) xs [] (λ e. ne (same_level q p r lp lr e))
-
--- outside the levels nothing changes with the list of a level
-pub SameOutside-changed : (q : Queue) (t : NodeLists) (r : ℕ) (xs : List ℕ) → IsLevel r → SameOutside q t (with_list t (list_for q r) xs)
-SameOutside-changed q t r xs lr =
-    record {
-      before = λ l h. get_or-set_other t.lists (list_for q r) l xs [] (λ e. omega arith);
-      behind = λ l h. get_or-set_other t.lists (list_for q r) l xs [] (λ e. omega arith);
-      count = length-set t.lists (list_for q r) xs;
-      keys = refl;
-    }
 
 -- where the list of a level becomes xs, and the bit of the level says whether that has a node, the queue stands
 Holds-masked : (q : Queue) (m : ℕ) (t : NodeLists) (r bit : ℕ) (xs : List ℕ) → Holds q t → IsLevel r → ChangesBit q.mask m r bit →
@@ -257,11 +247,6 @@ bit_stands q t u p holds stands =
           omega (arith, some, bit_at-lt q.mask p);
       others = λ j ne. refl;
     }
-
--- a list with no first number is empty, and no other
-pub empty_by_first : (xs : List ℕ) (first : Option ℕ) → first ≡ first_of xs → is_some first ≡ false → xs ≡ []
-empty_by_first [] first e none = refl
-empty_by_first (x ∷ xs) first e none = let found : is_some first ≡ true = ap is_some e in absurd cc
 
 pub some_by_first : (xs : List ℕ) (first : Option ℕ) → first ≡ first_of xs → is_some first ≡ true → xs ≡ [] → ⊥
 some_by_first [] first e some none = let missing : is_some first ≡ false = ap is_some e in cc

@@ -36,9 +36,6 @@ left-split : (front back : List ℕ) → HasNoRepeats (front ++ back) → left (
 left-split front [] once = refl
 left-split front (y ∷ ys) once = let free = HasNoRepeats-taken front ys y once in count_from-split front ys y free.1 ∙ add-one (length ys)
 
-pub walk_start : (keys : List Key) (k : Key) (xs : List ℕ) (next : Option ℕ) → next ≡ first_of xs → IsWalked keys k xs None next
-walk_start keys k xs next to = record { front = []; back = xs; parts = refl; at = refl; to = to; before = λ m in'. absurd cc }
-
 -- what stands behind the walk: a node, and what follows it
 behind_walk : (n : ℕ) (back : List ℕ) → Some n ≡ first_of back → (rest : List ℕ) × (back ≡ n ∷ rest)
 behind_walk n [] h = absurd cc
@@ -84,28 +81,6 @@ module _ (keys : List Key) (k : Key) (xs : List ℕ) (place : Option ℕ) (n : �
       let here : left (Some n) xs ≡ length (n ∷ rest) = ap (count_from n) parts ∙ left-split walked.front (n ∷ rest) (subst HasNoRepeats parts once) in
       let there : left next xs ≡ length rest = (λ i. left ((to ∙ next_is once) i) (longer i)) ∙ left-split (walked.front ++ n ∷ []) rest (subst HasNoRepeats longer once) in
       omega (arith, here, there)
-
-  -- at a node that comes later
-  pub walk_found : comes_before k (key_in keys n) ≡ true → IsPlace keys k xs place
-  walk_found later = record {
-    front = walked.front;
-    back = walked.back;
-    parts = walked.parts;
-    at = walked.at;
-    before = walked.before;
-    behind = λ m h. let same : m ≡ n = cc (walked.to, h) in ap (λ z. comes_before k (key_in keys z)) same ∙ later;
-  }
-
--- at the end of the list
-pub walk_end : (keys : List Key) (k : Key) (xs : List ℕ) (place : Option ℕ) → IsWalked keys k xs place None → IsPlace keys k xs place
-walk_end keys k xs place walked = record {
-  front = walked.front;
-  back = walked.back;
-  parts = walked.parts;
-  at = walked.at;
-  before = walked.before;
-  behind = λ m h. let wrong : None ≡ Some m = walked.to ∙ h in absurd cc;
-}
 
 -- the last node of a sorted list is the place, where it comes no later
 pub place_at_end : (keys : List Key) (k : Key) (xs : List ℕ) (p : ℕ) → IsInOrder keys xs → last_of xs ≡ Some p → comes_before k (key_in keys p) ≡ false → IsPlace keys k xs (Some p)

@@ -4,7 +4,7 @@ use Rattle.pif_nodes_model.specs.Table.{NodeLists}
 use Rattle.pif_nodes_model.specs.Levels.{Queue, Holds, level_of}
 use Rattle.pif_kernel_model.specs.Owners.{Owners}
 use Rattle.pif_plain.specs.Rows.{PlainRows}
-use Rattle.pif_kernel_state.specs.Chained.{Chained, KeepsLevels}
+use Rattle.pif_kernel_model.specs.Chained.{Chained, KeepsLevels}
 
 pub kept_chains : (v w : Owners) (q : Queue) (t : NodeLists) (r : PlainRows) (was : Chained)
     → record { owners = v; queue = q; table = t; keys = r.keys; parked = r.parked } ≡ was → Holds q t

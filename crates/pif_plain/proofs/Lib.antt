@@ -4,3 +4,4 @@ pub mod BehindLemmas
 pub mod Propagation
 pub mod KeptChains
 pub mod RowLemmas
+pub mod PriorityLemmas

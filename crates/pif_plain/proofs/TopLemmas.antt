@@ -18,15 +18,6 @@ standing-from v k t rank w r = by_wait (task_at v t).wait w r
         let test : eqb x.state k ≡ true = eq-eqb x.state k same in
         ap (λ b. cond b (Some x.rank) None) test ∙ q
 
--- who waits on a state stands there with some rank
-standing-waits : (v : Owners) (k t : ℕ) → waits_on v t ≡ Some k → (rank : Key) × (rank_of v t ≡ Some rank)
-standing-waits v k t w = by_wait (task_at v t).wait w
-  where
-    by_wait : (o : Option Wait) → option_map (λ (w : Wait). w.state) o ≡ Some k
-        → (rank : Key) × (option_map (λ (w : Wait). w.rank) o ≡ Some rank)
-    by_wait None p = absurd (cc)
-    by_wait (Some x) p = (x.rank, refl)
-
 -- and back
 pub standing-some : (v : Owners) (k t : ℕ) → IsSome (standing v k t) → (waits_on v t ≡ Some k) × ((rank : Key) × (rank_of v t ≡ Some rank))
 standing-some v k t h = by_wait (task_at v t).wait h

@@ -3,8 +3,8 @@ use Rattle.std.specs.Prelude.{◌≡◌, ◌≢◌, ℕ, ◌≤◌, eqb, true, L
 use Rattle.std.specs.List.{IsDistinct}
 use Rattle.std.specs.Coded.{Coded, code_by, coded×, coded_ℕ, coded_list, coded_option}
 use Rattle.pif_model.specs.PiKernel.{Parking, parked_pairs}
-use Rattle.pif_kernel_state.specs.Codes.{parking_code}
-use Rattle.pif_kernel_state.specs.Tickets.{is_named}
+use Rattle.pif_kernel_model.specs.Codes.{parking_code}
+use Rattle.pif_kernel_model.specs.Tickets.{is_named}
 
 pub record PlainRows : Type 0 where
   -- for how many parked threads there is room

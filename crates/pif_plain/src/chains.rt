@@ -2,8 +2,10 @@ ghost use Rattle.std.specs.Prelude.{◌≡◌};
 
 use crate::chain_walk::walk;
 use crate::cycles::would_close;
+use crate::paths::path;
 use crate::plain_rows::{Priorities, Rows};
 use crate::rt_mutexes::RtMutexes;
+use arrayvec::ArrayVec;
 use pif_kernel::{Chains, KernelOn};
 use pif_kernel_model::Key;
 use pif_nodes::NodeTable;
@@ -30,7 +32,7 @@ pub type PlainKernel = KernelOn<PlainChains>;
 impl Model for PlainChains {
     ghost use Rattle.std.specs.Prelude.{◌≤◌, ◌+◌, length};
     ghost use Rattle.pif_nodes_model.specs.Levels.{Holds};
-    ghost use Rattle.pif_kernel_state.specs.Chained.{Chained, chained_code};
+    ghost use Rattle.pif_kernel_model.specs.Chained.{Chained, chained_code};
 
     ghost Value = { Chained };
 
@@ -177,5 +179,9 @@ impl Chains for PlainChains {
 
     fn would_close(&self, t: Tid, owner: Tid) -> bool {
         would_close(&self.owners, t, owner)
+    }
+
+    fn path(&self, start: Tid) -> ArrayVec<Tid, 1024> {
+        path(&self.owners, start)
     }
 }

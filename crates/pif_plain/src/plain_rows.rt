@@ -2,10 +2,10 @@ ghost use Rattle.std.specs.Prelude.{◌≡◌, ℕ, ◌+◌, ◌<◌, ◌≤◌,
 ghost use Rattle.std.specs.List.{slice_get};
 ghost use Rattle.pif_model.specs.Graph.{waiting_order};
 ghost use Rattle.pif_model.specs.PiKernel.{parked_pairs, parkings_without};
-ghost use Rattle.pif_kernel_state.specs.Inside.{no_keys};
-ghost use Rattle.pif_kernel_state.specs.Orders.{waiters_at_level};
-ghost use Rattle.pif_kernel_state.specs.Takings.{first_parked, goes_before, have_target};
-ghost use Rattle.pif_kernel_state.specs.Tickets.{is_named};
+ghost use Rattle.pif_kernel_model.specs.Inside.{no_keys};
+ghost use Rattle.pif_kernel_model.specs.Orders.{waiters_at_level};
+ghost use Rattle.pif_kernel_model.specs.Takings.{first_parked, goes_before, have_target};
+ghost use Rattle.pif_kernel_model.specs.Tickets.{is_named};
 
 use pif_kernel_model::Key;
 use pif_types::{CondId, MutexId, NoMemory, Tid, push_within, with_room};
@@ -28,7 +28,7 @@ pub struct Parking {
 
 impl Model for Parking {
     ghost use Rattle.pif_model.specs.PiKernel.{Parking as ParkingSeen};
-    ghost use Rattle.pif_kernel_state.specs.Codes.{parking_code};
+    ghost use Rattle.pif_kernel_model.specs.Codes.{parking_code};
 
     ghost Value = { ParkingSeen };
 

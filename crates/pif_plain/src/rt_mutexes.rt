@@ -31,6 +31,7 @@ use crate::standing::leads;
 use pif_kernel_model::Key;
 use pif_nodes::Key as Rank;
 use pif_plist::precedes;
+use pif_rtmutex::ThreadPriorities;
 use pif_types::{NoMemory, Prio, Tid};
 use slab::Slab;
 use std::alloc::Global;
@@ -90,7 +91,11 @@ impl RtMutexes {
         ensures admitted { self.new ≡ with_task t (record { base = prio; local = prio; wait = None }) self.old }
         ensures acyclic { IsAcyclic self.new }
     {
-        self.put(t, NOBODY.with_base(prio).with_local(prio));
+        let row = Row {
+            priorities: ThreadPriorities::of(prio),
+            wait: None,
+        };
+        self.put(t, row);
     }
 
     /// The base priority of the thread `t`. `None` where it was given none.
@@ -99,7 +104,8 @@ impl RtMutexes {
         ensures value { IfSome result (λ p. p ≡ (task_at self.now t).base) }
         ensures most { (task_at self.now t).base ≤ 99 }
     {
-        self.row(t.get()).base
+        let known = self.row(t.get());
+        known.priorities.base()
     }
 
     /// Makes `prio` the base priority of the thread `t`. All else stays as it was, and so does all where `t` has no row.
@@ -107,8 +113,12 @@ impl RtMutexes {
         ensures changed { self.new ≡ with_base t prio self.old }
         ensures acyclic { IsAcyclic self.new }
     {
-        let row = self.row(t.get());
-        self.put(t, row.with_base(prio));
+        let known = self.row(t.get());
+        let changed = Row {
+            priorities: known.priorities.with_base(prio),
+            wait: known.wait,
+        };
+        self.put(t, changed);
     }
 
     /// The effective priority of the thread `t` as it was last set. `None` where it was given none.
@@ -117,7 +127,8 @@ impl RtMutexes {
         ensures value { IfSome result (λ p. p ≡ (task_at self.now t).local) }
         ensures most { (task_at self.now t).local ≤ 99 }
     {
-        self.row(t.get()).local
+        let known = self.row(t.get());
+        known.priorities.local()
     }
 
     /// Makes `prio` the effective priority of the thread `t`. All else stays as it was, and so does all where `t` has no
@@ -126,8 +137,12 @@ impl RtMutexes {
         ensures changed { self.new ≡ with_local t prio self.old }
         ensures acyclic { IsAcyclic self.new }
     {
-        let row = self.row(t.get());
-        self.put(t, row.with_local(prio));
+        let known = self.row(t.get());
+        let changed = Row {
+            priorities: known.priorities.with_local(prio),
+            wait: known.wait,
+        };
+        self.put(t, changed);
     }
 
     /// An owner state of `owner` on which nobody is queued, under a key that no other state has. There have to be fewer
@@ -328,8 +343,12 @@ impl RtMutexes {
         ensures put { self.new ≡ with_wait t wait self.old }
         ensures sound { AreSoundOwners self.new }
     {
-        let row = self.row(t.get());
-        self.put(t, row.with_wait(wait));
+        let known = self.row(t.get());
+        let changed = Row {
+            priorities: known.priorities,
+            wait,
+        };
+        self.put(t, changed);
     }
 
     /// Makes `owner` the owner of a state.

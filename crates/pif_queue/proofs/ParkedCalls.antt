@@ -120,12 +120,6 @@ module _ (p : ParkedLists) (t now : NodeLists) (c u : ℕ) (a : IsCall p t now c
         recounted (with_place_at u (Some x) p) now c count park-stands a.cond e
         (λ d is ne. counted-other p (Some x) t now c u a.holds.stand parks d is ne (a.holds.counted d is))
 
-    pub park-outside : KeepsOthers p.first_list p.conds p.first_node p.threads t now
-    park-outside = parking-outside p (Some x) t now c u a.holds.stand parks
-
-    pub park-nodes : KeepsNodes p u t now
-    park-nodes = parking-nodes p (Some x) t now c u a.holds.stand parks
-
   -- a parked thread is taken off
   module _ (x : Place) (at : place_at p u ≡ Some x) (on : x.cond ≡ c) (taken : now ≡ table_after_remove t l n)
       (holders : (m : ℕ) → holder now m ≡ cond (eqb m n) None (holder t m)) where
@@ -146,9 +140,6 @@ module _ (p : ParkedLists) (t now : NodeLists) (c u : ℕ) (a : IsCall p t now c
           stands = λ e. let wrong : None ≡ Some l = sym gone ∙ e in absurd cc;
         }
 
-    pub unpark-seen : (v : ℕ) → parked_at (with_place_at u None p) now v ≡ cond (eqb v u) None (parked_at p t v)
-    unpark-seen = parking-seen p None t now c u a.holds.stand unparks (key_at now n) refl
-
     pub unpark-holds : HoldsParked
         (with_differing c (differences (target_of p) (list_without n (list_at t l))) (with_place_at u None p)) now
     unpark-holds =
@@ -163,12 +154,6 @@ module _ (p : ParkedLists) (t now : NodeLists) (c u : ℕ) (a : IsCall p t now c
 
     pub unpark-outside : KeepsOthers p.first_list p.conds p.first_node p.threads t now
     unpark-outside = parking-outside p None t now c u a.holds.stand unparks
-
-    pub unpark-nodes : KeepsNodes p u t now
-    unpark-nodes = parking-nodes p None t now c u a.holds.stand unparks
-
-    pub unpark-free : holder now n ≡ None
-    unpark-free = gone
 
   -- a parked thread stands in its list by another key
   module _ (x : Place) (at : place_at p u ≡ Some x) (on : x.cond ≡ c) (changes : ChangesList l n t now)

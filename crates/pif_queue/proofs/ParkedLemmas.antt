@@ -1,5 +1,5 @@
 -- Where parked threads stand, and what the lists of a table say of them.
-use Rattle.std.proofs.Common.{◌≡◌, ◌⊎◌, ℕ, ◌+◌, ◌<◌, ◌≤◌, true, false, eqb, List, [], ◌∷◌, length, Option, Some, None, IsSome, option_map, option_and_then, replicate, sym, ◌∙◌, ap, subst, inl, inr, arith}
+use Rattle.std.proofs.Common.{◌≡◌, ◌⊎◌, ℕ, ◌+◌, ◌<◌, ◌≤◌, true, false, eqb, List, [], ◌∷◌, length, Option, Some, None, option_map, option_and_then, replicate, sym, ◌∙◌, ap, subst, inl, inr, arith}
 use Rattle.std.specs.List.{IsDistinct, AllByRecursion}
 use Rattle.std.proofs.lemmas.Bool.{cases_lt, or_parts, false≢true}
 use Rattle.std.proofs.lemmas.List.{length-replicate, get_or_past, get_or-replicate}
@@ -17,14 +17,6 @@ use Rattle.pif_queue.proofs.Differing.{differences-list_without, differences-lef
 -- the thread of a thread's node is that thread
 pub thread-of_node : (p : ParkedLists) (u : ℕ) → 1 ≤ u → thread_of_node p (parking_node p u) ≡ u
 thread-of_node p u low = omega arith
-
--- who has a place is one of the threads that have one
-pub some-place : (p : ParkedLists) (u : ℕ) → IsSome (place_at p u) → (x : Place) × (place_at p u ≡ Some x)
-some-place p u some = by_place (option-cases (place_at p u))
-  where
-    by_place : ((place_at p u ≡ None) ⊎ ((x : Place) × (place_at p u ≡ Some x))) → (x : Place) × (place_at p u ≡ Some x)
-    by_place (inl none) = let wrong : IsSome {T = Place} None = subst IsSome none some in absurd (false≢true wrong)
-    by_place (inr is) = is
 
 -- what is parked, by place
 pub parked-by_place : (p : ParkedLists) (t : NodeLists) (u : ℕ) (x : Place) → place_at p u ≡ Some x

@@ -19,9 +19,6 @@ pub record IsPassing (e : Entries) (w : ℕ) (xs : List ℕ) (next : Option ℕ)
   pub to : next ≡ first_of back
   pub before : (m : ℕ) → has m front ≡ true → eqb (word_of_node e m) w ≡ false
 
-pub passing-start : (e : Entries) (w : ℕ) (xs : List ℕ) (next : Option ℕ) → next ≡ first_of xs → IsPassing e w xs next
-passing-start e w xs next to = record { front = []; back = xs; parts = refl; to = to; before = λ m there. absurd cc }
-
 -- a list by its first
 behind : (n : ℕ) (back : List ℕ) → Some n ≡ first_of back → (rest : List ℕ) × (back ≡ n ∷ rest)
 behind n [] h = absurd cc

@@ -1,17 +1,16 @@
 -- The steps of a seat between two calls: what each asks of it, and what it is after each.
-use Rattle.std.proofs.Common.{◌≡◌, ℕ, ◌<◌, ◌≤◌, ◌^◌, eqb, List, [], ◌∷◌, Option, Some, None, sym, refl, ap, ◌∙◌, subst, arith}
+use Rattle.std.proofs.Common.{◌≡◌, ℕ, ◌<◌, ◌^◌, eqb, List, [], ◌∷◌, Option, Some, None, sym, refl, ap, ◌∙◌, subst}
 use mathlib.Core.Option.{none}
 use prog.Atomic.{either}
 use Rattle.atomic_table.specs.Seated.{TableId}
 use Rattle.atomic_table.specs.Table.{step, Allows, Splits, Joins}
 use Rattle.atomic_table.specs.declared.shared.Seat.{Seat}
-use Rattle.pif_model.specs.Word.{Word, word_of, held_by, mark_word}
-use Rattle.pif_model_lemmas.proofs.WordBits.{word_of-number}
+use Rattle.pif_model.specs.Word.{word_of, held_by, mark_word}
 use Rattle.pif_quick.specs.declared.rule.Turn.{Turn}
 use Rattle.pif_quick.specs.declared.rule.Record.{Record}
 use Rattle.pif_quick.specs.declared.rule.View.{View}
-use Rattle.pif_quick.specs.Turns.{turns_by, IsOpen, IsSound, with_open, OpensTurn, closed, closed_from}
-use Rattle.pif_quick.specs.Rule.{EachWordHasOneHolder, handed_to, spent_view, note_of, Opened, Closed, Took, Released, Handed, Marked, Looked, Claimed, Compared}
+use Rattle.pif_quick.specs.Turns.{IsOpen, IsSound, closed, closed_from}
+use Rattle.pif_quick.specs.Rule.{EachWordHasOneHolder, handed_to, spent_view, note_of, Closed, Took, Released, Handed, Marked, Looked, Claimed, Compared}
 use Rattle.pif_quick.specs.Places.{record_of, hand_if, IsPlaceOf}
 use Rattle.pif_quick.proofs.Dealing.{noting, showing}
 use Rattle.pif_quick.proofs.Steps.{Known, taking, claiming, looking, marking, releasing, handing, comparing}
@@ -20,23 +19,6 @@ abbrev pub Place : Type 0 → Type 0
 Place T = Seat (Option T) (View T)
 
 module _ {T : Type 0} where
-  -- a seat whose turn is not open has no slot
-  hand_none : (o : Option T) (word : ℕ) → (((f : T) × (o ≡ Some f)) → ⊥) → hand_if o word ≡ []
-  hand_none None word n = refl
-  hand_none (Some f) word n = absurd (n (f, refl))
-
-  abbrev some_or : T → Option T → T
-  some_or d None = d
-  some_or d (Some z) = z
-
-  abbrev first_or : T → List (ℕ × Option T) → T
-  first_or d [] = d
-  first_or d (y ∷ ys) = some_or d y.1
-
-  -- a slot has one value
-  pub same_value : (i j : ℕ) (x y : T) → ◌≡◌ {A = List (ℕ × Option T)} ((i, Some x) ∷ []) ((j, Some y) ∷ []) → x ≡ y
-  same_value i j x y e = ap (first_or x) e
-
   pub found_of-closed : (pass : ℕ) (x : T) (o : Option T) (r : Record T) → r.found ≡ o
       → (closed_from pass x o r).found ≡ None
   found_of-closed pass x None r e = e
@@ -67,10 +49,6 @@ module _ {T : Type 0} where
       hand = e ∙ ap (λ (r : Record T). hand_if r.found word) (sym d);
       sound = subst (IsSound pass) (sym d) h.sound;
     }
-
-    -- the slot in hand where a turn is open
-    pub open_hand : IsOpen v.known → hand_if v.known.found word ≡ (word, None) ∷ []
-    open_hand o = ap (λ (f : Option T). hand_if f word) o.1
 
     pub take_allowed : (t : ℕ) → t ≡ pass → (starts : List (Option T))
         → Allows (EachWordHasOneHolder starts) z.slots p.id p.me word (λ n. either (eqb n 0) t n)
@@ -130,9 +108,6 @@ module _ {T : Type 0} where
 
     -- the seat with its value in the slot
     module _ (q : Place T) (x : T) (same : q.me ≡ (v, (word, Some x) ∷ [])) (open_turn : IsOpen v.known) where
-      abbrev given : Known T
-      given = (v, (word, Some x) ∷ [])
-
       pub release_allowed : (t : ℕ) → t ≡ pass → (starts : List (Option T))
           → Allows (EachWordHasOneHolder starts) z.slots q.id q.me word (λ n. either (eqb n t) 0 n)
           (Released (step z.slots word t 0 none) q.me)
@@ -192,50 +167,3 @@ module _ {T : Type 0} where
                 ap (λ (m : Known T). m.0.known) (sym is) k,
               )) c.sound;
         }
-
-    -- the seat has taken the word's value
-    module _ (quiet : IsOpen v.known → ⊥) (m' : Known T) (o : Opened word p.me m') where
-      opened_hand : m'.1 ≡ (word, Some o.found) ∷ []
-      opened_hand = o.hand ∙ ap (λ (l : List (ℕ × Option T)). (word, Some o.found) ∷ l) (h.hand
-          ∙ hand_none v.known.found word quiet)
-
-      pub opened_value : (q : Place T) → q.me ≡ m' → (x : T) × (q.me.1 ≡ (word, Some x) ∷ [])
-      opened_value q is = (o.found, ap (λ (m : Known T). m.1) is ∙ opened_hand)
-
-      pub opened_place : (q : Place T) → q.table_id ≡ z → q.me ≡ (m'.0, (word, None) ∷ []) → IsPlaceOf z word pass q
-      opened_place q t is = record {
-        table = t;
-        inside = h.inside;
-        seated = ap (λ (m : Known T). m.0.role) is ∙ (ap (λ (w : View T). w.role) o.view ∙ h.seated);
-        word_is = ap (λ (m : Known T). m.0.word) is ∙ (ap (λ (w : View T). w.word) o.view ∙ h.word_is);
-        pass_is = ap (λ (m : Known T). m.0.pass) is ∙ (ap (λ (w : View T). w.pass) o.view ∙ h.pass_is);
-        numbered = h.numbered;
-        opening = (
-          h.opening.0,
-          ap (λ (m : Known T). m.0.known.opening) is
-              ∙ (ap (λ (w : View T). w.known.opening) o.view ∙ h.opening.1),
-        );
-        hand = ap (λ (m : Known T). m.1) is
-            ∙ ap (λ (f : Option T). hand_if f word) (sym (ap (λ (m : Known T). m.0.known.found) is
-            ∙ ap (λ (w : View T). w.known.found) o.view));
-        sound = subst (λ (y : ℕ × Record T). IsSound y.0 y.1)
-            (λ k. (h.pass_is k, ap (λ (m : Known T). m.0.known) (sym is) k)) o.sound;
-      }
-
-      pub opened_opens : (q : Place T) (x : T) → q.me.0 ≡ m'.0 → m'.1 ≡ (word, Some x) ∷ []
-          → OpensTurn pass x v.known (record_of q)
-      opened_opens q x is has =
-          let e : o.found ≡ x = same_value word word o.found x (sym opened_hand ∙ has) in (
-            o.newer,
-            ap (λ (n : ℕ). turns_by n o.newer) (sym h.pass_is) ∙ o.others,
-            ap (λ (w : View T). w.known) is ∙ (ap (λ (w : View T). w.known) o.view
-                ∙ ap (λ (f : T). with_open f o.newer v.known) e),
-          )
-
-    -- a word that is 0 is not the pass's
-    pub free_quiet : (n : ℕ) → n ≡ 0 → (IsOpen v.known → (word_of n).number ≡ v.pass) → IsOpen v.known → ⊥
-    free_quiet n e own o =
-        let zero_is : pass ≡ 0 = sym h.pass_is ∙ (sym (own o)
-        ∙ (ap (λ (b : ℕ). (word_of b).number) e ∙ ap (λ (w : Word). w.number) (word_of-number 0 (omega arith)))) in
-        let one : 1 ≤ pass = h.numbered.0 in
-        absurd (omega arith)

@@ -73,10 +73,6 @@ module _ {T : Type 0} where
       subst (λ (z : ℕ × ℕ × ℕ × ℕ). (z.0 < z.1) ⊎ ((z.0 ≡ z.1) × (z.2 < z.3)))
       (λ i. (sym c i, sym a i, sym e i, sym b i)) h
 
-  -- a dealer that deals as much as before
-  pub dealt_by : (d d' : View T) (p k : ℕ) → IsSameSeat d d' → IsDealt d p k → IsDealt d' p k
-  dealt_by d d' p k same h = dealt_same d d' p p k k same.pass same.word refl refl h
-
   -- views of which each seat's and the dealer's stood there before
   pub seating_from : (starts : List (Option T)) (l l' : List (View T))
       → ((j : ℕ) (b : View T) → get_elem? l' j ≡ some b → b.role ≢ Spent

@@ -1,6 +1,6 @@
 -- What the fields of a value show once a call has written them: the code's own copies of fields and numbers are each
 -- equal to those of the value.
-use Rattle.std.proofs.Common.{◌≡◌, ℕ, ◌+◌, ◌≤◌, ◌<◌, true, List, ◌++◌, Option, Some, None, refl, sym, ◌∙◌, ap, arith, length, get_or, set, take, drop}
+use Rattle.std.proofs.Common.{◌≡◌, ℕ, ◌≤◌, ◌<◌, true, List, ◌++◌, Option, Some, None, refl, sym, ◌∙◌, ap, arith, length, get_or, set, take, drop}
 use Rattle.pif_model.specs.RobustList.{Robust, RobustRow, robust_at, is_listed, with_robust, with_pending, with_half_linked, with_listed, without_listed, IsUnlisted, IsHalfLinkedByNoOther, IsRobust}
 use Rattle.std.proofs.lemmas.Bool.{false_from_ne_true}
 use Rattle.std.proofs.lemmas.List.{get_or_past}
@@ -30,9 +30,6 @@ module _ {ns : List Link} {hs : List Head} {v : Robust} (view : robust_from ns h
   -- as many threads and mutexes as the fields have
   pub threads_seen : length hs ≡ length v.threads
   threads_seen = ties_seen.threads
-
-  pub mutexes_seen : length ns ≡ v.mutexes + 1
-  mutexes_seen = ties_seen.mutexes
 
   -- a thread within the limits is one of the fields
   pub head_within : {t i : ℕ} → i ≡ t → t < length v.threads → i < length hs
@@ -94,9 +91,6 @@ module _ {ns : List Link} {hs : List Head} {v : Robust} (view : robust_from ns h
   module _ (t m : ℕ) (listed : is_listed v t m ≡ true) where
     pub cut_within : m < length ns
     cut_within = cut.mutex_within ns hs v ties_seen t m listed
-
-    pub cut_head_within : t < length hs
-    cut_head_within = cut.thread_within ns hs v ties_seen t m listed
 
     pub next_within : (k : ℕ) → (link_at ns m).next ≡ Some k → k < length ns
     next_within k h = cut.next_within ns hs v ties_seen t m listed k h

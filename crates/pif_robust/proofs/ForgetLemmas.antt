@@ -2,12 +2,11 @@
 use Rattle.std.proofs.Common.{◌≡◌, ℕ, zero, suc, ◌≤◌, ◌<◌, true, false, List, [], ◌∷◌, Some, None, refl, sym, ◌∙◌, ap, subst, ⊎_elim, arith, length, set}
 use Rattle.std.proofs.lemmas.Bool.{cases_lt, eq-eqb}
 use Rattle.std.proofs.lemmas.List.{get_or-set_same, get_or-set_other, get_or_past, length-set}
-use Rattle.pif_model.specs.RobustList.{Robust, RobustRow, no_robust_row, robust_at, has_entry, without_entry, is_listed, without_listed, without_robust}
+use Rattle.pif_model.specs.RobustList.{Robust, RobustRow, no_robust_row, robust_at, has_entry, without_entry, without_listed, without_robust}
 use Rattle.pif_robust.specs.declared.links.Link.{Link}
 use Rattle.pif_robust.specs.declared.links.Head.{Head}
 use Rattle.pif_model_lemmas.specs.RobustWalks.{first_or}
 use Rattle.pif_robust.specs.Links.{empty_head, head_at, robust_from, FieldsHold}
-use Rattle.pif_model_lemmas.proofs.RobustEntries.{first_or-has}
 use Rattle.pif_robust.proofs.TiesLemmas.{FieldsHold-changed, robust_at-same}
 use Rattle.pif_robust.proofs.WriteLemmas.{no_holder}
 use Rattle.pif_robust.proofs.SeenLemmas.{Shows, Shows-ties, Shows-same}
@@ -28,10 +27,6 @@ row_without v t m = record (robust_at v t) { listed = without_entry (robust_at v
 pub without_robust-listed : (v : Robust) (t m : ℕ) → without_robust t (without_listed t m v) ≡ without_robust t v
 without_robust-listed v t m = ap (λ xs. record v { threads = xs })
     (set_twice v.threads t (row_without v t m) no_robust_row)
-
--- the first of a list is on it
-pub first-listed : (v : Robust) (t m : ℕ) → first_or (robust_at v t).listed None ≡ Some m → is_listed v t m ≡ true
-first-listed v t m h = first_or-has (robust_at v t).listed m h
 
 shorter : (xs : List ℕ) (m : ℕ) → first_or xs None ≡ Some m → length (without_entry xs m) < length xs
 shorter [] m h = absurd cc

@@ -25,9 +25,6 @@ module _ (ns : List Link) (hs : List Head) (v : Robust) (ties : FieldsHold ns hs
   -- another pending field
   module _ (t m : ℕ) (o : Option ℕ) (t_some : 1 ≤ t) (t_in : t < length hs) (is : o ≡ named_mutex m)
       (m_in : m ≤ v.mutexes) where
-    pended : Head
-    pended = record (head_at hs t) { pending = o }
-
     pub FieldsHold-pending : FieldsHold ns (set hs t (record (head_at hs t) { pending = o })) (with_pending t m v)
     FieldsHold-pending =
         let then : List Head = set hs t (record (head_at hs t) { pending = o }) in

@@ -1,5 +1,5 @@
 -- The node behind that of a waiter is that of the waiter right behind it.
-use Rattle.std.proofs.Common.{◌≡◌, ◌≢◌, ◌⊎◌, ◌||◌, ℕ, ◌+◌, ◌<◌, ◌≤◌, true, false, eqb, List, [], ◌∷◌, ◌++◌, Option, Some, None, IsSome, IfSome, IfNone, option_map, unwrap_or, refl, sym, ◌∙◌, ap, subst, inl, inr, ⊎_elim, arith}
+use Rattle.std.proofs.Common.{◌≡◌, ◌≢◌, ◌⊎◌, ℕ, ◌+◌, ◌<◌, ◌≤◌, true, false, eqb, List, [], ◌∷◌, ◌++◌, Option, Some, None, IsSome, IfSome, IfNone, option_map, unwrap_or, refl, sym, ◌∙◌, ap, subst, inl, inr, ⊎_elim, arith}
 use Rattle.std.proofs.lemmas.Bool.{false≢true, true≢false, or_cases, eqb-true}
 use Rattle.std.proofs.lemmas.Option.{same_Some}
 use Rattle.std.specs.FinMap.{get}
@@ -11,7 +11,7 @@ use Rattle.pif_nodes_model.specs.Order.{comes_before, key_in, IsInOrder}
 use Rattle.pif_nodes_model.proofs.OrderLemmas.{not_before-self}
 use Rattle.pif_nodes_model.proofs.WalkLemmas.{next_of_is}
 use Rattle.pif_kernel_model.specs.Owners.{waits_on, rank_of}
-use Rattle.pif_kernel_model.specs.States.{States, IsThread, wait_of, wait_node, wait_list, waiter_for, owners_in}
+use Rattle.pif_kernel_model.specs.States.{States, wait_of, wait_node, wait_list, waiter_for, owners_in}
 use Rattle.pif_kernel_model.specs.Holds.{HoldsWaiters, IsWaiterIn}
 use Rattle.pif_kernel_model.specs.Behind.{IsLast, IsBehind}
 use Rattle.pif_kernel_model.proofs.ViewLemmas.{waits_on-owners_in, rank_of-owners_in}

@@ -1,121 +1,164 @@
 -- What the calls on a list of waiters answer, as a step of owner states.
-use Rattle.std.proofs.Common.{◌≡◌, ◌≢◌, ◌⊎◌, ℕ, ◌<◌, ◌≤◌, eqb, cond, List, length, set, Option, Some, None, IsSome, option_map, refl, sym, ◌∙◌, ap, subst, inl, inr, arith}
-use Rattle.std.proofs.lemmas.Bool.{false≢true, cases_eq}
+use Rattle.std.proofs.Common.{◌≡◌, ◌≢◌, ◌⊎◌, ℕ, ◌<◌, ◌≤◌, eqb, cond, List, set, Option, Some, None, option_map, sym, ◌∙◌, ap, subst, inl, inr, arith}
+use Rattle.std.proofs.lemmas.Bool.{cases_eq}
 use Rattle.std.proofs.lemmas.List.{get_or-set_same, get_or-set_other}
-use Rattle.std.specs.FinMap.{get, insert}
+use Rattle.std.specs.FinMap.{get}
 use Rattle.pif_nodes_model.specs.declared.keys.Key.{Key}
 use Rattle.pif_nodes_model.specs.Table.{NodeLists, no_key, list_at, key_at, holder, with_key, IsApart}
 use Rattle.pif_nodes_model.specs.Order.{comes_before, key_in, IsSorted, OthersStaySorted, table_after_insert, table_after_remove, key_with_prio, key_with_ticket}
 use Rattle.pif_nodes_model.proofs.OrderLemmas.{not_before-self}
 use Rattle.pif_nodes_model.proofs.SameOrder.{order-as}
 use Rattle.pif_model.specs.Graph.{Reaches}
-use Rattle.pif_kernel_model.specs.Owners.{Owners, Wait, owner_at, waits_on, rank_of, WaitsFor, KeepsOrder, with_wait, with_prio, with_ticket, with_owner}
-use Rattle.pif_kernel_model.specs.States.{States, IsThread, row_at, wait_of, wait_node, top_node, wait_list, first_waiter, owners_in}
+use Rattle.pif_kernel_model.specs.Owners.{Owners, Wait, owner_at, waits_on, rank_of, WaitsFor, KeepsOrder, with_wait, with_prio, with_ticket}
+use Rattle.pif_kernel_model.specs.States.{States, IsThread, wait_of, wait_node, top_node, wait_list, first_waiter, owners_in, with_wait_on}
 use Rattle.pif_kernel_model.specs.Holds.{HoldsWaiters, IsWaiterIn, IsRankedTop, HoldsTops, HoldsStates}
 use Rattle.pif_kernel_model.specs.Frames.{ChangesList}
-use Rattle.pif_kernel_model.proofs.ViewLemmas.{length-seats, waits_on-owners_in, rank_of-owners_in}
+use Rattle.pif_kernel_model.proofs.ViewLemmas.{waits_on-owners_in, rank_of-owners_in}
 use Rattle.pif_kernel_model.proofs.WaiterLemmas.{waits-thread, StandsFirst, stands-first, some_owner}
 use Rattle.pif_kernel_model.proofs.ListChanges.{changes-inserted, changes-removed, changes-rekeyed, changes-renamed, changes-as, in-list, in-no_list, key-inserted, key-rekeyed, key-renamed}
-use Rattle.pif_rtmutex.proofs.StepLemmas.{row-list, seat-wait, WaitsAt, waits-at, IsStep, IsDone, queued-step, freed-step, handed-step, ranked-step}
+use Rattle.pif_rtmutex.specs.Fields.{State}
+use Rattle.pif_rtmutex.specs.Steps.{IsStored, IsStep}
+use Rattle.pif_rtmutex.proofs.ReadLemmas.{row-below}
+use Rattle.pif_rtmutex.proofs.StepLemmas.{seat-wait, IsDone, queued-step, freed-step, ranked-step}
 use Rattle.pif_rtmutex.proofs.TopLemmas.{tops-same}
 
--- a call on list l and node n, which are those of the waiters of state k, owned by o, and of thread u
-pub record IsCall (m : States) (t now : NodeLists) (k u o l n : ℕ) : Type 0 where
+-- a call on list l and node n, which are those of the waiters of state k, of which s is stored, and of thread u
+pub record IsCall (m : States) (t now : NodeLists) (k u l n : ℕ) (s : State) : Type 0 where
   pub holds : HoldsStates m t
-  pub owner : get m.owners k ≡ Some o
-  pub list : option_map (wait_list m) (get m.places k) ≡ Some l
+  pub stored : IsStored m k s
+  pub list : l ≡ wait_list m s.row
   pub node : n ≡ wait_node m u
   pub own : IsSorted now l
   pub others : OthersStaySorted t now l
   pub apart : IsApart now
 
--- what is there of an option that has something
-pub some_of : (o : Option ℕ) → IsSome o → (x : ℕ) × (o ≡ Some x)
-some_of None h = absurd (false≢true h)
-some_of (Some x) h = (x, refl)
-
 -- what `insert` answered
-module _ (m : States) (t now : NodeLists) (k u o l n : ℕ) (c : IsCall m t now k u o l n) where
-  pub enqueued : (rank : Key) → 1 ≤ rank.prio → rank.prio ≤ 99 → 1 ≤ u → u < length (owners_in m t).seats
-      → waits_on (owners_in m t) u ≡ None
+module _ (m : States) (t now : NodeLists) (k u l n : ℕ) (s : State) (c : IsCall m t now k u l n s) where
+  pub enqueued : (rank : Key) → 1 ≤ rank.prio → rank.prio ≤ 99 → IsThread m u → waits_on (owners_in m t) u ≡ None
       → holder t (wait_node m u) ≡ None
       → ((p : ℕ) → owner_at (owners_in m t) k ≡ Some p → Reaches (WaitsFor (owners_in m t)) p u → ⊥)
       → now ≡ table_after_insert t l n rank → ((p : ℕ) → holder now p ≡ cond (eqb p n) (Some l) (holder t p))
-      → IsStep m (set m.rows u (record (row_at m u) { wait = Some k })) m.owners t now k o u
+      → IsStep m (with_wait_on u (Some k) m) t now k s.owner u
       (with_wait u (Some (record { state = k; rank = rank })) (owners_in m t))
-  enqueued rank least most one seat idle free no_cycle put holders =
-      let i : IsThread m u = (one, omega (arith, seat, length-seats m t, c.holds.waiters.rows)) in
-      let at : (r : ℕ) × (get m.places k ≡ Some r) × (r < m.threads) =
-      c.holds.waiters.placed k (some_owner m k o c.owner) in
-      let list : l ≡ wait_list m at.0 = row-list m k at.0 l at.1 c.list in
-      let changes : ChangesList (wait_list m at.0) (wait_node m u) t now =
-      changes-as t now l n (wait_list m at.0) (wait_node m u) list c.node
+  enqueued rank least most i idle free no_cycle put holders =
+      let changes : ChangesList (wait_list m s.row) (wait_node m u) t now =
+      changes-as t now l n (wait_list m s.row) (wait_node m u) c.list c.node
       (changes-inserted t now l n c.holds.waiters.apart c.apart c.own c.others rank put holders) in
-      let held : holder now (wait_node m u) ≡ Some (wait_list m at.0) = ap (holder now) (sym c.node)
-      ∙ in-list t now l n holders ∙ ap Some list in
+      let held : holder now (wait_node m u) ≡ Some (wait_list m s.row) = ap (holder now) (sym c.node)
+      ∙ in-list t now l n holders ∙ ap Some c.list in
       let key : key_at now (wait_node m u) ≡ rank =
       ap (key_at now) (sym c.node)
       ∙ key-inserted t now l n rank (omega (arith, c.node, i, c.holds.waiters.nodes)) put in
-      queued-step m t now k at.0 u o rank c.holds i at.1 at.2 c.owner changes (sym (waits_on-owners_in m t u)
+      queued-step m t now k s.row u s.owner rank c.holds i c.stored.row
+      (row-below m t k s.row c.holds.waiters c.stored.row) c.stored.owner changes (sym (waits_on-owners_in m t u)
       ∙ idle) free held key least most no_cycle
 
-  -- what `remove` answered
-  removed : (at : WaitsAt m t k u) → now ≡ table_after_remove t l n
-      → ((p : ℕ) → holder now p ≡ cond (eqb p n) None (holder t p))
-      → ChangesList (wait_list m at.row) (wait_node m u) t now × (holder now (wait_node m u) ≡ None)
-  removed at taken holders = (
-    changes-as t now l n (wait_list m at.row) (wait_node m u) (row-list m k at.row l at.place c.list) c.node
-        (changes-removed t now l n c.holds.waiters.apart c.apart c.own c.others taken holders),
-    ap (holder now) (sym c.node) ∙ in-no_list t now n holders,
-  )
+  -- what is there of a thread that waits on the state
+  module _ (waits : waits_on (owners_in m t) u ≡ Some k) where
+    on : wait_of m u ≡ Some k
+    on = sym (waits_on-owners_in m t u) ∙ waits
 
-  pub dequeued : waits_on (owners_in m t) u ≡ Some k → now ≡ table_after_remove t l n
-      → ((p : ℕ) → holder now p ≡ cond (eqb p n) None (holder t p))
-      → IsStep m (set m.rows u (record (row_at m u) { wait = None })) m.owners t now k o u
-      (with_wait u None (owners_in m t))
-  dequeued waits taken holders =
-      let on : wait_of m u ≡ Some k = sym (waits_on-owners_in m t u) ∙ waits in
-      let at : WaitsAt m t k u = waits-at m t k u c.holds.waiters on in
-      let out = removed at taken holders in
-      freed-step m t now k at.row u o c.holds at.is_thread at.place at.below c.owner out.0 on at.held out.1
+    thread : IsThread m u
+    thread = waits-thread m t u k c.holds.waiters on
 
-  pub handed : waits_on (owners_in m t) u ≡ Some k → now ≡ table_after_remove t l n
-      → ((p : ℕ) → holder now p ≡ cond (eqb p n) None (holder t p))
-      → IsStep m (set m.rows u (record (row_at m u) { wait = None })) (insert m.owners k u) t now k o u
-      (with_owner k u (with_wait u None (owners_in m t)))
-  handed waits taken holders =
-      let on : wait_of m u ≡ Some k = sym (waits_on-owners_in m t u) ∙ waits in
-      let at : WaitsAt m t k u = waits-at m t k u c.holds.waiters on in
-      let out = removed at taken holders in
-      handed-step m t now k at.row u o c.holds at.is_thread at.place at.below c.owner out.0 on at.held out.1
+    below : s.row < m.threads
+    below = row-below m t k s.row c.holds.waiters c.stored.row
 
-  -- what `rekey` answered
-  pub rekeyed : (prio : ℕ) → 1 ≤ prio → prio ≤ 99 → waits_on (owners_in m t) u ≡ Some k
-      → now ≡ table_after_insert (table_after_remove t l n) l n (key_with_prio t n prio)
-      → ((p : ℕ) → holder now p ≡ holder t p)
-      → IsStep m m.rows m.owners t now k o u (with_prio u prio (owners_in m t))
-  rekeyed prio least most waits moved holders =
-      let on : wait_of m u ≡ Some k = sym (waits_on-owners_in m t u) ∙ waits in
-      let at : WaitsAt m t k u = waits-at m t k u c.holds.waiters on in
-      let list : l ≡ wait_list m at.row = row-list m k at.row l at.place c.list in
-      let changes : ChangesList (wait_list m at.row) (wait_node m u) t now =
-      changes-as t now l n (wait_list m at.row) (wait_node m u) list c.node
-      (changes-rekeyed t now l n c.holds.waiters.apart c.apart c.own c.others (key_with_prio t n prio) moved holders) in
-      let rank : Key = key_with_prio t (wait_node m u) prio in
-      let key : key_at now (wait_node m u) ≡ rank =
-      ap (key_at now) (sym c.node)
-      ∙ key-rekeyed t now l n (key_with_prio t n prio)
-      (omega (arith, c.node, at.is_thread, c.holds.waiters.nodes)) moved
-      ∙ ap (λ p. key_with_prio t p prio) c.node in
-      let step : IsStep m m.rows m.owners t now k o u
-      (with_wait u (Some (record { state = k; rank = rank })) (owners_in m t)) =
-      ranked-step m t now k at.row u o rank c.holds at.is_thread at.place at.below c.owner changes on at.held
-      (holders (wait_node m u) ∙ at.held) key least most in
-      subst (λ (v : Owners). IsStep m m.rows m.owners t now k o u v)
-      (ap (λ (w : Option Wait). with_wait u
-      (option_map (λ (x : Wait). record x { rank = record x.rank { prio = prio } }) w) (owners_in m t))
-      (sym (seat-wait m t u k on)))
-      step
+    held : holder t (wait_node m u) ≡ Some (wait_list m s.row)
+    held = c.holds.waiters.queued u k s.row on c.stored.row
+
+    -- what `remove` answered
+    pub dequeued : now ≡ table_after_remove t l n → ((p : ℕ) → holder now p ≡ cond (eqb p n) None (holder t p))
+        → IsStep m (with_wait_on u None m) t now k s.owner u (with_wait u None (owners_in m t))
+    dequeued taken holders =
+        freed-step m t now k s.row u s.owner c.holds thread c.stored.row below c.stored.owner
+        (changes-as t now l n (wait_list m s.row) (wait_node m u) c.list c.node
+        (changes-removed t now l n c.holds.waiters.apart c.apart c.own c.others taken holders)) on held
+        (ap (holder now) (sym c.node) ∙ in-no_list t now n holders)
+
+    -- what `rekey` answered
+    pub rekeyed : (prio : ℕ) → 1 ≤ prio → prio ≤ 99
+        → now ≡ table_after_insert (table_after_remove t l n) l n (key_with_prio t n prio)
+        → ((p : ℕ) → holder now p ≡ holder t p)
+        → IsStep m m t now k s.owner u (with_prio u prio (owners_in m t))
+    rekeyed prio least most moved holders =
+        let changes : ChangesList (wait_list m s.row) (wait_node m u) t now =
+        changes-as t now l n (wait_list m s.row) (wait_node m u) c.list c.node
+        (changes-rekeyed t now l n c.holds.waiters.apart c.apart c.own c.others (key_with_prio t n prio) moved
+        holders) in
+        let rank : Key = key_with_prio t (wait_node m u) prio in
+        let key : key_at now (wait_node m u) ≡ rank =
+        ap (key_at now) (sym c.node)
+        ∙ key-rekeyed t now l n (key_with_prio t n prio)
+        (omega (arith, c.node, thread, c.holds.waiters.nodes)) moved
+        ∙ ap (λ p. key_with_prio t p prio) c.node in
+        let step : IsStep m m t now k s.owner u
+        (with_wait u (Some (record { state = k; rank = rank })) (owners_in m t)) =
+        ranked-step m t now k s.row u s.owner rank c.holds thread c.stored.row below c.stored.owner changes on held
+        (holders (wait_node m u) ∙ held) key least most in
+        subst (λ (v : Owners). IsStep m m t now k s.owner u v)
+        (ap (λ (w : Option Wait). with_wait u
+        (option_map (λ (x : Wait). record x { rank = record x.rank { prio = prio } }) w) (owners_in m t))
+        (sym (seat-wait m t u k on)))
+        step
+
+    -- what `set_ticket` answered: the first waiter is the same, and so is its priority
+    pub ticketed : (ticket : ℕ) → now ≡ with_key t n (key_with_ticket t n ticket)
+        → IsDone m m t now u (with_ticket u ticket (owners_in m t))
+    ticketed ticket new =
+        record {
+          holds = record { waiters = step.waiters; tops = tops };
+          outside = step.outside;
+          nodes = step.nodes;
+          view = step.view;
+        }
+      where
+        rank : Key
+        rank = key_with_ticket t (wait_node m u) ticket
+
+        changes : ChangesList (wait_list m s.row) (wait_node m u) t now
+        changes =
+            changes-as t now l n (wait_list m s.row) (wait_node m u) c.list c.node
+            (changes-renamed t now l n c.holds.waiters.apart c.apart c.own c.others (key_with_ticket t n ticket) new)
+
+        key : key_at now (wait_node m u) ≡ rank
+        key =
+            ap (key_at now) (sym c.node)
+            ∙ key-renamed t now n (key_with_ticket t n ticket)
+            (omega (arith, c.node, thread, c.holds.waiters.nodes)) new
+            ∙ ap (λ p. key_with_ticket t p ticket) c.node
+
+        step : IsStep m m t now k s.owner u (with_ticket u ticket (owners_in m t))
+        step =
+            let seat = c.holds.waiters.sound.seats u in
+            let was = seat-wait m t u k on in
+            subst (λ (v : Owners). IsStep m m t now k s.owner u v)
+            (ap (λ (w : Option Wait). with_wait u
+            (option_map (λ (x : Wait). record x { rank = record x.rank { ticket = ticket } }) w) (owners_in m t))
+            (sym was))
+            (ranked-step m t now k s.row u s.owner rank c.holds thread c.stored.row below c.stored.owner changes on held
+            (ap (λ (x : NodeLists). holder x (wait_node m u)) new ∙ held) key
+            (seat.least (record { state = k; rank = key_at t (wait_node m u) }) was)
+            (seat.most (record { state = k; rank = key_at t (wait_node m u) }) was))
+
+        ranked : (w : ℕ) → first_waiter m t k ≡ Some w → ((w ≡ u) ⊎ (w ≡ u → ⊥)) → IsRankedTop m now w
+        ranked w e (inl same) =
+            ap (λ (x : Key). x.prio) (changes.keys (top_node m w) (λ q. absurd (omega (arith, thread, q))))
+            ∙ c.holds.tops.ranked k s.owner w (c.stored.owner, e)
+            ∙ ap (λ p. (key_at t (wait_node m p)).prio) same
+            ∙ sym (ap (λ p. (key_at now (wait_node m p)).prio) same ∙ ap (λ (x : Key). x.prio) key)
+        ranked w e (inr ne) =
+            let first : StandsFirst m t k w =
+            stands-first m t k w c.holds.waiters (some_owner m k s.owner c.stored.owner) e in
+            ap (λ (x : Key). x.prio) (changes.keys (top_node m w) (λ q. absurd (omega (arith, thread, q))))
+            ∙ c.holds.tops.ranked k s.owner w (c.stored.owner, e)
+            ∙ ap (λ (x : Key). x.prio)
+            (sym (changes.keys (wait_node m w) (λ q. ne (omega (arith, first.is_thread, thread, q)))))
+
+        tops : HoldsTops m now
+        tops =
+            tops-same m now k s.owner (first_waiter m t k) c.stored.owner
+            (ap (λ (x : NodeLists). first_waiter m x k) new) (λ w e. ranked w e (cases_eq w u)) step.but
 
 -- a list of waiters stays in order with a ticket that keeps the order
 module _ (m : States) (t : NodeLists) (k u r ticket : ℕ) (h : HoldsWaiters m t) (w : wait_of m u ≡ Some k)
@@ -170,68 +213,3 @@ module _ (m : States) (t : NodeLists) (k u r ticket : ℕ) (h : HoldsWaiters m t
       (order-as t.keys keys (list_at t (wait_list m r))
       (λ y x a b. by_node y x (h.waiters r y low a) (h.waiters r x low b) (cases_eq y (wait_node m u))
       (cases_eq x (wait_node m u))) (h.sorted r low))
-
--- what `set_ticket` answered
-module _ (m : States) (t now : NodeLists) (k u o l n : ℕ) (c : IsCall m t now k u o l n) (ticket : ℕ)
-    (on : wait_of m u ≡ Some k)
-    (ticketed : now ≡ with_key t n (key_with_ticket t n ticket)) where
-  abbrev rank : Key
-  rank = key_with_ticket t (wait_node m u) ticket
-
-  at : WaitsAt m t k u
-  at = waits-at m t k u c.holds.waiters on
-
-  changes : ChangesList (wait_list m at.row) (wait_node m u) t now
-  changes =
-      changes-as t now l n (wait_list m at.row) (wait_node m u) (row-list m k at.row l at.place c.list) c.node
-      (changes-renamed t now l n c.holds.waiters.apart c.apart c.own c.others (key_with_ticket t n ticket) ticketed)
-
-  key : key_at now (wait_node m u) ≡ rank
-  key =
-      ap (key_at now) (sym c.node)
-      ∙ key-renamed t now n (key_with_ticket t n ticket)
-      (omega (arith, c.node, at.is_thread, c.holds.waiters.nodes)) ticketed
-      ∙ ap (λ p. key_with_ticket t p ticket) c.node
-
-  step : IsStep m m.rows m.owners t now k o u (with_ticket u ticket (owners_in m t))
-  step =
-      let seat = c.holds.waiters.sound.seats u in
-      let was = seat-wait m t u k on in
-      subst (λ (v : Owners). IsStep m m.rows m.owners t now k o u v)
-      (ap (λ (w : Option Wait). with_wait u
-      (option_map (λ (x : Wait). record x { rank = record x.rank { ticket = ticket } }) w) (owners_in m t))
-      (sym was))
-      (ranked-step m t now k at.row u o rank c.holds at.is_thread at.place at.below c.owner changes on at.held
-      (ap (λ (x : NodeLists). holder x (wait_node m u)) ticketed ∙ at.held) key
-      (seat.least (record { state = k; rank = key_at t (wait_node m u) }) was)
-      (seat.most (record { state = k; rank = key_at t (wait_node m u) }) was))
-
-  -- the first waiter is the same, and so is its priority
-  tops : HoldsTops m now
-  tops =
-      tops-same m now k o (first_waiter m t k) c.owner (ap (λ (x : NodeLists). first_waiter m x k) ticketed)
-      (λ w e. ranked w e (cases_eq w u)) step.but
-    where
-      ranked : (w : ℕ) → first_waiter m t k ≡ Some w → ((w ≡ u) ⊎ (w ≡ u → ⊥)) → IsRankedTop m now w
-      ranked w e (inl same) =
-          let first : StandsFirst m t k w = stands-first m t k w c.holds.waiters (some_owner m k o c.owner) e in
-          ap (λ (x : Key). x.prio) (changes.keys (top_node m w) (λ q. absurd (omega (arith, at.is_thread, q))))
-          ∙ c.holds.tops.ranked k o w (c.owner, e)
-          ∙ ap (λ p. (key_at t (wait_node m p)).prio) same
-          ∙ sym (ap (λ p. (key_at now (wait_node m p)).prio) same ∙ ap (λ (x : Key). x.prio) key)
-      ranked w e (inr ne) =
-          let first : StandsFirst m t k w = stands-first m t k w c.holds.waiters (some_owner m k o c.owner) e in
-          ap (λ (x : Key). x.prio) (changes.keys (top_node m w) (λ q. absurd (omega (arith, at.is_thread, q))))
-          ∙ c.holds.tops.ranked k o w (c.owner, e)
-          ∙ ap (λ (x : Key). x.prio)
-          (sym (changes.keys (wait_node m w) (λ q. ne (omega (arith, first.is_thread, at.is_thread, q)))))
-
-  pub ticketed-done : IsDone m m.rows m.owners t now u (with_ticket u ticket (owners_in m t))
-  ticketed-done =
-      record {
-        holds = record { waiters = step.waiters; tops = tops };
-        outside = step.outside;
-        nodes =
-            step.nodes;
-        view = step.view;
-      }

@@ -1,10 +1,9 @@
--- The waiters of one state change: one thread comes, goes or gets another key, and the state may get another owner.
-use Rattle.std.proofs.Common.{◌≡◌, ◌≢◌, ◌⊎◌, ℕ, ◌<◌, true, List, length, set, get_or, Option, Some, None, IsSome, option_map, refl, sym, ◌∙◌, ap, subst, inl, inr, arith}
+-- The waiters of one state change: one thread comes, goes or gets another key.
+use Rattle.std.proofs.Common.{◌≡◌, ◌≢◌, ◌⊎◌, ℕ, ◌<◌, true, List, length, set, get_or, Option, Some, None, option_map, refl, sym, ◌∙◌, ap, subst, inl, inr, arith}
 use Rattle.std.proofs.lemmas.Bool.{cases_eq}
 use Rattle.std.proofs.lemmas.List.{get_or-set_same, get_or-set_other, length-set}
 use Rattle.std.proofs.lemmas.Option.{same_Some}
-use Rattle.std.specs.Ordering.{nat_cmp}
-use Rattle.std.specs.FinMap.{FinMap, get}
+use Rattle.std.specs.FinMap.{get}
 use Rattle.pif_nodes_model.specs.declared.keys.Key.{Key}
 use Rattle.pif_nodes_model.specs.Lists.{has, first_of}
 use Rattle.pif_nodes_model.specs.Table.{NodeLists, list_at, key_at, holder}
@@ -18,10 +17,9 @@ use Rattle.pif_kernel_model.proofs.WaiterLemmas.{waits-thread, first_waiter-by_r
 use Rattle.pif_kernel_model.proofs.FrameLemmas.{cases_Some, view-framed, waiters-framed, topped-as}
 use Rattle.pif_kernel_model.proofs.ListChanges.{had-other, outside-changed}
 
--- the value has these rows and owners then, of which those of thread u and of state k may be other ones, and of the table
--- the list of row r of k and the node of u as a waiter changed
-pub record IsChange (m : States) (rows : List Row) (owners : FinMap nat_cmp ℕ) (t now : NodeLists)
-    (k r u o : ℕ) : Type 0 where
+-- the value has these rows then, of which that of thread u may be another one, and of the table the list of row r of
+-- state k and the node of u as a waiter changed
+pub record IsChange (m : States) (rows : List Row) (t now : NodeLists) (k r u o : ℕ) : Type 0 where
   pub thread : IsThread m u
   pub place : get m.places k ≡ Some r
   pub below : r < m.threads
@@ -29,9 +27,6 @@ pub record IsChange (m : States) (rows : List Row) (owners : FinMap nat_cmp ℕ)
   pub changes : ChangesList (wait_list m r) (wait_node m u) t now
   pub count : length rows ≡ length m.rows
   pub others : (w : ℕ) → w ≢ u → get_or rows w no_row ≡ row_at m w
-  pub keeps : (j : ℕ) → j ≢ k → get owners j ≡ get m.owners j
-  pub some : IsSome (get owners k)
-  pub owned : (p : ℕ) → get owners k ≡ Some p → IsThread m p
   -- u waited on no other state, and waits on no other
   pub before : (j : ℕ) → wait_of m u ≡ Some j → j ≡ k
   pub from : (j : ℕ) → holder t (wait_node m u) ≡ Some j → IsOwnList m j
@@ -39,10 +34,10 @@ pub record IsChange (m : States) (rows : List Row) (owners : FinMap nat_cmp ℕ)
       → (j ≡ k) × (holder now (wait_node m u) ≡ Some (wait_list m r))
   pub stands : holder now (wait_node m u) ≡ Some (wait_list m r) → (get_or rows u no_row).wait ≡ Some k
 
-module _ (m : States) (rows : List Row) (owners : FinMap nat_cmp ℕ) (t now : NodeLists) (k r u o : ℕ) (h : HoldsWaiters m t)
-    (c : IsChange m rows owners t now k r u o) where
+module _ (m : States) (rows : List Row) (t now : NodeLists) (k r u o : ℕ) (h : HoldsWaiters m t)
+    (c : IsChange m rows t now k r u o) where
   abbrev next : States
-  next = record m { rows = rows; owners = owners }
+  next = record m { rows = rows }
 
   -- another thread has another node
   other_node : (w : ℕ) → IsThread m w → w ≢ u → wait_node m w ≢ wait_node m u
@@ -89,11 +84,10 @@ module _ (m : States) (rows : List Row) (owners : FinMap nat_cmp ℕ) (t now : N
           })
           (c.changes.keys (wait_node m w) (other_node w (waits-thread m t w some.0 h some.1) ne))
 
-  -- so the view has another seat of that thread, and these owners
-  pub view-changed : (x : Task) → seat_in next now u ≡ x
-      → owners_in next now ≡ record (with_task u x (owners_in m t)) { owners = owners }
+  -- so the view has another seat of that thread
+  pub view-changed : (x : Task) → seat_in next now u ≡ x → owners_in next now ≡ with_task u x (owners_in m t)
   view-changed x e =
-      owners_in-by_seat next now (record (with_task u x (owners_in m t)) { owners = owners }) refl
+      owners_in-by_seat next now (with_task u x (owners_in m t)) refl
       (length-set (owners_in m t).seats u x ∙ length-seats m t ∙ sym c.count)
       (λ w l. by_thread w (cases_eq w u))
     where
@@ -123,28 +117,15 @@ module _ (m : States) (rows : List Row) (owners : FinMap nat_cmp ℕ) (t now : N
         nodes = omega (arith, h.nodes, c.changes.node_count);
         rows = c.count ∙ h.rows;
         sound = sound;
-        owned = λ j p e. owned j p e (cases_eq j k);
-        placed = λ j some. placed j some (cases_eq j k);
-        stated = λ j q e. stated j q e (cases_eq j k);
+        owned = h.owned;
+        placed = h.placed;
+        stated = h.stated;
         alone = h.alone;
         queued = λ w j q e p. queued w j q e p (cases_eq w u);
         waiters = λ q n l e. waiters q n l e (cases_eq n (wait_node m u)) (cases_eq q r);
         sorted = λ q l. sorted q l (cases_eq q r);
       }
     where
-      owned : (j p : ℕ) → get owners j ≡ Some p → ((j ≡ k) ⊎ (j ≡ k → ⊥)) → IsThread m p
-      owned j p e (inl same) = c.owned p (ap (get owners) (sym same) ∙ e)
-      owned j p e (inr ne) = h.owned j p (sym (c.keeps j ne) ∙ e)
-
-      placed : (j : ℕ) → IsSome (get owners j) → ((j ≡ k) ⊎ (j ≡ k → ⊥))
-          → (q : ℕ) × (get m.places j ≡ Some q) × (q < m.threads)
-      placed j some (inl same) = (r, ap (get m.places) same ∙ c.place, c.below)
-      placed j some (inr ne) = h.placed j (subst IsSome (c.keeps j ne) some)
-
-      stated : (j q : ℕ) → get m.places j ≡ Some q → ((j ≡ k) ⊎ (j ≡ k → ⊥)) → IsSome (get owners j)
-      stated j q e (inl same) = subst (λ x. IsSome (get owners x)) (sym same) c.some
-      stated j q e (inr ne) = subst IsSome (sym (c.keeps j ne)) (h.stated j q e)
-
       queued : (w j q : ℕ) → (get_or rows w no_row).wait ≡ Some j → get m.places j ≡ Some q → ((w ≡ u) ⊎ (w ≡ u → ⊥))
           → holder now (wait_node m w) ≡ Some (wait_list m q)
       queued w j q e p (inl same) =
@@ -235,14 +216,13 @@ module _ (m : States) (rows : List Row) (owners : FinMap nat_cmp ℕ) (t now : N
     where
       was_first : (j p w : ℕ) → j ≢ k → IsFirstOf next now j p w → IsFirstOf m t j p w
       was_first j p w ne s =
-          let own : get m.owners j ≡ Some p = sym (c.keeps j ne) ∙ s.0 in
-          (own, sym (first_waiter-other j p ne own) ∙ s.1)
+          (s.0, sym (first_waiter-other j p ne s.0) ∙ s.1)
 
       to : (p w : ℕ) → (s : IsTopOf m t p w) → ((s.0 ≡ k) ⊎ (s.0 ≡ k → ⊥))
           → IsTopBut next now k o (first_waiter m t k) p w
       to p w s (inl same) =
           inr (same_Some p o (sym s.1.0 ∙ ap (get m.owners) same ∙ c.owner), ap (first_waiter m t) (sym same) ∙ s.1.1)
-      to p w s (inr ne) = inl (s.0, ne, (c.keeps s.0 ne ∙ s.1.0, first_waiter-other s.0 p ne s.1.0 ∙ s.1.1))
+      to p w s (inr ne) = inl (s.0, ne, (s.1.0, first_waiter-other s.0 p ne s.1.0 ∙ s.1.1))
 
       back : (p w : ℕ) → IsTopBut next now k o (first_waiter m t k) p w → IsTopOf m t p w
       back p w (inl s) = (s.0, was_first s.0 p w s.1 s.2)

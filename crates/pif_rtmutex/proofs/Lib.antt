@@ -8,3 +8,4 @@ pub mod StepLemmas
 pub mod MakeLemmas
 pub mod CallLemmas
 pub mod BehindLemmas
+pub mod PrioLemmas

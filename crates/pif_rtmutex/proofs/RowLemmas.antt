@@ -1,9 +1,9 @@
 -- The row of a thread changes, but not for what it waits.
-use Rattle.std.proofs.Common.{◌≡◌, ◌⊎◌, ◌↔◌, ℕ, ◌<◌, ◌≤◌, length, set, get_or, Option, Some, None, IsSome, IfSome, option_map, unwrap_or, refl, sym, ◌∙◌, ap, subst, inl, inr, arith}
-use Rattle.std.proofs.lemmas.Bool.{false≢true, cases_eq, cases_lt}
+use Rattle.std.proofs.Common.{◌≡◌, ◌⊎◌, ℕ, ◌<◌, ◌≤◌, length, set, get_or, Option, option_map, refl, sym, ◌∙◌, ap, subst, inl, inr, arith}
+use Rattle.std.proofs.lemmas.Bool.{cases_eq, cases_lt}
 use Rattle.std.proofs.lemmas.List.{get_or-set_same, get_or-set_other, set_past, length-set}
 use Rattle.pif_nodes_model.specs.Table.{NodeLists, key_at}
-use Rattle.pif_kernel_model.specs.Owners.{Task, IsPrio, no_task, with_task, AreSoundOwners}
+use Rattle.pif_kernel_model.specs.Owners.{Task, no_task, with_task, AreSoundOwners}
 use Rattle.pif_kernel_model.proofs.OwnersLemmas.{sound-priorities}
 use Rattle.pif_kernel_model.specs.States.{Row, States, no_row, row_at, wait_of, wait_node, seat_in, owners_in, with_row}
 use Rattle.pif_kernel_model.specs.Holds.{IsWaiterIn, IsTopNode, HoldsStates}
@@ -103,15 +103,17 @@ holds-row m t u x one base local same h =
         by_row (inl p) = ap (λ (r : Row). r.wait) p.1 ∙ same ∙ ap (wait_of m) (sym p.0)
         by_row (inr e) = ap (λ (r : Row). r.wait) e
 
--- a priority, or none, by its number
-pub prio-given : (o : Option ℕ) (n : ℕ) → IsPrio o → unwrap_or o 0 ≡ n → IsSome o ↔ (1 ≤ n)
-prio-given None n h e = (λ f. absurd (false≢true f), λ l. absurd (omega (arith, e)))
-prio-given (Some p) n h e = (λ f. omega (arith, e, h.0), λ l. refl)
+-- what is answered where another row of a thread is written, which waits for the same
+pub record IsWritten (m n : States) (t : NodeLists) (u : ℕ) (y : Task) : Type 0 where
+  pub view : owners_in n t ≡ with_task u y (owners_in m t)
+  pub place : n ≡ record m { rows = n.rows }
+  pub holds : HoldsStates n t
 
-pub prio-value : (o : Option ℕ) (n : ℕ) → unwrap_or o 0 ≡ n → IfSome o (λ p. p ≡ n)
-prio-value None n e = tt
-prio-value (Some p) n e = e
-
-pub prio-most : (o : Option ℕ) (n : ℕ) → IsPrio o → unwrap_or o 0 ≡ n → n ≤ 99
-prio-most None n h e = omega (arith, e)
-prio-most (Some p) n h e = omega (arith, e, h.1)
+pub written : (m n : States) (t : NodeLists) (u : ℕ) (x : Row) (y : Task) → n ≡ with_row u x m → 1 ≤ u → x.base ≤ 99
+    → x.local ≤ 99 → x.wait ≡ wait_of m u → y ≡ seat_of m t u x → HoldsStates m t → IsWritten m n t u y
+written m n t u x y e one base local same seat h =
+    record {
+      view = ap (λ (z : States). owners_in z t) e ∙ view-row m t u x y seat;
+      place = e ∙ sym (ap (λ (z : States). record m { rows = z.rows }) e);
+      holds = subst (λ (z : States). HoldsStates z t) (sym e) (holds-row m t u x one base local same h);
+    }

@@ -253,6 +253,11 @@ module _ (m : States) (t now : NodeLists) (k o u : ℕ) (h : HoldsWaiters m t) (
       back p w (inl s) = inl (s.0, s.1, first-was s.0 p w s.2)
       back p w (inr s) = inr s
 
+-- the first waiter of a state that has an owner is a thread
+pub first-thread : (m : States) (t : NodeLists) (k o u : ℕ) (w : Option ℕ) → HoldsWaiters m t → get m.owners k ≡ Some o
+    → w ≡ first_waiter m t k → w ≡ Some u → IsThread m u
+first-thread m t k o u w h own first is = (stands-first m t k u h (some_owner m k o own) (sym first ∙ is)).is_thread
+
 -- the first waiter of a state of which nobody stands anywhere does not stand anywhere
 pub top-free : (m : States) (t : NodeLists) (k o p u : ℕ) → HoldsWaiters m t → get m.owners k ≡ Some p
     → first_waiter m t k ≡ Some u

@@ -1,2 +1,4 @@
 pub mod Maximum
 pub mod Fields
+pub mod Steps
+pub mod Priorities

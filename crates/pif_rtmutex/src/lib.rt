@@ -25,8 +25,10 @@
 //! does).
 #![tactic(auto)]
 
+mod priorities;
 mod rows;
 mod rt_mutexes;
 
 pub use pif_kernel_model::Key;
+pub use priorities::ThreadPriorities;
 pub use rt_mutexes::RtMutexes;

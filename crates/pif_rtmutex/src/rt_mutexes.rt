@@ -1,18 +1,19 @@
-ghost use Rattle.std.specs.Prelude.{◌≡◌, ◌≢◌, ℕ, ◌+◌, ◌*◌, ◌<◌, ◌≤◌, ◌^◌, ◌↔◌, length, IfOk, IfSome, IfNone, OnSome, IsSome, Some, None, option_map, unwrap_or, ◌-◌, max, vec_capacity};
+ghost use Rattle.std.specs.Prelude.{◌≡◌, ◌≢◌, ℕ, ◌+◌, ◌*◌, ◌<◌, ◌≤◌, ◌^◌, ◌↔◌, length, IfOk, IfSome, IfNone, OnSome, IsSome, Some, None, option_map, unwrap_or, vec_capacity};
 ghost use Rattle.std.specs.List.{range_with_len};
 ghost use Rattle.std.specs.Option.{ForSome};
-ghost use Rattle.std.specs.FinMap.{get, empty, insert, remove, len};
+ghost use Rattle.std.specs.FinMap.{get};
 ghost use Rattle.pif_model.specs.Graph.{Reaches};
 ghost use Rattle.pif_nodes_model.specs.declared.keys.Key.{Key as RankSeen};
-ghost use Rattle.pif_nodes_model.specs.Table.{NodeLists, key_at, holder, next_node};
+ghost use Rattle.pif_nodes_model.specs.Table.{NodeLists, holder, next_node};
 ghost use Rattle.pif_kernel_model.specs.Owners.{no_owners, task_at, owner_at, count, waits_on, rank_of, WaitsFor, IsTop, HasNoWaiter, KeepsOrder, with_task, with_base, with_local, with_wait, with_prio, with_ticket, with_owner, without_state};
-ghost use Rattle.pif_kernel_model.specs.States.{IsThread, empty_states, row_at, wait_node, top_node, wait_list, top_list, waiter_for, first_waiter, owners_in, with_row, with_wait_on, with_owner_of};
-ghost use Rattle.pif_kernel_model.specs.Holds.{HoldsWaiters, IsRankedTop, HoldsTops, IsToppedBut, HoldsStates, HasRoomForStates};
+ghost use Rattle.pif_kernel_model.specs.States.{IsThread, empty_states, row_at, wait_of, wait_node, top_node, wait_list, top_list, waiter_for, first_waiter, owners_in, with_row, with_wait_on, with_owner_of};
+ghost use Rattle.pif_kernel_model.specs.Holds.{HoldsWaiters, HoldsTops, IsToppedBut, HoldsStates, HasRoomForStates};
 ghost use Rattle.pif_kernel_model.specs.Behind.{IsLast, IsBehind};
 ghost use Rattle.pif_kernel_model.specs.Frames.{SameOutsideStates, ChangesTops, KeepsWaiterNodes};
 ghost use Rattle.pif_rtmutex.specs.Maximum.{greatest_rank, maximum_of};
-ghost use Rattle.pif_rtmutex.specs.Fields.{State as StateSeen, IsSpare};
+ghost use Rattle.pif_rtmutex.specs.Steps.{IsStored, IsStep};
 
+use crate::priorities::ThreadPriorities;
 use crate::rows::{NOBODY, Row, State, greater};
 use pif_kernel_model::Key;
 use pif_nodes::{List, Node, NodeTable};
@@ -106,7 +107,11 @@ impl RtMutexes {
         ensures place { self.new ≡ record self.old { rows = self.new.rows } }
         ensures holds { HoldsStates self.new table.now }
     {
-        self.put(t, NOBODY.with_base(prio).with_local(prio));
+        let row = Row {
+            priorities: ThreadPriorities::of(prio),
+            wait: None,
+        };
+        self.put(t, row);
     }
 
     /// The base priority of the thread `t`. `None` if it was given none.
@@ -115,7 +120,8 @@ impl RtMutexes {
         ensures value { IfSome result (λ p. p ≡ (task_at (owners_in self.now table.now) t).base) }
         ensures most { (task_at (owners_in self.now table.now) t).base ≤ 99 }
     {
-        self.row_of(t.get()).base
+        let row = self.row_of(t.get());
+        row.priorities.base()
     }
 
     /// Makes `prio` the base priority of the thread `t`. All else stays as it was, and so does all if `t` has no
@@ -127,7 +133,11 @@ impl RtMutexes {
         ensures holds { HoldsStates self.new table.now }
     {
         let row = self.row_of(t.get());
-        self.put(t, row.with_base(prio));
+        let changed = Row {
+            priorities: row.priorities.with_base(prio),
+            wait: row.wait,
+        };
+        self.put(t, changed);
     }
 
     /// The effective priority of the thread `t` as it was last set. `None` if it was given none.
@@ -136,7 +146,8 @@ impl RtMutexes {
         ensures value { IfSome result (λ p. p ≡ (task_at (owners_in self.now table.now) t).local) }
         ensures most { (task_at (owners_in self.now table.now) t).local ≤ 99 }
     {
-        self.row_of(t.get()).local
+        let row = self.row_of(t.get());
+        row.priorities.local()
     }
 
     /// Makes `prio` the effective priority of the thread `t`. All else stays as it was, and so does all if `t` has
@@ -148,7 +159,11 @@ impl RtMutexes {
         ensures holds { HoldsStates self.new table.now }
     {
         let row = self.row_of(t.get());
-        self.put(t, row.with_local(prio));
+        let changed = Row {
+            priorities: row.priorities.with_local(prio),
+            wait: row.wait,
+        };
+        self.put(t, changed);
     }
 
     /// An owner state of `owner`, which has a row, on which nobody is queued, under a key that no other state has.
@@ -177,7 +192,7 @@ impl RtMutexes {
         requires { IsSome (owner_at (owners_in self.now table.now) key) }
         ensures value { owner_at (owners_in self.now table.now) key ≡ Some result }
     {
-        self.states[key.get()].owner
+        self.state(key).owner
     }
 
     /// The row of a state, which has to be there: a number below that of threads, which no other state has.
@@ -188,7 +203,7 @@ impl RtMutexes {
         ensures below { result < self.now.threads }
         ensures alone { (other : ℕ) → get self.now.places other ≡ Some result → other ≡ key }
     {
-        self.states[key.get()].row
+        self.state(key).row
     }
 
     /// The top waiter of a state: of those that are queued on it the one with the highest priority as last handed in,
@@ -220,8 +235,8 @@ impl RtMutexes {
         requires row { t < length (owners_in self.now table.now).seats }
         ensures { unwrap_or result 0 ≡ maximum_of (owners_in self.now table.now) t }
     {
-        let base = self.row_of(t.get()).base;
-        greater(base, self.greatest_top(table, t))
+        let row = self.row_of(t.get());
+        greater(row.priorities.base(), self.greatest_top(table, t))
     }
 
     /// Queues the thread `t`, which waits for nothing, on a state, with this priority and ticket. The owner of the
@@ -242,13 +257,10 @@ impl RtMutexes {
         ensures nodes { KeepsWaiterNodes self.old t table.old table.new }
         ensures holds { HoldsStates self.new table.new }
     {
-        let State { owner, row } = self.state(key);
-        let was = self.first_in(table, key, row);
-        let node = self.wait_node(t);
-        self.list_of_row(row)
-            .insert(table, node, prio.get(), ticket);
-        self.set_wait(t, Some(key));
-        self.settle(table, key, row, owner, was);
+        let state = self.state(key);
+        let was = self.first_in(table, key, state);
+        self.put_waiter(table, key, state, t, prio, ticket);
+        self.settle(table, key, state, was);
     }
 
     /// Takes the thread `t` off the state on which it is queued. All other threads and all states stay as they were.
@@ -262,12 +274,10 @@ impl RtMutexes {
         ensures nodes { KeepsWaiterNodes self.old t table.old table.new }
         ensures holds { HoldsStates self.new table.new }
     {
-        let State { owner, row } = self.state(key);
-        let was = self.first_in(table, key, row);
-        let node = self.wait_node(t);
-        self.list_of_row(row).remove(table, node);
-        self.set_wait(t, None);
-        self.settle(table, key, row, owner, was);
+        let state = self.state(key);
+        let was = self.first_in(table, key, state);
+        self.take_waiter(table, key, state, t);
+        self.settle(table, key, state, was);
     }
 
     /// Gives the thread `t` another priority among the waiters of the state on which it is queued. It keeps its ticket,
@@ -281,11 +291,10 @@ impl RtMutexes {
         ensures nodes { KeepsWaiterNodes self.old t table.old table.new }
         ensures holds { HoldsStates self.new table.new }
     {
-        let State { owner, row } = self.state(key);
-        let was = self.first_in(table, key, row);
-        let node = self.wait_node(t);
-        self.list_of_row(row).rekey(table, node, prio.get());
-        self.settle(table, key, row, owner, was);
+        let state = self.state(key);
+        let was = self.first_in(table, key, state);
+        self.move_waiter(table, key, state, t, prio);
+        self.settle(table, key, state, was);
     }
 
     /// The ticket with which the thread `t` is queued. `None` if it waits for nothing.
@@ -293,7 +302,7 @@ impl RtMutexes {
         requires { HoldsStates self.now table.now }
         ensures { result ≡ option_map (λ (r : RankSeen). r.ticket) (rank_of (owners_in self.now table.now) t) }
     {
-        let _state = self.row_of(t.get()).wait?;
+        let _state = self.wait_of(t)?;
         Some(table.key(self.wait_node(t)).ticket)
     }
 
@@ -309,9 +318,10 @@ impl RtMutexes {
         ensures nodes { KeepsWaiterNodes self.old t table.old table.new }
         ensures holds { HoldsStates self.new table.new }
     {
-        if let Some(key) = self.row_of(t.get()).wait {
+        if let Some(key) = self.wait_of(t) {
+            let state = self.state(key);
             let node = self.wait_node(t);
-            self.waiters(table, key).set_ticket(table, node, ticket);
+            self.waiters(state).set_ticket(table, node, ticket);
         }
     }
 
@@ -329,13 +339,11 @@ impl RtMutexes {
         ensures nodes { KeepsWaiterNodes self.old result table.old table.new }
         ensures holds { HoldsStates self.new table.new }
     {
-        let State { owner, row } = self.state(key);
-        let next = self.first_in(table, key, row).unwrap();
-        let node = self.wait_node(next);
-        self.list_of_row(row).remove(table, node);
-        self.set_wait(next, None);
-        self.set_owner(key, row, next);
-        self.retop(table, key, row, owner, Some(next), next);
+        let state = self.state(key);
+        let next = self.first_in(table, key, state).unwrap();
+        self.take_waiter(table, key, state, next);
+        self.set_owner(key, state, next);
+        self.retop(table, key, state, Some(next), next);
         next
     }
 
@@ -362,7 +370,7 @@ impl RtMutexes {
         ensures value { result ≡ waits_on (owners_in self.now table.now) t }
         ensures state { ForSome result (λ k. IsSome (owner_at (owners_in self.now table.now) k)) }
     {
-        self.row_of(t.get()).wait
+        self.wait_of(t)
     }
 
     /// The first of the waiters of a state. `None` if it is not there, or nobody is queued on it.
@@ -370,17 +378,17 @@ impl RtMutexes {
         requires { HoldsWaiters self.now table.now }
         ensures { result ≡ first_waiter self.now table.now key }
     {
-        let row = self.place(key)?;
-        self.first_in(table, key, row)
+        let state = self.states.get(key.get())?;
+        self.first_in(table, key, *state)
     }
 
-    /// The first of the waiters of a state that has this row. `None` if nobody is queued on it.
-    fn first_in(&self, table: &NodeTable, key: Key, row: u32) -> Option<Tid>
+    /// The first of the waiters of a state that has the row of `state`. `None` if nobody is queued on it.
+    fn first_in(&self, table: &NodeTable, key: Key, state: State) -> Option<Tid>
         requires holds { HoldsWaiters self.now table.now }
-        requires row { get self.now.places key ≡ Some row }
+        requires row { get self.now.places key ≡ Some state.row }
         ensures { result ≡ first_waiter self.now table.now key }
     {
-        let node = self.list_of_row(row).top(table)?;
+        let node = self.waiters(state).top(table)?;
         Tid::new(node.get() - self.first_node + 1)
     }
 
@@ -397,18 +405,9 @@ impl RtMutexes {
     /// What is stored of a state, which has to be there.
     fn state(&self, key: Key) -> State
         requires { IsSome (get self.now.owners key) }
-        ensures owner { get self.now.owners key ≡ Some result.owner }
-        ensures row { get self.now.places key ≡ Some result.row }
+        ensures { IsStored self.now key result }
     {
         self.states[key.get()]
-    }
-
-    /// The row of a state. `None` if it is not there.
-    fn place(&self, key: Key) -> Option<u32>
-        ensures { result ≡ get self.now.places key }
-    {
-        let row = self.states.get(key.get())?.row;
-        Some(row)
     }
 
     /// The priority of the first of the top waiters of the thread `t`. `None` if it has none.
@@ -419,6 +418,13 @@ impl RtMutexes {
     {
         let node = self.tops(t).top(table)?;
         Prio::new(table.key(node).prio)
+    }
+
+    /// The state on which a thread is queued. `None` if it waits for nothing.
+    fn wait_of(&self, t: Tid) -> Option<Key>
+        ensures { result ≡ wait_of self.now t }
+    {
+        self.row_of(t.get()).wait
     }
 
     /// The row of a thread.
@@ -448,32 +454,30 @@ impl RtMutexes {
         ensures { self.new ≡ with_wait_on t wait self.old }
     {
         let row = self.row_of(t.get());
-        self.put(t, row.with_wait(wait));
+        let changed = Row {
+            priorities: row.priorities,
+            wait,
+        };
+        self.put(t, changed);
     }
 
-    /// Makes `owner` the owner of a state that has this row.
-    fn set_owner(&mut self, key: Key, row: u32, owner: Tid)
-        requires { get self.old.places key ≡ Some row }
+    /// Makes `owner` the owner of a state that has the row of `state`.
+    fn set_owner(&mut self, key: Key, state: State, owner: Tid)
+        requires { get self.old.places key ≡ Some state.row }
         ensures { self.new ≡ with_owner_of key owner self.old }
     {
-        self.states[key.get()] = State { owner, row };
+        self.states[key.get()] = State {
+            owner,
+            row: state.row,
+        };
     }
 
-    /// The list of the waiters of a state.
-    fn waiters(&self, table: &NodeTable, key: Key) -> PList
-        requires holds { HoldsWaiters self.now table.now }
-        requires state { IsSome (get self.now.owners key) }
-        ensures { option_map (wait_list self.now) (get self.now.places key) ≡ Some result }
+    /// The list of the waiters of a state of which this is stored.
+    fn waiters(&self, state: State) -> PList
+        requires { state.row < self.now.threads }
+        ensures { result ≡ wait_list self.now state.row }
     {
-        self.list_of_row(self.states[key.get()].row)
-    }
-
-    /// The list of the waiters of the state that has this row.
-    fn list_of_row(&self, row: u32) -> PList
-        requires { row < self.now.threads }
-        ensures { result ≡ wait_list self.now row }
-    {
-        PList::new(List::new(self.first_list + row))
+        PList::new(List::new(self.first_list + state.row))
     }
 
     /// The list of the top waiters of the thread `t`.
@@ -503,20 +507,74 @@ impl RtMutexes {
         Node::new(self.first_node + self.threads + (t.get() - 1))
     }
 
-    /// Lets the top waiter of a state that has this row stand among those of its owner, after its waiters changed.
-    /// Before that, `was` was its top waiter, and stood there. Little is to do if it still is.
-    fn settle(&self, table: &mut NodeTable, key: Key, row: u32, owner: Tid, was: Option<Tid>)
+    /// Puts the thread `t`, which waits for nothing, among the waiters of a state of which `state` is stored, with this
+    /// priority and ticket. The top waiters stay as they were.
+    fn put_waiter(
+        &mut self,
+        table: &mut NodeTable,
+        key: Key,
+        state: State,
+        t: Tid,
+        prio: Prio,
+        ticket: u64,
+    )
+        requires holds { HoldsStates self.old table.old }
+        requires state { IsStored self.old key state }
+        requires node { holder table.old (wait_node self.old t) ≡ None }
+        requires row { t < length (owners_in self.old table.old).seats }
+        requires free { waits_on (owners_in self.old table.old) t ≡ None }
+        requires no_cycle { (n : ℕ) → owner_at (owners_in self.old table.old) key ≡ Some n
+            → Reaches (WaitsFor (owners_in self.old table.old)) n t → ⊥ }
+        ensures { let rank : RankSeen = record { prio = prio; ticket = ticket } in
+            IsStep self.old self.new table.old table.new key state.owner t
+            (with_wait t (Some (record { state = key; rank = rank })) (owners_in self.old table.old)) }
+    {
+        let node = self.wait_node(t);
+        self.waiters(state).insert(table, node, prio.get(), ticket);
+        self.set_wait(t, Some(key));
+    }
+
+    /// Takes the thread `t` out from among the waiters of a state of which `state` is stored. The top waiters stay as
+    /// they were.
+    fn take_waiter(&mut self, table: &mut NodeTable, key: Key, state: State, t: Tid)
+        requires holds { HoldsStates self.old table.old }
+        requires state { IsStored self.old key state }
+        requires queued { waits_on (owners_in self.old table.old) t ≡ Some key }
+        ensures node { holder table.new (wait_node self.old t) ≡ None }
+        ensures step { IsStep self.old self.new table.old table.new key state.owner t
+            (with_wait t None (owners_in self.old table.old)) }
+    {
+        let node = self.wait_node(t);
+        self.waiters(state).remove(table, node);
+        self.set_wait(t, None);
+    }
+
+    /// Gives the thread `t` another priority among the waiters of a state of which `state` is stored. The top waiters
+    /// stay as they were.
+    fn move_waiter(&self, table: &mut NodeTable, key: Key, state: State, t: Tid, prio: Prio)
+        requires holds { HoldsStates self.now table.old }
+        requires state { IsStored self.now key state }
+        requires queued { waits_on (owners_in self.now table.old) t ≡ Some key }
+        ensures { IsStep self.now self.now table.old table.new key state.owner t
+            (with_prio t prio (owners_in self.now table.old)) }
+    {
+        let node = self.wait_node(t);
+        self.waiters(state).rekey(table, node, prio.get());
+    }
+
+    /// Lets the top waiter of a state of which `state` is stored stand among those of its owner, after its waiters
+    /// changed. Before that, `was` was its top waiter, and stood there. Little is to do if it still is.
+    fn settle(&self, table: &mut NodeTable, key: Key, state: State, was: Option<Tid>)
         requires waiters { HoldsWaiters self.now table.old }
-        requires row { get self.now.places key ≡ Some row }
-        requires owner { get self.now.owners key ≡ Some owner }
-        requires but { IsToppedBut self.now table.old key owner was }
+        requires state { IsStored self.now key state }
+        requires but { IsToppedBut self.now table.old key state.owner was }
         ensures changes { ChangesTops self.now table.old table.new }
         ensures tops { HoldsTops self.now table.new }
     {
-        if self.first_in(table, key, row) == was {
-            self.rerank(table, key, owner, was);
+        if self.first_in(table, key, state) == was {
+            self.rerank(table, key, state.owner, was);
         } else {
-            self.retop(table, key, row, owner, was, owner);
+            self.retop(table, key, state, was, state.owner);
         }
     }
 
@@ -539,37 +597,30 @@ impl RtMutexes {
         }
     }
 
-    /// Takes `was`, which stands among the top waiters of `owner` for a state that has this row, out from there, and
-    /// puts the top waiter of the state among those of `to`, which owns it now.
-    fn retop(
-        &self,
-        table: &mut NodeTable,
-        key: Key,
-        row: u32,
-        owner: Tid,
-        was: Option<Tid>,
-        to: Tid,
-    )
+    /// Takes `was`, which stands among the top waiters of the owner that `state` has for a state, out from there, and
+    /// puts the top waiter of the state among those of `to`, which owns it now. The state has the row of `state`.
+    fn retop(&self, table: &mut NodeTable, key: Key, state: State, was: Option<Tid>, to: Tid)
         requires waiters { HoldsWaiters self.now table.old }
-        requires row { get self.now.places key ≡ Some row }
+        requires row { get self.now.places key ≡ Some state.row }
         requires to { get self.now.owners key ≡ Some to }
-        requires owner { IsThread self.now owner }
-        requires but { IsToppedBut self.now table.old key owner was }
+        requires owner { IsThread self.now state.owner }
+        requires but { IsToppedBut self.now table.old key state.owner was }
         ensures changes { ChangesTops self.now table.old table.new }
         ensures tops { HoldsTops self.now table.new }
     {
-        self.take_top(table, key, owner, was);
-        let first = self.first_in(table, key, row);
-        self.put_top(table, key, owner, to, first);
+        self.take_top(table, key, state.owner, was);
+        let first = self.first_in(table, key, state);
+        self.put_top(table, key, to, first);
     }
 
-    /// Takes `was`, which stands among the top waiters of `owner` for a state, out from there.
+    /// Takes `was`, which stands among the top waiters of `owner` for a state, out from there. Nobody stands anywhere
+    /// for that state then.
     fn take_top(&self, table: &mut NodeTable, key: Key, owner: Tid, was: Option<Tid>)
         requires waiters { HoldsWaiters self.now table.old }
         requires owner { IsThread self.now owner }
         requires but { IsToppedBut self.now table.old key owner was }
         ensures changes { ChangesTops self.now table.old table.new }
-        ensures but { IsToppedBut self.now table.new key owner None }
+        ensures but { (p : ℕ) → IsToppedBut self.now table.new key p None }
     {
         if let Some(t) = was {
             let node = self.top_node(t);
@@ -577,12 +628,11 @@ impl RtMutexes {
         }
     }
 
-    /// Puts the top waiter of a state among those of `to`, which owns it. Those of `owner`, which owned it before, have
-    /// nobody for it.
-    fn put_top(&self, table: &mut NodeTable, key: Key, owner: Tid, to: Tid, first: Option<Tid>)
+    /// Puts `first`, the top waiter of a state, for which nobody stands anywhere, among those of `to`, which owns it.
+    fn put_top(&self, table: &mut NodeTable, key: Key, to: Tid, first: Option<Tid>)
         requires waiters { HoldsWaiters self.now table.old }
         requires to { get self.now.owners key ≡ Some to }
-        requires but { IsToppedBut self.now table.old key owner None }
+        requires but { IsToppedBut self.now table.old key to None }
         requires first { first ≡ first_waiter self.now table.old key }
         ensures changes { ChangesTops self.now table.old table.new }
         ensures tops { HoldsTops self.now table.new }

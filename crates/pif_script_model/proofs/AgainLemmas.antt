@@ -13,8 +13,8 @@ use Rattle.pif_model.specs.declared.events.Seen.TheVariants.{Went}
 use Rattle.pif_model.specs.Calls.{add_thread_answer, add_thread_after, add_mutex_answer, add_mutex_after, add_cond_answer, add_cond_after}
 use Rattle.pif_model.specs.Table.{Table, new_table}
 use Rattle.pif_model.specs.Lines.{Outcome, event_outcome, goes_on}
-use Rattle.pif_calls.specs.Calls.{call_outcome}
-use Rattle.pif_calls.proofs.CallLemmas.{call_other, call_refused, goes_on-other, goes_on-went, is_refused, is_went}
+use Rattle.pif_model_simulation.specs.Calls.{call_outcome}
+use Rattle.pif_model_simulation.proofs.CallLemmas.{call_other, call_refused, goes_on-other, goes_on-went, is_refused, is_went}
 use Rattle.pif_text_model.specs.declared.commands.Addition.{Addition}
 use Rattle.pif_text_model.specs.declared.commands.Addition.TheVariants.{Thread, Mutex, Cond}
 use Rattle.pif_text_model.specs.declared.commands.Command.{Command}

@@ -15,8 +15,8 @@ use Rattle.pif_model.specs.declared.events.Seen.TheVariants.{Went, Refused}
 use Rattle.pif_model.specs.Calls.{add_thread_answer, add_mutex_answer, add_cond_answer}
 use Rattle.pif_model.specs.Table.{Table, new_table}
 use Rattle.pif_model.specs.Lines.{event_outcome, goes_on}
-use Rattle.pif_calls.specs.Calls.{call_outcome, after_going}
-use Rattle.pif_calls.proofs.CallLemmas.{called-other, called-refused, after_going-below, after_going-other, after_going-went, after_going-zero}
+use Rattle.pif_model_simulation.specs.Calls.{call_outcome, after_going}
+use Rattle.pif_model_simulation.proofs.CallLemmas.{called-other, called-refused, after_going-below, after_going-other, after_going-went, after_going-zero}
 use Rattle.pif_text_model.specs.declared.commands.Addition.{Addition}
 use Rattle.pif_text_model.specs.declared.commands.Addition.TheVariants.{Thread, Mutex, Cond}
 use Rattle.pif_text_model.specs.declared.commands.Command.{Command}

@@ -1,5 +1,5 @@
 -- Bytes that are read one after the other, of whose answers a front is written.
-use Rattle.std.proofs.Common.{◌≡◌, ℕ, List, [], ◌∷◌, ◌++◌, true, Option, Result, Ok, Err, refl, sym, ap, ◌∙◌, subst, append_assoc, append-nil, drop, take, take-append-drop}
+use Rattle.std.proofs.Common.{◌≡◌, ℕ, List, [], ◌∷◌, ◌++◌, Option, Result, Ok, Err, refl, sym, ap, ◌∙◌, subst, append_assoc, append-nil, drop, take, take-append-drop}
 use Rattle.std.proofs.KnownBytes.{Appends-nil, Appends-trans, Keeps-refl}
 use Rattle.std.specs.Io.KnownBytes.{Appends, Consumes}
 use Rattle.pif_script_model.specs.declared.faults.CliFault.{CliFault}
@@ -7,7 +7,7 @@ use Rattle.pif_script_model.specs.declared.faults.CliFault.TheVariants.{Read, Wr
 use Rattle.pif_script_model.specs.declared.ending.End.{End}
 use Rattle.pif_script_model.specs.Scripts.{Hearing, Scan, reading_of, Takes, TakesSome}
 use Rattle.pif_script_model.specs.declared.ending.Stop.TheVariants.{Ended, NoMemory as StopNoMemory}
-use Rattle.pif_script_model.specs.Runs.{EndsAfter, Feeds, Flushes, RunsFrom, RunsPart, Stops, Writes, WritesPart, output_of}
+use Rattle.pif_script_model.specs.Runs.{EndsAfter, Feeds, Flushes, RunsFrom, Stops, Writes, WritesPart, output_of}
 use Rattle.pif_script_model.proofs.ScriptLemmas.{reading_of-append, reading_of-err, reading_of-nil, reading_of-ok, reading_of-unheard}
 use Rattle.pif_script_model.proofs.RunLemmas.{Appends-kept_before, EndsAfter-stopped, Stops-after, Writes-more, output_of-append}
 
@@ -182,12 +182,7 @@ module _ {S : Type 0} (hearing : Hearing S) where
         Appends-kept_before held holds holds [] (subst (λ l. Appends held holds l) none f.written) (Keeps-refl holds),
       )
 
-  -- a chunk was fed
-  pub RunsPart-fed : (s t : Scan S) (read : List ℕ) (a b h k : Option (List ℕ)) (x : Unit {0}) → Consumes a b read
-      → Feeds hearing s read t h k (Ok x) → RunsPart hearing s t a b h k (Ok true)
-  RunsPart-fed s t read a b h k x p f = (read, p, f.0, f.1)
-
-  -- and ended the run
+  -- a chunk that was fed ended the run
   pub RunsFrom-fed : (s t : Scan S) (read : List ℕ) (a b h k : Option (List ℕ)) (e : CliFault) → Consumes a b read
       → Feeds hearing s read t h k (Err e) → RunsFrom hearing s a b h k (Err e)
   RunsFrom-fed s t read a b h k e p f = (read, p, f b)

@@ -1,21 +1,16 @@
 -- Runs that are shown: what a run does that writes to nobody knows where, but for a write that fails.
-use Rattle.std.proofs.Common.{◌≡◌, ℕ, Bool, List, [], ◌∷◌, Option, Some, None, Result, Ok, Err, refl, sym, subst, append-nil}
-use Rattle.std.specs.Io.KnownBytes.{Consumes, IsAtEnd}
+use Rattle.std.proofs.Common.{◌≡◌, ℕ, List, [], ◌∷◌, Option, None, Result, Ok, Err, refl, sym, append-nil}
 use Rattle.pif_text_model.specs.Extends.{Stays}
 use Rattle.pif_text_model.proofs.Extending.{Stays-appended}
 use Rattle.pif_script_model.specs.declared.faults.CliFault.{CliFault}
 use Rattle.pif_script_model.specs.declared.faults.CliFault.TheVariants.{Read, Write, NoMemory, Script, Differs}
 use Rattle.pif_script_model.specs.declared.ending.End.{End}
 use Rattle.pif_script_model.specs.declared.ending.Stop.TheVariants.{Ended, NoMemory as StopNoMemory}
-use Rattle.pif_script_model.specs.Scripts.{Hearing, Scan, start, Takes, closed_at, reading_of}
-use Rattle.pif_script_model.specs.Runs.{WritesEnd, Feeds, Stops, RunsPart, Writes}
-use Rattle.pif_script_model.specs.Running.{RunsTo, script}
-use Rattle.pif_model.specs.Table.{Table}
+use Rattle.pif_script_model.specs.Scripts.{Hearing, Scan, Takes}
+use Rattle.pif_script_model.specs.Runs.{Feeds, Stops, Writes}
 use Rattle.pif_script_model.specs.Showing.{OrUnwritten, SilentAt}
 use Rattle.pif_script_model.proofs.ScriptLemmas.{byte_taken-unheard}
-use Rattle.pif_script_model.proofs.RunLemmas.{Goes, Goes-ends, RunsPart-closed}
-use Rattle.pif_script_model.proofs.FeedLemmas.{Feeding, Feeding-flushed, Feeding-more, Feeds-no_memory, Feeds-stop, RunsFrom-fed}
-use Rattle.pif_script_model.proofs.DifferenceLemmas.{RunsTo-from}
+use Rattle.pif_script_model.proofs.FeedLemmas.{Feeding, Feeding-flushed, Feeding-more, Feeds-no_memory, Feeds-stop}
 
 -- bytes were written, or a part of them
 pub Stays-written : (h k : Option (List ℕ)) (bytes : List ℕ) (result : Result (Unit {0}) CliFault)
@@ -78,47 +73,3 @@ module _ {S : Type 0} (hearing : Hearing S) where
       → Feeds hearing s bs v None None (Err NoMemory)
   Feeds-shown_no_memory s bs t b rest old new u v f w =
       Feeds-no_memory hearing s bs None t b rest [] [] None u v f (w.0, refl)
-
-  -- the input ended inside a line, or its end is a fault
-  pub WritesEnd-shown : (told : Result (List ℕ) End) (text : List ℕ) (h k : Option (List ℕ)) (x : End) (e : CliFault)
-      → told ≡ Err x → Stops h k text (hearing.said_of x) x e
-      → OrUnwritten {A = Bool} (WritesEnd None None hearing.said_of told) (Err e)
-  WritesEnd-shown told text h k x (Script l c) p w = rw p (w.0, tt)
-  WritesEnd-shown told text h k x (Differs l) p w = rw p (w.0, tt)
-  WritesEnd-shown told text h k x Write p w = tt
-  WritesEnd-shown told text h k x Read p w = absurd w
-  WritesEnd-shown told text h k x NoMemory p w = absurd w
-
-  -- the input ended
-  pub RunsPart-shown_closed : (s : Scan S) (a b : Option (List ℕ)) (result : Result Bool CliFault) → Consumes a b []
-      → IsAtEnd b → OrUnwritten (WritesEnd None None hearing.said_of (closed_at hearing s)) result
-      → OrUnwritten (RunsPart hearing s s a b None None) result
-  RunsPart-shown_closed s a b (Ok x) p end w = RunsPart-closed hearing s a b None None (Ok x) p end w
-  RunsPart-shown_closed s a b (Err Read) p end w = RunsPart-closed hearing s a b None None (Err Read) p end w
-  RunsPart-shown_closed s a b (Err Write) p end w = tt
-  RunsPart-shown_closed s a b (Err NoMemory) p end w = RunsPart-closed hearing s a b None None (Err NoMemory) p end w
-  RunsPart-shown_closed s a b (Err (Script l c)) p end w = RunsPart-closed hearing s a b None None (Err (Script l c)) p end w
-  RunsPart-shown_closed s a b (Err (Differs l)) p end w = RunsPart-closed hearing s a b None None (Err (Differs l)) p end w
-
-  -- a chunk ended the script
-  pub RunsPart-shown_fed : (s t : Scan S) (read : List ℕ) (a b : Option (List ℕ)) (e : CliFault) → Consumes a b read
-      → OrUnwritten {A = Unit {0}} (Feeds hearing s read t None None) (Err e)
-      → OrUnwritten {A = Bool} (RunsPart hearing s t a b None None) (Err e)
-  RunsPart-shown_fed s t read a b Read p f = RunsFrom-fed hearing s t read a b None None Read p f
-  RunsPart-shown_fed s t read a b Write p f = tt
-  RunsPart-shown_fed s t read a b NoMemory p f = RunsFrom-fed hearing s t read a b None None NoMemory p f
-  RunsPart-shown_fed s t read a b (Script l c) p f = RunsFrom-fed hearing s t read a b None None (Script l c) p f
-  RunsPart-shown_fed s t read a b (Differs l) p f = RunsFrom-fed hearing s t read a b None None (Differs l) p f
-
--- a part of it ended it
-pub RunsTo-shown : (t u : Scan Table) (a b c : Option (List ℕ)) (e : CliFault) → Goes script start t a b None None
-    → OrUnwritten {A = Bool} (RunsPart script t u b c None None) (Err e)
-    → OrUnwritten {A = Unit {0}} (RunsTo a c None None) (Err e)
-RunsTo-shown t u a b c Read p r = RunsTo-from a c None None (Err Read) (Goes-ends script start t a b c None None None (Err Read) p r)
-RunsTo-shown t u a b c Write p r = tt
-RunsTo-shown t u a b c NoMemory p r =
-    RunsTo-from a c None None (Err NoMemory) (Goes-ends script start t a b c None None None (Err NoMemory) p r)
-RunsTo-shown t u a b c (Script l w) p r =
-    RunsTo-from a c None None (Err (Script l w)) (Goes-ends script start t a b c None None None (Err (Script l w)) p r)
-RunsTo-shown t u a b c (Differs l) p r =
-    RunsTo-from a c None None (Err (Differs l)) (Goes-ends script start t a b c None None None (Err (Differs l)) p r)

@@ -175,14 +175,6 @@ answered-ends : (l : Option Table) (version : Option Version) (line : List ℕ) 
 answered-ends None version line f e = first-ends (first_line_lines line) (first_line_meaning line) f e
 answered-ends (Some s) version line f e = later-ends (later_line_lines s line) (line_meaning s line) f e
 
--- a byte that did not end the script ended a line that was answered, or left who hears it
-abbrev Ends : Scan Table → ℕ → List ℕ × Scan Table → Type 0
-Ends s b r =
-    ((b == 10) ≡ true) × (m : List ℕ × Option Table) × (line_answer script s ≡ Ok m) × (r.1.listener ≡ m.1)
-
-abbrev Same : Bool → Scan Table → Result (List ℕ × Scan Table) End → List ℕ × Scan Table → Type 0
-Same y s other r = (other ≡ Ok ((cond y (line_lines s.listener s.line) []), r.1))
-
 after_line-same : (s : Scan Table) (x y : Answered Table) (r : List ℕ × Scan Table)
     → ((m : List ℕ × Option Table) → x ≡ Ok m → (y ≡ Ok (line_lines s.listener s.line, m.1)) × (m.1 ≡ None → ⊥))
     → after_line s x ≡ Ok r

@@ -21,7 +21,7 @@ use Rattle.pif_model_simulation.proofs.additions.ThreadAdded.{thread_added_kept}
 use Rattle.pif_model_simulation.proofs.additions.MutexAdded.{mutex_added_kept}
 use Rattle.pif_model_simulation.proofs.additions.CondAdded.{cond_added_kept}
 use Rattle.pif_model_simulation.proofs.Simulation.{event_kept}
-use Rattle.pif_calls.proofs.CallLemmas.{is_refused, is_went}
+use Rattle.pif_model_simulation.proofs.CallLemmas.{is_refused, is_went}
 use Rattle.pif_text_model.specs.declared.commands.Addition.{Addition}
 use Rattle.pif_text_model.specs.declared.commands.Addition.TheVariants.{Thread, Mutex, Cond}
 use Rattle.pif_text_model.specs.declared.commands.Command.{Command}

@@ -7,7 +7,7 @@ use Rattle.pif_types.specs.declared.requests.Request.{Request}
 use Rattle.pif_model.specs.Table.{Table, new_table}
 use Rattle.pif_model.specs.Lines.{Outcome, event_outcome, goes_on}
 use Rattle.pif_model.specs.Calls.{add_thread_answer, add_thread_after, add_mutex_answer, add_mutex_after, add_cond_answer, add_cond_after, effective_answer, word_answer, health_answer, cond_word_answer, pick_answer, threads_answer}
-use Rattle.pif_calls.specs.Calls.{call_outcome, most_further_steps}
+use Rattle.pif_model_simulation.specs.Calls.{call_outcome, most_further_steps}
 use Rattle.pif_text_model.specs.declared.commands.Command.{Command}
 use Rattle.pif_text_model.specs.declared.commands.Command.TheVariants.{Limits, Add, Event, Run, Ask}
 use Rattle.pif_text_model.specs.declared.commands.Addition.{Addition}

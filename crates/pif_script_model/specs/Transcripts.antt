@@ -11,7 +11,7 @@ use Rattle.pif_model.specs.declared.events.Event.{Event}
 use Rattle.pif_model.specs.Table.{Table, new_table}
 use Rattle.pif_model.specs.Lines.{event_outcome}
 use Rattle.pif_model.specs.Calls.{add_thread_answer, add_mutex_answer, add_cond_answer}
-use Rattle.pif_calls.specs.Calls.{after_call, after_going, most_further_steps}
+use Rattle.pif_model_simulation.specs.Calls.{after_call, after_going, most_further_steps}
 use Rattle.pif_text_model.specs.declared.commands.Command.{Command}
 use Rattle.pif_text_model.specs.declared.commands.Command.TheVariants.{Limits, Add, Event as EventOf, Run, Ask}
 use Rattle.pif_text_model.specs.declared.commands.Addition.{Addition}

@@ -12,12 +12,14 @@
 //! | `reading` | that script, of a story that is read |
 //! | `comparing` | the answers that are written, beside the lines that are printed |
 //! | `filling` | a story with the lines that are printed as its answers |
+//! | `pairing` | the commands of a story beside what they ask for and are answered |
 //! | `verdicts` | what a story comes to, as a line |
 #![tactic(auto)]
 
 mod comparing;
 mod filling;
 mod lines;
+mod pairing;
 mod reading;
 mod scripts;
 mod verdicts;
@@ -25,6 +27,7 @@ mod verdicts;
 pub use comparing::compare;
 pub use filling::filled_text;
 pub use lines::line_at_end;
+pub use pairing::answered_rows;
 pub use reading::{MOST, read_script_of_story};
 pub use scripts::script_of;
 pub use verdicts::verdict_line;

@@ -1,7 +1,7 @@
 use crate::looks::hue;
 use crate::pages::Page;
 use crate::plans::{Moment, Plan};
-use crate::rows::Row;
+use crate::rows::{Row, write_reply};
 use pif_types::{MutexId, Tid};
 
 /// Draws that a thread gave a mutex to another, from the bar of one at this height to that of the other.
@@ -102,6 +102,6 @@ pub fn write_line(row: &Row<'_>, out: &mut Page) {
     out.fill("<title>line {}: ", &[row.line]);
     out.words(row.words);
     out.words(" = ");
-    out.words(row.answer);
+    write_reply(row.reply, out);
     out.words("</title>");
 }

@@ -1,45 +1,12 @@
-use crate::owners::{holds, owner_of};
 use crate::pages::Page;
 use pif_core::{Core, Status};
+use pif_text_core::begins_chain;
 use pif_types::{MutexId, Tid};
 
-/// The mutex for which a thread waits, and who holds it; none if it waits for none.
-fn waited_for(core: &Core, thread: Tid) -> Option<(MutexId, Tid)> {
-    let mutex = mutex_of(core.status(thread)?)?;
-    let owner = owner_of(core, mutex)?;
-    Some((mutex, owner))
-}
-
-/// The mutex on which a thread of this status is queued.
-fn mutex_of(status: Status) -> Option<MutexId> {
-    match status {
-        Status::Queued(mutex) => Some(mutex),
-        _ => None,
-    }
-}
-
-/// Whether somebody waits for a mutex that this thread holds.
-fn is_waited_for(core: &Core, thread: Tid) -> bool {
-    for number in 1..=core.mutexes() {
-        if holds(core, thread, number) && has_waiter(core, number) {
-            return true;
-        }
-    }
-    false
-}
-
-/// Whether somebody waits for the mutex of this number.
-fn has_waiter(core: &Core, number: u32) -> bool {
-    match MutexId::new(number) {
-        Some(mutex) => core.waiter(mutex, 0).is_some(),
-        None => false,
-    }
-}
-
-/// The thread of this number, if it begins a chain: it waits, and nobody waits for it.
+/// The thread of this number, if it begins a chain.
 fn first_of_chain(core: &Core, number: u32) -> Option<Tid> {
     let thread = Tid::new(number)?;
-    if waited_for(core, thread).is_some() && !is_waited_for(core, thread) {
+    if begins_chain(core, thread) {
         Some(thread)
     } else {
         None
@@ -52,24 +19,36 @@ pub fn write_chains(core: &Core, out: &mut Page) {
     for number in 1..=core.threads() {
         if let Some(thread) = first_of_chain(core, number) {
             out.words(comma);
-            out.fill("[\"t{}\"", &[number]);
-            write_links(core, thread, out);
+            out.words("[");
+            write_path(core, core.path(thread).as_slice(), out);
             out.words("]");
             comma = ",";
         }
     }
 }
 
-/// Writes for which mutex a thread waits and who holds it, and so on from that one.
-fn write_links(core: &Core, first: Tid, out: &mut Page) {
-    let mut thread = first;
-    for _link in 0..core.threads() {
-        match waited_for(core, thread) {
-            Some((mutex, owner)) => {
-                out.fill(",\"m{}\",\"t{}\"", &[mutex.get(), owner.get()]);
-                thread = owner;
-            }
-            None => return,
+/// The mutex for which a thread waits; none if it waits for none.
+fn awaited(core: &Core, thread: Tid) -> Option<MutexId> {
+    mutex_of(core.status(thread)?)
+}
+
+/// The mutex on which a thread of this status is queued.
+fn mutex_of(status: Status) -> Option<MutexId> {
+    match status {
+        Status::Queued(mutex) => Some(mutex),
+        _ => None,
+    }
+}
+
+/// Writes each of these threads, and the mutex for which it waits, if it waits for one.
+fn write_path(core: &Core, path: &[Tid], out: &mut Page) {
+    let mut comma = "";
+    for thread in path {
+        out.words(comma);
+        out.fill("\"t{}\"", &[thread.get()]);
+        if let Some(mutex) = awaited(core, *thread) {
+            out.fill(",\"m{}\"", &[mutex.get()]);
         }
+        comma = ",";
     }
 }

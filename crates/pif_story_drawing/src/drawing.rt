@@ -6,9 +6,10 @@ use crate::looks::Look;
 use crate::pages::Page;
 use crate::plans::{Moment, Plan, plan_of};
 use crate::plays::{Watch, play};
-use crate::rows::{Place, Row};
+use crate::rows::{Row, write_reply};
 use crate::sheets::Sheet;
 use pif_core::Core;
+use pif_story_model::AnsweredRow;
 use pif_types::{MutexId, NoMemory, Tid};
 use std::alloc::{AllocError, Global};
 
@@ -27,10 +28,10 @@ struct Drawing {
 /// # Errors
 ///
 /// A growth of memory was refused.
-pub fn drawing_of(alloc: Global, story: &[u8], places: &[Place]) -> Result<String, NoMemory> {
-    let plan = plan_of(alloc, story, places)?;
+pub fn drawing_of(alloc: Global, story: &[u8], rows: &[AnsweredRow]) -> Result<String, NoMemory> {
+    let plan = plan_of(alloc, story, rows)?;
     let mut drawing = Drawing::new(alloc, plan);
-    drawing.draw(alloc, story, places)
+    drawing.draw(alloc, story, rows)
 }
 
 impl Drawing {
@@ -46,11 +47,16 @@ impl Drawing {
     }
 
     /// Plays the commands of a story, and draws them.
-    fn draw(&mut self, alloc: Global, story: &[u8], places: &[Place]) -> Result<String, NoMemory> {
+    fn draw(
+        &mut self,
+        alloc: Global,
+        story: &[u8],
+        rows: &[AnsweredRow],
+    ) -> Result<String, NoMemory> {
         if self.add_lanes().is_err() || self.add_bars().is_err() {
             return Err(NoMemory);
         }
-        play(alloc, story, places, self)?;
+        play(alloc, story, rows, self)?;
         let mut page = Page::new(alloc);
         write_drawing(&self.plan, &self.sheet, &mut page);
         page.text()
@@ -123,6 +129,6 @@ fn draw_column(row: &Row<'_>, now: Moment, plan: &Plan, out: &mut Page) {
     );
     out.words(row.words);
     out.words("<tspan class=\"answer\"> = ");
-    out.words(row.answer);
+    write_reply(row.reply, out);
     out.words("</tspan></text></g>\n");
 }

@@ -2,8 +2,9 @@ use crate::levels::{Level, level_of};
 use crate::owners::owner_of;
 use crate::pages::Page;
 use crate::plays::{Watch, play};
-use crate::rows::{Place, Row};
+use crate::rows::Row;
 use pif_core::{Core, Status};
+use pif_story_model::AnsweredRow;
 use pif_types::{CondId, MutexId, NoMemory, Tid};
 use std::alloc::Global;
 
@@ -18,11 +19,11 @@ struct Graph {
 /// # Errors
 ///
 /// A growth of memory was refused.
-pub fn graph_of(alloc: Global, story: &[u8], places: &[Place]) -> Result<String, NoMemory> {
+pub fn graph_of(alloc: Global, story: &[u8], rows: &[AnsweredRow]) -> Result<String, NoMemory> {
     let mut graph = Graph {
         page: Page::new(alloc),
     };
-    play(alloc, story, places, &mut graph)?;
+    play(alloc, story, rows, &mut graph)?;
     graph.page.text()
 }
 

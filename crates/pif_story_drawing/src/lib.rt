@@ -1,8 +1,8 @@
 //! Pictures of stories as texts: a drawing for people, and the states after each line and a graph of who waits for whom
 //! for programs.
 //!
-//! A story has had its answers filled in, and so has no fault. A core plays its commands again, one by one, and what it
-//! shows behind each is written down. Each picture is kept in memory.
+//! The commands of a story come with their answers, and so the story has no fault. A core plays its commands again, one
+//! by one, and what it shows behind each is written down. Each picture is kept in memory.
 #![tactic(auto)]
 
 mod arrows;

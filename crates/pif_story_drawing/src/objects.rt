@@ -1,7 +1,8 @@
 use crate::levels::level_of;
 use crate::owners::holds;
 use crate::pages::Page;
-use pif_core::{Core, Status};
+use pif_core::{Core, Order, Status};
+use pif_text::kind_word;
 use pif_types::{CondId, Health, Kind, MutexId, Request, Tid};
 
 /// Writes a thread as an object.
@@ -106,7 +107,7 @@ pub fn write_mutex(core: &Core, mutex: MutexId, out: &mut Page) {
         None => out.words(",\"owner\":null,\"count\":0"),
     }
     out.words(",\"waiters\":[");
-    write_queue(core, &Queue::Waiters(mutex), out);
+    write_queue(core, &Order::Waiters(mutex), out);
     out.words("]}");
 }
 
@@ -122,15 +123,6 @@ fn write_kind(core: &Core, mutex: MutexId, out: &mut Page) {
     });
     out.words(health_word(core.health(mutex)));
     out.words("\"");
-}
-
-/// The type of a mutex.
-fn kind_word(kind: Kind) -> &'static str {
-    match kind {
-        Kind::Normal => "normal",
-        Kind::ErrorCheck => "errorcheck",
-        Kind::Recursive => "recursive",
-    }
 }
 
 /// The health of a mutex.
@@ -153,35 +145,15 @@ pub fn write_cond(core: &Core, cond: CondId, out: &mut Page) {
         ",\"uses\":{},\"parked\":[",
         &[core.cond_word(cond).unwrap_or(0)],
     );
-    write_queue(core, &Queue::Parked(cond), out);
+    write_queue(core, &Order::Parked(cond), out);
     out.words("]}");
 }
 
-/// Threads in an order.
-#[derive(Clone, Copy)]
-pub enum Queue {
-    /// The waiters of a mutex, the next one first.
-    Waiters(MutexId),
-    /// The threads that are parked on a condition variable, the next one first.
-    Parked(CondId),
-    /// The ready threads, the one first that runs next.
-    Ready,
-}
-
-/// The thread of a queue before which so many others stand.
-fn nth(core: &Core, queue: &Queue, place: u32) -> Option<Tid> {
-    match *queue {
-        Queue::Waiters(mutex) => core.waiter(mutex, place),
-        Queue::Parked(cond) => core.parked(cond, place),
-        Queue::Ready => core.ready(place),
-    }
-}
-
-/// Writes the names of the threads of a queue.
-pub fn write_queue(core: &Core, queue: &Queue, out: &mut Page) {
+/// Writes the names of the threads of an order.
+pub fn write_queue(core: &Core, order: &Order, out: &mut Page) {
     let mut comma = "";
     for place in 0..core.threads() {
-        let Some(thread) = nth(core, queue, place) else {
+        let Some(thread) = core.nth(*order, place) else {
             return;
         };
         out.words(comma);

@@ -1,8 +1,9 @@
 use crate::owners::owner_of;
 use crate::plays::{Watch, play};
-use crate::rows::{Place, Row};
+use crate::rows::{Row, letters_of};
 use pif_core::Core;
 use pif_model::Event;
+use pif_story_model::AnsweredRow;
 use pif_text::{Addition, Command};
 use pif_types::{MutexId, NoMemory, Request, Tid};
 use std::alloc::{AllocError, Global};
@@ -47,13 +48,13 @@ pub struct Plan {
 /// # Errors
 ///
 /// A growth of memory was refused.
-pub fn plan_of(alloc: Global, story: &[u8], places: &[Place]) -> Result<Plan, NoMemory> {
+pub fn plan_of(alloc: Global, story: &[u8], rows: &[AnsweredRow]) -> Result<Plan, NoMemory> {
     let mut planner = Planner {
         plan: Plan::new(),
         counts: Vec::new(alloc),
         failed: false,
     };
-    planner.make(alloc, story, places)
+    planner.make(alloc, story, rows)
 }
 
 /// Makes a plan while the commands of a story are played.
@@ -68,8 +69,13 @@ struct Planner {
 
 impl Planner {
     /// Plays the commands of a story, and makes the plan.
-    fn make(&mut self, alloc: Global, story: &[u8], places: &[Place]) -> Result<Plan, NoMemory> {
-        play(alloc, story, places, self)?;
+    fn make(
+        &mut self,
+        alloc: Global,
+        story: &[u8],
+        rows: &[AnsweredRow],
+    ) -> Result<Plan, NoMemory> {
+        play(alloc, story, rows, self)?;
         if self.failed {
             Err(NoMemory)
         } else {
@@ -138,9 +144,10 @@ impl Plan {
 
     /// Makes room for a command.
     fn take(&mut self, row: &Row<'_>) {
-        let letters = row.words.len().saturating_add(row.answer.len());
         self.columns = self.columns.saturating_add(1);
-        self.letters = self.letters.max(u32::try_from(letters).unwrap_or(0));
+        self.letters = self
+            .letters
+            .max(u32::try_from(letters_of(row)).unwrap_or(0));
         if let Some(priority) = named_priority(row.command) {
             self.least = self.least.min(priority);
             self.greatest = self.greatest.max(priority);

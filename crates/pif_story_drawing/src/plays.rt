@@ -1,6 +1,7 @@
-use crate::rows::{Place, Row};
+use crate::rows::{Row, row_of};
 use pif_core::Core;
 use pif_model::Event;
+use pif_story_model::AnsweredRow;
 use pif_text::{Addition, Command};
 use pif_types::{Limits, NoMemory, Request, Tid};
 use std::alloc::Global;
@@ -23,12 +24,12 @@ pub trait Watch {
 pub fn play<W: Watch>(
     alloc: Global,
     story: &[u8],
-    places: &[Place],
+    rows: &[AnsweredRow],
     watch: &mut W,
 ) -> Result<(), NoMemory> {
-    match Core::new(alloc, limits_of(story, places)) {
+    match Core::new(alloc, limits_of(rows)) {
         Ok(mut core) => {
-            play_rows(&mut core, story, places, watch);
+            play_rows(&mut core, story, rows, watch);
             Ok(())
         }
         Err(_) => Err(NoMemory),
@@ -36,9 +37,9 @@ pub fn play<W: Watch>(
 }
 
 /// Plays the commands of a story.
-fn play_rows<W: Watch>(core: &mut Core, story: &[u8], places: &[Place], watch: &mut W) {
-    for place in places {
-        if let Some(row) = place.row(story) {
+fn play_rows<W: Watch>(core: &mut Core, story: &[u8], rows: &[AnsweredRow], watch: &mut W) {
+    for answered in rows {
+        if let Some(row) = row_of(answered, story) {
             obey(core, row.command);
             watch.see(&row, core);
         }
@@ -85,13 +86,11 @@ fn run(core: &mut Core, thread: Tid, request: Option<Request>) {
 }
 
 /// The limits that a story begins with, or else those of scripts.
-fn limits_of(story: &[u8], places: &[Place]) -> Limits {
-    for place in places {
-        if let Some(row) = place.row(story) {
-            return first_limits(row.command);
-        }
+fn limits_of(rows: &[AnsweredRow]) -> Limits {
+    match rows.first() {
+        Some(row) => first_limits(row.command),
+        None => default_limits(),
     }
-    default_limits()
 }
 
 /// The limits that a first command names, or else those of scripts.

@@ -1,9 +1,10 @@
 use crate::chains::write_chains;
-use crate::objects::{Queue, write_cond, write_mutex, write_queue, write_thread};
+use crate::objects::{write_cond, write_mutex, write_queue, write_thread};
 use crate::pages::Page;
 use crate::plays::{Watch, play};
-use crate::rows::{Place, Row};
-use pif_core::Core;
+use crate::rows::{Row, write_reply};
+use pif_core::{Core, Order};
+use pif_story_model::AnsweredRow;
 use pif_types::{CondId, MutexId, NoMemory, Tid};
 use std::alloc::Global;
 
@@ -18,11 +19,11 @@ struct States {
 /// # Errors
 ///
 /// A growth of memory was refused.
-pub fn states_of(alloc: Global, story: &[u8], places: &[Place]) -> Result<String, NoMemory> {
+pub fn states_of(alloc: Global, story: &[u8], rows: &[AnsweredRow]) -> Result<String, NoMemory> {
     let mut states = States {
         page: Page::new(alloc),
     };
-    play(alloc, story, places, &mut states)?;
+    play(alloc, story, rows, &mut states)?;
     states.page.text()
 }
 
@@ -39,7 +40,7 @@ fn write_state(row: &Row<'_>, core: &Core, out: &mut Page) {
     out.fill("{\"line\":{},\"command\":\"", &[row.line]);
     out.words(row.words);
     out.words("\",\"answer\":\"");
-    out.words(row.answer);
+    write_reply(row.reply, out);
     out.fill("\",\"time\":{},\"threads\":[", &[core.time()]);
     write_threads(core, out);
     out.words("],\"mutexes\":[");
@@ -47,7 +48,7 @@ fn write_state(row: &Row<'_>, core: &Core, out: &mut Page) {
     out.words("],\"conds\":[");
     write_conds(core, out);
     out.words("],\"run_queue\":[");
-    write_queue(core, &Queue::Ready, out);
+    write_queue(core, &Order::Ready, out);
     out.words("],\"chains\":[");
     write_chains(core, out);
     out.words("]}\n");

@@ -1,7 +1,6 @@
 -- The run of a story's script.
 use Rattle.std.proofs.Common.{◌≡◌, ℕ, true, List, [], ◌++◌, Option, Some, None, Result, Ok, Err, append-nil, inl, inr, refl, sym, ap, ◌∙◌, subst}
 use Rattle.std.specs.Prelude.{is_ok}
-use Rattle.std.proofs.KnownBytes.{Keeps-refl}
 use Rattle.std.proofs.lemmas.Bool.{false≢true}
 use Rattle.std.specs.Io.KnownBytes.{Appends}
 use Rattle.pif_text_model.specs.declared.replies.Cause.{Cause}
@@ -13,8 +12,8 @@ use Rattle.pif_script_model.specs.Runs.{WritesPart, output_of}
 use Rattle.pif_script_model.specs.Scripts.{Hearing, Reading, Scan, ended_by, reading_of, start}
 use Rattle.pif_script_model.specs.Transcripts.{script_end}
 use Rattle.pif_script_model.proofs.ScriptLemmas.{by_cases}
-use Rattle.pif_script_model.specs.Migrating.{FailsToRead, IsAllRead, ReadsTo}
-use Rattle.pif_story_model.specs.Checks.{IsUntold, Telling, TellsOfStory, TellsTo, WritesTelling, check_telling, check_end, fault_in, fill_telling, verdict_beside, text_of_run, script_fault, verdict_telling, story_verdict}
+use Rattle.pif_script_model.specs.Migrating.{IsAllRead, ReadsTo}
+use Rattle.pif_story_model.specs.Checks.{Telling, TellsOfStory, TellsTo, WritesTelling, check_telling, check_end, fault_in, fill_telling, verdict_beside, text_of_run, script_fault, verdict_telling, story_verdict}
 use Rattle.pif_story_model.specs.Filling.{filled_text}
 use Rattle.pif_story_model.specs.Lines.{lines}
 use Rattle.pif_story_model.specs.Stories.{script_of}
@@ -69,35 +68,7 @@ ran_to_fault bytes left out line cause r =
       sym (ap fault_in (ap (ended_by script) same.1 ∙ r.2.0)),
     )
 
--- it ended out of memory
-pub ran_short : (before after held holds : Option (List ℕ)) (fault : CliFault)
-    → RunsTo before after held holds (Err fault) → (fault ≡ Write → ⊥)
-    → ((line : ℕ) (cause : Cause) → fault ≡ Script line cause → ⊥) → IsUntold fault
-ran_short before after held holds Read r w s = tt
-ran_short before after held holds NoMemory r w s = tt
-ran_short before after held holds Write r w s = absurd (w refl)
-ran_short before after held holds (Script line cause) r w s = absurd (s line cause refl)
-ran_short before after held holds (Differs line) r w s = absurd r
-
 -- ---- what is told
-
--- not all was read
-pub tells_unread : (telling : List ℕ → Telling) (a b h : Option (List ℕ)) (fault : CliFault) → FailsToRead a b fault
-    → TellsTo telling a b h h (Err fault)
-tells_unread telling a b h Read r = (r.0, r.1, r.2, Keeps-refl h)
-tells_unread telling a b h NoMemory r = (r.0, r.1, r.2, Keeps-refl h)
-tells_unread telling a b h Write r = absurd r
-tells_unread telling a b h (Script line cause) r = absurd r
-tells_unread telling a b h (Differs line) r = absurd r
-
--- all was read, and there was no memory to tell
-pub tells_untold : (telling : List ℕ → Telling) (a b h : Option (List ℕ)) (bytes : List ℕ) (fault : CliFault)
-    → ReadsTo a b bytes → IsUntold fault → TellsTo telling a b h h (Err fault)
-tells_untold telling a b h bytes Read r u = (bytes, r.0, r.1, Keeps-refl h)
-tells_untold telling a b h bytes NoMemory r u = (bytes, r.0, r.1, Keeps-refl h)
-tells_untold telling a b h bytes Write r u = absurd u
-tells_untold telling a b h bytes (Script line cause) r u = absurd u
-tells_untold telling a b h bytes (Differs line) r u = absurd u
 
 -- how a check may end that could be told
 abbrev IsEnd : Result (Unit {0}) CliFault → Type 0

@@ -5,5 +5,7 @@
 #![tactic(auto)]
 
 mod flaws;
+mod rows;
 
 pub use flaws::Flaw;
+pub use rows::AnsweredRow;

@@ -5,7 +5,7 @@ use Rattle.std.proofs.lemmas.Bool.{true≢false}
 use Rattle.pif_nodes_model.specs.Lists.{has}
 use Rattle.pif_nodes_model.specs.Table.{NodeLists, IsApart, no_key}
 use Rattle.pif_nodes_model.specs.Levels.{Queue, HasRoom, Holds, IsLevel, IsQueued, level_of}
-use Rattle.pif_kernel_model.specs.Owners.{Owners, Wait, no_owners, owner_at, count, waits_on, waits_for, HasNoWaiter, with_task, with_wait, with_owner}
+use Rattle.pif_kernel_model.specs.Owners.{Owners, Wait, no_owners, owner_at, count, waits_on, waits_for, HasNoWaiter, with_wait, with_owner}
 use Rattle.pif_kernel_model.proofs.OwnersLemmas.{count-no_owners, owner_at-with_owner_other}
 use Rattle.pif_kernel_model.specs.States.{States, empty_states, owners_in}
 use Rattle.pif_kernel_model.specs.Holds.{HoldsStates, HasRoomForStates}
@@ -18,9 +18,8 @@ use Rattle.pif_model.specs.Graph.{greatest_where}
 use Rattle.pif_test_calls.specs.Together.{StandTogether}
 use Rattle.pif_kernel_model.proofs.SamePlace.{same_place, same_place_made}
 use Rattle.pif_test_calls.proofs.TogetherLemmas.{together_then, together_walked, together_first, levels_first, level_there}
-use Rattle.pif_test_calls.specs.WalkExamples.{admitted}
 use Rattle.pif_test_calls.specs.ChainExamples.{IsAtRest, StandSettled}
-use Rattle.pif_test_calls.proofs.WalkTestLemmas.{idle-new, idle-admitted, idle-repaired, walked}
+use Rattle.pif_test_calls.proofs.WalkTestLemmas.{idle-new, idle-repaired, walked}
 
 -- a new table has room for 1,001 threads
 pub at_rest : (m : States) (q : Queue) (t : NodeLists) → m ≡ empty_states 0 0 1001
@@ -33,17 +32,6 @@ at_rest m q t states view may_hold made may_queue new apart = record {
   idle = idle-new 1001 (owners_in m t) (view t);
   none = ap count (view t) ∙ count-no_owners 1001;
   empty = λ p lp. levels_first 1001 m q t states made new apart may_hold may_queue p;
-}
-
--- it stays at rest when a thread is admitted
-pub rest_admitted : (m now : States) (q : Queue) (t : NodeLists) (u p : ℕ) → IsAtRest m q t
-    → owners_in now t ≡ with_task u (admitted p) (owners_in m t) → now ≡ record m { rows = now.rows } → HoldsStates now t
-    → IsAtRest now q t
-rest_admitted m now q t u p r e place holds = record {
-  together = together_then m q t r.together now t (same_place m now place) (outside-none m t) holds;
-  idle = idle-admitted 1001 u p (owners_in m t) (owners_in now t) e r.idle;
-  none = ap count e ∙ r.none;
-  empty = r.empty;
 }
 
 -- and there nothing is left to repair

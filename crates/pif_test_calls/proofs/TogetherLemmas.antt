@@ -3,24 +3,17 @@ use Rattle.std.proofs.Common.{◌≡◌, ◌⊎◌, ℕ, ◌+◌, ◌-◌, ◌*�
 use Rattle.std.proofs.lemmas.Bool.{cases_lt}
 use Rattle.pif_nodes_model.specs.Lists.{has}
 use Rattle.pif_nodes_model.specs.Table.{NodeLists, IsApart, holder, list_at}
-use Rattle.pif_nodes_model.specs.Levels.{Queue, Holds, HasRoom, IsLevel, IsThreadNode, SameOutside, list_for, level_of}
+use Rattle.pif_nodes_model.specs.Levels.{Queue, Holds, HasRoom, IsLevel, IsThreadNode, list_for, level_of}
 use Rattle.pif_nodes_model.proofs.KeptLemmas.{levels-framed, queue-framed}
-use Rattle.pif_kernel_model.specs.States.{States, empty_states, IsThread, wait_of, wait_node, top_node, wait_list, top_list, owners_in}
+use Rattle.pif_kernel_model.specs.States.{States, empty_states, IsThread, wait_of, wait_node, top_node, wait_list, top_list}
 use Rattle.pif_kernel_model.specs.Holds.{IsWaiterIn, IsTopNode, HoldsStates, HasRoomForStates}
 use Rattle.pif_kernel_model.specs.Frames.{SameOutsideStates}
-use Rattle.pif_kernel_model.proofs.FrameLemmas.{holds-framed, owners-framed}
 use Rattle.pif_kernel_model.specs.BoostFrames.{StandsBefore}
 use Rattle.pif_boost.specs.Done.{IsDone}
-use Rattle.pif_kernel_model.proofs.BoostFrameLemmas.{states-leave, queue-leaves}
-use Rattle.pif_kernel_state.specs.Chained.{Chained, KeepsLevels}
-use Rattle.pif_plain.specs.Rows.{PlainRows}
+use Rattle.pif_kernel_model.proofs.BoostFrameLemmas.{states-leave}
 use Rattle.pif_test_calls.specs.Together.{StandTogether}
 use Rattle.pif_nodes_model.proofs.EmptyTables.{empty_table, empty_lists, empty_nodes, empty_list, empty_free, empty_level}
 use Rattle.pif_kernel_model.proofs.SamePlace.{SamePlace}
-
--- the owner states and the run queue that these are, with these keys and these parked threads
-abbrev pub together : States → Queue → NodeLists → PlainRows → Chained
-together m q t r = record { owners = owners_in m t; queue = q; table = t; keys = r.keys; parked = r.parked }
 
 module _ (m : States) (q : Queue) (t : NodeLists) (h : StandTogether m q t) where
   pub stands_before : StandsBefore m q
@@ -83,33 +76,6 @@ module _ (m : States) (q : Queue) (t : NodeLists) (h : StandTogether m q t) wher
 
     pub level_there : (p : ℕ) → IsLevel p → level_of q t' p ≡ level_of q t p
     level_there = levels-framed q t t' (states-leave m q t t' stands_before outside)
-
-    pub levels_kept : (r : PlainRows) → KeepsLevels (together m q t r) (together m' q t' r)
-    levels_kept r = record {
-      levels = level_there;
-      queue = refl;
-      holds = queue_there;
-      keys = refl;
-      parked = refl;
-    }
-
-  -- a call changed the levels
-  module _ (q' : Queue) (t' : NodeLists) (place : q' ≡ record q { mask = q'.mask }) (outside : SameOutside q t t')
-      (holds : Holds q' t') where
-    pub owners_kept : owners_in m t' ≡ owners_in m t
-    owners_kept =
-        owners-framed m t t' (queue-leaves q q' t t' place h.queue holds outside m stands_before) holds.apart h.owners
-
-    pub together_still : StandTogether m q' t'
-    together_still = record {
-      owners =
-          holds-framed m t t' (queue-leaves q q' t t' place h.queue holds outside m stands_before) holds.apart h.owners;
-      queue = holds;
-      first = h.first;
-      levels = ap (λ (x : Queue). x.first_list) place ∙ h.levels;
-      count = outside.count ∙ h.count;
-      nodes = omega (arith, ap (λ (x : Queue). x.first_node) place, h.nodes);
-    }
 
   -- a walk went through both
   pub together_walked : (hops : ℕ) (m' : States) (t' : NodeLists) (q' : Queue) → IsDone m t q hops m' t' q'

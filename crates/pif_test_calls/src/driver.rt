@@ -164,7 +164,7 @@ fn go<K: PiKernel + Drop>(parts: &mut Parts<K>, t: Tid) -> Option<Progress> {
     if !may_act(parts, t, true) {
         return None;
     }
-    match parts.state.line(t) {
+    match parts.line(t) {
         Line::At(Request::Wait(_, _) | Request::Signal(_) | Request::Broadcast(_), _) => {
             Some(pif_cond::advance(parts, t))
         }

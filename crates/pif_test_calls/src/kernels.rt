@@ -6,7 +6,7 @@ mod random_calls;
 ghost use Rattle.std.specs.Prelude.{◌≡◌, ◌<◌, ◌≤◌, ◌+◌, ℕ, true, false, length, OnSome};
 ghost use Rattle.pif_model.specs.PiKernel.{has_seat, is_living, is_ready, seat_at};
 ghost use Rattle.pif_model.specs.RobustList.{robust_at};
-ghost use Rattle.pif_kernel_state.specs.Inside.{kernel_of};
+ghost use Rattle.pif_kernel_model.specs.Inside.{kernel_of};
 
 use super::driver::{Reply, level, see, who};
 use pif_kernel::{Chains, KernelOn, PiKernel, Status, Took, Woken};
@@ -50,6 +50,8 @@ enum Ask {
     Waiter(u32, u32),
     Parked(u32, u32),
     Ready(u32),
+    // Of the threads from this one on along whom each waits for, the one at this place.
+    Path(u32, u32),
     Pick,
     NextTicket,
     Word(u32),
@@ -106,10 +108,16 @@ impl<C: Chains + Drop> Scene<C> {
             Ask::Waiter(m, place) => Some(who(self.kernel.waiter(MutexId::new(m)?, place))),
             Ask::Parked(c, place) => Some(who(self.kernel.parked(CondId::new(c)?, place))),
             Ask::Ready(place) => Some(who(self.kernel.ready(place))),
+            Ask::Path(t, place) => self.path(Tid::new(t)?, place),
             Ask::Pick => Some(who(self.kernel.pick())),
             Ask::NextTicket => Some(Reply::Ticket(self.kernel.next_ticket())),
             _ => None,
         }
+    }
+
+    fn path(&self, t: Tid, place: u32) -> Option<Reply> {
+        let path = self.kernel.path(t);
+        Some(who(path.as_slice().get(place as usize).copied()))
     }
 
     fn lock(&mut self, t: Tid, m: MutexId) -> Option<Reply> {
@@ -449,6 +457,22 @@ const BOOSTED: [(Ask, Reply); 5] = [
 #[test]
 fn boosts_go_through_a_chain(rt: HostRuntime) -> Result<(), Fail> {
     play(&rt, rt.alloc(), &[1, 2, 99], 2, &[&CHAIN, &BOOSTED])
+}
+
+const PATHS: [(Ask, Reply); 8] = [
+    (Ask::Path(3, 0), Reply::Thread(3)),
+    (Ask::Path(3, 1), Reply::Thread(2)),
+    (Ask::Path(3, 2), Reply::Thread(1)),
+    (Ask::Path(3, 3), Reply::Nobody),
+    (Ask::Path(2, 1), Reply::Thread(1)),
+    (Ask::Path(1, 0), Reply::Thread(1)),
+    (Ask::Path(1, 1), Reply::Nobody),
+    (Ask::Path(4, 0), Reply::Nobody),
+];
+
+#[test]
+fn paths_go_up_a_chain(rt: HostRuntime) -> Result<(), Fail> {
+    play(&rt, rt.alloc(), &[1, 2, 99], 2, &[&CHAIN, &PATHS])
 }
 
 const UNLOCKED: [(Ask, Reply); 4] = [

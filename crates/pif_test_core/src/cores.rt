@@ -38,6 +38,8 @@ enum Ask {
     Parked(u32, u32, u32),
     Bound(u32, u32),
     Ready(u32, u32),
+    /// The threads from this one on along whom each waits for.
+    Path(u32, &'static [u32]),
 }
 
 /// Whether a core answers so. `None` if it can't be asked, since nobody has number 0.
@@ -79,12 +81,23 @@ fn shows_thread(core: &Core, ask: Ask) -> Option<bool> {
         Ask::IsParked(t, c) => Some(does(core, Tid::new(t)?, Status::Parked(CondId::new(c)?))),
         Ask::Waiting(t, rests) => Some(core.waiting(Tid::new(t)?) == rests),
         Ask::Open(t, wish) => Some(core.open_call(Tid::new(t)?) == request(wish)),
+        Ask::Path(t, numbers) => Some(have(core.path(Tid::new(t)?).as_slice(), numbers)),
         _ => None,
     }
 }
 
 fn does(core: &Core, t: Tid, status: Status) -> bool {
     core.status(t) == Some(status)
+}
+
+/// Whether these threads have these numbers.
+fn have(threads: &[Tid], numbers: &[u32]) -> bool {
+    for (thread, number) in threads.iter().zip(numbers.iter()) {
+        if thread.get() != *number {
+            return false;
+        }
+    }
+    threads.len() == numbers.len()
 }
 
 fn is_of(read: Option<(Kind, bool)>, kind: Kind, robust: bool) -> bool {
@@ -232,4 +245,24 @@ const LOOK: [Ask; 26] = [
 #[test]
 fn one_who_looks_sees_who_does_what(rt: HostRuntime) -> Result<(), Fail> {
     play(&rt, rt.alloc(), Kind::Recursive, &[10, 50, 30], &LOOK)
+}
+
+/// Thread 3 waits for mutex 2 of thread 2, which waits for mutex 1 of thread 1; then thread 1 ends.
+const CHAIN: [Ask; 11] = [
+    Ask::AddMutex(Kind::Normal, false, 2),
+    Ask::Call(1, Wish::Lock(1), DONE),
+    Ask::Call(2, Wish::Lock(2), DONE),
+    Ask::Call(2, Wish::Lock(1), Seen::Waits),
+    Ask::Call(3, Wish::Lock(2), Seen::Waits),
+    Ask::Path(3, &[3, 2, 1]),
+    Ask::Path(1, &[1]),
+    Ask::Path(4, &[]),
+    Ask::End(1, Seen::Ended),
+    Ask::Path(3, &[3, 2, 1]),
+    Ask::Path(1, &[]),
+];
+
+#[test]
+fn path_goes_on_to_who_waits_for_nobody(rt: HostRuntime) -> Result<(), Fail> {
+    play(&rt, rt.alloc(), Kind::Normal, &[10, 20, 30], &CHAIN)
 }

@@ -3,7 +3,7 @@
 use pif_job_check::{check, fill};
 use pif_job_draw::{draw, write_graph, write_states};
 use pif_job_shell::{NoShelf, shell};
-use pif_job_show::{show, show_all, show_story};
+use pif_job_show::show_story;
 use pif_job_trace::trace_story;
 use pif_script::Notice;
 use pif_script_model::Detail;
@@ -58,8 +58,8 @@ pub fn do_job(
     match job {
         Job::Check => check(alloc, b"story", reader, writer),
         Job::Fill => fill(alloc, b"story", reader, writer),
-        Job::Show => show(alloc, reader, writer),
-        Job::ShowAll => show_all(alloc, reader, writer),
+        Job::Show => show_story(Detail::Changes, alloc, reader, writer, notice),
+        Job::ShowAll => show_story(Detail::All, alloc, reader, writer, notice),
         Job::Tell(telling) => tell(telling, alloc, reader, writer, notice),
         Job::Draw => draw(alloc, reader, writer, notice),
         Job::States => write_states(alloc, reader, writer, notice),

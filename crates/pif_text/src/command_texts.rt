@@ -2,29 +2,18 @@ ghost use Rattle.std.specs.Prelude.{◌≡◌, ℕ, List, Some, ◌+◌, ◌≤�
 ghost use Rattle.arrayvec.specs.ArrayVec.{array_vec_len};
 ghost use Rattle.pif_text_model.specs.declared.commands.Command.{Command};
 ghost use Rattle.pif_text_model.specs.Commands.{command_in};
-ghost use Rattle.pif_text_model.specs.CommandTexts.{IsWritten, addition_text, command_text, event_text, kind_word, mutex_text, request_text, run_text};
-ghost use Rattle.pif_text_model.specs.Replies.{thread_name, mutex_name};
+ghost use Rattle.pif_text_model.specs.CommandTexts.{IsWritten, addition_text, command_text, event_text, mutex_text, request_text, run_text};
+ghost use Rattle.pif_text_model.specs.Replies.{cond_name, mutex_name, thread_name};
 
+use crate::kinds::kind_word;
 use crate::questions::append_question;
 use crate::writing::{append, append_cond, append_mutex, append_number, append_thread};
 use crate::{Addition, Command, TEXT_ROOM, Text};
 use pif_model::Event;
-use pif_types::{Kind, Request, Tid};
+use pif_types::{CondId, Kind, MutexId, Request, Tid};
 
 /// How many bytes of room `command_text` asks for. The longest is `begin tN timedwait cN mN D`, each number of 10 digits.
 pub const COMMAND_ROOM: usize = 62;
-
-/// The type of a mutex, in one word.
-fn kind_word(kind: Kind) -> &'static [u8]
-    ensures items { result.now ≡ kind_word kind }
-    ensures len { length result.now ≤ 10 }
-{
-    match kind {
-        Kind::Normal => b"normal",
-        Kind::ErrorCheck => b"errorcheck",
-        Kind::Recursive => b"recursive",
-    }
-}
 
 /// Appends the command that adds a mutex of this type, robust or not, with no line feed, at most `COMMAND_ROOM` bytes.
 /// What stands in `out` stays.
@@ -34,10 +23,51 @@ pub fn mutex_text(kind: Kind, robust: bool, out: &mut Text)
     ensures within { array_vec_len out.new ≤ array_vec_len out.old + COMMAND_ROOM }
 {
     append(out, b"mutex ");
-    append(out, kind_word(kind));
+    append(out, kind_word(kind).as_bytes());
     if robust {
         append(out, b" robust");
     }
+}
+
+/// Appends a call of this name, with its space, on a mutex.
+fn append_on_mutex(out: &mut Text, name: &[u8], mutex: MutexId)
+    requires { array_vec_len out.old + length name.now + 11 ≤ TEXT_ROOM }
+    ensures items { out.new.items ≡ out.old.items ++ (name.now ++ mutex_name mutex) }
+    ensures len { array_vec_len out.new ≤ array_vec_len out.old + length name.now + 11 }
+{
+    append(out, name);
+    append_mutex(out, mutex);
+}
+
+/// Appends a call of this name, with its space, on a condition variable.
+fn append_on_cond(out: &mut Text, name: &[u8], cond: CondId)
+    requires { array_vec_len out.old + length name.now + 11 ≤ TEXT_ROOM }
+    ensures items { out.new.items ≡ out.old.items ++ (name.now ++ cond_name cond) }
+    ensures len { array_vec_len out.new ≤ array_vec_len out.old + length name.now + 11 }
+{
+    append(out, name);
+    append_cond(out, cond);
+}
+
+/// Appends a wait of this name, with its space, on a condition variable with its mutex.
+fn append_wait(out: &mut Text, name: &[u8], cond: CondId, mutex: MutexId)
+    requires { array_vec_len out.old + length name.now + 23 ≤ TEXT_ROOM }
+    ensures items { out.new.items ≡ out.old.items ++ (name.now ++ cond_name cond ++ codes " " ++ mutex_name mutex) }
+    ensures len { array_vec_len out.new ≤ array_vec_len out.old + length name.now + 23 }
+{
+    append_on_cond(out, name, cond);
+    append(out, b" ");
+    append_mutex(out, mutex);
+}
+
+/// Appends a number behind a space: the last word of a request.
+fn append_last(out: &mut Text, number: u32)
+    requires { array_vec_len out.old + 11 ≤ TEXT_ROOM }
+    ensures items { out.new.items ≡ out.old.items ++ codes " " ++ decimal number }
+    ensures len { array_vec_len out.new ≤ array_vec_len out.old + 11 }
+{
+    append(out, b" ");
+    append_number(out, number);
 }
 
 /// Appends a request.
@@ -48,55 +78,25 @@ fn append_request(out: &mut Text, request: Request)
     ensures len { array_vec_len out.new ≤ array_vec_len out.old + 44 }
 {
     match request {
-        Request::Lock(mutex) => {
-            append(out, b"lock ");
-            append_mutex(out, mutex);
-        }
-        Request::TryLock(mutex) => {
-            append(out, b"trylock ");
-            append_mutex(out, mutex);
-        }
-        Request::Unlock(mutex) => {
-            append(out, b"unlock ");
-            append_mutex(out, mutex);
-        }
-        Request::Consistent(mutex) => {
-            append(out, b"consistent ");
-            append_mutex(out, mutex);
-        }
-        Request::Wait(cond, mutex) => {
-            append(out, b"wait ");
-            append_cond(out, cond);
-            append(out, b" ");
-            append_mutex(out, mutex);
-        }
-        Request::Signal(cond) => {
-            append(out, b"signal ");
-            append_cond(out, cond);
-        }
-        Request::Broadcast(cond) => {
-            append(out, b"broadcast ");
-            append_cond(out, cond);
-        }
+        Request::Lock(mutex) => append_on_mutex(out, b"lock ", mutex),
+        Request::TryLock(mutex) => append_on_mutex(out, b"trylock ", mutex),
+        Request::Unlock(mutex) => append_on_mutex(out, b"unlock ", mutex),
+        Request::Consistent(mutex) => append_on_mutex(out, b"consistent ", mutex),
+        Request::Wait(cond, mutex) => append_wait(out, b"wait ", cond, mutex),
+        Request::Signal(cond) => append_on_cond(out, b"signal ", cond),
+        Request::Broadcast(cond) => append_on_cond(out, b"broadcast ", cond),
         Request::SetPrio(thread, priority) => {
             append(out, b"setprio ");
             append_thread(out, thread);
-            append(out, b" ");
-            append_number(out, priority);
+            append_last(out, priority);
         }
         Request::TimedLock(mutex, deadline) => {
-            append(out, b"timedlock ");
-            append_mutex(out, mutex);
-            append(out, b" ");
-            append_number(out, deadline);
+            append_on_mutex(out, b"timedlock ", mutex);
+            append_last(out, deadline);
         }
         Request::TimedWait(cond, mutex, deadline) => {
-            append(out, b"timedwait ");
-            append_cond(out, cond);
-            append(out, b" ");
-            append_mutex(out, mutex);
-            append(out, b" ");
-            append_number(out, deadline);
+            append_wait(out, b"timedwait ", cond, mutex);
+            append_last(out, deadline);
         }
     }
 }

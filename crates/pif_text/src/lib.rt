@@ -2,6 +2,7 @@
 #![tactic(auto)]
 
 mod command_texts;
+mod kinds;
 mod numbers;
 mod questions;
 mod reading;
@@ -13,6 +14,7 @@ mod writing;
 pub use command_texts::{
     COMMAND_ROOM, command_reads_back, command_text, commands_of_lines_are_written, mutex_text,
 };
+pub use kinds::{DEFAULT_WORD, ERROR_CHECK_WORD, NORMAL_WORD, RECURSIVE_WORD, kind_word};
 pub use numbers::number_reads_back;
 pub use pif_text_model::{Added, Addition, Cause, Command, Fact, Question, Reply, Version};
 pub use reading::command_of;

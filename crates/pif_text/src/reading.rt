@@ -1,29 +1,14 @@
 ghost use Rattle.std.specs.Prelude.{◌≡◌, ◌∷◌, []};
 ghost use Rattle.pif_text_model.specs.Words.{words};
-ghost use Rattle.pif_text_model.specs.Commands.{kind_in, request_in, request_in_three, request_in_four, command_of_one, command_of_two, command_of_three, command_of_four, command_of_five, command_of_six, command_of_words, command_in};
+ghost use Rattle.pif_text_model.specs.Commands.{request_in, request_in_three, request_in_four, command_of_one, command_of_two, command_of_three, command_of_four, command_of_five, command_of_six, command_of_words, command_in};
 
+use crate::kinds::kind_of;
 use crate::numbers::{cond_of, mutex_of, number_of, thread_of};
 use crate::questions::{question_of_one, question_of_two};
 use crate::words::{is_word, split_first};
 use crate::{Addition, Command};
 use pif_model::Event;
-use pif_types::{Kind, Request};
-
-/// The type of a mutex that a word names.
-#[tactic(auto, unfolding(pif_text_model::specs::Commands::kind_in))]
-fn kind_of(word: &[u8]) -> Option<Kind>
-    ensures { result ≡ kind_in word.now }
-{
-    if is_word(word, b"normal") || is_word(word, b"default") {
-        Some(Kind::Normal)
-    } else if is_word(word, b"errorcheck") {
-        Some(Kind::ErrorCheck)
-    } else if is_word(word, b"recursive") {
-        Some(Kind::Recursive)
-    } else {
-        None
-    }
-}
+use pif_types::Request;
 
 /// The request that two words write.
 #[tactic(auto, unfolding(pif_text_model::specs::Commands::request_in))]

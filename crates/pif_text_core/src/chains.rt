@@ -24,8 +24,8 @@ pub fn show_chains<W: Write>(before: Option<&Core>, core: &Core, page: &mut Page
     }
 }
 
-/// Whether a chain begins with this thread: it waits for a mutex, and nobody waits for it.
-fn begins_chain(core: &Core, thread: Tid) -> bool {
+/// Whether a chain of waiting begins with this thread: it waits for a mutex, and nobody waits for it.
+pub fn begins_chain(core: &Core, thread: Tid) -> bool {
     awaited(core, thread).is_some() && !has_waiter(core, thread)
 }
 
@@ -59,15 +59,14 @@ fn has_chain_changed(before: Option<&Core>, core: &Core, thread: Tid) -> bool {
 
 /// Whether the chain from this thread has the same links in both cores.
 fn has_same_links(before: &Core, core: &Core, first: Tid) -> bool {
-    let mut thread = first;
-    for _link in 0..core.threads() {
-        let link = link_of(core, thread);
-        if link_of(before, thread) != link {
+    are_same_links(before, core, core.path(first).as_slice())
+}
+
+/// Whether these threads wait for the same mutexes in both cores, held by the same threads.
+fn are_same_links(before: &Core, core: &Core, path: &[Tid]) -> bool {
+    for thread in path {
+        if link_of(before, *thread) != link_of(core, *thread) {
             return false;
-        }
-        match link {
-            Some(link) => thread = link.holder.owner,
-            None => return true,
         }
     }
     true
@@ -92,23 +91,18 @@ fn show_chain<W: Write>(core: &Core, thread: Tid, page: &mut Page, writer: &mut 
     ensures { Stays (W.contents writer.old) (W.contents writer.new) }
 {
     page.thread("  chain: ", thread, writer);
-    show_links(core, thread, page, writer);
+    show_links(core, core.path(thread).as_slice(), page, writer);
     page.words("\n", writer);
 }
 
-/// Writes for which mutex a thread waits and who holds it, and so on from that one.
-fn show_links<W: Write>(core: &Core, first: Tid, page: &mut Page, writer: &mut W)
+/// Writes for which mutex each of these threads waits and who holds it; nothing for one that waits for none.
+fn show_links<W: Write>(core: &Core, path: &[Tid], page: &mut Page, writer: &mut W)
     ensures { Stays (W.contents writer.old) (W.contents writer.new) }
 {
-    let mut thread = first;
-    for _link in 0..core.threads() {
-        match link_of(core, thread) {
-            Some(link) => {
-                page.mutex(" -> ", link.mutex, writer);
-                show_holder(" -> ", link.holder, page, writer);
-                thread = link.holder.owner;
-            }
-            None => return,
+    for thread in path {
+        if let Some(link) = link_of(core, *thread) {
+            page.mutex(" -> ", link.mutex, writer);
+            show_holder(" -> ", link.holder, page, writer);
         }
     }
 }

@@ -1,6 +1,6 @@
-use crate::queues::{Queue, is_same_queue};
+use crate::queues::is_same_queue;
 use crate::threads::{held_as, mutex_of};
-use pif_core::{Core, Status, Woken};
+use pif_core::{Core, Order, Status, Woken};
 use pif_types::{CondId, MutexId, Tid};
 
 /// An owner, and whether it has ended.
@@ -76,7 +76,7 @@ pub fn has_mutex_changed(before: Option<&Core>, core: &Core, mutex: MutexId) -> 
                 && before.health(mutex) == core.health(mutex)
                 && before.owner(mutex) == core.owner(mutex)
                 && holder_of(before, mutex) == holder_of(core, mutex)
-                && is_same_queue(before, core, &Queue::Waiters(mutex)))
+                && is_same_queue(before, core, &Order::Waiters(mutex)))
         }
         None => true,
     }
@@ -87,7 +87,7 @@ pub fn has_cond_changed(before: Option<&Core>, core: &Core, cond: CondId) -> boo
     match before {
         Some(before) => {
             !(before.cond_word(cond) == core.cond_word(cond)
-                && is_same_queue(before, core, &Queue::Parked(cond)))
+                && is_same_queue(before, core, &Order::Parked(cond)))
         }
         None => true,
     }

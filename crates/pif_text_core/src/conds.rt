@@ -2,8 +2,8 @@ ghost use Rattle.pif_text_model.specs.Extends.{Stays};
 
 use crate::changes::has_cond_changed;
 use crate::pages::Page;
-use crate::queues::{Queue, show_queue};
-use pif_core::Core;
+use crate::queues::show_queue;
+use pif_core::{Core, Order};
 use pif_types::CondId;
 use std::io::Write;
 
@@ -27,7 +27,7 @@ fn show_cond<W: Write>(core: &Core, cond: CondId, page: &mut Page, writer: &mut 
     page.cond("  ", cond, writer);
     show_bound(core, cond, page, writer);
     page.number("; uses ", core.cond_word(cond).unwrap_or(0), writer);
-    show_queue(core, &Queue::Parked(cond), "; parked ", page, writer);
+    show_queue(core, &Order::Parked(cond), "; parked ", page, writer);
     page.words("\n", writer);
 }
 

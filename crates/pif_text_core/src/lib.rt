@@ -12,7 +12,8 @@
 //! ```
 //!
 //! What is empty is left out, and a time of 0. Of changes the lines are written that weren't there before, and `none` for
-//! a run queue, or for chains, of which nothing is left. The text is written in parts, and takes no memory.
+//! a run queue, or for chains, of which nothing is left. The text is written in parts, and takes no memory. Pictures show
+//! the same chains (`begins_chain`).
 #![tactic(auto)]
 
 mod calls;
@@ -26,6 +27,7 @@ mod queues;
 mod states;
 mod threads;
 
+pub use chains::begins_chain;
 pub use names::{errno_name, errno_of};
 pub use pages::Unwritten;
 pub use states::{write_changes, write_state};

@@ -5,10 +5,11 @@ ghost use Rattle.pif_text_model.specs.Extends.{Stays};
 
 use crate::changes::{has_mutex_changed, holder_of};
 use crate::pages::Page;
-use crate::queues::{Queue, show_queue};
+use crate::queues::show_queue;
 use crate::threads::show_holder;
-use pif_core::Core;
-use pif_types::{Health, Kind, MutexId, Tid};
+use pif_core::{Core, Order};
+use pif_text::kind_word;
+use pif_types::{Health, MutexId, Tid};
 use pif_word::{has_waiters, number, owner_died};
 use std::io::Write;
 
@@ -40,7 +41,7 @@ fn show_mutex<W: Write>(core: &Core, mutex: MutexId, page: &mut Page, writer: &m
     let front = show_kind(core, mutex, word, page, writer);
     show_word(front, word, page, writer);
     show_ownership(core, mutex, page, writer);
-    show_queue(core, &Queue::Waiters(mutex), "; waiters ", page, writer);
+    show_queue(core, &Order::Waiters(mutex), "; waiters ", page, writer);
     page.words("\n", writer);
 }
 
@@ -55,7 +56,8 @@ fn show_kind<W: Write>(
     ensures { Stays (W.contents writer.old) (W.contents writer.new) }
 {
     if let Some((kind, is_robust)) = core.kind(mutex) {
-        page.words(kind_words(kind), writer);
+        page.words(": ", writer);
+        page.words(kind_word(kind), writer);
         if is_robust {
             let health = core.health(mutex).unwrap_or(Health::Fine);
             return show_state(health, word, page, writer);
@@ -90,15 +92,6 @@ fn state_of(health: Health, word: u32) -> Health
         Health::Inconsistent
     } else {
         health
-    }
-}
-
-/// The type of a mutex.
-fn kind_words(kind: Kind) -> &'static str {
-    match kind {
-        Kind::Normal => ": normal",
-        Kind::ErrorCheck => ": errorcheck",
-        Kind::Recursive => ": recursive",
     }
 }
 

@@ -1,3 +1,5 @@
+use pif_text::{DEFAULT_WORD, ERROR_CHECK_WORD, NORMAL_WORD, RECURSIVE_WORD};
+
 /// What stands at a place of a form, between blanks.
 #[derive(Clone, Copy)]
 pub enum Part {
@@ -146,25 +148,25 @@ pub static COMMANDS: [Form; 15] = [
 /// The kinds of mutexes. Behind a kind the line ends, and is a command, or `robust` is wanted.
 pub static KINDS: [Form; 4] = [
     Form {
-        name: "normal",
+        name: NORMAL_WORD,
         text: "mutex KIND [robust]",
         parts: &[Part::Robust],
         rest: Rest::End,
     },
     Form {
-        name: "default",
+        name: DEFAULT_WORD,
         text: "mutex KIND [robust]",
         parts: &[Part::Robust],
         rest: Rest::End,
     },
     Form {
-        name: "errorcheck",
+        name: ERROR_CHECK_WORD,
         text: "mutex KIND [robust]",
         parts: &[Part::Robust],
         rest: Rest::End,
     },
     Form {
-        name: "recursive",
+        name: RECURSIVE_WORD,
         text: "mutex KIND [robust]",
         parts: &[Part::Robust],
         rest: Rest::End,

@@ -41,6 +41,15 @@ impl Tid {
     }
 }
 
+impl Default for Tid {
+    ghost is_default = { λ t. t ≡ 1 };
+
+    /// The first thread, number 1.
+    fn default() -> Self {
+        Tid { thread: 1 }
+    }
+}
+
 /// The number of a mutex, from 1 in the order in which mutexes are added.
 #[derive(Clone, Copy, Debug, PartialEq, Eq, Hash, PartialOrd, Ord)]
 pub struct MutexId {

@@ -184,8 +184,3 @@ module _ (k : Kernel) (h : IsKernel k) where
   -- it is somebody
   pub next-some : (m : ℕ) → state_at k m ≢ 0 → next_in k m ≢ 0
   next-some m n = (within (next_in k m) (length k.seats) (next-added m n)).0
-
-  -- the next waiter of a mutex that has an owner state is a thread that was added, queued on it
-  pub next_in_waits : (m : ℕ) → state_at k m ≢ 0
-      → (has_seat k (next_in k m) ≡ true) × ((seat_at k (next_in k m)).status ≡ Queued m)
-  next_in_waits m n = (next-added m n, next-queued m n)

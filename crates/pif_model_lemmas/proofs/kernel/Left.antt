@@ -130,11 +130,6 @@ module _ (x : Status) (t : ℕ) (k : Kernel) where
   unfolding kernel_left_as
   state-left_other i d = get_or-set_other k.states was_on i (owner_left t k) 0 d
 
-  -- effective priorities do not depend on the levels
-  pub effective-left : (u : ℕ) → effective_in now u ≡ effective_in kernel_with_leaving u
-  unfolding kernel_left_as
-  effective-left u = refl
-
   module _ (h : IsKernel k) where
     -- there is a place for the mutex on which t was queued
     was_on-below : was_on < 1025

@@ -11,13 +11,12 @@ use Rattle.pif_types.specs.declared.requests.Request.{Request}
 use Rattle.pif_types.specs.declared.requests.Request.TheVariants.{TryLock, Unlock, Consistent, Wait}
 use Rattle.pif_model.specs.declared.events.Seen.TheVariants.{Waits}
 use Rattle.pif_model.specs.declared.lines.Place.{Place}
-use Rattle.pif_model.specs.declared.lines.Place.TheVariants.{NamePending, Exchange, CallKernel, Stop, Take, Link, Give, Clear, LoadUses, Park, Repair, Wake}
+use Rattle.pif_model.specs.declared.lines.Place.TheVariants.{NamePending, Exchange, CallKernel, Stop, Take, Link, Give, LoadUses, Repair, Wake}
 use Rattle.pif_model.specs.declared.lines.TakeStep.TheVariants.{LoadHealth, StoreInconsistent}
 use Rattle.pif_model.specs.declared.lines.LinkStep.TheVariants.{WriteNext}
 use Rattle.pif_model.specs.declared.lines.GiveStep.TheVariants.{SetPending, StoreUnusable, Unlink, Release, CallUnlock}
 use Rattle.pif_model.specs.declared.lines.Purpose.{Purpose}
 use Rattle.pif_model.specs.declared.lines.Purpose.TheVariants.{ToUnlock, ToPark, ToLeave}
-use Rattle.pif_model.specs.declared.lines.Footing.TheVariants.{Unowned}
 use Rattle.pif_model.specs.declared.lines.RepairStep.TheVariants.{CheckHealth, StoreFine}
 use Rattle.pif_model.specs.declared.lines.WakeStep.TheVariants.{CountUse, Requeue}
 use Rattle.pif_model.specs.Word.{Word, free_word, held_by, is_bare}
@@ -169,18 +168,6 @@ unfolding give_exchange
 give_exchange_cases P q y t m s done fails =
     exchanged_cases P free_word (cell_at s m).word t m (given_up q y t m) (goes_to t q (Give CallUnlock y)) s
     (λ w d n. done w) fails
-
--- what comes after, by why it was given up
-pub given_up_cases : (P : Outcome → Type 0) (q : Request) (y : Purpose) (t m : ℕ) (s : Table)
-    → (y ≡ ToUnlock → (cell_at s m).robust ≡ true → P (goes_to t q (Clear Unowned 0) s))
-    → (y ≡ ToUnlock → (cell_at s m).robust ≡ false → P (answers t 0 s))
-    → ((v : ℕ) → y ≡ ToPark v → P (goes_to t q (Park v) s))
-    → (y ≡ ToLeave → P (goes_to t q (Clear Unowned 131) s))
-    → P (given_up q y t m s)
-given_up_cases P q ToUnlock t m s robust stalled parks leaves =
-    ends_by_cases P q (Clear Unowned 0) 0 t m s (robust refl) (stalled refl)
-given_up_cases P q (ToPark v) t m s robust stalled parks leaves = parks v refl
-given_up_cases P q ToLeave t m s robust stalled parks leaves = leaves refl
 
 -- TRYLOCK
 

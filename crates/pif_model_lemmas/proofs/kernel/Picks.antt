@@ -36,35 +36,6 @@ from_empty : (levels : List (List ℕ)) (n : ℕ) → level_at levels (suc n) �
 unfolding first_from
 from_empty levels n e = ap (λ (xs : List ℕ). elim xs [ [] ↦ first_from levels n | (u ∷ us) ↦ u ]) e
 
--- where a level has a thread, it is the first of the greatest that has one
-pub first_from-greatest : (levels : List (List ℕ)) (n t : ℕ) → IsFirstIn levels n t → first_from levels n ≡ t
-first_from-greatest levels zero t h = absurd (omega (arith, h.least, h.most))
-first_from-greatest levels (suc n) t h =
-    by_place (cases_eq h.level (suc n)) (λ less. first_from-greatest levels n t (below less))
-  where
-    below : h.level ≤ n → IsFirstIn levels n t
-    below less = record {
-      level = h.level;
-      least = h.least;
-      most = less;
-      later = h.later;
-      first = h.first;
-      above = λ p l m. h.above p l (omega arith);
-    }
-
-    by_place : (h.level ≡ suc n) ⊎ (h.level ≢ suc n) → (h.level ≤ n → first_from levels n ≡ t)
-        → first_from levels (suc n) ≡ t
-    by_place (inl e) ih = from_first levels n t h.later (ap (level_at levels) (sym e) ∙ h.first)
-    by_place (inr d) ih =
-        from_empty levels n (h.above (suc n) (omega (arith, h.most)) (omega arith)) ∙ ih (omega (arith, h.most))
-
--- where none has, it is nobody
-pub first_from-none : (levels : List (List ℕ)) (n : ℕ) → IsEmptyUpTo levels n → first_from levels n ≡ 0
-first_from-none levels zero empty = from_none levels
-first_from-none levels (suc n) empty =
-    from_empty levels n (empty (suc n) (omega arith) (omega arith))
-    ∙ first_from-none levels n (λ p l m. empty p l (omega arith))
-
 -- one of the two is so
 pub first_from-cases : (levels : List (List ℕ)) (n : ℕ)
     → IsFirstIn levels n (first_from levels n) ⊎ (IsEmptyUpTo levels n × (first_from levels n ≡ 0))
@@ -209,14 +180,3 @@ module _ (k : Kernel) (h : IsKernel k) where
   -- where a thread is ready, somebody is picked
   pub pick_some : (u : ℕ) → has_seat k u ≡ true → is_ready (seat_at k u).status ≡ true → pick_in k ≢ 0
   pick_some u a r e = true≢false (sym r ∙ pick_none e u a)
-
-  -- whoever is picked is the one
-  pub pick_is : (t : ℕ) → IsPicked k t → pick_in k ≡ t
-  pick_is t p = first_from-greatest k.levels 99 t (record {
-    level = effective_in k t;
-    least = (effective_range k h.shape t p.added).0;
-    most = (effective_range k h.shape t p.added).1;
-    later = p.later;
-    first = p.first;
-    above = p.above;
-  })

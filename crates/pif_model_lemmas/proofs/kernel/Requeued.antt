@@ -1,11 +1,10 @@
 -- What words and kernel have at each place once a thread was taken from a variable, and once all were.
-use Rattle.std.proofs.Common.{◌≡◌, ◌≢◌, ℕ, false, ◌==◌, nat_lt, length, refl, ap, ◌∙◌, if◌then◌else◌, length-set, get_or-set_other}
-use Rattle.pif_model.specs.Word.{Word, free_word, taken_word, mark_word, word_at, has_word}
-use Rattle.pif_model.specs.PiKernel.{System, seat_at, has_seat, state_at, parkings_without, top_parked, without_parking, after_taking, after_takings}
+use Rattle.std.proofs.Common.{◌≡◌, ◌≢◌, ℕ, false, ◌==◌, nat_lt, length, refl, ap, ◌∙◌, if◌then◌else◌, length-set}
+use Rattle.pif_model.specs.Word.{taken_word, mark_word, word_at, has_word}
+use Rattle.pif_model.specs.PiKernel.{System, seat_at, parkings_without, top_parked, without_parking, after_taking, after_takings}
 use Rattle.pif_model.specs.declared.lines.Woken.TheVariants.{Owns as WokenOwns, Again as WokenAgain}
-use Rattle.pif_model_lemmas.proofs.Places.{kept_at}
-use Rattle.pif_model_lemmas.proofs.kernel.Places.{queued_limits, queued_length, queued_seat_other, queued_base, queued_state_other}
-use Rattle.pif_model_lemmas.proofs.kernel.Woken.{woken_limits, woken_length, woken_seat_other, woken_base, woken_state, woken_parked, requeued_parked}
+use Rattle.pif_model_lemmas.proofs.kernel.Places.{queued_limits, queued_length, queued_seat_other}
+use Rattle.pif_model_lemmas.proofs.kernel.Woken.{woken_limits, woken_length, woken_seat_other, woken_parked, requeued_parked}
 use Rattle.pif_model_lemmas.proofs.kernel.Taken.{taking-cases, takings-keep}
 
 -- ONE THREAD
@@ -33,30 +32,12 @@ module _ (u m : ℕ) (x : System) where
       (λ d e. queued_length u m number (without_parking u x.kernel))
       (λ d e. woken_length u WokenAgain x.kernel)
 
-  -- the same threads were added
-  pub taking-has : (v : ℕ) → has_seat later.kernel v ≡ has_seat x.kernel v
-  taking-has v = ap (λ n. if v == 0 then false else nat_lt v n) taking-length
-
   -- the other threads are as they were
   pub taking-seat_other : (v : ℕ) → v ≢ u → seat_at later.kernel v ≡ seat_at x.kernel v
   taking-seat_other v n = taking-cases u m x (λ y. seat_at y.kernel v ≡ seat_at x.kernel v)
       (λ e. woken_seat_other u WokenOwns x.kernel v n)
       (λ d e. queued_seat_other u m number (without_parking u x.kernel) v n)
       (λ d e. woken_seat_other u WokenAgain x.kernel v n)
-
-  -- each has the base priority that it had
-  pub taking-base : (v : ℕ) → (seat_at later.kernel v).base ≡ (seat_at x.kernel v).base
-  taking-base v = taking-cases u m x (λ y. (seat_at y.kernel v).base ≡ (seat_at x.kernel v).base)
-      (λ e. woken_base u WokenOwns x.kernel v)
-      (λ d e. queued_base u m number (without_parking u x.kernel) v)
-      (λ d e. woken_base u WokenAgain x.kernel v)
-
-  -- the other owner states are as they were
-  pub taking-state_other : (i : ℕ) → i ≢ m → state_at later.kernel i ≡ state_at x.kernel i
-  taking-state_other i n = taking-cases u m x (λ y. state_at y.kernel i ≡ state_at x.kernel i)
-      (λ e. woken_state u WokenOwns x.kernel i)
-      (λ d e. queued_state_other u m number (without_parking u x.kernel) i n)
-      (λ d e. woken_state u WokenAgain x.kernel i)
 
   -- u is not among the parked, and the others are as they were
   pub taking-parked : later.kernel.parked ≡ parkings_without x.kernel.parked u
@@ -76,13 +57,6 @@ module _ (u m : ℕ) (x : System) where
   pub taking-has_word : (i : ℕ) → has_word later.words i ≡ has_word x.words i
   taking-has_word i = ap (λ n. if i == 0 then false else nat_lt i n) taking-words
 
-  -- the other words are as they were
-  pub taking-word_other : (i : ℕ) → i ≢ m → word_at later.words i ≡ word_at x.words i
-  taking-word_other i n = taking-cases u m x (λ y. word_at y.words i ≡ word_at x.words i)
-      (λ e. get_or-set_other x.words.mutexes m i (taken_word u (word_at x.words m)) free_word n)
-      (λ d e. get_or-set_other x.words.mutexes m i (mark_word (word_at x.words m)) free_word n)
-      (λ d e. refl)
-
   -- health words are as they were
   pub taking-healths : later.words.healths ≡ x.words.healths
   taking-healths =
@@ -91,13 +65,6 @@ module _ (u m : ℕ) (x : System) where
   -- and so are condition words
   pub taking-conds : later.words.conds ≡ x.words.conds
   taking-conds = taking-cases u m x (λ y. y.words.conds ≡ x.words.conds) (λ e. refl) (λ d e. refl) (λ d e. refl)
-
-  -- what there was of OWNER_DIED stays
-  pub taking-died : (i : ℕ) → (word_at later.words i).died ≡ (word_at x.words i).died
-  taking-died i = taking-cases u m x (λ y. (word_at y.words i).died ≡ (word_at x.words i).died)
-      (λ e. kept_at (λ (w : Word). w.died) x.words.mutexes m (taken_word u (word_at x.words m)) free_word refl i)
-      (λ d e. kept_at (λ (w : Word). w.died) x.words.mutexes m (mark_word (word_at x.words m)) free_word refl i)
-      (λ d e. refl)
 
 -- ALL OF THEM
 
@@ -117,29 +84,10 @@ module _ (n c m : ℕ) (x : System) where
   takings-length = takings-keep (λ y. length y.kernel.seats ≡ length x.kernel.seats) c m
       (λ y e h. taking-length (top_parked y.kernel c) m y ∙ h) n x refl
 
-  -- the same threads were added
-  pub takings-has : (v : ℕ) → has_seat last.kernel v ≡ has_seat x.kernel v
-  takings-has v = ap (λ n. if v == 0 then false else nat_lt v n) takings-length
-
-  -- each has the base priority that it had
-  pub takings-base : (v : ℕ) → (seat_at last.kernel v).base ≡ (seat_at x.kernel v).base
-  takings-base v = takings-keep (λ y. (seat_at y.kernel v).base ≡ (seat_at x.kernel v).base) c m
-      (λ y e h. taking-base (top_parked y.kernel c) m y v ∙ h) n x refl
-
-  -- the other owner states are as they were
-  pub takings-state_other : (i : ℕ) → i ≢ m → state_at last.kernel i ≡ state_at x.kernel i
-  takings-state_other i d = takings-keep (λ y. state_at y.kernel i ≡ state_at x.kernel i) c m
-      (λ y e h. taking-state_other (top_parked y.kernel c) m y i d ∙ h) n x refl
-
   -- there are as many words
   pub takings-words : length last.words.mutexes ≡ length x.words.mutexes
   takings-words = takings-keep (λ y. length y.words.mutexes ≡ length x.words.mutexes) c m
       (λ y e h. taking-words (top_parked y.kernel c) m y ∙ h) n x refl
-
-  -- the other words are as they were
-  pub takings-word_other : (i : ℕ) → i ≢ m → word_at last.words i ≡ word_at x.words i
-  takings-word_other i d = takings-keep (λ y. word_at y.words i ≡ word_at x.words i) c m
-      (λ y e h. taking-word_other (top_parked y.kernel c) m y i d ∙ h) n x refl
 
   -- health words are as they were
   pub takings-healths : last.words.healths ≡ x.words.healths
@@ -150,8 +98,3 @@ module _ (n c m : ℕ) (x : System) where
   pub takings-conds : last.words.conds ≡ x.words.conds
   takings-conds = takings-keep (λ y. y.words.conds ≡ x.words.conds) c m
       (λ y e h. taking-conds (top_parked y.kernel c) m y ∙ h) n x refl
-
-  -- what there was of OWNER_DIED stays
-  pub takings-died : (i : ℕ) → (word_at last.words i).died ≡ (word_at x.words i).died
-  takings-died i = takings-keep (λ y. (word_at y.words i).died ≡ (word_at x.words i).died) c m
-      (λ y e h. taking-died (top_parked y.kernel c) m y i ∙ h) n x refl

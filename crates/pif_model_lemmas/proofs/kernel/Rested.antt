@@ -1,11 +1,10 @@
 -- A thread that may run stops for good or is parked: the kernel keeps what it keeps, and what it has at each place
 -- then.
-use Rattle.std.proofs.Common.{◌≡◌, ◌≢◌, ◌⊎◌, ℕ, ◌+◌, ◌≤◌, true, false, ◌==◌, nat_lt, List, [], ◌∷◌, ◌++◌, length, refl, sym, ap, ◌∙◌, subst, if◌then◌else◌, true≢false, inl, inr, length-set, get_or-set_same, get_or-set_other, Result, Ok, Err}
+use Rattle.std.proofs.Common.{◌≡◌, ◌≢◌, ◌⊎◌, ℕ, ◌+◌, ◌≤◌, true, false, ◌==◌, nat_lt, List, [], ◌∷◌, ◌++◌, length, refl, sym, ap, ◌∙◌, subst, if◌then◌else◌, true≢false, inl, inr, length-set, get_or-set_same, get_or-set_other}
 use Rattle.std.proofs.lemmas.Bool.{cases_eq}
-use Rattle.pif_types.specs.declared.errors.Errno.{Errno}
 use Rattle.pif_model.specs.declared.lines.Status.{Status}
 use Rattle.pif_model.specs.declared.lines.Status.TheVariants.{Queued, Parked, Stopped}
-use Rattle.pif_model.specs.PiKernel.{Kernel, Seat, Parking, ParksAsTold, IsKernel, no_seat, seat_at, has_seat, state_at, waits_for, effective_in, queued_on, is_ready, is_parked, levels_without, with_status, kernel_after_stop, kernel_after_parking, kernel_after_wait_requeue}
+use Rattle.pif_model.specs.PiKernel.{Kernel, Seat, Parking, ParksAsTold, IsKernel, no_seat, seat_at, has_seat, state_at, waits_for, effective_in, queued_on, is_ready, is_parked, levels_without, with_status, kernel_after_stop, kernel_after_parking}
 use Rattle.pif_model.specs.Graph.{is_priority}
 use Rattle.pif_model_lemmas.proofs.Numbers.{within}
 use Rattle.pif_model_lemmas.proofs.Places.{kept_at}
@@ -157,11 +156,6 @@ module _ (t c m : ℕ) (k : Kernel) where
   parked_seat_same added =
       get_or-set_same k.seats t (seat t (Parked c) parked_then k) no_seat (within t (length k.seats) added).1
 
-  -- each has the base priority that it had
-  pub parked_base : (u : ℕ) → (seat_at after_parking u).base ≡ (seat_at k u).base
-  unfolding kernel_after_parking
-  parked_base u = base-rested t (Parked c) parked_then k u
-
   -- owner states are as they were
   pub parked_state : (i : ℕ) → state_at after_parking i ≡ state_at k i
   unfolding kernel_after_parking
@@ -177,11 +171,6 @@ module _ (t c m : ℕ) (k : Kernel) where
   unfolding kernel_after_parking
   parked_parked = refl
 
-  -- t has left its level
-  pub parked_levels : after_parking.levels ≡ levels_without t k.levels
-  unfolding kernel_after_parking
-  parked_levels = refl
-
   module _ (h : IsKernel k) (added : has_seat k t ≡ true) (ready : is_ready (seat_at k t).status ≡ true) where
     -- who is parked
     parks : ParksAsTold (now t (Parked c) parked_then k)
@@ -189,24 +178,7 @@ module _ (t c m : ℕ) (k : Kernel) where
         c m refl (ready-unparked (seat_at k t).status ready)
         (ap (λ (y : Seat). y.status) (seat-rested_same t (Parked c) parked_then k h added ready))
 
-    -- each waits for whom it waited
-    pub parked_waits : (u : ℕ) → waits_for after_parking u ≡ waits_for k u
-    unfolding kernel_after_parking
-    parked_waits u = waits-rested t (Parked c) parked_then k h added ready refl (λ m e. cc) refl parks u
-
-    -- each has its effective priority
-    pub parked_effective : (u : ℕ) → effective_in after_parking u ≡ effective_in k u
-    unfolding kernel_after_parking
-    parked_effective u = effective-rested t (Parked c) parked_then k h added ready refl (λ m e. cc) refl parks u
-
     -- it is a kernel
     pub kernel-parked : IsKernel after_parking
     unfolding kernel_after_parking
     kernel-parked = kernel-rested t (Parked c) parked_then k h added ready refl (λ m e. cc) refl parks
-
--- wait_requeue_pi keeps what a kernel keeps, whatever it answers
-pub wait_requeue_kept : (t c m : ℕ) (r : Result (record {}) Errno) (k : Kernel) → IsKernel k → has_seat k t ≡ true
-    → is_ready (seat_at k t).status ≡ true → IsKernel (kernel_after_wait_requeue t c m r k)
-unfolding kernel_after_wait_requeue
-wait_requeue_kept t c m (Ok x) k h added ready = kernel-parked t c m k h added ready
-wait_requeue_kept t c m (Err e) k h added ready = h

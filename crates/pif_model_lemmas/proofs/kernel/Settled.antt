@@ -49,11 +49,6 @@ effective_range k h t e = (low, high)
     high : effective_in k t ≤ 99
     high = effective_most (length k.seats) (waits_for k) (λ u. (seat_at k u).base) t 99 (λ u l r. base_most k h u l)
 
--- the same as a test
-pub effective_is_priority : (k : Kernel) → IsKernelShaped k → (t : ℕ) → has_seat k t ≡ true
-    → is_priority (effective_in k t) ≡ true
-effective_is_priority k h t e = let r = effective_range k h t e in priority-from_range (effective_in k t) r.0 r.1
-
 -- LISTED
 
 -- whether t stands at level p, where it stands at the level that `at` tells, if it may run

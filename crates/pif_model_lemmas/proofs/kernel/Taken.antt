@@ -1,19 +1,16 @@
 -- Threads are taken from a variable: the cases of one, what all of them keep, and what the kernel keeps.
-use Rattle.std.proofs.Common.{◌≡◌, ◌≢◌, ◌⊎◌, ℕ, zero, suc, ◌+◌, ◌<◌, ◌≤◌, Bool, true, false, ◌==◌, min, length, refl, sym, ap, ◌∙◌, subst, arith, if◌then◌else◌, eqb-true, true≢false, inl, inr, Result, Ok, Err}
+use Rattle.std.proofs.Common.{◌≡◌, ◌≢◌, ◌⊎◌, ℕ, zero, suc, ◌<◌, Bool, true, false, ◌==◌, length, refl, sym, ap, ◌∙◌, subst, if◌then◌else◌, eqb-true, true≢false, inl, inr}
 use Rattle.std.proofs.lemmas.Bool.{cases_eq, cases_Bool, eqb-false}
-use Rattle.pif_types.specs.declared.errors.Errno.{Errno}
-use Rattle.pif_types.specs.declared.errors.Errno.TheVariants.{Again, Fault, Invalid}
 use Rattle.pif_model.specs.declared.lines.Status.TheVariants.{Parked}
 use Rattle.pif_model.specs.declared.lines.Woken.{Woken}
 use Rattle.pif_model.specs.declared.lines.Woken.TheVariants.{Owns as WokenOwns, Again as WokenAgain}
 use Rattle.pif_model.specs.Graph.{reaches_within}
-use Rattle.pif_model.specs.Word.{Word, Words, free_word, taken_word, mark_word, word_at, has_word, set_word, cond_word_at, has_cond_word}
-use Rattle.pif_model.specs.PiKernel.{Kernel, Seat, System, IsKernel, seat_at, has_seat, has_ended, is_living, state_at, waits_for, has_parked, top_parked, has_other_target, parked_count, fits_state, may_queue, without_parking, kernel_after_queueing, kernel_after_waking, after_taking, after_takings, requeue_answer, after_requeue}
-use Rattle.pif_model_lemmas.proofs.Numbers.{within}
+use Rattle.pif_model.specs.Word.{Word, Words, free_word, taken_word, mark_word, word_at, set_word}
+use Rattle.pif_model.specs.PiKernel.{Kernel, Seat, System, IsKernel, seat_at, has_seat, has_ended, is_living, state_at, waits_for, has_parked, top_parked, fits_state, may_queue, without_parking, kernel_after_queueing, kernel_after_waking, after_taking, after_takings}
 use Rattle.pif_model_lemmas.proofs.Places.{kept_at}
 use Rattle.pif_model_lemmas.proofs.Waiting.{by_test}
 use Rattle.pif_model_lemmas.proofs.kernel.Facts.{living-added}
-use Rattle.pif_model_lemmas.proofs.kernel.Woken.{top-parked, added-from_parked, woken_has, woken_seat_other, woken_seat_same, woken_state, kernel-woken, requeued_state_same, kernel-requeued}
+use Rattle.pif_model_lemmas.proofs.kernel.Woken.{added-from_parked, woken_has, woken_seat_other, woken_seat_same, woken_state, kernel-woken, requeued_state_same, kernel-requeued}
 
 -- ONE THREAD
 
@@ -177,85 +174,3 @@ takings-keep P c m step (suc n) x h = go (takings-keep P c m step n) (cases_Bool
         → (has_parked x.kernel c ≡ true) ⊎ (has_parked x.kernel c ≡ false) → P (after_takings (suc n) c m x)
     go ih (inl e) = subst P (sym (takings-more n c m x e)) (ih (after_taking (top_parked x.kernel c) m x) (step x e h))
     go ih (inr e) = subst P (sym (takings-none (suc n) c m x e)) h
-
--- what a kernel keeps
-pub takings_kept : (n c m : ℕ) (x : System) → m ≢ 0 → m < 1025 → IsKernel x.kernel
-    → (has_parked x.kernel c ≡ true → FitsState m x) → IsKernel (after_takings n c m x).kernel
-takings_kept n c m x some few h fits =
-    (takings-keep (λ y. IsKernel y.kernel × (has_parked y.kernel c ≡ true → FitsState m y)) c m step n x (h, fits)).0
-  where
-    step : (y : System) → has_parked y.kernel c ≡ true
-        → IsKernel y.kernel × (has_parked y.kernel c ≡ true → FitsState m y)
-        → IsKernel (after_taking (top_parked y.kernel c) m y).kernel
-        × (has_parked (after_taking (top_parked y.kernel c) m y).kernel c ≡ true
-        → FitsState m (after_taking (top_parked y.kernel c) m y))
-    step y e r =
-        let was = top-parked y.kernel r.0 c e in (
-          taking_kept (top_parked y.kernel c) m c y r.0 was some few (r.1 e),
-          λ z. taking_fits (top_parked y.kernel c) m c y r.0 was some few (r.1 e),
-        )
-
--- THE CALL
-
--- what cmp_requeue_pi found out where it goes through
-pub record IsRequeue (c m val more expected n : ℕ) (ws : Words) (k : Kernel) : Type 0 where
-  pub cond : has_cond_word ws c ≡ true
-  pub word : has_word ws m ≡ true
-  pub one : val ≡ 1
-  pub unchanged : cond_word_at ws c ≡ expected
-  pub targets : has_other_target k c m ≡ false
-  pub fits : has_parked k c ≡ true → fits_state (word_at ws m).number (state_at k m) k ≡ true
-  pub count : n ≡ (if has_parked k c then min (parked_count k c) (more + 1) else 0)
-
--- the answer by what is tested
-abbrev answer_by : Bool → Bool → Bool → Bool → Bool → Bool → Bool → ℕ → Result ℕ Errno
-answer_by cond word one same other some fits n =
-    if (if cond then word else false) then
-    (if one then (if same then (if other then Err Invalid else
-    (if some then (if fits then Ok n else Err Invalid) else Ok 0)) else Err Again) else Err Invalid)
-    else Err Fault
-
--- where the call goes through, the tests were these
-tests-requeued : (cond word one same other some fits : Bool) (n i : ℕ)
-    → answer_by cond word one same other some fits n ≡ Ok i
-    → (cond ≡ true) × (word ≡ true) × (one ≡ true) × (same ≡ true) × (other ≡ false)
-    × (some ≡ true → fits ≡ true) × (i ≡ (if some then n else 0))
-tests-requeued true true true true false true true n i e = (refl, refl, refl, refl, refl, (λ x. refl), cc)
-tests-requeued true true true true false false fits n i e =
-    (refl, refl, refl, refl, refl, (λ x. absurd (true≢false (sym x))), cc)
-tests-requeued _ _ _ _ _ _ _ n i e = absurd (cc)
-
-pub requeue-goes : (c m val more expected n : ℕ) (ws : Words) (k : Kernel)
-    → requeue_answer c m val more expected ws k ≡ Ok n → IsRequeue c m val more expected n ws k
-unfolding requeue_answer
-requeue-goes c m val more expected n ws k e =
-    let r = tests-requeued (has_cond_word ws c) (has_word ws m) (val == 1) (cond_word_at ws c == expected)
-    (has_other_target k c m) (has_parked k c) (fits_state (word_at ws m).number (state_at k m) k)
-    (min (parked_count k c) (more + 1)) n e in
-    record {
-      cond = r.0;
-      word = r.1;
-      one = eqb-true val 1 r.2;
-      unchanged = eqb-true (cond_word_at ws c) expected r.3;
-      targets = r.4;
-      fits = r.5;
-      count = r.6;
-    }
-
--- cmp_requeue_pi keeps what a kernel keeps, whatever it answers
-pub requeue_kept : (c m val more expected : ℕ) (ws : Words) (k : Kernel) → IsKernel k → length ws.mutexes ≤ 1025
-    → IsKernel (after_requeue c m more (requeue_answer c m val more expected ws k) ws k).kernel
-unfolding after_requeue
-requeue_kept c m val more expected ws k h few = by_answer (requeue_answer c m val more expected ws k) refl
-  where
-    goes : (n : ℕ) → IsRequeue c m val more expected n ws k
-        → IsKernel (after_takings (suc more) c m (record { words = ws; kernel = k })).kernel
-    goes n r =
-        let w = within m (length ws.mutexes) r.word in
-        takings_kept (suc more) c m (record { words = ws; kernel = k }) w.0 (omega (arith, w.1)) h
-        (λ e. fits-from_test m (record { words = ws; kernel = k }) (r.fits e))
-
-    by_answer : (r : Result ℕ Errno) → requeue_answer c m val more expected ws k ≡ r
-        → IsKernel (after_requeue c m more r ws k).kernel
-    by_answer (Ok n) e = goes n (requeue-goes c m val more expected n ws k e)
-    by_answer (Err x) e = h

@@ -37,10 +37,6 @@ no_line : (t : ℕ) → get_or (Idle ∷ []) t Idle ≡ Idle
 no_line zero = refl
 no_line (suc t) = refl
 
--- a number is not below one that is no greater
-not_below : (t n : ℕ) → n ≤ t → (if t == 0 then false else nat_lt t n) ≡ false
-not_below t n h = grind (arith, nat_tests)
-
 -- a core to which nothing was added is sound
 pub new_sound : (l : Bounds) → IsWithin l → IsSound (new_table l)
 new_sound l within = record {

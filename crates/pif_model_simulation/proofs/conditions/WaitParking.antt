@@ -32,7 +32,7 @@ use Rattle.pif_model_simulation.proofs.Kept.{first, second}
 use Rattle.pif_model_simulation.proofs.Hole.{aims}
 use Rattle.pif_model_simulation.proofs.Agreement.{quiet, frames_same}
 use Rattle.pif_model_simulation.proofs.Written.{written, written_is, same_word, same_health, same_list, same_library}
-use Rattle.pif_model_simulation.proofs.Steps.{KeepsGo, GoKeeps, Going, going_named, going_met, going_called, waits_with, waits_noted, going_bound, going_other, going_ready, going_behind, going_once, going_own_handed}
+use Rattle.pif_model_simulation.proofs.Steps.{KeepsGo, GoKeeps, Going, going_named, going_called, waits_with, waits_noted, going_bound, going_other, going_ready, going_behind, going_once, going_own_handed}
 use Rattle.pif_model_simulation.proofs.Does.IsLocking.{by_wait}
 use Rattle.pif_model_simulation.proofs.Does.Does.{nothing}
 use Rattle.pif_model_simulation.proofs.Local.{going_cell, going_added}
@@ -53,12 +53,6 @@ recalled_alike w t f g e = λ i. record w { threads = set w.threads t (record (t
 module _ (s : Table) (t c m v : ℕ) (g : Going s t (Wait c m) (Park v)) where
   named : has_mutex s m ≡ true
   named = second (has_cond s c) (has_mutex s m) (going_named g)
-
-  known : has_cond s c ≡ true
-  known = first (has_cond s c) (has_mutex s m) (going_named g)
-
-  h : MeetsAll (is_living s.kernel) t (status_at s t) (cell_at s m) (use_at s (Wait c m)) (needs (Park v))
-  h = going_met g
 
   added : has_thread s t ≡ true
   added = going_added g named
@@ -237,9 +231,6 @@ handed_takes Ended y e f = absurd (true≢false (sym f))
 module _ (s : Table) (t c m : ℕ) (g : Going s t (Wait c m) StayParked) where
   mutex : has_mutex s m ≡ true
   mutex = second (has_cond s c) (has_mutex s m) (going_named g)
-
-  met : MeetsAll (is_living s.kernel) t (status_at s t) (cell_at s m) (use_at s (Wait c m)) (needs StayParked)
-  met = going_met g
 
   -- it was woken to lock the mutex, as it does here
   locks_again : is_woken_again (status_at s t) ≡ true → GoKeeps s t (own_exchange (Wait c m) t m s)

@@ -1,5 +1,5 @@
 -- What holds at each place of a list after a change at one.
-use Rattle.std.proofs.Common.{ℕ, zero, suc, List, [], ◌∷◌, ◌++◌, length, get_or, set}
+use Rattle.std.proofs.Common.{ℕ, zero, suc, List, [], ◌∷◌, get_or, set}
 
 -- after another item was put at a place
 pub changed_at : {A : Type 0} (d : A) (P : ℕ → A → Type 0) (xs : List A) (n : ℕ) (x : A) → P n x
@@ -10,12 +10,3 @@ changed_at d P (y ∷ ys) zero x here all zero = here
 changed_at d P (y ∷ ys) zero x here all (suc m) = all (suc m)
 changed_at d P (y ∷ ys) (suc n) x here all zero = all zero
 changed_at d P (y ∷ ys) (suc n) x here all (suc m) = changed_at d (λ k. P (suc k)) ys n x here (λ k. all (suc k)) m
-
--- after an item was put at the end
-pub pushed_at : {A : Type 0} (d : A) (P : ℕ → A → Type 0) (xs : List A) (x : A) → P (length xs) x
-    → ((k : ℕ) → P k (get_or xs k d))
-    → (m : ℕ) → P m (get_or (xs ++ x ∷ []) m d)
-pushed_at d P [] x here all zero = here
-pushed_at d P [] x here all (suc m) = all (suc m)
-pushed_at d P (y ∷ ys) x here all zero = all zero
-pushed_at d P (y ∷ ys) x here all (suc m) = pushed_at d (λ k. P (suc k)) ys x here (λ k. all (suc k)) m

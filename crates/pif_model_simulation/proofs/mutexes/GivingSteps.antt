@@ -49,11 +49,6 @@ last_named Release e = refl
 last_named CallUnlock e = refl
 last_named _ e = absurd (true≢false (sym e))
 
-last_loose : (x : GiveStep) → is_last x ≡ true → is_loose_giving x ≡ true
-last_loose Release e = refl
-last_loose CallUnlock e = refl
-last_loose _ e = absurd (true≢false (sym e))
-
 -- how far a call has come that gives its mutex up
 abbrev pub before : Table → Request → Purpose → Progress
 before s q y = progress_giving y (uses_of s (variable_of q))

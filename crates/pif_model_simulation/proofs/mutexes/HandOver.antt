@@ -109,9 +109,6 @@ module _ {s : Table} {t m : ℕ} {l : Line} {r : RobustRow} {x : Word} (h : Hand
   abbrev pub handed : Table
   handed = written t m l r x a 1 k s
 
-  c : CellIsSound (has_thread s) (has_waiter s.kernel.waiters m) (cell_at s m)
-  c = h.sound.mutexes m h.named
-
   m0 : m ≢ 0
   m0 = above_0 m (length s.mutexes) h.named
 

@@ -2,8 +2,9 @@
 //! text that is longer than a page.
 
 use crate::jobs::Job;
-use pif_job_show::show_all;
-use pif_script::CliFault;
+use pif_job_show::show_story;
+use pif_script::{CliFault, Notice};
+use pif_script_model::Detail;
 use pif_test_streams::{Stream, check_write};
 use std::alloc::Global;
 use std::io::ErrorKind;
@@ -60,7 +61,8 @@ fn check_places(rt: &impl Abort, alloc: Global, shown: &str) {
 /// Shows all there is of the crowd.
 fn show_crowd(alloc: Global, output: &mut Vec<u8>) -> Result<(), CliFault> {
     let script = [(CROWD, 1)];
-    show_all(alloc, &mut Stream::new(&script), output)
+    let mut input = Stream::new(&script);
+    show_story(Detail::All, alloc, &mut input, output, &mut Notice::new())
 }
 
 #[test]

@@ -2,7 +2,7 @@
 
 use super::BOOSTED;
 use crate::jobs::{Job, Telling};
-use pif_job_show::show_noting;
+use pif_job_show::show_story;
 use pif_job_trace::trace_noting;
 use pif_script::{CliFault, Notice};
 use pif_script_model::Detail;
@@ -39,7 +39,7 @@ fn tell_script(
 ) -> Ended {
     let mut reader = script.as_bytes();
     match telling {
-        Some(detail) => show_noting(detail, alloc, &mut reader, writer, notice),
+        Some(detail) => show_story(detail, alloc, &mut reader, writer, notice),
         None => trace_noting(alloc, &mut reader, writer, notice),
     }
 }

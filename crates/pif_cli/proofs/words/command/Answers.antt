@@ -1,6 +1,49 @@
+use Rattle.std.proofs.Common.{◌≡◌, inl, inr, ℕ, ◌≤◌, List, Option, Result, Ok, Err, arith, rules, subst}
 use Rattle.clap.specs.Words.{kind_of}
+use Rattle.pif_script_model.specs.declared.faults.CliFault.{CliFault}
+use Rattle.pif_script_model.specs.declared.faults.CliFault.TheVariants.{Read, Write, NoMemory, Script, Differs}
+use Rattle.pif_cli.specs.declared.statuses.JobFault.{JobFault}
+use Rattle.pif_cli.specs.declared.statuses.JobFault.TheVariants.{Cli, Threads, Unsettled}
+use Rattle.pif_cli.specs.Messages.{TellsAt, TellsLine, TellsOf}
+use Rattle.pif_cli.specs.Statuses.{fault_status, job_fault_status, job_status}
 use Rattle.pif_cli.proofs.WordsLemmas.{EndsIf-refused, refusal_tells}
 use Rattle.pif_cli.proofs.words.command.Goals as goal
+
+-- one line, at a status from 2 to 6
+tells_line : (status given : ℕ) (held holds : Option (List ℕ)) → 2 ≤ given → given ≤ 6 → status ≡ given
+    → TellsLine held holds → TellsAt status held holds
+tells_line status given held holds low high is told =
+    inr (inr (inl (omega (arith, is, low), omega (arith, is, high), told)))
+
+-- what a fault of a script or a trace tells the errors
+cli_fault_tells : (fault : CliFault) (status : ℕ) (held holds : Option (List ℕ)) → status ≡ fault_status fault
+    → TellsLine held holds → TellsAt status held holds
+cli_fault_tells Read status held holds is told = tells_line status 3 held holds (omega arith) (omega arith) is told
+cli_fault_tells Write status held holds is told = tells_line status 3 held holds (omega arith) (omega arith) is told
+cli_fault_tells NoMemory status held holds is told = tells_line status 4 held holds (omega arith) (omega arith) is told
+cli_fault_tells (Script line cause) status held holds is told =
+    tells_line status 2 held holds (omega arith) (omega arith) is told
+cli_fault_tells (Differs line) status held holds is told =
+    tells_line status 5 held holds (omega arith) (omega arith) is told
+
+-- what a fault of a job tells them
+fault_tells : (fault : JobFault) (status : ℕ) (held holds : Option (List ℕ)) → status ≡ job_fault_status fault
+    → TellsLine held holds → TellsAt status held holds
+fault_tells (Cli fault) status held holds is told = cli_fault_tells fault status held holds is told
+fault_tells Threads status held holds is told = tells_line status 6 held holds (omega arith) (omega arith) is told
+fault_tells Unsettled status held holds is told = tells_line status 6 held holds (omega arith) (omega arith) is told
+
+-- what a job tells them
+job_tells : (result : Result (Unit {0}) JobFault) (status : ℕ) (held holds : Option (List ℕ))
+    → status ≡ job_status result → TellsOf result held holds → TellsAt status held holds
+job_tells (Ok x) status held holds is told = inl (is, told)
+job_tells (Err fault) status held holds is told = fault_tells fault status held holds is told
+
+pub returns-in-Ok-clause-errors : goal.returns-in-Ok-clause-errors
+returns-in-Ok-clause-errors g c =
+    let did = c.do_and_tell.ensures.did in
+    subst (λ errors. TellsAt c.do_and_tell.result (g.E.Write.contents c.args.errors.now) (g.E.Write.contents errors))
+    (search rules) (job_tells did.0 _ _ _ did.2 did.3)
 
 pub returns-in-Err-clause-errors : goal.returns-in-Err-clause-errors
 returns-in-Err-clause-errors g c = refusal_tells (kind_of c.in-Err.error) _ _ _ _ _ c.refuse.ensures

@@ -5,10 +5,10 @@ use Rattle.pif_model.specs.declared.events.Seen.{Seen}
 use Rattle.pif_model.specs.History.{hold_count}
 use Rattle.pif_model.specs.Table.{Table}
 use Rattle.pif_core_callers.specs.declared.locking.Held.{Held}
-use Rattle.pif_calls.specs.Calls.{StandsOn, after_call}
+use Rattle.pif_model_simulation.specs.Calls.{StandsOn, after_call}
 use Rattle.pif_core_callers.specs.Holding.{CountsOn, if_taken, after_lock}
 use Rattle.pif_core_callers.proofs.HoldLemmas.{unlock_leaves}
-use Rattle.pif_calls.proofs.StandingLemmas.{next_stands}
+use Rattle.pif_model_simulation.proofs.StandingLemmas.{next_stands}
 use Rattle.pif_core_callers.proofs.locking.add_under.Goals as goal
 
 pub returns-clause-stands : goal.returns-clause-stands

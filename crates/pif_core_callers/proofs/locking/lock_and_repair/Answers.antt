@@ -5,7 +5,7 @@ use Rattle.pif_model.specs.declared.events.Seen.{Seen}
 use Rattle.pif_model.specs.declared.events.Seen.TheVariants.{Answered}
 use Rattle.pif_model.specs.History.{hold_count}
 use Rattle.pif_model.specs.Table.{Table}
-use Rattle.pif_calls.specs.Calls.{call_outcome, after_call}
+use Rattle.pif_model_simulation.specs.Calls.{call_outcome, after_call}
 use Rattle.pif_core_callers.specs.declared.locking.Held.{Held}
 use Rattle.pif_core_callers.specs.Holding.{HoldsOn, if_died, after_lock}
 use Rattle.pif_core_callers.proofs.FineLemmas.{consistent_fine}

@@ -4,7 +4,7 @@ use Rattle.pif_types.specs.declared.requests.Request.TheVariants.{Wait}
 use Rattle.pif_model.specs.declared.events.Seen.TheVariants.{Answered}
 use Rattle.pif_model.specs.Lines.{goes_on}
 use Rattle.pif_model.specs.Table.{Table}
-use Rattle.pif_calls.specs.Calls.{StandsOn, call_outcome, after_finish}
+use Rattle.pif_model_simulation.specs.Calls.{StandsOn, call_outcome, after_finish}
 use Rattle.pif_core_callers.specs.Holding.{HoldsOn}
 use Rattle.pif_core_callers.specs.Waiting.{if_waited}
 use Rattle.pif_core_callers.proofs.HoldLemmas.{finished_only, met_by, resumed_stands, wait_holds}

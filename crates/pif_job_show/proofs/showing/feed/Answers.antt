@@ -1,4 +1,4 @@
-use Rattle.std.proofs.Common.{◌+◌, get_or, drop, arith, [], None, Ok, refl}
+use Rattle.std.proofs.Common.{◌+◌, get_or, drop, [], None, Ok, refl}
 use Rattle.std.proofs.KnownBytes.{Keeps-refl, Keeps-trans}
 use Rattle.std.proofs.lemmas.List.{drop_more, drop_all}
 use Rattle.pif_script_model.specs.Running.{script}
@@ -10,7 +10,6 @@ use Rattle.pif_job_show.proofs.showing.feed.Goals as goal
 pub loop-byte-init : goal.loop-byte-init
 loop-byte-init g c = (
   Feeding-start script (scan_of c.args.scanner.now) c.args.bytes.now [] None refl,
-  omega arith,
   λ front p. p,
   λ n. (n, Keeps-refl (g.W.Write.contents c.args.writer.now)),
 )
@@ -22,10 +21,9 @@ loop-byte-preserved g c =
     let f = rw (drop_more s i 0 c.loop-byte-test.true) at c.loop-byte.invariant.0 in (
       Feeding-shown script (scan_of c.args.scanner.now) s (scan_of c.loop-byte.scanner) (get_or s i 0) (drop (i + 1) s)
           _ _ (scan_of c.take.new.self) c.in-Ok.field-0 f c.in-Ok.ensures.answer,
-      omega (arith, c.in-Ok.ensures.taken, c.loop-byte.invariant.1),
-      λ front p. c.end_line.ensures.stays front (c.loop-byte.invariant.2 front p),
+      λ front p. c.end_line.ensures.stays front (c.loop-byte.invariant.1 front p),
       λ n.
-          let q = c.loop-byte.invariant.3 (unheard-before script (scan_of c.loop-byte.scanner)
+          let q = c.loop-byte.invariant.2 (unheard-before script (scan_of c.loop-byte.scanner)
           (scan_of c.take.new.self) (get_or s i 0) _ _ c.in-Ok.field-0 c.in-Ok.ensures.answer n) in
           (q.0, Keeps-trans _ _ _ q.1 (c.end_line.ensures.silent n)),
     )
@@ -45,7 +43,7 @@ pub returns-in-Err-Ended-clause-stays : goal.returns-in-Err-Ended-clause-stays
 returns-in-Err-Ended-clause-stays g c =
     let stopped = rw c.in-Err-Ended.field-0-is at c.stop_showing.ensures.1 in
     λ front p. Stays-stopped _ _ c.stop_showing.ensures.0 _ c.in-Err-Ended.end c.stop_showing.result stopped front
-    (c.loop-byte.invariant.2 front p)
+    (c.loop-byte.invariant.1 front p)
 
 pub returns-in-Err-Ended-clause-silent : goal.returns-in-Err-Ended-clause-silent
 returns-in-Err-Ended-clause-silent g c =
@@ -65,7 +63,7 @@ returns-in-Err-NoMemory-clause-answer g c =
 pub returns-in-Err-NoMemory-clause-silent : goal.returns-in-Err-NoMemory-clause-silent
 returns-in-Err-NoMemory-clause-silent g c =
     let answer = rw c.in-Err-NoMemory.field-0-is at c.in-Err-NoMemory.ensures.answer in
-    c.loop-byte.invariant.3 answer.0.0
+    c.loop-byte.invariant.2 answer.0.0
 
 pub returns-clause-answer : goal.returns-clause-answer
 returns-clause-answer g c =

@@ -1,4 +1,4 @@
-use Rattle.std.proofs.Common.{◌≡◌, ◌+◌, [], None, drop}
+use Rattle.std.proofs.Common.{◌≡◌, [], None, drop}
 use Rattle.std.specs.Io.KnownBytes.{Keeps}
 use Rattle.pif_text_model.specs.Extends.{Stays}
 use Rattle.pif_script_model.specs.Running.{script}
@@ -9,7 +9,6 @@ use Rattle.pif_job_show.proofs.showing.feed.Given as goal
 abbrev pub invariant-loop-byte : goal.invariant-loop-byte
 invariant-loop-byte g l =
     Feeding script (scan_of l.initial.scanner) l.bytes None (scan_of l.scanner) (drop l.byte-index l.bytes) [] None
-    × (l.scanner.taken ≡ l.initial.scanner.taken + l.byte-index)
     × Stays (g.W.Write.contents l.initial.writer) (g.W.Write.contents l.writer)
     × ((scan_of l.scanner).listener ≡ None → ((scan_of l.initial.scanner).listener ≡ None)
     × Keeps (g.W.Write.contents l.initial.writer) (g.W.Write.contents l.writer))

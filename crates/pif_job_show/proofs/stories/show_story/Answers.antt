@@ -1,4 +1,4 @@
-use Rattle.std.proofs.Common.{Err, Ok, Some, refl}
+use Rattle.std.proofs.Common.{[], Err, Ok, Some, refl}
 use Rattle.std.proofs.KnownBytes.{Keeps-refl}
 use Rattle.std.proofs.lemmas.Result.{err_from_is_err_and}
 use Rattle.pif_job_show.proofs.stories.show_story.Goals as goal
@@ -13,5 +13,5 @@ returns-in_err-script g c =
 
 pub returns : goal.returns
 returns g c =
-    let done = rw c.as_slice.ensures.value at c.show_noting.ensures in
-    (Ok c.in_ok-script.script.items, c.in_ok-script.ensures.left, (Some c.show_noting.new.reader.now, done))
+    let done = rw c.as_slice.ensures.value at c.show_script.ensures in
+    (Ok c.in_ok-script.script.items, c.in_ok-script.ensures.left, (Some [], done))

@@ -3,7 +3,7 @@ use Rattle.pif_types.specs.declared.errors.Refusal.{Refusal}
 use Rattle.pif_model.specs.declared.events.Event.TheVariants.{Begin}
 use Rattle.pif_model.specs.declared.events.Seen.TheVariants.{Refused}
 use Rattle.pif_model.specs.Lines.{Outcome, event_outcome, goes_on}
-use Rattle.pif_calls.proofs.CallLemmas.{call_other, call_refused}
+use Rattle.pif_model_simulation.proofs.CallLemmas.{call_other, call_refused}
 use Rattle.pif_script_model.proofs.EntryLemmas.{call-refused, call-begun}
 use Rattle.pif_job_trace.proofs.transcribing.call.Goals as goal
 

@@ -1,6 +1,6 @@
 use Rattle.std.proofs.Common.{◌-◌, sym, ap, ◌∙◌, arith}
 use Rattle.pif_model.specs.Lines.{Outcome}
-use Rattle.pif_calls.proofs.CallLemmas.{goes_on-other, goes_on-turn, goes_on-last}
+use Rattle.pif_model_simulation.proofs.CallLemmas.{goes_on-other, goes_on-turn, goes_on-last}
 use Rattle.pif_script_model.proofs.EntryLemmas.{going-turn, going-stops, going-last}
 use Rattle.pif_job_trace.proofs.transcribing.finish.Goals as goal
 

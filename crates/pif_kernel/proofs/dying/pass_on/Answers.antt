@@ -4,10 +4,10 @@ use Rattle.pif_model.specs.Word.{Words, word_at, set_word, orphan_word, inherit_
 use Rattle.pif_model.specs.PiKernel.{Kernel, System, seat_at, state_at, after_death, kernel_after_hand_over, next_in}
 use Rattle.pif_word.specs.WordMap.{words_of}
 use Rattle.pif_model_lemmas.proofs.kernel.Exit.{death-no_word, death-other_number, death-other_owner, death-orphaned, death-inherited, death-ended}
-use Rattle.pif_kernel_state.specs.Inside.{Inside, kernel_of, state_key_at}
-use Rattle.pif_kernel_state.specs.Systems.{system_of}
-use Rattle.pif_kernel_state.proofs.Answering.{word_seen, number_seen, some_word, no_word, words_stored}
-use Rattle.pif_kernel_state.proofs.CallFacts.{some_state, no_state, state_named, next_below}
+use Rattle.pif_kernel_model.specs.Inside.{Inside, kernel_of, state_key_at}
+use Rattle.pif_kernel_model.specs.Systems.{system_of}
+use Rattle.pif_kernel_model.proofs.Answering.{word_seen, number_seen, some_word, no_word, words_stored}
+use Rattle.pif_kernel_model.proofs.CallFacts.{some_state, no_state, state_named, next_below}
 use Rattle.pif_kernel.proofs.dying.pass_on.Goals.{After-get, After-store-in-Some}
 use Rattle.pif_kernel.proofs.dying.pass_on.Goals as goal
 

@@ -2,7 +2,7 @@ use Rattle.std.proofs.Common.{ℕ, ◌==◌, List, map, filter, sym, ap, ◌∙�
 use Rattle.std.specs.List.{slice_get}
 use Rattle.pif_model.specs.Graph.{by_greatest}
 use Rattle.pif_model.specs.PiKernel.{parked_pairs}
-use Rattle.pif_kernel_state.proofs.WaitingOrder.{by_greatest-found, by_greatest-passed, by_greatest-none}
+use Rattle.pif_kernel_model.proofs.WaitingOrder.{by_greatest-found, by_greatest-passed, by_greatest-none}
 use Rattle.pif_plain.proofs.plain_rows.nth_of.Goals as goal
 
 pub returns-in-Some : goal.returns-in-Some

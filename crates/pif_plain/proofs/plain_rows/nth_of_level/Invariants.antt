@@ -1,7 +1,7 @@
 use Rattle.std.proofs.Common.{◌≡◌, ◌+◌, length, drop}
 use Rattle.std.specs.List.{slice_get}
 use Rattle.pif_model.specs.PiKernel.{parked_pairs}
-use Rattle.pif_kernel_state.specs.Orders.{waiters_at_level}
+use Rattle.pif_kernel_model.specs.Orders.{waiters_at_level}
 use Rattle.pif_plain.proofs.plain_rows.nth_of_level.Given as goal
 
 -- so many stand before the thread among those that were not gone through

@@ -1,7 +1,7 @@
 use Rattle.std.proofs.Common.{ℕ, ◌==◌, if◌then◌else◌, Option, Some, refl, sym, ap, ◌∙◌}
 use Rattle.pif_model.specs.PiKernel.{Parking}
-use Rattle.pif_kernel_state.specs.Takings.{goes_before}
-use Rattle.pif_kernel_state.proofs.NextParked.{parked_more, parked_all}
+use Rattle.pif_kernel_model.specs.Takings.{goes_before}
+use Rattle.pif_kernel_model.proofs.NextParked.{parked_more, parked_all}
 use Rattle.pif_plain.proofs.plain_rows.top_of.Goals as goal
 
 pub loop-parking-init : goal.loop-parking-init

@@ -1,6 +1,6 @@
 use Rattle.std.proofs.Common.{◌≡◌, take}
-use Rattle.pif_kernel_state.specs.Takings.{first_parked}
-use Rattle.pif_kernel_state.proofs.NextParked.{pairs_in}
+use Rattle.pif_kernel_model.specs.Takings.{first_parked}
+use Rattle.pif_kernel_model.proofs.NextParked.{pairs_in}
 use Rattle.pif_plain.proofs.plain_rows.top_of.Given as goal
 
 -- it is the first of those that were gone through

@@ -1,5 +1,5 @@
 use Rattle.std.proofs.Common.{◌+◌, ◌≤◌, length}
-use Rattle.pif_kernel_state.specs.Inside.{kernel_of}
+use Rattle.pif_kernel_model.specs.Inside.{kernel_of}
 use Rattle.pif_test_calls.proofs.kernels.add_all.Given as goal
 
 -- there is room for those that are still to be added

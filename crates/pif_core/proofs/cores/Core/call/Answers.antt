@@ -3,8 +3,8 @@ use Rattle.std.proofs.Common.{◌≡◌, sym, ap, ◌∙◌}
 use Rattle.pif_model.specs.declared.events.Event.TheVariants.{Begin}
 use Rattle.pif_model.specs.Lines.{Outcome, goes_on}
 use Rattle.pif_model_simulation.proofs.Bound.{ends_within_24}
-use Rattle.pif_calls.proofs.CallLemmas.{call_refused}
-use Rattle.pif_calls.proofs.StandingLemmas.{call_stands}
+use Rattle.pif_model_simulation.proofs.CallLemmas.{call_refused}
+use Rattle.pif_model_simulation.proofs.StandingLemmas.{call_stands}
 use Rattle.pif_core.proofs.Turns.{event_refused, call_goes}
 use Rattle.pif_core.proofs.cores.Core.call.Goals as goal
 

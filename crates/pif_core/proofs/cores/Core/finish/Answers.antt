@@ -2,7 +2,7 @@
 use Rattle.std.proofs.Common.{sym, ap, ◌∙◌}
 use Rattle.pif_model.specs.Lines.{Outcome}
 use Rattle.pif_model_simulation.proofs.Bound.{ends_within_24}
-use Rattle.pif_calls.proofs.StandingLemmas.{finish_stands}
+use Rattle.pif_model_simulation.proofs.StandingLemmas.{finish_stands}
 use Rattle.pif_core.proofs.Turns.{refused_at_once}
 use Rattle.pif_core.proofs.cores.Core.finish.Goals as goal
 

@@ -2,7 +2,7 @@
 use Rattle.std.proofs.Common.{◌-◌, sym, ap, ◌∙◌, arith}
 use Rattle.pif_model.specs.Lines.{Outcome}
 use Rattle.pif_model_simulation.proofs.Bound.{went_on}
-use Rattle.pif_calls.proofs.CallLemmas.{goes_on-other, goes_on-turn}
+use Rattle.pif_model_simulation.proofs.CallLemmas.{goes_on-other, goes_on-turn}
 use Rattle.pif_core.proofs.Turns.{turns_left}
 use Rattle.pif_core.proofs.cores.Core.go_through.Goals as goal
 

@@ -3,7 +3,7 @@ use Rattle.pif_model.specs.declared.lines.Status.TheVariants.{Ended}
 use Rattle.pif_model.specs.PiKernel.{Kernel, seat_at, is_living}
 use Rattle.pif_model_lemmas.proofs.kernel.Left.{status-left_same}
 use Rattle.pif_model_lemmas.proofs.kernel.Facts.{living-added}
-use Rattle.pif_kernel_state.specs.Inside.{Inside, kernel_of}
+use Rattle.pif_kernel_model.specs.Inside.{Inside, kernel_of}
 use Rattle.pif_kernel.proofs.kernel_on.KernelOnPiKernel.exit.Goals as goal
 
 pub pass_all_on-requires-clause-ended : goal.pass_all_on-requires-clause-ended

@@ -2,11 +2,11 @@ use Rattle.std.proofs.Common.{◌≡◌, ℕ, true, subst, sym, ap, ◌∙◌, a
 use Rattle.pif_model.specs.Word.{Words, word_of, word_at, set_word, taken_word, mark_word}
 use Rattle.pif_model.specs.PiKernel.{has_seat, kernel_after_queueing}
 use Rattle.pif_word.specs.WordMap.{words_of}
-use Rattle.pif_kernel_refusals.specs.declared.refusals.Found.{Found}
-use Rattle.pif_kernel_refusals.specs.Found.{IsWord, IsHeld, IsFound}
-use Rattle.pif_kernel_state.specs.Inside.{Inside, kernel_of}
-use Rattle.pif_kernel_state.proofs.Answering.{word_seen, words_stored}
-use Rattle.pif_kernel_state.proofs.CallFacts.{number_below, words_owns, words_queued, kernel_queued}
+use Rattle.pif_kernel.specs.declared.refusals.Found.{Found}
+use Rattle.pif_kernel.specs.Found.{IsWord, IsHeld, IsFound}
+use Rattle.pif_kernel_model.specs.Inside.{Inside, kernel_of}
+use Rattle.pif_kernel_model.proofs.Answering.{word_seen, words_stored}
+use Rattle.pif_kernel_model.proofs.CallFacts.{number_below, words_owns, words_queued, kernel_queued}
 use Rattle.pif_kernel.proofs.kernel_on.KernelOnPiKernel.lock_pi.Goals as goal
 
 pub taken_word-requires : goal.taken_word-requires

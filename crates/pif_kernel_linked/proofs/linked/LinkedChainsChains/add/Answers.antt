@@ -1,6 +1,6 @@
 use Rattle.std.proofs.Common.{◌≤◌, subst, sym, ap, ◌∙◌, arith}
 use Rattle.pif_nodes_model.specs.Levels.{IsQueued, level_of, level_after_add}
-use Rattle.pif_kernel_state.specs.Chained.{Chained}
+use Rattle.pif_kernel_model.specs.Chained.{Chained}
 use Rattle.pif_nodes_model.proofs.FreeNodes.{off_free}
 use Rattle.pif_kernel_linked.proofs.Standing.{linked_queue, owners_there, keys_stay, parkings_stay}
 use Rattle.pif_kernel_linked.proofs.linked.LinkedChainsChains.add.Goals as goal

@@ -1,10 +1,10 @@
 use Rattle.std.proofs.Common.{false, subst, ◌≡◌, ◌<◌, None, length, sym, ap, ◌∙◌}
 use Rattle.pif_kernel_model.specs.Owners.{waits_on, with_task}
 use Rattle.pif_kernel_model.proofs.BoostFrameLemmas.{outside-none}
-use Rattle.pif_kernel_state.specs.Chained.{Chained}
+use Rattle.pif_kernel_model.specs.Chained.{Chained}
 use Rattle.pif_kernel_model.specs.States.{States}
 use Rattle.pif_model.specs.PiKernel.{parked_pairs}
-use Rattle.pif_kernel_state.specs.Tickets.{is_named}
+use Rattle.pif_kernel_model.specs.Tickets.{is_named}
 use Rattle.pif_kernel_linked.specs.Parkings.{parkings_in}
 use Rattle.pif_kernel_linked.specs.Linked.{keys_in}
 use Rattle.pif_kernel_model.proofs.SamePlace.{same_place}

@@ -5,7 +5,7 @@ use Rattle.pif_kernel_model.specs.Owners.{count, owner_at, HasNoWaiter, without_
 use Rattle.pif_kernel_model.specs.States.{owners_in}
 use Rattle.pif_kernel_model.specs.Entries.{Found, found_in}
 use Rattle.pif_kernel_model.specs.Buckets.{Buckets}
-use Rattle.pif_kernel_state.specs.Chained.{Chained, KeepsLevels}
+use Rattle.pif_kernel_model.specs.Chained.{Chained, KeepsLevels}
 use Rattle.pif_kernel_linked.specs.Linked.{key_count}
 use Rattle.pif_kernel_linked.proofs.Standing.{linked}
 use Rattle.pif_kernel_model.proofs.SamePlace.{same_place_made}

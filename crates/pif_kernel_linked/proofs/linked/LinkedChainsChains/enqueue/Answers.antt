@@ -3,10 +3,10 @@ use Rattle.pif_model.specs.Graph.{Reaches}
 use Rattle.pif_kernel_model.specs.Owners.{owner_at, waits_on, WaitsFor, with_wait}
 use Rattle.pif_kernel_model.specs.States.{owners_in}
 use Rattle.pif_kernel_model.proofs.ViewLemmas.{length-seats, waits_on-owners_in}
-use Rattle.pif_kernel_state.specs.Chained.{Chained, KeepsLevels}
+use Rattle.pif_kernel_model.specs.Chained.{Chained, KeepsLevels}
 use Rattle.pif_kernel_model.specs.States.{States}
 use Rattle.pif_model.specs.PiKernel.{parked_pairs}
-use Rattle.pif_kernel_state.specs.Tickets.{is_named}
+use Rattle.pif_kernel_model.specs.Tickets.{is_named}
 use Rattle.pif_kernel_linked.proofs.Standing.{linked, idle_node, unparked, linked_seated, owners_kept}
 use Rattle.pif_kernel_model.proofs.SamePlace.{same_place}
 use Rattle.pif_kernel_linked.proofs.linked.LinkedChainsChains.enqueue.Goals as goal

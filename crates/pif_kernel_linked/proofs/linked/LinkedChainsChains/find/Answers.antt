@@ -1,6 +1,6 @@
 use Rattle.std.proofs.Common.{None, get_or, sym, ap, ◌∙◌}
 use Rattle.pif_kernel_model.specs.Entries.{found_in}
-use Rattle.pif_kernel_state.specs.Chained.{Chained}
+use Rattle.pif_kernel_model.specs.Chained.{Chained}
 use Rattle.pif_kernel_linked.specs.Linked.{key_of}
 use Rattle.pif_kernel_linked.proofs.Keys.{keys_found}
 use Rattle.pif_kernel_linked.proofs.linked.LinkedChainsChains.find.Goals as goal

@@ -1,6 +1,6 @@
 use Rattle.std.proofs.Common.{◌≡◌, ℕ, Some, None, subst, sym, ap, ◌∙◌}
 use Rattle.pif_kernel_model.specs.Owners.{waits_on, IsTop, with_owner, with_wait}
-use Rattle.pif_kernel_state.specs.Chained.{Chained, KeepsLevels}
+use Rattle.pif_kernel_model.specs.Chained.{Chained, KeepsLevels}
 use Rattle.std.specs.FinMap.{insert}
 use Rattle.pif_kernel_model.specs.Owners.{Owners, task_at}
 use Rattle.pif_kernel_model.specs.States.{States, owners_in}

@@ -1,6 +1,6 @@
 use Rattle.std.proofs.Common.{◌≡◌, ◌≤◌, ◌↔◌, IsSome, IfSome, subst}
 use Rattle.pif_kernel_model.specs.Owners.{task_at}
-use Rattle.pif_kernel_state.specs.Chained.{Chained}
+use Rattle.pif_kernel_model.specs.Chained.{Chained}
 use Rattle.pif_kernel_linked.proofs.linked.LinkedChainsChains.local.Goals as goal
 
 pub returns : goal.returns

@@ -1,6 +1,6 @@
 use Rattle.std.proofs.Common.{ap, ◌∙◌}
-use Rattle.pif_kernel_state.specs.Chained.{Chained}
-use Rattle.pif_kernel_state.specs.Takings.{have_target}
+use Rattle.pif_kernel_model.specs.Chained.{Chained}
+use Rattle.pif_kernel_model.specs.Takings.{have_target}
 use Rattle.pif_kernel_linked.proofs.ParkingLists.{target_seen}
 use Rattle.pif_kernel_linked.proofs.linked.LinkedChainsChains.match_requeue.Goals as goal
 

@@ -1,7 +1,7 @@
 use Rattle.std.proofs.Common.{ap, ◌∙◌}
 use Rattle.std.specs.List.{slice_get}
 use Rattle.pif_nodes_model.specs.Levels.{all_below}
-use Rattle.pif_kernel_state.specs.Chained.{Chained}
+use Rattle.pif_kernel_model.specs.Chained.{Chained}
 use Rattle.pif_kernel_linked.proofs.linked.LinkedChainsChains.nth.Goals as goal
 
 pub nth-requires : goal.nth-requires

@@ -6,7 +6,7 @@ use Rattle.pif_model.specs.PiKernel.{parked_pairs}
 use Rattle.pif_kernel_model.specs.States.{owners_in}
 use Rattle.pif_kernel_model.specs.Boosts.{local_of}
 use Rattle.pif_kernel_model.specs.Parked.{IsCond}
-use Rattle.pif_kernel_state.specs.Chained.{Chained}
+use Rattle.pif_kernel_model.specs.Chained.{Chained}
 use Rattle.pif_kernel_linked.specs.Parkings.{parkings_in}
 use Rattle.pif_kernel_linked.proofs.ParkingLists.{order_seen, order_past}
 use Rattle.pif_kernel_linked.proofs.linked.LinkedChainsChains.nth_parked.Goals as goal

@@ -4,7 +4,7 @@ use Rattle.pif_kernel_model.specs.Owners.{Owners, count, owner_at, with_owner}
 use Rattle.pif_kernel_model.proofs.OwnersLemmas.{owner_at-with_owner_same}
 use Rattle.pif_kernel_model.specs.States.{owners_in}
 use Rattle.pif_kernel_model.specs.Entries.{Found, found_in}
-use Rattle.pif_kernel_state.specs.Chained.{Chained, KeepsLevels}
+use Rattle.pif_kernel_model.specs.Chained.{Chained, KeepsLevels}
 use Rattle.pif_kernel_linked.specs.Linked.{key_count}
 use Rattle.pif_kernel_linked.proofs.Keys.{keys_length, keys_at, found_none}
 use Rattle.pif_kernel_linked.proofs.Standing.{linked}

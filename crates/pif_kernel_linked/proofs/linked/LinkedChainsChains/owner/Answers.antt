@@ -1,6 +1,6 @@
 use Rattle.std.proofs.Common.{◌≡◌, IsSome, Some, subst, sym}
 use Rattle.pif_kernel_model.specs.Owners.{owner_at}
-use Rattle.pif_kernel_state.specs.Chained.{Chained}
+use Rattle.pif_kernel_model.specs.Chained.{Chained}
 use Rattle.pif_kernel_linked.proofs.linked.LinkedChainsChains.owner.Goals as goal
 
 pub owner-requires : goal.owner-requires

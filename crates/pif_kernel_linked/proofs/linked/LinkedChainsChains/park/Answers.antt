@@ -4,8 +4,8 @@ use Rattle.pif_kernel_model.specs.Owners.{waits_on}
 use Rattle.pif_kernel_model.specs.States.{owners_in}
 use Rattle.pif_kernel_model.proofs.ViewLemmas.{length-seats}
 use Rattle.pif_kernel_model.specs.Boosts.{local_of}
-use Rattle.pif_kernel_state.specs.Chained.{Chained, KeepsLevels}
-use Rattle.pif_kernel_state.specs.Tickets.{is_named}
+use Rattle.pif_kernel_model.specs.Chained.{Chained, KeepsLevels}
+use Rattle.pif_kernel_model.specs.Tickets.{is_named}
 use Rattle.pif_kernel_linked.specs.Linked.{IsLinked}
 use Rattle.pif_kernel_linked.proofs.ParkSteps.{ticket_admitted, ticket_thread, ticket_node, linked_park, park_owners, park_kept}
 use Rattle.pif_kernel_linked.proofs.Standing.{linked}

@@ -1,6 +1,6 @@
 use Rattle.std.proofs.Common.{IfNone, IfSome, subst}
 use Rattle.pif_nodes_model.specs.Levels.{IsEmpty, IsFirstOfGreatest}
-use Rattle.pif_kernel_state.specs.Chained.{Chained}
+use Rattle.pif_kernel_model.specs.Chained.{Chained}
 use Rattle.pif_kernel_linked.proofs.linked.LinkedChainsChains.pick.Goals as goal
 
 pub pick-requires : goal.pick-requires

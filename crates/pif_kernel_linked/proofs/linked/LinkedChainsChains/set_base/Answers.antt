@@ -1,7 +1,7 @@
 use Rattle.std.proofs.Common.{subst, sym, ap, ◌∙◌}
 use Rattle.pif_kernel_model.specs.Owners.{with_base}
 use Rattle.pif_kernel_model.proofs.BoostFrameLemmas.{outside-none}
-use Rattle.pif_kernel_state.specs.Chained.{Chained}
+use Rattle.pif_kernel_model.specs.Chained.{Chained}
 use Rattle.pif_kernel_model.specs.Owners.{Owners}
 use Rattle.pif_kernel_model.specs.States.{States, owners_in}
 use Rattle.pif_kernel_model.specs.Parked.{parked_at}

@@ -1,6 +1,6 @@
 use Rattle.std.proofs.Common.{IsSome, subst, sym, ap, ◌∙◌}
 use Rattle.pif_kernel_model.specs.Owners.{waits_on, KeepsOrder, with_ticket}
-use Rattle.pif_kernel_state.specs.Chained.{Chained, KeepsLevels}
+use Rattle.pif_kernel_model.specs.Chained.{Chained, KeepsLevels}
 use Rattle.pif_kernel_model.specs.States.{States}
 use Rattle.pif_kernel_linked.proofs.Standing.{linked, waiting_off, linked_seated, owners_kept}
 use Rattle.pif_kernel_model.proofs.SamePlace.{unmoved}

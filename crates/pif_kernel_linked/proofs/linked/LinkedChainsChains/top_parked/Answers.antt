@@ -2,8 +2,8 @@ use Rattle.std.proofs.Common.{ap, ◌∙◌}
 use Rattle.pif_model.specs.PiKernel.{parked_pairs}
 use Rattle.pif_kernel_model.specs.States.{owners_in}
 use Rattle.pif_kernel_model.specs.Boosts.{local_of}
-use Rattle.pif_kernel_state.specs.Chained.{Chained}
-use Rattle.pif_kernel_state.specs.Takings.{first_parked}
+use Rattle.pif_kernel_model.specs.Chained.{Chained}
+use Rattle.pif_kernel_model.specs.Takings.{first_parked}
 use Rattle.pif_kernel_linked.proofs.ParkingLists.{first_seen}
 use Rattle.pif_kernel_linked.proofs.linked.LinkedChainsChains.top_parked.Goals as goal
 

@@ -2,7 +2,7 @@ use Rattle.std.proofs.Common.{◌≡◌, false, Option, Some, None, is_some, opt
 use Rattle.pif_model.specs.PiKernel.{parkings_without}
 use Rattle.pif_kernel_model.specs.States.{owners_in}
 use Rattle.pif_kernel_model.specs.Parked.{Parked, parked_at}
-use Rattle.pif_kernel_state.specs.Chained.{Chained, KeepsLevels}
+use Rattle.pif_kernel_model.specs.Chained.{Chained, KeepsLevels}
 use Rattle.pif_kernel_linked.specs.Parkings.{parkings_by, parkings_in}
 use Rattle.pif_kernel_linked.proofs.ParkingLemmas.{unpark_parkings, unpark_nobody}
 use Rattle.pif_kernel_linked.proofs.Parks.{parked_threads, parked_owners, linked_parked, parked_kept, fits_unpark}

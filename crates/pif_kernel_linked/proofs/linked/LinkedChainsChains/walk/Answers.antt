@@ -4,7 +4,7 @@ use Rattle.pif_nodes_model.specs.Levels.{IsQueued, IsLevel, level_of}
 use Rattle.pif_kernel_model.specs.Owners.{Owners, waits_on}
 use Rattle.pif_kernel_model.specs.States.{owners_in}
 use Rattle.pif_kernel_model.specs.Boosts.{IsRepaired, IsRepairedBut, base_of, local_of, level_after_walk}
-use Rattle.pif_kernel_state.specs.Chained.{Chained}
+use Rattle.pif_kernel_model.specs.Chained.{Chained}
 use Rattle.pif_kernel_linked.proofs.Standing.{stands_before}
 use Rattle.pif_kernel_linked.proofs.Walked.{walked_stand, walked_admitted, linked_walked, reranked_owners, reranked_levels, reranked_queue, reranked_keys, reranked_parkings}
 use Rattle.pif_kernel_linked.proofs.linked.LinkedChainsChains.walk.Goals as goal

@@ -1,6 +1,6 @@
 use Rattle.std.proofs.Common.{◌≡◌, ◌<◌, None, length, subst, sym, ap, ◌∙◌}
 use Rattle.pif_kernel_model.specs.Owners.{waits_on, with_task}
-use Rattle.pif_kernel_state.specs.Chained.{Chained}
+use Rattle.pif_kernel_model.specs.Chained.{Chained}
 use Rattle.pif_plain.proofs.chains.PlainChainsChains.admit.Goals as goal
 
 pub admit-requires-clause-row : goal.admit-requires-clause-row

@@ -1,6 +1,6 @@
 use Rattle.std.proofs.Common.{IsSome, subst, sym}
 use Rattle.pif_kernel_model.specs.Owners.{owner_at, HasNoWaiter}
-use Rattle.pif_kernel_state.specs.Chained.{Chained}
+use Rattle.pif_kernel_model.specs.Chained.{Chained}
 use Rattle.pif_plain.proofs.chains.PlainChainsChains.close.Goals as goal
 
 pub end-requires-clause-state : goal.end-requires-clause-state

@@ -1,7 +1,7 @@
 use Rattle.std.proofs.Common.{◌≡◌, ◌<◌, ℕ, IsSome, Some, None, length, subst, sym, ap, ◌∙◌}
 use Rattle.pif_model.specs.Graph.{Reaches}
 use Rattle.pif_kernel_model.specs.Owners.{owner_at, waits_on, WaitsFor, with_wait}
-use Rattle.pif_kernel_state.specs.Chained.{Chained}
+use Rattle.pif_kernel_model.specs.Chained.{Chained}
 use Rattle.pif_plain.proofs.KeptChains.{kept_chains}
 use Rattle.pif_plain.proofs.chains.PlainChainsChains.enqueue.Goals as goal
 

@@ -1,6 +1,6 @@
 use Rattle.std.proofs.Common.{◌≡◌, ℕ, Some, None, subst, sym, ap, ◌∙◌}
 use Rattle.pif_kernel_model.specs.Owners.{waits_on, IsTop, with_owner, with_wait}
-use Rattle.pif_kernel_state.specs.Chained.{Chained}
+use Rattle.pif_kernel_model.specs.Chained.{Chained}
 use Rattle.pif_plain.proofs.KeptChains.{kept_chains}
 use Rattle.pif_plain.proofs.chains.PlainChainsChains.hand_over.Goals as goal
 

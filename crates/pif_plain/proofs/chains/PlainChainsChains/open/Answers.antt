@@ -1,6 +1,6 @@
 use Rattle.std.proofs.Common.{◌+◌, ◌<◌, length, subst, sym}
 use Rattle.pif_kernel_model.specs.Owners.{count}
-use Rattle.pif_kernel_state.specs.Chained.{Chained}
+use Rattle.pif_kernel_model.specs.Chained.{Chained}
 use Rattle.pif_plain.proofs.chains.PlainChainsChains.open.Goals as goal
 
 pub make-key-requires : goal.make-key-requires

@@ -1,6 +1,6 @@
 use Rattle.std.proofs.Common.{IsSome, subst, sym, ap, ◌∙◌}
 use Rattle.pif_kernel_model.specs.Owners.{waits_on, KeepsOrder, with_ticket}
-use Rattle.pif_kernel_state.specs.Chained.{Chained}
+use Rattle.pif_kernel_model.specs.Chained.{Chained}
 use Rattle.pif_plain.proofs.KeptChains.{kept_chains}
 use Rattle.pif_plain.proofs.chains.PlainChainsChains.set_ticket.Goals as goal
 

@@ -1,7 +1,7 @@
 use Rattle.std.proofs.Common.{subst, sym, ap, ◌∙◌}
 use Rattle.pif_nodes_model.specs.Lists.{list_without}
 use Rattle.pif_nodes_model.specs.Levels.{IsQueued, level_of}
-use Rattle.pif_kernel_state.specs.Chained.{Chained}
+use Rattle.pif_kernel_model.specs.Chained.{Chained}
 use Rattle.pif_plain.proofs.chains.PlainChainsChains.take_out.Goals as goal
 
 pub take_out-requires-clause-queued : goal.take_out-requires-clause-queued

@@ -3,7 +3,7 @@ use Rattle.pif_nodes_model.specs.Lists.{has}
 use Rattle.pif_nodes_model.specs.Levels.{IsQueued, IsLevel, level_of}
 use Rattle.pif_kernel_model.specs.Owners.{waits_on}
 use Rattle.pif_kernel_model.specs.Boosts.{IsRepaired, IsRepairedBut, base_of, local_of, level_after_walk}
-use Rattle.pif_kernel_state.specs.Chained.{Chained}
+use Rattle.pif_kernel_model.specs.Chained.{Chained}
 use Rattle.pif_plain.proofs.chains.PlainChainsChains.walk.Goals as goal
 
 pub walk-requires : goal.walk-requires

@@ -1,4 +1,4 @@
-use Rattle.pif_kernel_state.proofs.NewSound.{keys_made}
+use Rattle.pif_kernel_model.proofs.NewSound.{keys_made}
 use Rattle.pif_plain.proofs.RowLemmas.{none_parked}
 use Rattle.pif_plain.proofs.plain_rows.Rows.new.Goals as goal
 

@@ -1,7 +1,7 @@
 use Rattle.std.proofs.Common.{◌≡◌, ◌≤◌, false, subst, sym, arith}
 use Rattle.pif_model.specs.PiKernel.{parked_pairs}
 use Rattle.pif_plain.specs.Rows.{PlainRows}
-use Rattle.pif_kernel_state.specs.Tickets.{is_named}
+use Rattle.pif_kernel_model.specs.Tickets.{is_named}
 use Rattle.pif_plain.proofs.RowLemmas.{room_behind, parked_behind}
 use Rattle.pif_plain.proofs.plain_rows.Rows.park.Goals as goal
 

@@ -1,30 +1,16 @@
-use Rattle.std.proofs.Common.{◌≡◌, ◌∙◌, ap, sym, unwrap_or}
+use Rattle.std.proofs.Common.{◌≡◌, ◌∙◌, ◌≤◌, ◌↔◌, IsSome, IfSome, ap, sym, subst}
 use Rattle.pif_kernel_model.specs.Owners.{Task, task_at}
 use Rattle.pif_kernel_model.specs.States.{Row, row_at, owners_in}
 use Rattle.pif_kernel_model.proofs.ViewLemmas.{task_at-owners_in}
-use Rattle.pif_rtmutex.proofs.RowLemmas.{prio-given, prio-value, prio-most}
 use Rattle.pif_rtmutex.proofs.rt_mutexes.RtMutexes.base.Goals as goal
 
-pub returns-clause-given : goal.returns-clause-given
-returns-clause-given c =
-    let number : unwrap_or c.result.inside.base
-    0 ≡ (task_at (owners_in c.args.self.now c.args.table.now) c.args.t).base =
-    ap (λ (x : Row). x.base) (c.result.view_is ∙ c.row_of.ensures ∙ ap (row_at c.args.self.now) c.get.ensures.value)
+pub returns : goal.returns
+returns c =
+    let number : c.row.inside.priorities.base ≡ (task_at (owners_in c.args.self.now c.args.table.now) c.args.t).base =
+    ap (λ (x : Row). x.base) (c.row.view_is ∙ c.row_of-row.ensures ∙ ap (row_at c.args.self.now) c.get.ensures.value)
     ∙ ap (λ (x : Task). x.base) (sym (task_at-owners_in c.args.self.now c.args.table.now c.args.t)) in
-    prio-given c.result.inside.base _ c.result.invariant.0 number
-
-pub returns-clause-value : goal.returns-clause-value
-returns-clause-value c =
-    let number : unwrap_or c.result.inside.base
-    0 ≡ (task_at (owners_in c.args.self.now c.args.table.now) c.args.t).base =
-    ap (λ (x : Row). x.base) (c.result.view_is ∙ c.row_of.ensures ∙ ap (row_at c.args.self.now) c.get.ensures.value)
-    ∙ ap (λ (x : Task). x.base) (sym (task_at-owners_in c.args.self.now c.args.table.now c.args.t)) in
-    prio-value c.result.inside.base _ number
-
-pub returns-clause-most : goal.returns-clause-most
-returns-clause-most c =
-    let number : unwrap_or c.result.inside.base
-    0 ≡ (task_at (owners_in c.args.self.now c.args.table.now) c.args.t).base =
-    ap (λ (x : Row). x.base) (c.result.view_is ∙ c.row_of.ensures ∙ ap (row_at c.args.self.now) c.get.ensures.value)
-    ∙ ap (λ (x : Task). x.base) (sym (task_at-owners_in c.args.self.now c.args.table.now c.args.t)) in
-    prio-most c.result.inside.base _ c.result.invariant.0 number
+    record {
+      given = subst (λ n. IsSome c.base.result ↔ (1 ≤ n)) number c.base.ensures.given;
+      value = subst (λ n. IfSome c.base.result (λ p. p ≡ n)) number c.base.ensures.value;
+      most = subst (λ n. n ≤ 99) number c.base.ensures.most;
+    }

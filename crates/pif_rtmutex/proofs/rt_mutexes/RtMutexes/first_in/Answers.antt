@@ -7,17 +7,17 @@ use Rattle.pif_rtmutex.proofs.rt_mutexes.RtMutexes.first_in.Goals as goal
 
 pub overflow_sub-get : goal.overflow_sub-get
 overflow_sub-get c =
-    let at = first-node c.args.self.now c.args.table.now c.args.key c.args.row c.in_ok-node.node c.requires.holds
+    let at = first-node c.args.self.now c.args.table.now c.args.key c.args.state.row c.in_ok-node.node c.requires.holds
     c.requires.row
-    (sym (c.top.ensures.first ∙ ap (λ l. first_of (list_at c.args.table.now l)) c.list_of_row.ensures)
+    (sym (c.top.ensures.first ∙ ap (λ l. first_of (list_at c.args.table.now l)) c.waiters.ensures)
     ∙ c.in_ok-node.was) in
     omega (arith, at.1, c.get.ensures, ap (λ (m : States). m.first_node) c.self.view_is)
 
 pub overflow_add-get : goal.overflow_add-get
 overflow_add-get c =
-    let at = first-node c.args.self.now c.args.table.now c.args.key c.args.row c.in_ok-node.node c.requires.holds
+    let at = first-node c.args.self.now c.args.table.now c.args.key c.args.state.row c.in_ok-node.node c.requires.holds
     c.requires.row
-    (sym (c.top.ensures.first ∙ ap (λ l. first_of (list_at c.args.table.now l)) c.list_of_row.ensures)
+    (sym (c.top.ensures.first ∙ ap (λ l. first_of (list_at c.args.table.now l)) c.waiters.ensures)
     ∙ c.in_ok-node.was) in
     record {
       fits =

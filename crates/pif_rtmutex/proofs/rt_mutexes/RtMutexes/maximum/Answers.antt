@@ -10,7 +10,8 @@ greatest_top-requires-clause-row c =
 
 pub returns : goal.returns
 returns c =
-    let number : unwrap_or c.base.inside.base 0 ≡ (task_at (owners_in c.args.self.now c.args.table.now) c.args.t).base =
-    ap (λ (x : Row). x.base) (c.base.view_is ∙ c.row_of.ensures ∙ ap (row_at c.args.self.now) c.get.ensures.value)
+    let number : unwrap_or c.base.result 0 ≡ (task_at (owners_in c.args.self.now c.args.table.now) c.args.t).base =
+    c.base.ensures.number
+    ∙ ap (λ (x : Row). x.base) (c.row.view_is ∙ c.row_of-row.ensures ∙ ap (row_at c.args.self.now) c.get.ensures.value)
     ∙ ap (λ (x : Task). x.base) (sym (task_at-owners_in c.args.self.now c.args.table.now c.args.t)) in
     c.greater.ensures ∙ (λ i. max (number i) (c.greatest_top.ensures i))

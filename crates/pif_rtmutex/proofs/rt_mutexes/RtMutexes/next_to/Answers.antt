@@ -1,6 +1,6 @@
-use Rattle.std.proofs.Common.{◌≡◌, ◌≤◌, ◌∙◌, Some, ap, sym, arith}
+use Rattle.std.proofs.Common.{◌∙◌, ap, sym, arith}
 use Rattle.pif_nodes_model.specs.Table.{next_node}
-use Rattle.pif_kernel_model.specs.States.{States, wait_node}
+use Rattle.pif_kernel_model.specs.States.{States}
 use Rattle.pif_rtmutex.proofs.BehindLemmas.{waits-at, node_range}
 use Rattle.pif_kernel_model.proofs.WaiterLemmas.{waits-thread}
 use Rattle.pif_rtmutex.proofs.rt_mutexes.RtMutexes.next_to.Goals as goal

@@ -20,10 +20,11 @@ index_mut-requires c =
 pub invariant_of-self : goal.invariant_of-self
 invariant_of-self c =
     let s : Slab State = c.self.inside.states in
-    let x : State = record { owner = c.args.owner; row = c.args.row } in
-    let had : (y : State) × (value_at s c.get.result ≡ Some y) × (y.row ≡ c.args.row) =
-    state-in_row s c.args.self.now.places c.get.result c.args.key c.args.row
-    (ap (λ (m : States). m.places) c.self.view_is) c.get.ensures c.requires in
+    let x : State = record { owner = c.args.owner; row = c.state.inside.row } in
+    let had : (y : State) × (value_at s c.get.result ≡ Some y) × (y.row ≡ c.state.inside.row) =
+    state-in_row s c.args.self.now.places c.get.result c.args.key c.state.inside.row
+    (ap (λ (m : States). m.places) c.self.view_is) c.get.ensures
+    (c.requires ∙ ap (λ (x : State). Some x.row) (sym c.state.view_is)) in
     let y : State = had.0 in
     let at : value_at s c.get.result ≡ Some y = had.1 in
     let places : owners_of (slab_with (λ (x : State). x.row) (with_value s c.get.result x)) ≡ owners_of
@@ -48,10 +49,11 @@ invariant_of-self c =
 pub returns : goal.returns
 returns c =
     let s : Slab State = c.self.inside.states in
-    let x : State = record { owner = c.args.owner; row = c.args.row } in
-    let had : (y : State) × (value_at s c.get.result ≡ Some y) × (y.row ≡ c.args.row) =
-    state-in_row s c.args.self.now.places c.get.result c.args.key c.args.row
-    (ap (λ (m : States). m.places) c.self.view_is) c.get.ensures c.requires in
+    let x : State = record { owner = c.args.owner; row = c.state.inside.row } in
+    let had : (y : State) × (value_at s c.get.result ≡ Some y) × (y.row ≡ c.state.inside.row) =
+    state-in_row s c.args.self.now.places c.get.result c.args.key c.state.inside.row
+    (ap (λ (m : States). m.places) c.self.view_is) c.get.ensures
+    (c.requires ∙ ap (λ (x : State). Some x.row) (sym c.state.view_is)) in
     let y : State = had.0 in
     let at : value_at s c.get.result ≡ Some y = had.1 in
     let places : owners_of (slab_with (λ (x : State). x.row) (with_value s c.get.result x)) ≡ owners_of

@@ -7,4 +7,4 @@ rerank-requires-clause-first c =
     sym c.first_in.ensures ∙ same
 
 pub retop-requires-clause-owner : goal.retop-requires-clause-owner
-retop-requires-clause-owner c = c.requires.waiters.owned c.args.key c.args.owner c.requires.owner
+retop-requires-clause-owner c = c.requires.waiters.owned c.args.key c.args.state.owner c.requires.state.owner

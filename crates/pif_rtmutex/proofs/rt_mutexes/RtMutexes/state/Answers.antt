@@ -9,14 +9,12 @@ index-requires c =
     state-contains (λ (x : State). x.owner) c.self.inside.states c.args.self.now.owners c.get.result c.args.key
     (ap (λ (m : States). m.owners) c.self.view_is) c.get.ensures c.requires
 
-pub returns-clause-owner : goal.returns-clause-owner
-returns-clause-owner c =
-    state-value (λ (x : State). x.owner) c.self.inside.states c.args.self.now.owners c.get.result c.args.key
-    (Some c.index.result.now)
-    (ap (λ (m : States). m.owners) c.self.view_is) c.get.ensures c.index.ensures
-
-pub returns-clause-row : goal.returns-clause-row
-returns-clause-row c =
-    state-value (λ (x : State). x.row) c.self.inside.states c.args.self.now.places c.get.result c.args.key
-    (Some c.index.result.now)
-    (ap (λ (m : States). m.places) c.self.view_is) c.get.ensures c.index.ensures
+pub returns : goal.returns
+returns c = record {
+  owner = state-value (λ (x : State). x.owner) c.self.inside.states c.args.self.now.owners c.get.result c.args.key
+      (Some c.index.result.now)
+      (ap (λ (m : States). m.owners) c.self.view_is) c.get.ensures c.index.ensures;
+  row = state-value (λ (x : State). x.row) c.self.inside.states c.args.self.now.places c.get.result c.args.key
+      (Some c.index.result.now)
+      (ap (λ (m : States). m.places) c.self.view_is) c.get.ensures c.index.ensures;
+}

@@ -1,0 +1,12 @@
+use Rattle.std.proofs.Common.{◌-◌, length}
+use Rattle.std.specs.Prelude.{unwrap_or}
+use Rattle.pif_kernel_model.specs.States.{owners_in}
+use Rattle.pif_kernel_model.proofs.Ways.{IsPathing}
+use Rattle.pif_boost.proofs.paths.path.Given as goal
+
+-- what was passed, and the thread that is next
+abbrev pub invariant-loop-next : goal.invariant-loop-next
+invariant-loop-next l = IsPathing (owners_in l.owners l.table) l.fn.start l.passed.items (unwrap_or l.next 0)
+
+abbrev pub decreases-loop-next : goal.decreases-loop-next
+decreases-loop-next l = 1024 - length l.passed.items

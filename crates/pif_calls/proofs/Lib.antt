@@ -1,2 +1,0 @@
-pub mod CallLemmas
-pub mod StandingLemmas

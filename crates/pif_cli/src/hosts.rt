@@ -1,0 +1,19 @@
+use std::alloc::Global;
+
+/// What a run of the program works with besides its input, lent to one job after the other. Each reference has a
+/// lifetime of its own.
+#[derive(Drop)]
+pub struct Host<'p, 's, 'o, 'e, P, S, W, E> {
+    /// Where memory comes from.
+    pub alloc: Global,
+    /// What starts threads and, where words name files, opens them.
+    pub process: &'p P,
+    /// Where a shell saves its stories.
+    pub shelf: &'s S,
+    /// Whether a person sits at the input, for whom a shell writes a prompt.
+    pub is_terminal: bool,
+    /// Where a job writes.
+    pub output: &'o mut W,
+    /// What is told of faults.
+    pub errors: &'e mut E,
+}

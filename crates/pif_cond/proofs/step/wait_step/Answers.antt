@@ -1,0 +1,13 @@
+-- A wait that takes no step on its variable takes one on its mutex.
+use Rattle.std.proofs.Common.{ap, ◌∙◌}
+use Rattle.pif_types.specs.declared.requests.Request.{Request}
+use Rattle.pif_model.specs.declared.lines.Line.TheVariants.{At}
+use Rattle.pif_mutex.specs.Mutexes.{is_of_mutexes}
+use Rattle.pif_cond.proofs.Stepping.{on_mutex}
+use Rattle.pif_cond.proofs.step.wait_step.Goals as goal
+
+pub wait_on_mutex-requires-clause-mutexes : goal.wait_on_mutex-requires-clause-mutexes
+wait_on_mutex-requires-clause-mutexes g c =
+    ap (λ (q : Request). is_of_mutexes (At q c.args.place)) c.requires.is
+    ∙ on_mutex c.args.place c.args.c c.args.m c.requires.belongs c.in_default.not-Load c.in_default.not-LoadUses
+    c.in_default.not-Park c.in_default.not-StayParked

@@ -1,0 +1,264 @@
+ghost use Rattle.std.specs.Prelude.{◌≡◌, ◌<◌, ◌≤◌, ◌++◌, ◌∷◌, [], List, All, IfErr, IfOk, OnOk, Ok, Err, None, Some, length, is_some, vec_len, vec_capacity, option_copied};
+ghost use Rattle.pif_model.specs.Table.{Table};
+ghost use Rattle.pif_text_model.specs.CommandTexts.{IsWritten};
+ghost use Rattle.pif_script_model.specs.CommandLines.{command_line, script_lines};
+ghost use Rattle.pif_job_shell.specs.Sessions.{AnswersCommand, AnswersAsRuns, HasNoRoom, KeepsRuns, Leaves, PlaysParts, TakesBack};
+
+use pif_core::{Core, Event};
+use pif_script::{Ending, OpenFault, obey, open_core};
+use pif_text::{
+    Addition, Cause, Command, Question, Reply, Text, command_text, commands_of_lines_are_written,
+};
+use pif_text_errors::{Slip, read_command};
+use pif_types::{Request, push_within};
+use std::alloc::{AllocError, Global};
+use std::marker::Model;
+
+/// The most commands of a session: the script of so many has at most 16 MiB.
+pub const MOST_COMMANDS: usize = 131_072;
+
+/// Why a command was not accepted.
+#[derive(Clone, Copy, PartialEq, Eq)]
+pub enum Unplayed {
+    /// It is a fault: `Command` for `limits` behind the first command, `Limits` for one with a number out of its range.
+    Fault(Cause),
+    /// The session has 131,072 commands already.
+    Full,
+    /// A growth of memory was refused.
+    NoMemory,
+}
+
+/// Why a line was not accepted.
+#[derive(Clone, Copy, PartialEq, Eq)]
+pub enum Refusal<'a> {
+    /// It is no command.
+    Slip(Slip<'a>),
+    /// Its command was not accepted.
+    Unplayed(Unplayed),
+}
+
+/// Why the last command was not taken back.
+#[derive(Clone, Copy, PartialEq, Eq)]
+pub enum NotUndone {
+    /// There is none.
+    Nothing,
+    /// A growth of memory was refused.
+    NoMemory,
+}
+
+/// A script while it is written, one command after the other, and the core behind it. The script has no fault, and the
+/// core is the one that a run of it leaves: `sessions_are_runs`.
+#[derive(Drop)]
+pub struct Session {
+    commands: Vec<Command>,
+    core: Option<Core>,
+}
+
+impl Model for Session {
+    ghost use Rattle.pif_job_shell.specs.Sessions.{IsPlayed, Kept};
+
+    ghost Value = { Kept };
+
+    ghost view = { λ s. record { commands = s.commands.items; core = s.core } };
+
+    ghost invariant = { λ s. IsPlayed s.commands.items s.core };
+}
+
+/// What a command is answered by the core, or as the first one, which makes it.
+///
+/// # Errors
+///
+/// `Fault` with the cause, and `NoMemory`; `core` is then unchanged.
+fn answer(alloc: Global, core: &mut Option<Core>, command: Command) -> Result<Reply, Unplayed>
+    ensures { AnswersCommand command core.old core.new result }
+{
+    match core {
+        Some(core) => match obey(core, command) {
+            Some(reply) => Ok(reply),
+            None => Err(Unplayed::Fault(Cause::Command)),
+        },
+        None => match open_core(alloc, command) {
+            Ok((made, reply)) => {
+                *core = Some(made);
+                Ok(reply)
+            }
+            Err(OpenFault::Ended(Ending::Fault(cause))) => Err(Unplayed::Fault(cause)),
+            Err(OpenFault::Ended(Ending::Differs(_)) | OpenFault::NoMemory) => {
+                Err(Unplayed::NoMemory)
+            }
+        },
+    }
+}
+
+/// Makes room for one command more.
+fn make_room(commands: &mut Vec<Command>) -> Result<(), Unplayed>
+    ensures items { commands.new.items ≡ commands.old.items }
+    ensures room { OnOk result (vec_len commands.new < vec_capacity commands.new) }
+    ensures full { OnOk result (vec_len commands.old < 131072) }
+    ensures why { IfErr result (λ why. HasNoRoom commands.old.items why) }
+{
+    if commands.len() >= MOST_COMMANDS {
+        return Err(Unplayed::Full);
+    }
+    match commands.try_reserve(1) {
+        Ok(()) => Ok(()),
+        Err(_) => Err(Unplayed::NoMemory),
+    }
+}
+
+/// Has a command answered, and keeps it. Nothing changes if it is not accepted.
+fn play(
+    alloc: Global,
+    commands: &mut Vec<Command>,
+    core: &mut Option<Core>,
+    command: Command,
+) -> Result<Reply, Unplayed>
+    ensures { PlaysParts command commands.old.items core.old commands.new.items core.new result }
+{
+    // The types that a command has inside are named, so that the borrow checker finds them.
+    let _inside: Option<(Addition, Event, Question, Request)> = None;
+    let kept = command;
+    make_room(commands)?;
+    let reply = answer(alloc, core, command)?;
+    push_within(commands, kept);
+    Ok(reply)
+}
+
+/// The core behind these commands, which have no fault.
+fn replayed(alloc: Global, commands: &[Command]) -> Result<Option<Core>, NotUndone>
+    ensures left { IfOk result (λ core. Leaves None commands.now core) }
+    ensures failed { IfErr result (λ why. why ≡ NotUndone.NoMemory) }
+{
+    let mut core = None;
+    for command in commands {
+        match answer(alloc, &mut core, *command) {
+            Ok(_) => {}
+            Err(_) => return Err(NotUndone::NoMemory),
+        }
+    }
+    Ok(core)
+}
+
+/// Takes the last of these commands away, and puts the core behind the others in the place of theirs. Nothing changes if
+/// that fails.
+fn take_back(
+    alloc: Global,
+    commands: &mut Vec<Command>,
+    core: &mut Option<Core>,
+) -> Result<Command, NotUndone>
+    ensures { TakesBack commands.old.items core.old commands.new.items core.new result }
+{
+    let count = commands.len();
+    if count == 0 {
+        return Err(NotUndone::Nothing);
+    }
+    match replayed(alloc, &commands.as_slice()[..count - 1]) {
+        Ok(left) => {
+            *core = left;
+            Ok(commands.pop().unwrap())
+        }
+        Err(why) => Err(why),
+    }
+}
+
+impl Session {
+    ghost use Rattle.pif_job_shell.specs.Sessions.{TakesLine, Undoes};
+
+    /// A session with no command.
+    pub fn new(alloc: Global) -> Session
+        ensures commands { result.commands ≡ [] }
+        ensures core { result.core ≡ None }
+    {
+        Session {
+            commands: Vec::new(alloc),
+            core: None,
+        }
+    }
+
+    /// How many commands were accepted.
+    pub fn len(&self) -> usize
+        ensures { result ≡ length self.now.commands }
+    {
+        self.commands.len()
+    }
+
+    /// The core behind the commands, or `None` before the first.
+    pub fn core(&self) -> Option<&Core>
+        ensures { option_copied result ≡ self.now.core }
+    {
+        match &self.core {
+            Some(core) => Some(core),
+            None => None,
+        }
+    }
+
+    /// Has the command of a line answered, and keeps it: the answer is what `run` prints for it behind the commands so
+    /// far. The line is given as its bytes without the line feed; any bytes and any length may be given.
+    ///
+    /// # Errors
+    ///
+    /// Why the line was not accepted; nothing has changed then.
+    pub fn take<'a>(&mut self, alloc: Global, line: &'a [u8]) -> Result<Reply, Refusal<'a>>
+        ensures { TakesLine line.now self.old self.new result }
+    {
+        commands_of_lines_are_written();
+        match read_command(line) {
+            Ok(command) => match play(alloc, &mut self.commands, &mut self.core, command) {
+                Ok(reply) => Ok(reply),
+                Err(why) => Err(Refusal::Unplayed(why)),
+            },
+            Err(slip) => Err(Refusal::Slip(slip)),
+        }
+    }
+
+    /// Takes the last command back: the others are played again from the start. Answers the command.
+    ///
+    /// # Errors
+    ///
+    /// `Nothing` if there is none, and `NoMemory`; nothing has changed then.
+    pub fn undo(&mut self, alloc: Global) -> Result<Command, NotUndone>
+        ensures { Undoes self.old self.new result }
+    {
+        take_back(alloc, &mut self.commands, &mut self.core)
+    }
+
+    /// The commands as a script: a line for each. It has at most 16,777,216 bytes.
+    ///
+    /// # Errors
+    ///
+    /// A growth of memory was refused.
+    pub fn script(&self, alloc: Global) -> Result<Vec<u8>, AllocError>
+        ensures lines { IfOk result (λ script. script.items ≡ script_lines self.now.commands) }
+        ensures within { IfOk result (λ script. length script.items ≤ 16777216) }
+    {
+        script_of(alloc, self.commands.as_slice())
+    }
+}
+
+/// Appends a command as a line.
+fn append_command(script: &mut Vec<u8>, command: Command) -> Result<(), AllocError>
+    ensures { OnOk result (script.new.items ≡ script.old.items ++ command_line command) }
+{
+    let mut text = Text::new();
+    command_text(command, &mut text);
+    text.push(b'\n');
+    script.extend_from_slice(text.as_slice())
+}
+
+/// Commands as the lines of a script.
+fn script_of(alloc: Global, commands: &[Command]) -> Result<Vec<u8>, AllocError>
+    ensures { IfOk result (λ script. script.items ≡ script_lines commands.now) }
+{
+    let mut script = Vec::new(alloc);
+    for command in commands {
+        append_command(&mut script, *command)?;
+    }
+    Ok(script)
+}
+
+/// What a session keeps is a script: a run of it has no fault, and leaves the core of the session; and what the session
+/// answered its last command is what the run prints for it.
+pub fn sessions_are_runs()
+    ensures runs { KeepsRuns }
+    ensures answers { AnswersAsRuns }
+{}

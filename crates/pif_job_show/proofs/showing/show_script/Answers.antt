@@ -1,0 +1,35 @@
+use Rattle.std.proofs.Common.{subst}
+use Rattle.std.proofs.KnownBytes.{Keeps-trans}
+use Rattle.std.proofs.lemmas.Result.{err_from_is_err_and}
+use Rattle.pif_script_model.specs.Showing.{Silent}
+use Rattle.pif_script.specs.Scanners.{scan_of}
+use Rattle.pif_job_show.proofs.ShowLemmas.{ended_shown, fed_shown}
+use Rattle.pif_job_show.proofs.showing.show_script.Goals as goal
+
+pub returns-in_err-feed : goal.returns-in_err-feed
+returns-in_err-feed g c =
+    let p = err_from_is_err_and c.from_residual.result c.from_residual.ensures.1 in
+    let s = scan_of c.new-scanner.result in
+    let t = scan_of c.feed.new.scanner in
+    rw (p.1, p.2) (
+      fed_shown s t c.args.text.now c.in_err-feed.field-0.0 c.new-scanner.ensures c.in_err-feed.ensures.answer,
+      c.feed.ensures.stays,
+      λ e. (
+          subst (Silent {A = Unit {0}} s t (g.W.Write.contents c.args.writer.now)
+          (g.W.Write.contents c.feed.new.writer)) e c.in_err-feed.ensures.silent
+          ).1,
+    )
+
+pub returns : goal.returns
+returns g c =
+    let s = scan_of c.new-scanner.result in
+    let t = scan_of c.feed.new.scanner in (
+      ended_shown s t c.args.text.now c.in_ok-feed.field-0 c.close.result c.new-scanner.ensures
+          c.in_ok-feed.ensures.answer c.close.ensures.answer,
+      λ front p. c.close.ensures.stays front (c.feed.ensures.stays front p),
+      λ e. (
+          let last = subst (Silent {A = Unit {0}} t t (g.W.Write.contents c.feed.new.writer)
+          (g.W.Write.contents c.close.new.writer)) e c.close.ensures.silent in
+          Keeps-trans _ _ _ (c.in_ok-feed.ensures.silent last.0).1 last.1
+          ),
+    )

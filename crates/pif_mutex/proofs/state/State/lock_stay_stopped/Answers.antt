@@ -1,0 +1,16 @@
+-- A lock that has stopped, and is not due, waits.
+use Rattle.std.proofs.Common.{◌≡◌, false, sym, ap, ◌∙◌}
+use Rattle.pif_types.specs.declared.requests.Request.{Request}
+use Rattle.pif_types.specs.declared.requests.Request.TheVariants.{Lock}
+use Rattle.pif_model.specs.declared.lines.Line.TheVariants.{At}
+use Rattle.pif_model.specs.declared.lines.Place.TheVariants.{StayStopped}
+use Rattle.pif_model.specs.Lines.{is_line_due}
+use Rattle.pif_mutex.proofs.Locking.{stopped_goes}
+use Rattle.pif_mutex.proofs.state.State.lock_stay_stopped.Goals as goal
+
+pub returns-else-is_due_at : goal.returns-else-is_due_at
+returns-else-is_due_at g c =
+    let due : is_line_due (At (Lock c.args.m) StayStopped) c.args.t c.args.self.now ≡ false
+    = ap (λ (q : Request). is_line_due (At q StayStopped) c.args.t c.args.self.now) (sym c.requires.is)
+    ∙ sym c.is_due_at.ensures ∙ c.if-is_due_at.false in
+    sym (stopped_goes c.args.m c.args.t c.args.self.now due)

@@ -1,5 +1,0 @@
-use Rattle.pif_sessions.specs.Lines.{Reads}
-use Rattle.pif_sessions.proofs.lines.Lines.read_line.Given as goal
-
-abbrev pub invariant-loop-turn : goal.invariant-loop-turn
-invariant-loop-turn g l = Reads (g.R.Read.remaining l.initial.reader) (g.R.Read.remaining l.reader)

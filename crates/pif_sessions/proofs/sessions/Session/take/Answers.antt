@@ -1,9 +1,0 @@
-use Rattle.std.proofs.Common.{sym}
-use Rattle.pif_sessions.proofs.SessionLemmas.{played_after}
-use Rattle.pif_sessions.proofs.sessions.Session.take.Goals as goal
-
-pub invariant_of-self : goal.invariant_of-self
-invariant_of-self c =
-    played_after c.in-Ok.command c.self.inside.commands.items c.self.inside.core c.play.new.commands.items c.play.new.core
-    c.play.result c.self.invariant
-    (c.commands_of_lines_are_written.ensures c.args.line.now c.in-Ok.command (sym c.in-Ok.ensures.command)) c.play.ensures
