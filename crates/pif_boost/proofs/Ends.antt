@@ -1,5 +1,5 @@
--- The levels of a run queue after a walk along one chain: of the ready threads only the last of the chain can change its
--- level, since only who waits for nobody is ready.
+-- The levels of a run queue after a walk along one chain: of the ready threads only the last of the chain can change
+-- its level, since only who waits for nobody is ready.
 use Rattle.std.proofs.Common.{◌≡◌, ◌≢◌, ◌⊎◌, ℕ, zero, suc, ◌<◌, ◌≤◌, ◌+◌, ◌-◌, Bool, true, false, ◌==◌, eqb, not, ◌&&◌, List, [], ◌∷◌, ◌++◌, length, Option, Some, None, refl, sym, ap, ◌∙◌, inl, inr, if◌then◌else◌, append-nil, arith}
 use Rattle.std.specs.List.{filter, range_with_len}
 use Rattle.std.specs.Option.{is_some}

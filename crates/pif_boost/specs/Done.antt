@@ -12,8 +12,8 @@ use Rattle.pif_kernel_model.specs.BoostFrames.{SameBeyond}
 
 -- so many hops of a walk led from the owner states m0 and the run queue q0 in the table t0 to these
 pub record IsDone (m0 : States) (t0 : NodeLists) (q0 : Queue) (hops : ℕ) (m : States) (t : NodeLists) (q : Queue) : Type 0 where
-  -- each thread has the effective priority that it is to have, also where it waits, and all else of the owner states is as
-  -- it was
+  -- each thread has the effective priority that it is to have, also where it waits, and all else of the owner states is
+  -- as it was
   pub repaired : IsRepaired (owners_in m0 t0) (owners_in m t)
   -- that is the greatest base priority of it and of all that wait for it through any chain
   pub greatest : (u : ℕ) → IsThread (owners_in m0 t0) u
@@ -23,8 +23,8 @@ pub record IsDone (m0 : States) (t0 : NodeLists) (q0 : Queue) (hops : ℕ) (m : 
   pub settled : (other : ℕ) → IsRepairedBut other (owners_in m t)
   -- the top waiter of a state is its next one
   pub next : (k u : ℕ) → IsTop (owners_in m t) k u → IsNext (owners_in m t) k u
-  -- each thread of the run queue is at the level of the priority that it is to have, in its place where it keeps its level,
-  -- and at most one joins another level
+  -- each thread of the run queue is at the level of the priority that it is to have, in its place where it keeps its
+  -- level, and at most one joins another level
   pub levels : (p : ℕ) → IsLevel p → level_of q t p ≡ level_after_walk (owners_in m0 t0) q0 t0 p
   pub level : (u p : ℕ) → IsLevel p → has u (level_of q t p) ≡ true → p ≡ local_of (owners_in m t) u
   pub one : (p r u v : ℕ) → joins (owners_in m0 t0) q0 t0 p u ≡ true → joins (owners_in m0 t0) q0 t0 r v ≡ true → u ≡ v

@@ -38,15 +38,15 @@ fn say<W: Write>(output: &mut W, line: &str, fault: JobFault) -> Result<(), JobF
     }
 }
 
-/// `pif drive`: so many clients, of the priorities from 1, each in a thread of its own, lock and unlock one mutex, which
-/// is errorcheck and robust, 100 times each. Once all threads have ended the desk settles with the clients, and the
-/// number of calls that were answered is written, in a line.
+/// `pif drive`: so many clients, of the priorities from 1, each in a thread of its own, lock and unlock one mutex,
+/// which is errorcheck and robust, 100 times each. Once all threads have ended the desk settles with the clients, and
+/// the number of calls that were answered is written, in a line.
 ///
 /// # Errors
 ///
 /// `Threads` where a thread could not be started, and `Unsettled` where the desk didn't settle, each written in a line;
-/// `Cli(NoMemory)`, with nothing written, where memory was refused; a client that meets that ends, so that the others go
-/// on. `Cli(Write)` where the line can't be written.
+/// `Cli(NoMemory)`, with nothing written, where memory was refused; a client that meets that ends, so that the others
+/// go on. `Cli(Write)` where the line can't be written.
 pub fn drive<R: Threads + Wait + Sync, W: Write>(
     alloc: Global,
     rt: &R,

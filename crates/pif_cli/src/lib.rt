@@ -1,7 +1,7 @@
 //! The command line of the program `pif`: what it does over the words that `pif_cli_words` reads, the texts of faults
 //! and refusals, and the status with which it ends. Each job is done by the crate of its command, whose calls are
-//! handed on; `drive` writes what a drive of `pif_job_drive` comes to. What its clients do (`drive_book`, `end_of`), and
-//! what a person is told of a fault (`message_of`), is public too, so that tests in a crate above can call it.
+//! handed on; `drive` writes what a drive of `pif_job_drive` comes to. What its clients do (`drive_book`, `end_of`),
+//! and what a person is told of a fault (`message_of`), is public too, so that tests in a crate above can call it.
 #![tactic(auto)]
 
 mod causes;

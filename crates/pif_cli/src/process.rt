@@ -18,8 +18,8 @@ use std::{env, io};
 /// What is said if a word is no text.
 const NO_TEXT: &str = "error: a word is not UTF-8\n";
 
-/// The program over the words of a process, as `command_of_process` has it; if `is_terminal`, `input` is a terminal, and
-/// `pif shell` writes a prompt before each line that it reads.
+/// The program over the words of a process, as `command_of_process` has it; if `is_terminal`, `input` is a terminal,
+/// and `pif shell` writes a prompt before each line that it reads.
 pub fn command_at_terminal<
     P: Env + AllocGlobal + Files + Threads + Wait + Sync,
     R: Read,

@@ -17,7 +17,8 @@ pub enum JobFault {
     Unsettled,
 }
 
-/// The status of the program after this fault of a job: 6 where a thread could not be started, or the desk didn't settle.
+/// The status of the program after this fault of a job: 6 where a thread could not be started, or the desk didn't
+/// settle.
 pub fn job_fault_status(fault: JobFault) -> u8
     ensures { result ≡ job_fault_status fault }
 {

@@ -21,8 +21,8 @@ use std::alloc::{AllocError, Global};
 /// A command while it is made, or that memory was refused.
 pub type Made<'a> = Result<clap::Command<'a>, AllocError>;
 
-/// A command of this name without arguments, with what help shows of it: what it is about, how it is called, and more at
-/// the end.
+/// A command of this name without arguments, with what help shows of it: what it is about, how it is called, and more
+/// at the end.
 pub fn described<'a>(
     alloc: Global,
     name: &'a str,

@@ -79,8 +79,8 @@ pub fn read_words<'a, S: AsStr>(alloc: Global, words: &'a [S]) -> Result<Asked<'
     }
 }
 
-/// How `show` is to show a script: for a person, or as a picture that its flags name. Of several flags the first of `--json`,
-/// `--dot` and `--all` counts.
+/// How `show` is to show a script: for a person, or as a picture that its flags name. Of several flags the first of
+/// `--json`, `--dot` and `--all` counts.
 fn shown_in(given: &clap::ArgMatches) -> Job
     ensures { result ≡ shown_in (rows_of (found_of given.now)) }
 {

@@ -8,9 +8,9 @@ use crate::jobs::Job;
 use crate::random::Recipe;
 use pif_script_model::{Detail, Picture};
 
-/// Which words ask for which job: `run`, `show`, `draw`, `shell`, `replay`, `trace` and `migrate` alone, `show` with each of its
-/// flags, `run` with a file, `check` alone, with `--print` and with two files, `random` with a seed and from 1 to 262,144 lines, and `drive` with a number from 1
-/// to 64 do; no word, `--help` and `--version` don't.
+/// Which words ask for which job: `run`, `show`, `draw`, `shell`, `replay`, `trace` and `migrate` alone, `show` with
+/// each of its flags, `run` with a file, `check` alone, with `--print` and with two files, `random` with a seed and
+/// from 1 to 262,144 lines, and `drive` with a number from 1 to 64 do; no word, `--help` and `--version` don't.
 #[tactic(auto, unfolding(clap::proofs::OnLiterals::clap_on_literals))]
 pub fn words_of_the_program()
     ensures run { (name : List ℕ) → (refusals_of (name ∷ codes "run" ∷ []) ≡ []) × (job_of (name ∷ codes "run" ∷ []) ≡ Job.Run) }
@@ -53,7 +53,8 @@ pub fn words_of_the_program()
     ensures none { (name : List ℕ) → refusals_of (name ∷ []) ≡ MissingSubcommand ∷ [] }
 {}
 
-/// Whatever the words are, a random script that they ask for has 262,144 lines at most, so that a run of it has no fault.
+/// Whatever the words are, a random script that they ask for has 262,144 lines at most, so that a run of it has no
+/// fault.
 pub fn random_lines_have_a_bound()
     ensures { (words : List (List ℕ)) (recipe : Recipe) → (job_of words ≡ Job.Random recipe) → recipe.lines ≤ 262144 }
 {}

@@ -8,7 +8,8 @@ const COMMANDS: [&str; 11] = [
     "help",
 ];
 
-/// The command that is near to the one that the words name, behind the program's name or behind `help`, if that is none.
+/// The command that is near to the one that the words name, behind the program's name or behind `help`, if that is
+/// none.
 pub fn near_command<S: AsStr>(words: &[S]) -> Option<&'static str> {
     match words {
         [_, help, word, ..] if help.as_str() == "help" => near_name(word.as_str()),

@@ -178,8 +178,8 @@ impl Core {
     }
 
     /// Whether a thread rests: true where it is among the waiters of a mutex, is blocked on a condition variable or
-    /// waits for good, false where it may take a step, also where that step is an expiry, since its deadline is reached.
-    /// `None` where no living thread has that number, or where that thread has no call open.
+    /// waits for good, false where it may take a step, also where that step is an expiry, since its deadline is
+    /// reached. `None` where no living thread has that number, or where that thread has no call open.
     pub fn waiting(&self, thread: Tid) -> Option<bool>
         ensures value { result ≡ waiting_answer thread self.now }
         ensures open { WhereStands self.now (λ h r w.

@@ -25,11 +25,11 @@
 //! history is one that POSIX allows, and what each reader answers then.
 //!
 //! `cores` has the events, the additions and the readers of words, health and priorities. `calls` has whole calls: a
-//! thread begins one and goes on until it is answered or waits. `readers` has those of what a person looks at: what each
-//! thread does, its open call and its base priority, the kind and the owner of a mutex, who comes next, and next but
-//! one, at a mutex, at a condition variable and on the processor (`nth` goes to these three by an `Order`), and for whom
-//! a thread waits, with all for whom that one waits (`path`). Each of these readers has a clause `value`, over what the
-//! core keeps, and clauses in the words of POSIX over each state in which it may stand.
+//! thread begins one and goes on until it is answered or waits. `readers` has those of what a person looks at: what
+//! each thread does, its open call and its base priority, the kind and the owner of a mutex, who comes next, and next
+//! but one, at a mutex, at a condition variable and on the processor (`nth` goes to these three by an `Order`), and for
+//! whom a thread waits, with all for whom that one waits (`path`). Each of these readers has a clause `value`, over
+//! what the core keeps, and clauses in the words of POSIX over each state in which it may stand.
 #![tactic(auto)]
 
 mod calls;

@@ -9,7 +9,7 @@ use pif_core::{Core, Event, Seen};
 use pif_types::{Answer, Refusal, Request, Tid};
 
 /// What a caller does after an answer to an event.
-#[derive(Clone, Copy, Debug, PartialEq, Eq, Hash)]
+#[derive(Clone, Copy, Debug, PartialEq, Eq)]
 pub enum Next {
     /// The call is open, and its thread may go on.
     GoOn,

@@ -12,7 +12,7 @@ use pif_core::{Core, Event, Seen};
 use pif_types::{Errno, MutexId, Request, Tid};
 
 /// How a lock found the mutex that it has taken.
-#[derive(Clone, Copy, Debug, PartialEq, Eq, Hash)]
+#[derive(Clone, Copy, Debug, PartialEq, Eq)]
 pub enum Held {
     /// What the mutex protects is in order: the lock was answered 0.
     InOrder,
@@ -50,10 +50,10 @@ pub fn lock_and_hold(core: &mut Core, thread: Tid, mutex: MutexId) -> Result<Hel
     locked_by(core.call(thread, Request::Lock(mutex)))
 }
 
-/// A thread goes on with a lock of a mutex that waited, with a deadline or none. Where it answers `Ok`, the thread holds
-/// the mutex once more than before, and no other thread does. `Err` has what the lock was answered otherwise: ETIMEDOUT
-/// (110) if its deadline was reached. After `Waits` it stays open, and this is called again once others have had
-/// their turns.
+/// A thread goes on with a lock of a mutex that waited, with a deadline or none. Where it answers `Ok`, the thread
+/// holds the mutex once more than before, and no other thread does. `Err` has what the lock was answered otherwise:
+/// ETIMEDOUT (110) if its deadline was reached. After `Waits` it stays open, and this is called again once others have
+/// had their turns.
 pub fn finish_lock(core: &mut Core, thread: Tid, mutex: MutexId) -> Result<Held, Seen>
     ensures answer { result ≡ locked_by (finish_outcome thread core.old).seen }
     ensures after { core.new ≡ (finish_outcome thread core.old).after }

@@ -11,7 +11,7 @@ use pif_core::{Core, Event, Seen};
 use pif_types::{CondId, MutexId, Request, Tid};
 
 /// How far a thread has come that waits until something is so.
-#[derive(Clone, Copy, Debug, PartialEq, Eq, Hash)]
+#[derive(Clone, Copy, Debug, PartialEq, Eq)]
 pub enum Awaited {
     /// It is so, and the thread holds the mutex.
     Met,

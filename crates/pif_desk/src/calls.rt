@@ -61,9 +61,9 @@ impl Client {
         unreachable!()
     }
 
-    /// Makes a call: begins it, and takes its steps until it is answered. While its thread rests it sleeps, after it has
-    /// looked a few times, until an event of another after which the thread rests no longer. The log has one answered
-    /// call more.
+    /// Makes a call: begins it, and takes its steps until it is answered. While its thread rests it sleeps, after it
+    /// has looked a few times, until an event of another after which the thread rests no longer. The log has one
+    /// answered call more.
     ///
     /// At `NoMemory` the event that needed memory didn't happen, and at a refusal nothing has changed. Where that was
     /// the beginning of the call the log is as it was; else the call is open, and `resume` goes on with it.

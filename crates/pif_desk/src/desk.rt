@@ -123,9 +123,9 @@ impl<P: Pause + Drop> Desk<P> {
         self.shared.lock(rt).room.spare_entries()
     }
 
-    /// How many entries more, at least, a full journal asks memory for from now on: 1 or more, and 1 at a new desk. Core
-    /// and journal stay what they are, and no memory is taken yet. With a larger number the journal grows more rarely,
-    /// by larger pieces; with `usize::MAX` each growth is refused, as `Room::set_growth` says.
+    /// How many entries more, at least, a full journal asks memory for from now on: 1 or more, and 1 at a new desk.
+    /// Core and journal stay what they are, and no memory is taken yet. With a larger number the journal grows more
+    /// rarely, by larger pieces; with `usize::MAX` each growth is refused, as `Room::set_growth` says.
     pub fn set_growth<R: Wait>(&self, rt: &R, growth: usize)
         requires { 1 ≤ growth }
     {

@@ -2,7 +2,7 @@ use pif_types::{AddFault, Refusal};
 use thiserror::Error;
 
 /// Why a call on a desk or a room was not done.
-#[derive(Clone, Copy, Debug, PartialEq, Eq, Hash, Error)]
+#[derive(Clone, Copy, Debug, PartialEq, Eq, Error)]
 pub enum DeskFault {
     /// A growth of memory was refused. The event or addition that needed it didn't happen; a call that had begun stays
     /// open.

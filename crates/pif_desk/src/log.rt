@@ -8,7 +8,7 @@ use pif_model::{Entry, Event, Seen};
 use pif_types::{Answer, Request, Tid, push_within};
 
 /// What a client does: it begins a call, goes on by one step of its open call, or ends its thread.
-#[derive(Clone, Copy, Debug, PartialEq, Eq, Hash)]
+#[derive(Clone, Copy, Debug, PartialEq, Eq)]
 pub enum Act {
     /// The thread begins this call.
     Begin(Request),

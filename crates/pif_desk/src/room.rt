@@ -263,10 +263,10 @@ impl Room {
         self.journal.capacity().wrapping_sub(self.journal.len())
     }
 
-    /// How many entries more, at least, a full journal asks memory for from now on: 1 or more, and 1 in a new room. Core
-    /// and journal stay what they are, and no memory is taken yet. With a larger number the journal grows more rarely,
-    /// by larger pieces. No list has room for `usize::MAX`: each growth is refused then, so that it can be tried what a
-    /// caller does without memory.
+    /// How many entries more, at least, a full journal asks memory for from now on: 1 or more, and 1 in a new room.
+    /// Core and journal stay what they are, and no memory is taken yet. With a larger number the journal grows more
+    /// rarely, by larger pieces. No list has room for `usize::MAX`: each growth is refused then, so that it can be
+    /// tried what a caller does without memory.
     pub fn set_growth(&mut self, growth: usize)
         requires { 1 ≤ growth }
         ensures { self.new ≡ self.old }

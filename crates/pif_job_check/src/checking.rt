@@ -164,8 +164,8 @@ pub fn check<R: Read, W: Write>(
     check_noting(alloc, name, reader, writer, &mut Notice::new())
 }
 
-/// Checks a story as `check` does, and has `notice` keep the command that is a fault; if there is none, `notice` is left
-/// as it is.
+/// Checks a story as `check` does, and has `notice` keep the command that is a fault; if there is none, `notice` is
+/// left as it is.
 ///
 /// # Errors
 ///
@@ -205,8 +205,8 @@ pub fn fill<R: Read, W: Write>(
     fill_noting(alloc, name, reader, writer, &mut Notice::new())
 }
 
-/// Fills in a story as `fill` does, and has `notice` keep the command that is a fault; if there is none, `notice` is left
-/// as it is.
+/// Fills in a story as `fill` does, and has `notice` keep the command that is a fault; if there is none, `notice` is
+/// left as it is.
 ///
 /// # Errors
 ///

@@ -9,11 +9,11 @@ use pif_types::NoMemory;
 use std::alloc::Global;
 use std::io::{Read, Write};
 
-/// Draws a story, or a script, as an SVG image: a lane for each thread over the commands, with what the thread does, the
-/// mutexes that it holds, and its effective priority above its base priority; and arrows, if a mutex is handed over or a
-/// thread is signalled. The story is read to its end before anything is written, and it and its drawing are kept in memory.
-/// What is drawn is for reading, and may change. `notice` keeps the command that is a fault; if there is none, it is left
-/// as it is.
+/// Draws a story, or a script, as an SVG image: a lane for each thread over the commands, with what the thread does,
+/// the mutexes that it holds, and its effective priority above its base priority; and arrows, if a mutex is handed over
+/// or a thread is signalled. The story is read to its end before anything is written, and it and its drawing are kept
+/// in memory. What is drawn is for reading, and may change. `notice` keeps the command that is a fault; if there is
+/// none, it is left as it is.
 ///
 /// # Errors
 ///

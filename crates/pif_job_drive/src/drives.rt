@@ -102,8 +102,8 @@ fn leave<P: Pause + Drop, R: Wait>(rt: &R, desk: &Desk<P>, client: &mut Client) 
 }
 
 /// How a client's thread ends, once its calls have come to `made`. If each was answered, the client is served, and the
-/// desk stays as it was. At a fault the client is ended, so that no other waits for it. While memory is refused for that
-/// it is tried again, 1,000 times in all.
+/// desk stays as it was. At a fault the client is ended, so that no other waits for it. While memory is refused for
+/// that it is tried again, 1,000 times in all.
 ///
 /// There is no error: a fault of `made` is answered as an `Ending`.
 pub fn end_of<P: Pause + Drop, R: Wait>(
@@ -242,15 +242,16 @@ fn drive_desk<P: Pause + Drop + Sync, R: Threads + Wait + Sync>(
     settle(desk.into_room(), served)
 }
 
-/// So many clients, of the priorities from 1, each in a thread of its own, lock and unlock one mutex, which is errorcheck
-/// and robust, 100 times each. They share a desk of their own, with just the room that they need, and `pause` is called
-/// after each of their events. Answers the book, by which all of these calls were answered, and no other was made.
+/// So many clients, of the priorities from 1, each in a thread of its own, lock and unlock one mutex, which is
+/// errorcheck and robust, 100 times each. They share a desk of their own, with just the room that they need, and
+/// `pause` is called after each of their events. Answers the book, by which all of these calls were answered, and no
+/// other was made.
 ///
 /// # Errors
 ///
-/// `NoMemory` if memory was refused; a client that meets that ends, so that the others go on. `Threads` if a thread could
-/// not be started. `Unsettled` if there are not 1 to 1,024 clients, if one was refused, or if the desk didn't settle. All
-/// threads have ended then too, and the desk and its clients are gone.
+/// `NoMemory` if memory was refused; a client that meets that ends, so that the others go on. `Threads` if a thread
+/// could not be started. `Unsettled` if there are not 1 to 1,024 clients, if one was refused, or if the desk didn't
+/// settle. All threads have ended then too, and the desk and its clients are gone.
 pub fn drive_book<P: Pause + Drop + Sync, R: Threads + Wait + Sync>(
     alloc: Global,
     rt: &R,

@@ -29,7 +29,8 @@ pub struct Player {
     core: Core,
     random: Pcg32,
     shape: Shape,
-    // How many are to be added: more than at first once some threads have ended, or some mutexes are of no use any more.
+    // How many are to be added: more than at first once some threads have ended, or some mutexes are of no use any
+    // more.
     threads: u32,
     mutexes: u32,
     conds: u32,

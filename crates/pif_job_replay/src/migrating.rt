@@ -101,8 +101,8 @@ fn fault_of_form(alloc: Global, bytes: &[u8], notice: &mut Notice) -> Result<Opt
     }
 }
 
-/// Writes a trace of version 1 or 2 as one of version 2: its first line becomes `pif-trace 2`, and all behind it stays to
-/// the byte. The form of each line is checked, and nothing is run; a fault of form gives its line alone. All is read
+/// Writes a trace of version 1 or 2 as one of version 2: its first line becomes `pif-trace 2`, and all behind it stays
+/// to the byte. The form of each line is checked, and nothing is run; a fault of form gives its line alone. All is read
 /// before anything is written, at most 16,777,217 bytes.
 ///
 /// # Errors
@@ -120,8 +120,8 @@ pub fn migrate<R: Read, W: Write>(
     migrate_noting(alloc, reader, writer, &mut Notice::new())
 }
 
-/// Migrates a trace as `migrate` does, and has `notice` keep the line of the fault; where there is none, `notice` is left
-/// as it is.
+/// Migrates a trace as `migrate` does, and has `notice` keep the line of the fault; where there is none, `notice` is
+/// left as it is.
 ///
 /// # Errors
 ///

@@ -122,10 +122,10 @@ impl Listener for Replayed {
     }
 }
 
-/// Replays a trace of version 1 or 2: gives its commands to a fresh core, and compares each answer with the recorded one. At
-/// its end `same N` is written, with the number of lines after the first; at the first difference `differs L X`, with
-/// the number of the line and what the core gives there, and at the first fault the line of the fault. Nothing is read
-/// behind the chunk in which that is found.
+/// Replays a trace of version 1 or 2: gives its commands to a fresh core, and compares each answer with the recorded
+/// one. At its end `same N` is written, with the number of lines after the first; at the first difference `differs L
+/// X`, with the number of the line and what the core gives there, and at the first fault the line of the fault. Nothing
+/// is read behind the chunk in which that is found.
 ///
 /// # Errors
 ///

@@ -139,8 +139,8 @@ fn replayed(alloc: Global, commands: &[Command]) -> Result<Option<Core>, NotUndo
     Ok(core)
 }
 
-/// Takes the last of these commands away, and puts the core behind the others in the place of theirs. Nothing changes if
-/// that fails.
+/// Takes the last of these commands away, and puts the core behind the others in the place of theirs. Nothing changes
+/// if that fails.
 fn take_back(
     alloc: Global,
     commands: &mut Vec<Command>,

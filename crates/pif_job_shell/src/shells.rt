@@ -232,7 +232,8 @@ fn turn<S: Shelf, R: Read, W: Write>(
     }
 }
 
-/// Greets where there is a prompt, and reads a line after the other and does what it asks for, up to the end of the input.
+/// Greets where there is a prompt, and reads a line after the other and does what it asks for, up to the end of the
+/// input.
 fn talk<S: Shelf, R: Read, W: Write>(
     alloc: Global,
     shelf: &S,
@@ -266,8 +267,8 @@ fn talk<S: Shelf, R: Read, W: Write>(
 ///
 /// # Errors
 ///
-/// `Read` if the reader fails, and `Write` if the writer fails or takes no byte. Out of memory ends no conversation: the
-/// line that wants it is told so, and changes nothing.
+/// `Read` if the reader fails, and `Write` if the writer fails or takes no byte. Out of memory ends no conversation:
+/// the line that wants it is told so, and changes nothing.
 pub fn shell<S: Shelf, R: Read, W: Write>(
     alloc: Global,
     shelf: &S,

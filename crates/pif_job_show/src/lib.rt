@@ -1,5 +1,5 @@
-//! Scripts and stories that are shown to a person: each line with what it is answered, and behind it what has changed in
-//! the core, or all of the core.
+//! Scripts and stories that are shown to a person: each line with what it is answered, and behind it what has changed
+//! in the core, or all of the core.
 //!
 //! | Module | What it has |
 //! |---|---|

@@ -18,9 +18,9 @@ use std::io::{Read, Write};
 ///
 /// # Errors
 ///
-/// `Script` with the first fault of the script, whose line was written then; `Script` with the fault `size` and the line
-/// of the story, if the story is too large, and nothing was written; `Read`, if the reader fails, and `NoMemory`, and
-/// nothing was written; and `Write`, if the writer fails or takes no byte.
+/// `Script` with the first fault of the script, whose line was written then; `Script` with the fault `size` and the
+/// line of the story, if the story is too large, and nothing was written; `Read`, if the reader fails, and `NoMemory`,
+/// and nothing was written; and `Write`, if the writer fails or takes no byte.
 pub fn show_story<R: Read, W: Write>(
     detail: Detail,
     alloc: Global,

@@ -8,15 +8,15 @@ use std::io::{Read, Write};
 /// Writes the trace of a script, of version 1: runs the script as `run` does, and writes in place of its answers the
 /// header, the line of the limits, and a line for each entry that the script makes, in their order, with what the core
 /// answered. Those are the additions that were made, and each event, also a refused one; `call` and `finish` make the
-/// events of which they consist. Refused additions and questions make none. The line of a fault is not written: the trace
-/// is that of the lines before it. Where no core was made, nothing is written. `replay` finds the trace the same, up to
-/// the size that a trace may have: `script_trace_is_the_same`.
+/// events of which they consist. Refused additions and questions make none. The line of a fault is not written: the
+/// trace is that of the lines before it. Where no core was made, nothing is written. `replay` finds the trace the same,
+/// up to the size that a trace may have: `script_trace_is_the_same`.
 ///
 /// # Errors
 ///
-/// Those of `run`: `Script` with the first fault of the script; `Read`, where the reader fails, and the trace of the whole
-/// lines read so far was written; `Write`, where the writer fails or takes no byte; and `NoMemory`, where the core cannot
-/// be made, and nothing was written.
+/// Those of `run`: `Script` with the first fault of the script; `Read`, where the reader fails, and the trace of the
+/// whole lines read so far was written; `Write`, where the writer fails or takes no byte; and `NoMemory`, where the
+/// core cannot be made, and nothing was written.
 pub fn trace<R: Read, W: Write>(
     alloc: Global,
     reader: &mut R,
@@ -44,8 +44,8 @@ pub fn trace_noting<R: Read, W: Write>(
     read_script::<Transcribing, R, W>(alloc, reader, writer, notice)
 }
 
-/// The trace that `trace` writes of a script that makes a core prints `same` when it is replayed, with the number of its
-/// entries and one more, for the line of the limits, as long as it has at most 16,777,216 bytes.
+/// The trace that `trace` writes of a script that makes a core prints `same` when it is replayed, with the number of
+/// its entries and one more, for the line of the limits, as long as it has at most 16,777,216 bytes.
 pub fn script_trace_is_the_same()
     ensures { SameAsTraced }
 {}

@@ -7,8 +7,8 @@ use std::alloc::Global;
 use std::io::{Read, Write};
 
 /// Writes the trace of the script that is left of a story as `trace_noting` writes that of a script: reads the bytes of
-/// the story to the end, and then runs the script, and has `notice` keep the line of its fault. A script is a story too.
-/// Lines are counted in the script that is left, from 1. Answers that are written in the story are not compared.
+/// the story to the end, and then runs the script, and has `notice` keep the line of its fault. A script is a story
+/// too. Lines are counted in the script that is left, from 1. Answers that are written in the story are not compared.
 ///
 /// # Errors
 ///

@@ -146,8 +146,8 @@ fn append_single(command: Command, reply: Reply, output: &mut Output)
     }
 }
 
-/// What a command is answered; the lines of the entries that it makes are appended. `None` for `limits`, which is a first
-/// command alone; nothing has changed then.
+/// What a command is answered; the lines of the entries that it makes are appended. `None` for `limits`, which is a
+/// first command alone; nothing has changed then.
 fn transcribe(core: &mut Core, command: Command, output: &mut Output) -> Option<Reply>
     requires { array_vec_len output.old + LINES_ROOM ≤ OUTPUT_ROOM }
     ensures answer { Transcribed command core.old core.new output.old.items output.new.items result }

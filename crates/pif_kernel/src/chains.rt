@@ -17,9 +17,9 @@ use pif_kernel_model::Key;
 use pif_types::{CondId, MutexId, NoMemory, Prio, Tid};
 use std::alloc::Global;
 
-/// The chains of a kernel's threads: the owner states of mutexes, with who waits where and by which priority and ticket,
-/// the threads that are parked on condition variables, and the run queue. Of what a call doesn't name, all stays as it
-/// was. Only `new` takes memory.
+/// The chains of a kernel's threads: the owner states of mutexes, with who waits where and by which priority and
+/// ticket, the threads that are parked on condition variables, and the run queue. Of what a call doesn't name, all
+/// stays as it was. Only `new` takes memory.
 pub trait Chains {
     /// The owner states, the parked threads and the run queue that these are.
     ghost seen: { Self → Chained };
@@ -137,8 +137,8 @@ pub trait Chains {
         ensures count { count (seen self.new).owners + 1 ≡ count (seen self.old).owners }
         ensures kept { KeepsLevels (record (seen self.old) { keys = set (seen self.old).keys m None }) (seen self.new) };
 
-    /// Parks the thread `t`, which was admitted, waits for nothing and is not parked, on a variable, whose number is 256
-    /// at most, behind all that are parked. It is to get the mutex `m` once it is taken from there.
+    /// Parks the thread `t`, which was admitted, waits for nothing and is not parked, on a variable, whose number is
+    /// 256 at most, behind all that are parked. It is to get the mutex `m` once it is taken from there.
     fn park(&mut self, t: Tid, c: CondId, m: MutexId)
         requires row { t < length (seen self.old).owners.seats }
         requires admitted { 1 ≤ local_of (seen self.old).owners t }

@@ -33,8 +33,8 @@ pub(crate) fn pass_all_on<C: Chains + Drop>(
 }
 
 /// A mutex passes on if its word has the number of this thread, which has ended. With no owner state the word gets
-/// OWNER_DIED, keeps WAITERS, and loses the number. With one of the thread it is handed to its next waiter, and the word
-/// gets that number and both flags. With one of another owner nothing changes. Without a word, and if the word has
+/// OWNER_DIED, keeps WAITERS, and loses the number. With one of the thread it is handed to its next waiter, and the
+/// word gets that number and both flags. With one of another owner nothing changes. Without a word, and if the word has
 /// another number, nothing changes either.
 fn pass_on<C: Chains + Drop>(parts: &mut Parts<C>, words: &mut Words, t: Tid, m: MutexId)
     requires sound { IsSoundInside parts.old }

@@ -27,8 +27,8 @@ pub fn number_anew<C: Chains>(chains: &mut C, statuses: &[Status]) -> u64
     ticket
 }
 
-/// Of the threads below `count` the waiter of the lowest ticket from `least` on, which is at least 1. `None` if none has
-/// such a ticket.
+/// Of the threads below `count` the waiter of the lowest ticket from `least` on, which is at least 1. `None` if none
+/// has such a ticket.
 fn first_from<C: Chains>(chains: &C, count: u32, least: u64) -> Option<Tid>
     requires some { 1 ≤ count }
     requires least { 1 ≤ least }
@@ -41,7 +41,8 @@ fn first_from<C: Chains>(chains: &C, count: u32, least: u64) -> Option<Tid>
     first
 }
 
-/// The thread `t`, if it waits with a ticket from `least` on, and with a lower one than the first so far; else that one.
+/// The thread `t`, if it waits with a ticket from `least` on, and with a lower one than the first so far; else that
+/// one.
 fn sooner<C: Chains>(chains: &C, least: u64, first: Option<Tid>, t: Tid) -> Option<Tid>
     requires { 1 ≤ least }
     ensures { result ≡ (if is_sooner (C.seen chains.now).owners least first t then Some t else first) }

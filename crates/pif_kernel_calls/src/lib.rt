@@ -67,8 +67,8 @@
 //!
 //! The calls that read touch nothing. `waiter`, `parked` and `ready` answer the thread at a place of an order, 0 for
 //! the next: the waiters of a mutex and the threads that are parked on a variable stand by their effective priorities
-//! now, equals in arrival, and the ready threads by their levels, those of one level in order of joining. `path` answers
-//! a thread with all for whom it waits through its chain. `pick` is the first of the ready threads.
+//! now, equals in arrival, and the ready threads by their levels, those of one level in order of joining. `path`
+//! answers a thread with all for whom it waits through its chain. `pick` is the first of the ready threads.
 //!
 //! `PiKernel` is the trait that a kernel meets. What its calls mean is in `pif_model/specs/PiKernel.antt`.
 #![tactic(auto)]

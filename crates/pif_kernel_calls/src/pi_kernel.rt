@@ -175,10 +175,10 @@ pub trait PiKernel {
         ensures kept { IsKernel (meaning self.new) };
 
     /// The deadline of the living thread `t`, which is queued, parked or stopped, is reached (the timeout of futex(2),
-    /// FUTEX_LOCK_PI and FUTEX_WAIT_REQUEUE_PI). It leaves the mutex on which it is queued, whose owner state goes where
-    /// nobody else waits, or the variable on which it is parked, and all for whom it waited get their new priorities.
-    /// Then it is ready, and joins the end of its level. No word is written: that of a mutex on which nobody is queued
-    /// any more may keep WAITERS.
+    /// FUTEX_LOCK_PI and FUTEX_WAIT_REQUEUE_PI). It leaves the mutex on which it is queued, whose owner state goes
+    /// where nobody else waits, or the variable on which it is parked, and all for whom it waited get their new
+    /// priorities. Then it is ready, and joins the end of its level. No word is written: that of a mutex on which
+    /// nobody is queued any more may keep WAITERS.
     fn expire(&mut self, t: Tid)
         requires living { is_living (meaning self.old) t ≡ true }
         requires unready { is_ready (seat_at (meaning self.old) t).status ≡ false }

@@ -1,5 +1,5 @@
-//! The kernel in a core: `LinkedKernel` is `KernelOn` of `pif_kernel` over `LinkedChains`, whose parts stand in one table
-//! of nodes. For T threads that table has these lists and nodes:
+//! The kernel in a core: `LinkedKernel` is `KernelOn` of `pif_kernel` over `LinkedChains`, whose parts stand in one
+//! table of nodes. For T threads that table has these lists and nodes:
 //!
 //! ```text
 //! lists              of                                  nodes           of

@@ -29,9 +29,9 @@ const BUCKETS: u32 = 64;
 const CONDS: u32 = 256;
 
 /// Chains in one table of nodes, linked by index, with four nodes a thread: as a waiter or a parked thread, as a top
-/// waiter, as a ready thread, and one for the row of an owner state. A list of waiters for each owner state comes first,
-/// then one of top waiters for each thread, the levels, the buckets, and the parked threads of each variable. No call on
-/// these but `new` looks at every thread: a walk goes up one chain.
+/// waiter, as a ready thread, and one for the row of an owner state. A list of waiters for each owner state comes
+/// first, then one of top waiters for each thread, the levels, the buckets, and the parked threads of each variable. No
+/// call on these but `new` looks at every thread: a walk goes up one chain.
 #[derive(Drop)]
 pub struct LinkedChains {
     owners: RtMutexes,
@@ -207,8 +207,8 @@ impl Chains for LinkedChains {
     }
 }
 
-/// Takes the next ticket of a parked thread, which goes up by one. At the last one the tickets of the parked threads are
-/// numbered anew from 1 first, in their order.
+/// Takes the next ticket of a parked thread, which goes up by one. At the last one the tickets of the parked threads
+/// are numbered anew from 1 first, in their order.
 fn take_ticket(buckets: &mut Buckets, table: &mut NodeTable, next: &mut u64) -> u64
     requires holds { HoldsBuckets buckets.old table.old }
     requires few { buckets.old.parked.threads ≤ 1024 }

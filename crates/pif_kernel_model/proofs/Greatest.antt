@@ -125,8 +125,8 @@ unranked x l h = let w : x.wait ≡ option_map (with_rank_priority 0) x.wait = u
 abbrev IsBefore : Owners → ℕ → ℕ → Type 0
 IsBefore v t x = (y : ℕ) × WaitsFor v t y × Reaches (WaitsFor v) y x
 
--- `start` doesn't wait for the thread t, xs are numbers that t reaches over one hop or more, and k is how many there are
--- besides
+-- `start` doesn't wait for the thread t, xs are numbers that t reaches over one hop or more, and k is how many there
+-- are besides
 record IsBack (v : Owners) (start k : ℕ) (xs : List ℕ) (t : ℕ) : Type 0 where
   long : length xs + k ≡ length v.seats
   distinct : IsDistinct eqb xs

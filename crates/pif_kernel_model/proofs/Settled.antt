@@ -25,8 +25,8 @@ use Rattle.pif_kernel_model.proofs.Walks.{admitted_row, repaired-local}
 use Rattle.pif_kernel_model.proofs.Repairs.{IsRepairedTo, greatest-kept}
 use Rattle.pif_nodes_model.proofs.LevelWithLemmas.{queued_found}
 
--- where each thread has the effective priority that it is to have, that is the greatest of its base priority and of those
--- of the threads that wait for it
+-- where each thread has the effective priority that it is to have, that is the greatest of its base priority and of
+-- those of the threads that wait for it
 settled_local : (v : Owners) → ((x : ℕ) → x < length v.seats → local_of v x ≡ greatest_base v x) → (t : ℕ) → IsThread v t
     → local_of v t ≡ max (base_of v t) (greatest_waiting v t)
 settled_local v all t th =

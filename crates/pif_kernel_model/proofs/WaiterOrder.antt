@@ -1,4 +1,5 @@
--- The waiters of a mutex in the order in which they get it: the top waiter first, and then who stands right behind whom.
+-- The waiters of a mutex in the order in which they get it: the top waiter first, and then who stands right behind
+-- whom.
 use Rattle.std.proofs.Common.{◌≡◌, ◌⊎◌, ℕ, suc, ◌<◌, ◌≤◌, Bool, true, List, length, Option, Some, None, option_map, unwrap_or, sym, ap, subst, ◌∙◌, inl, inr, arith}
 use Rattle.std.specs.List.{slice_get}
 use Rattle.std.proofs.lemmas.Bool.{cases_eq, cases_lt}

@@ -24,8 +24,8 @@ base_of v t = (task_at v t).base
 abbrev pub local_of : Owners → ℕ → ℕ
 local_of v t = (task_at v t).local
 
--- what the effective priority of a thread is to be: the greatest base priority of it and of all that wait for it through
--- any chain
+-- what the effective priority of a thread is to be: the greatest base priority of it and of all that wait for it
+-- through any chain
 abbrev pub greatest_base : Owners → ℕ → ℕ
 greatest_base v t = effective_among (length v.seats) (waits_for v) (base_of v) t
 
@@ -47,8 +47,8 @@ with_rank_priority p w = record { state = w.state; rank = record { prio = p; tic
 abbrev pub with_effective : ℕ → Task → Task
 with_effective p x = record { base = x.base; local = p; wait = option_map (with_rank_priority p) x.wait }
 
--- each thread of `old` has in `new` the effective priority that it is to have, also where it waits, and all else is as it
--- was: the states and their owners, the base priorities, and who waits on which state with which ticket
+-- each thread of `old` has in `new` the effective priority that it is to have, also where it waits, and all else is as
+-- it was: the states and their owners, the base priorities, and who waits on which state with which ticket
 pub record IsRepaired (old new : Owners) : Type 0 where
   pub threads : length new.seats ≡ length old.seats
   pub owners : new.owners ≡ old.owners

@@ -14,7 +14,8 @@ pub record Place : Type 0 where
   pub target : ℕ
 
 -- the value: where its lists and nodes begin in the table, for how many threads and variables, where each thread is
--- parked, by number, and for each variable how many neighbours in its list differ in their target; places 0 are nobody's
+-- parked, by number, and for each variable how many neighbours in its list differ in their target; places 0 are
+-- nobody's
 pub record ParkedLists : Type 0 where
   pub first_list : ℕ
   pub first_node : ℕ

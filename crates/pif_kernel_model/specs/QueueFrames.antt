@@ -5,7 +5,8 @@ use Rattle.pif_nodes_model.specs.Table.{NodeLists, list_at, key_at, holder}
 use Rattle.pif_kernel_model.specs.Frames.{IsBeyond, KeepsLists}
 
 -- a change of a user that has so many lists and so many nodes, each from a first on, left all else in the table: the
--- other lists, with the keys of the nodes there, in which list each other node is, and how many lists and nodes there are
+-- other lists, with the keys of the nodes there, in which list each other node is, and how many lists and nodes there
+-- are
 pub record KeepsOthers (first_list list_span first_node node_span : ℕ) (was now : NodeLists) : Type 0 where
   pub lists : (l : ℕ) → IsBeyond first_list list_span l → list_at now l ≡ list_at was l
   pub keys : (l n : ℕ) → IsBeyond first_list list_span l → has n (list_at was l) ≡ true → key_at now n ≡ key_at was n

@@ -86,7 +86,8 @@ pub record IsNextWaiter (effective : ℕ → ℕ) (ws : List (ℕ × ℕ)) (m u 
   pub above_later : (v : ℕ) → list_any (λ w. if w.0 == v then w.1 == m else false) later ≡ true → effective v ≤ effective u
 
 -- these are the threads from t on along whom each waits for, in order: t, the one for which it waits, and so on, up to
--- the one that waits for nobody; none where t is nobody. There is one such list at most, and no thread stands in it twice
+-- the one that waits for nobody; none where t is nobody. There is one such list at most, and no thread stands in it
+-- twice
 abbrev pub IsPath : (ℕ → ℕ) → ℕ → List ℕ → Type 0
 IsPath waits_for t [] = t ≡ 0
 IsPath waits_for t (u ∷ us) = (u ≡ t) × (u ≢ 0) × IsPath waits_for (waits_for u) us

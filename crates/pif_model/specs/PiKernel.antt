@@ -104,8 +104,8 @@ waits_for k u = state_at k (queued_on (seat_at k u).status)
 abbrev pub effective_in : Kernel → ℕ → ℕ
 effective_in k t = effective_among (length k.seats) (waits_for k) (λ u. (seat_at k u).base) t
 
--- these are the threads from t on along whom each waits for, in order, up to the one that waits for nobody; none where t
--- doesn't live
+-- these are the threads from t on along whom each waits for, in order, up to the one that waits for nobody; none where
+-- t doesn't live
 abbrev pub IsPathIn : Kernel → ℕ → List ℕ → Type 0
 IsPathIn k t us = IsPath (waits_for k) (if is_living k t then t else 0) us
 

@@ -1,7 +1,7 @@
 use pif_types::{Answer, CondId, Kind, MutexId, Prio, Refusal, Request, Tid};
 
 /// What a caller hands to a core: a thread begins a call, goes on by one step of its open call, or ends.
-#[derive(Clone, Copy, Debug, PartialEq, Eq, Hash)]
+#[derive(Clone, Copy, Debug, PartialEq, Eq)]
 pub enum Event {
     /// The thread begins this call. No word is touched.
     Begin(Tid, Request),
@@ -15,7 +15,7 @@ pub enum Event {
 }
 
 /// What a core answers to an event.
-#[derive(Clone, Copy, Debug, PartialEq, Eq, Hash)]
+#[derive(Clone, Copy, Debug, PartialEq, Eq)]
 pub enum Seen {
     /// The call is open.
     Begun,
@@ -47,7 +47,7 @@ pub enum Order {
 }
 
 /// One entry of a core's history: an addition that was made, or an event with what it was answered.
-#[derive(Clone, Copy, Debug, PartialEq, Eq, Hash)]
+#[derive(Clone, Copy, Debug, PartialEq, Eq)]
 pub enum Entry {
     /// This thread was added, with this base priority.
     Thread(Tid, Prio),

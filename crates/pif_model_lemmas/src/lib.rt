@@ -8,8 +8,8 @@
 //!    effective 50   50   30   50            the greatest base among those from whom a chain leads to it
 //! ```
 //!
-//! The functions here do nothing, and state laws in their contracts. Other lemmas of `proofs/` are on kernels and lines of
-//! calls, and on what the bits of a word say and a walk along a robust list gives (`RobustWalks.antt` of `specs/`).
+//! The functions here do nothing, and state laws in their contracts. Other lemmas of `proofs/` are on kernels and lines
+//! of calls, and on what the bits of a word say and a walk along a robust list gives (`RobustWalks.antt` of `specs/`).
 #![tactic(auto)]
 
 mod laws;

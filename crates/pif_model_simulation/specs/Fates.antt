@@ -23,8 +23,8 @@ abbrev pub is_wait : Request → Bool
 is_wait (Wait c m) = true
 is_wait _ = false
 
--- whether a call of this request that has come this far waits no more for what its deadline is on: a lock was handed its
--- mutex or has a result, and a wait was unblocked, or has gone on from there
+-- whether a call of this request that has come this far waits no more for what its deadline is on: a lock was handed
+-- its mutex or has a result, and a wait was unblocked, or has gone on from there
 abbrev pub is_past : Request → Progress → Bool
 is_past q Waiting = is_wait q
 is_past q Stuck = is_wait q

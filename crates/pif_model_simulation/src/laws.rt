@@ -22,9 +22,9 @@ pub fn next_waiter_is_first_of_greatest()
     ensures { (effective : ℕ → ℕ) (waiters : List (ℕ × ℕ)) (m : ℕ) → has_waiter waiters m ≡ true → IsNextWaiter effective waiters m (next_waiter effective waiters m) }
 {}
 
-/// A law: where nobody waits twice and no effective priority is above 99, the waiters of a mutex in order are those that
-/// get it, one after another: its next waiter, and then the order of those that wait when that one has it. Where nobody
-/// waits for it there is none.
+/// A law: where nobody waits twice and no effective priority is above 99, the waiters of a mutex in order are those
+/// that get it, one after another: its next waiter, and then the order of those that wait when that one has it. Where
+/// nobody waits for it there is none.
 pub fn waiters_get_a_mutex_in_order()
     ensures none { (effective : ℕ → ℕ) (waiters : List (ℕ × ℕ)) (m : ℕ) → has_waiter waiters m ≡ false → waiting_order effective waiters m ≡ [] }
     ensures next { (effective : ℕ → ℕ) (waiters : List (ℕ × ℕ)) (m : ℕ) → IsDistinct eqb (map (λ (w : ℕ × ℕ). w.0) waiters) → ((u : ℕ) → effective u ≤ 99) → has_waiter waiters m ≡ true → waiting_order effective waiters m ≡ next_waiter effective waiters m ∷ waiting_order effective (without waiters (next_waiter effective waiters m)) m }
@@ -69,8 +69,8 @@ pub fn expiry_leaves_mutexes()
     ensures { (thread : ℕ) (before after : World) → Expires thread before after → (m : ℕ) → mutex_at after m ≡ mutex_at before m }
 {}
 
-/// A law: ETIMEDOUT (110) is answered only to a call that expired while it was among the waiters of a mutex, was stuck or
-/// was parked: one that was handed its mutex, was unblocked or had a result before that is never answered so.
+/// A law: ETIMEDOUT (110) is answered only to a call that expired while it was among the waiters of a mutex, was stuck
+/// or was parked: one that was handed its mutex, was unblocked or had a result before that is never answered so.
 pub fn timed_out_call_has_expired()
     ensures { (limits : Bounds) (history : List Entry) (states : List World) (before last : World) (thread : ℕ) → IsRun limits (Happened (Go thread) (Answered ETIMEDOUT) ∷ history) (before ∷ states) last → fate thread (Happened (Go thread) (Answered ETIMEDOUT) ∷ history) (before ∷ states) ≡ Expired }
 {}

@@ -23,9 +23,9 @@ table_of l ws k lists lines timers mutexes conds time = record {
   time = time;
 }
 
--- the parts fit together: limits are in their ranges and those of the kernel, there is a line and a timer for each of the
--- kernel's threads, a robust list for each thread that the limits allow, a word and a health word for each mutex that they
--- allow, and a condition word for each variable that they allow, of which some were added
+-- the parts fit together: limits are in their ranges and those of the kernel, there is a line and a timer for each of
+-- the kernel's threads, a robust list for each thread that the limits allow, a word and a health word for each mutex
+-- that they allow, and a condition word for each variable that they allow, of which some were added
 pub record IsAssembled (s : Table) : Type 0 where
   pub within : IsWithin s.limits
   pub limits : s.kernel.limits ≡ s.limits

@@ -13,8 +13,8 @@ is_on_mutex (Give x y) = true
 is_on_mutex p = is_locking p
 
 -- whether a call is open at this line whose next step is one on mutexes: a call on mutexes, a change of priority, or a
--- wait at a place where it gives its mutex up, or of lock from the exchange on. A timed request is open nowhere, since a
--- begin splits it; a step of one is that of any request at a place of another
+-- wait at a place where it gives its mutex up, or of lock from the exchange on. A timed request is open nowhere, since
+-- a begin splits it; a step of one is that of any request at a place of another
 abbrev pub is_of_mutexes : Line → Bool
 is_of_mutexes Idle = false
 is_of_mutexes (At (Wait c m) p) = is_on_mutex p

@@ -44,19 +44,19 @@
 //! | `Repair(StoreFine)` | stores in the health word that the mutex is fine | 0 |
 //! | `SetPriority` | set_prio | 0, or its error |
 //!
-//! A call that is begun with a deadline is the call without one, and a timer of its thread, which has the deadline. Such a
-//! call is due where its deadline is reached and counts: that of a lock while it is queued or stopped, that of a wait
-//! while it is parked. Its next step is then its expiry, and nothing else: a row with 'due', or of a parked wait that of
-//! `pif_cond`. A thread that was handed its mutex, or taken off its variable, is due no more. A wait that expired is
-//! answered ETIMEDOUT where its lock would be answered 0; its timer says so, and no place does.
+//! A call that is begun with a deadline is the call without one, and a timer of its thread, which has the deadline.
+//! Such a call is due where its deadline is reached and counts: that of a lock while it is queued or stopped, that of a
+//! wait while it is parked. Its next step is then its expiry, and nothing else: a row with 'due', or of a parked wait
+//! that of `pif_cond`. A thread that was handed its mutex, or taken off its variable, is due no more. A wait that
+//! expired is answered ETIMEDOUT where its lock would be answered 0; its timer says so, and no place does.
 //!
-//! `lock`, `try_lock`, `unlock`, `consistent` and `set_priority` have the lines of each call; `taking` and `linking` what
-//! lock, trylock and wait share; `giving` how a mutex is given up, by whichever call; `lists` the robust lists; `kernel`
-//! the kernel calls; `deadlines` what a request is without its deadline, and which calls are due; `kinds` what a lock by
-//! the owner does; `end` the end of a thread; and `step` which line a step is.
-//! All are methods of `State`, which keeps only that the parts fit together; `Parts` keeps besides that they are sound,
-//! by which each open call may take its next step. `lines` has the trait by which `Parts` lend their state to one
-//! line, of this crate or of pif_cond.
+//! `lock`, `try_lock`, `unlock`, `consistent` and `set_priority` have the lines of each call; `taking` and `linking`
+//! what lock, trylock and wait share; `giving` how a mutex is given up, by whichever call; `lists` the robust lists;
+//! `kernel` the kernel calls; `deadlines` what a request is without its deadline, and which calls are due; `kinds` what
+//! a lock by the owner does; `end` the end of a thread; and `step` which line a step is. All are methods of `State`,
+//! which keeps only that the parts fit together; `Parts` keeps besides that they are sound, by which each open call may
+//! take its next step. `lines` has the trait by which `Parts` lend their state to one line, of this crate or of
+//! pif_cond.
 #![tactic(auto)]
 
 mod consistent;

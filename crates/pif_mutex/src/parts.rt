@@ -160,8 +160,8 @@ impl<K: PiKernel + Drop> Parts<K> {
         }
     }
 
-    /// Whether the open call of a thread, which was added, is due: its deadline counts, and is reached. Its next step is
-    /// its expiry then. False where it has none.
+    /// Whether the open call of a thread, which was added, is due: its deadline counts, and is reached. Its next step
+    /// is its expiry then. False where it has none.
     pub fn is_due(&self, t: Tid) -> bool
         requires { has_thread self.now t ≡ true }
         ensures { result ≡ is_due_in self.now t }
@@ -301,8 +301,8 @@ impl<K: PiKernel + Drop> Parts<K> {
         self.state.kernel.ready(place)
     }
 
-    /// The threads from a living one on along whom each waits for, in order: the thread, the owner of the mutex on which
-    /// it is queued, and so on, up to the one that waits for nobody. None where no living thread has that number.
+    /// The threads from a living one on along whom each waits for, in order: the thread, the owner of the mutex on
+    /// which it is queued, and so on, up to the one that waits for nobody. None where no living thread has that number.
     pub fn path(&self, t: Tid) -> ArrayVec<Tid, 1024>
         ensures { IsPathAnswer t self.now result.items }
     {

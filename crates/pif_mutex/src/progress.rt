@@ -1,7 +1,7 @@
 use pif_types::Answer;
 
 /// What a step of an open call came to.
-#[derive(Clone, Copy, Debug, PartialEq, Eq, Hash)]
+#[derive(Clone, Copy, Debug, PartialEq, Eq)]
 pub enum Progress {
     /// The call goes on.
     Went,

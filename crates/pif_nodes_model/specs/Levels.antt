@@ -40,7 +40,8 @@ IsThreadNode q n = (q.first_node ≤ n) × (n < q.first_node + q.threads)
 abbrev pub level_of : Queue → NodeLists → ℕ → List ℕ
 level_of q t p = map (thread_for q) (list_at t (list_for q p))
 
--- the threads of the levels below n, those of the greatest first, and of each level in the order in which they joined it
+-- the threads of the levels below n, those of the greatest first, and of each level in the order in which they joined
+-- it
 unfoldable pub all_below : Queue → NodeLists → ℕ → List ℕ
 all_below q t zero = []
 all_below q t (suc zero) = []
@@ -67,8 +68,8 @@ pub record Holds (q : Queue) (t : NodeLists) : Type 0 where
   -- no other bit is set
   pub no_more : (p : ℕ) → bit_at q.mask p ≡ 1 → IsLevel p
 
--- a queue with no thread may stand in a table that has the lists of its levels, all empty, and the nodes of its threads,
--- which are in no list
+-- a queue with no thread may stand in a table that has the lists of its levels, all empty, and the nodes of its
+-- threads, which are in no list
 pub record HasRoom (q : Queue) (t : NodeLists) : Type 0 where
   pub apart : IsApart t
   pub lists : q.first_list + 99 ≤ length t.lists

@@ -38,10 +38,10 @@ use pif_types::{Prio, Tid};
 ///
 /// Before the call nothing may be left to repair but the effective priority of `start`, which was admitted: each other
 /// thread has the greatest of its base priority and of the effective priorities of those that wait for it, and every
-/// waiter, `start` too, stands with the effective priority that it has. The threads of the run queue were admitted, wait
-/// for nobody, and are on the levels of the effective priorities that they have. So only `start` and those for whom it
-/// waits can get another priority, and at most one thread, the last of them, joins another level (`one`).
-/// After the call nothing is left to repair, and each thread of the run queue is on the level of its priority.
+/// waiter, `start` too, stands with the effective priority that it has. The threads of the run queue were admitted,
+/// wait for nobody, and are on the levels of the effective priorities that they have. So only `start` and those for
+/// whom it waits can get another priority, and at most one thread, the last of them, joins another level (`one`). After
+/// the call nothing is left to repair, and each thread of the run queue is on the level of its priority.
 pub fn walk(owners: &mut RtMutexes, queue: &mut RunQueue, table: &mut NodeTable, start: Tid) -> u32
     requires admitted { 1 ≤ base_of owners.old start }
     requires repaired { IsRepairedBut start owners.old }

@@ -17,7 +17,8 @@
 //! | after `enqueue` | `Some`, where it was admitted | the state on which it is queued, and its ticket there |
 //!
 //! A waiter stands among the others by the priority that `enqueue` or `rekey` last handed in, and of equals by its
-//! ticket. `local` is the effective priority as it was last set; nothing here keeps the two the same (`chain_walk` does).
+//! ticket. `local` is the effective priority as it was last set; nothing here keeps the two the same (`chain_walk`
+//! does).
 ghost use Rattle.std.specs.Prelude.{◌≡◌, ◌≢◌, ℕ, ◌+◌, ◌<◌, ◌≤◌, ◌↔◌, length, IfOk, IfSome, IfNone, OnSome, IsSome, Some, None, option_map};
 ghost use Rattle.std.specs.Option.{ForSome};
 ghost use Rattle.pif_model.specs.Graph.{Reaches};
@@ -37,8 +38,8 @@ use slab::Slab;
 use std::alloc::Global;
 use std::marker::Model;
 
-/// Owner states with their waiters, and a row for each thread (the RT-mutex design of Linux). A thread without a row reads
-/// as one that was not admitted: its priorities are 0, and it waits for nothing.
+/// Owner states with their waiters, and a row for each thread (the RT-mutex design of Linux). A thread without a row
+/// reads as one that was not admitted: its priorities are 0, and it waits for nothing.
 #[derive(Drop)]
 pub struct RtMutexes {
     rows: Vec<Row>,
@@ -108,7 +109,8 @@ impl RtMutexes {
         known.priorities.base()
     }
 
-    /// Makes `prio` the base priority of the thread `t`. All else stays as it was, and so does all where `t` has no row.
+    /// Makes `prio` the base priority of the thread `t`. All else stays as it was, and so does all where `t` has no
+    /// row.
     pub fn set_base(&mut self, t: Tid, prio: Prio)
         ensures changed { self.new ≡ with_base t prio self.old }
         ensures acyclic { IsAcyclic self.new }
@@ -131,8 +133,8 @@ impl RtMutexes {
         known.priorities.local()
     }
 
-    /// Makes `prio` the effective priority of the thread `t`. All else stays as it was, and so does all where `t` has no
-    /// row.
+    /// Makes `prio` the effective priority of the thread `t`. All else stays as it was, and so does all where `t` has
+    /// no row.
     pub fn set_local(&mut self, t: Tid, prio: Prio)
         ensures changed { self.new ≡ with_local t prio self.old }
         ensures acyclic { IsAcyclic self.new }
@@ -182,8 +184,8 @@ impl RtMutexes {
         Tid::new(first)
     }
 
-    /// The waiter that stands right behind the thread `t`, which is queued on a state, among those of that state. `None`
-    /// if `t` is the last of them.
+    /// The waiter that stands right behind the thread `t`, which is queued on a state, among those of that state.
+    /// `None` if `t` is the last of them.
     pub fn behind(&self, t: Tid) -> Option<Tid>
         requires { IsSome (waits_on self.now t) }
         ensures last { IfNone result (IsLast self.now t) }
@@ -198,8 +200,8 @@ impl RtMutexes {
         Tid::new(first)
     }
 
-    /// Queues the thread `t`, which waits for nothing, on a state, with this priority and ticket. The owner of the state
-    /// may not be `t`, nor wait for it through any chain. All other threads and all states stay as they were.
+    /// Queues the thread `t`, which waits for nothing, on a state, with this priority and ticket. The owner of the
+    /// state may not be `t`, nor wait for it through any chain. All other threads and all states stay as they were.
     pub fn enqueue(&mut self, key: Key, t: Tid, prio: Prio, ticket: u64)
         requires state { IsSome (owner_at self.old key) }
         requires row { t < length self.old.seats }
@@ -253,8 +255,8 @@ impl RtMutexes {
         Some(wait.rank.ticket)
     }
 
-    /// Gives the thread `t`, which is queued on a state, another ticket, with which it stands among the other waiters of
-    /// that state as before. It keeps its priority, and all else stays as it was.
+    /// Gives the thread `t`, which is queued on a state, another ticket, with which it stands among the other waiters
+    /// of that state as before. It keeps its priority, and all else stays as it was.
     pub fn set_ticket(&mut self, t: Tid, ticket: u64)
         requires queued { IsSome (waits_on self.old t) }
         requires order { KeepsOrder self.old t ticket }
@@ -371,8 +373,8 @@ impl RtMutexes {
         }
     }
 
-    /// The rank with which a thread stands behind the thread `t` among the waiters of its state. `None` where it doesn't
-    /// stand behind it.
+    /// The rank with which a thread stands behind the thread `t` among the waiters of its state. `None` where it
+    /// doesn't stand behind it.
     fn standing_behind(&self, t: Tid, u: u32) -> Option<Rank>
         ensures { result ≡ standing_behind self.now t u }
     {

@@ -4,7 +4,8 @@ ghost use Rattle.pif_plain.specs.Standing.{leads};
 use pif_nodes::Key as Rank;
 use pif_plist::precedes;
 
-/// Whether `one` stands before `other` among the waiters of a state. Who doesn't stand there is `None`, and leads nobody.
+/// Whether `one` stands before `other` among the waiters of a state. Who doesn't stand there is `None`, and leads
+/// nobody.
 pub fn leads(one: Option<Rank>, other: Option<Rank>) -> bool
     ensures { result ≡ leads one other }
 {

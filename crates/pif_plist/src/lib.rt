@@ -1,5 +1,5 @@
-//! One list of a node table, kept in the order of its nodes' keys: the higher priority first, and of equal priorities the
-//! lower ticket. No call takes memory.
+//! One list of a node table, kept in the order of its nodes' keys: the higher priority first, and of equal priorities
+//! the lower ticket. No call takes memory.
 //!
 //! ```text
 //!  head                                end
@@ -9,8 +9,8 @@
 //!  insert d with (20, 4):           b ⇄ c ⇄ d ⇄ a                       behind its equals
 //! ```
 //!
-//! Putting a node at the head or at the end takes constant time, so a thousand equals queue in linear time; anywhere else
-//! the list is walked from its head.
+//! Putting a node at the head or at the end takes constant time, so a thousand equals queue in linear time; anywhere
+//! else the list is walked from its head.
 #![tactic(auto)]
 
 mod order;

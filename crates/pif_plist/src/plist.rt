@@ -143,8 +143,8 @@ impl PList {
     }
 }
 
-/// Whether `node` stands in its list where it would with this key: the node before it comes no later, and the one behind
-/// it comes later.
+/// Whether `node` stands in its list where it would with this key: the node before it comes no later, and the one
+/// behind it comes later.
 fn keeps_place(table: &NodeTable, node: Node, key: Key) -> bool
     requires { node < length table.now.keys }
     ensures apart { IsApart table.now }

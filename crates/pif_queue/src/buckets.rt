@@ -37,8 +37,8 @@ impl Model for Buckets {
 }
 
 impl Buckets {
-    /// No word and nobody parked, for `threads` threads, at most 1,024, and `conds` variables. In its table the 64 lists
-    /// from `first_list` on are the buckets, and those behind them the lists of the variables. The nodes from
+    /// No word and nobody parked, for `threads` threads, at most 1,024, and `conds` variables. In its table the 64
+    /// lists from `first_list` on are the buckets, and those behind them the lists of the variables. The nodes from
     /// `first_node` on, one for each thread, are those of the rows of owner states, and the nodes of the threads are
     /// those from `wait_node` on. It takes three pieces of memory, and answers `NoMemory` if one is refused.
     pub fn new(
@@ -75,8 +75,8 @@ impl Buckets {
         self.entries.find(table, word)
     }
 
-    /// Gives a word, which has no owner state, the one of this key and this row, which no word has. All else stays as it
-    /// was.
+    /// Gives a word, which has no owner state, the one of this key and this row, which no word has. All else stays as
+    /// it was.
     pub fn put(&mut self, table: &mut NodeTable, word: u32, key: Key, row: u32)
         requires holds { HoldsBuckets self.old table.old }
         requires row { IsRow self.old.entries row }
@@ -212,8 +212,8 @@ impl Buckets {
         self.parked.set_ticket(table, t, ticket);
     }
 
-    /// Numbers the tickets of all parked threads, of which no two may have the same, anew from 1, in their order. Answers
-    /// the ticket behind the last. All else stays as it was.
+    /// Numbers the tickets of all parked threads, of which no two may have the same, anew from 1, in their order.
+    /// Answers the ticket behind the last. All else stays as it was.
     pub fn renumber(&mut self, table: &mut NodeTable) -> u64
         requires holds { HoldsBuckets self.old table.old }
         requires tickets { HaveTickets (parked_at self.old.parked table.old) }

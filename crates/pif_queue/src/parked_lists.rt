@@ -34,8 +34,8 @@ impl Model for Place {
     ghost inverse = { λ x. record { cond = x.cond; target = x.target } };
 }
 
-/// The threads that are parked on condition variables (futex(2), FUTEX_WAIT_REQUEUE_PI): a list for each variable, in the
-/// order in which they are taken.
+/// The threads that are parked on condition variables (futex(2), FUTEX_WAIT_REQUEUE_PI): a list for each variable, in
+/// the order in which they are taken.
 #[derive(Drop)]
 pub struct ParkedLists {
     first_list: u32,
@@ -73,9 +73,9 @@ impl Model for ParkedLists {
 }
 
 impl ParkedLists {
-    /// Nobody parked, of `threads` threads, at most 1,024, on `conds` variables. In its table the lists of the variables
-    /// are those from `first_list` on, and the nodes of the threads those from `first_node` on. It takes two pieces of
-    /// memory, and answers `NoMemory` if one is refused.
+    /// Nobody parked, of `threads` threads, at most 1,024, on `conds` variables. In its table the lists of the
+    /// variables are those from `first_list` on, and the nodes of the threads those from `first_node` on. It takes two
+    /// pieces of memory, and answers `NoMemory` if one is refused.
     pub fn new(
         alloc: Global,
         first_list: u32,
@@ -198,8 +198,8 @@ impl ParkedLists {
         }
     }
 
-    /// Numbers the tickets of all parked threads anew from 1, in their order. Answers the ticket behind the last. All else
-    /// stays as it was.
+    /// Numbers the tickets of all parked threads anew from 1, in their order. Answers the ticket behind the last. All
+    /// else stays as it was.
     pub fn renumber(&mut self, table: &mut NodeTable) -> u64
         requires holds { HoldsParked self.old table.old }
         requires tickets { HaveTickets (parked_at self.old table.old) }

@@ -1,6 +1,6 @@
 //! The quick path: words with a value each, of which one pass at a time has the value. A free word is taken, and given
-//! back, by one compare-exchange; a pass that finds it taken may wait for it. None of it goes through the core: there are
-//! no POSIX answers and no priorities, and nobody helps when a thread that holds a value ends.
+//! back, by one compare-exchange; a pass that finds it taken may wait for it. None of it goes through the core: there
+//! are no POSIX answers and no priorities, and nobody helps when a thread that holds a value ends.
 //!
 //! One caller, of two threads that add to one value. The program `pif_demo` has it whole.
 //!

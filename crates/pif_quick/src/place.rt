@@ -51,7 +51,8 @@ pub(crate) fn take<T>(
     Ok(pick_up(shelf, place, word))
 }
 
-/// Takes the word with its value if a load finds that it is 0. `None`, with nothing changed, if it isn't, or is no more.
+/// Takes the word with its value if a load finds that it is 0. `None`, with nothing changed, if it isn't, or is no
+/// more.
 pub(crate) fn take_free<T>(
     shelf: &Shelf<T>,
     place: &mut Place<T>,

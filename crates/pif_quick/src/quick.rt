@@ -11,8 +11,8 @@ use crate::rule::{Board, Place, Shelf};
 use std::snapshot::Snapshot;
 use std::sync::{Condvar, Mutex};
 
-/// Words with a value each, of which a pass at a time has one. Each pass that waits sleeps on a `Condvar` of its own, at
-/// the place of its number; the first is nobody's.
+/// Words with a value each, of which a pass at a time has one. Each pass that waits sleeps on a `Condvar` of its own,
+/// at the place of its number; the first is nobody's.
 #[derive(Drop)]
 pub struct Quick<T: Drop> {
     board: Board<T>,
@@ -29,8 +29,8 @@ pub struct Pass<T> {
     places: Vec<Place<T>>,
 }
 
-/// A value that a pass holds, with its word. It goes with the words that it was locked among: no other `Quick` takes it.
-/// A `Held` that is let go leaves its word locked for good: give it back by `unlock_quiet` or `unlock`.
+/// A value that a pass holds, with its word. It goes with the words that it was locked among: no other `Quick` takes
+/// it. A `Held` that is let go leaves its word locked for good: give it back by `unlock_quiet` or `unlock`.
 #[derive(Drop)]
 pub struct Held<T> {
     value: T,

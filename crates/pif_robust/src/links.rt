@@ -50,8 +50,8 @@ impl Head {
     }
 }
 
-/// Where a walk comes to whose next entry is `next`: the pending mutex of `head` is passed over there, and stands at the
-/// end.
+/// Where a walk comes to whose next entry is `next`: the pending mutex of `head` is passed over there, and stands at
+/// the end.
 pub(crate) fn settle(links: &[Link], head: &Head, next: Option<MutexId>) -> Option<MutexId>
     requires { ForSome next (λ p. p < length links.now) }
     ensures { (t pending : ℕ) (before : Option ℕ) (ms : List ℕ) → head.now.pending ≡ named_mutex pending

@@ -9,9 +9,9 @@ use pif_types::{Limits, MutexId, NoMemory, Tid};
 use std::alloc::Global;
 use std::marker::Model;
 
-/// For each thread its list of robust mutexes, the mutex that it has half-linked, and its pending field. A mutex is on at
-/// most one list, and once; a half-linked one is on none, and half-linked by one thread alone. A thread outside the limits
-/// reads as one that has nothing.
+/// For each thread its list of robust mutexes, the mutex that it has half-linked, and its pending field. A mutex is on
+/// at most one list, and once; a half-linked one is on none, and half-linked by one thread alone. A thread outside the
+/// limits reads as one that has nothing.
 #[derive(Drop)]
 pub struct RobustLists {
     links: Vec<Link>,
@@ -34,8 +34,8 @@ impl Model for RobustLists {
 }
 
 impl RobustLists {
-    /// An empty list for each thread that `limits` allow. Takes two pieces of memory, and answers `NoMemory` where one is
-    /// refused. No other call takes any.
+    /// An empty list for each thread that `limits` allow. Takes two pieces of memory, and answers `NoMemory` where one
+    /// is refused. No other call takes any.
     pub fn new(alloc: Global, limits: Limits) -> Result<RobustLists, NoMemory>
         ensures made { IfOk result (λ l. l ≡ no_robust limits) }
         ensures sound { IfOk result IsRobust }
@@ -45,8 +45,8 @@ impl RobustLists {
         Ok(RobustLists { links, heads })
     }
 
-    /// Makes `m` the mutex that the pending field of `t` names. Both have to lie within the limits. All else stays as it
-    /// was.
+    /// Makes `m` the mutex that the pending field of `t` names. Both have to lie within the limits. All else stays as
+    /// it was.
     pub fn set_pending(&mut self, t: Tid, m: MutexId)
         requires thread { t < length self.old.threads }
         requires mutex { m ≤ self.old.mutexes }
@@ -57,8 +57,8 @@ impl RobustLists {
         self.heads[t.get() as usize].pending = Some(m);
     }
 
-    /// Makes the pending field of `t` name no mutex. All else stays as it was, and so does all where `t` lies outside the
-    /// limits.
+    /// Makes the pending field of `t` name no mutex. All else stays as it was, and so does all where `t` lies outside
+    /// the limits.
     pub fn clear_pending(&mut self, t: Tid)
         ensures pending { self.new ≡ without_pending t self.old }
         ensures sound { IsRobust self.new }
@@ -88,8 +88,8 @@ impl RobustLists {
         self.heads[t.get() as usize].half_linked = Some(m);
     }
 
-    /// Writes the head of the list of `t`, so that it names `m`, which `t` has half-linked: from then on `m` is the first
-    /// on that list, and `t` has nothing half-linked. All else stays as it was.
+    /// Writes the head of the list of `t`, so that it names `m`, which `t` has half-linked: from then on `m` is the
+    /// first on that list, and `t` has nothing half-linked. All else stays as it was.
     pub fn link_head(&mut self, t: Tid, m: MutexId)
         requires { (robust_at self.old t).half_linked ≡ m }
         ensures listed { self.new ≡ with_listed t m self.old }
@@ -99,8 +99,8 @@ impl RobustLists {
         join(&mut self.links, &mut self.heads, t, m, next);
     }
 
-    /// Takes `m` off the list of `t`, on which it is; the others keep their order. What `t` had half-linked it has so no
-    /// longer. All else stays as it was.
+    /// Takes `m` off the list of `t`, on which it is; the others keep their order. What `t` had half-linked it has so
+    /// no longer. All else stays as it was.
     pub fn unlink(&mut self, t: Tid, m: MutexId)
         requires { is_listed self.old t m ≡ true }
         ensures unlisted { self.new ≡ without_listed t m self.old }
@@ -152,7 +152,8 @@ impl RobustLists {
     }
 
     /// Empties the list of `t` and its pending field, and ends what it has half-linked. All other threads' stay as they
-    /// were, and so does all where `t` lies outside the limits. It takes as many steps as there are mutexes on the list.
+    /// were, and so does all where `t` lies outside the limits. It takes as many steps as there are mutexes on the
+    /// list.
     pub fn forget(&mut self, t: Tid)
         ensures forgotten { self.new ≡ without_robust t self.old }
         ensures sound { IsRobust self.new }
@@ -166,7 +167,8 @@ impl RobustLists {
         }
     }
 
-    /// The mutex that the pending field of `t` names. `None` where it names none, and where `t` lies outside the limits.
+    /// The mutex that the pending field of `t` names. `None` where it names none, and where `t` lies outside the
+    /// limits.
     pub fn pending(&self, t: Tid) -> Option<MutexId>
         ensures value { result ≡ named_mutex (robust_at self.now t).pending }
         ensures sound { IsRobust self.now }

@@ -13,8 +13,8 @@ pub record IsStored (m : States) (k : ℕ) (s : State) : Type 0 where
   pub owner : get m.owners k ≡ Some s.owner
   pub row : get m.places k ≡ Some s.row
 
--- what a change of the waiters of state k, owned by o, leaves of which thread u came, went or got another key: all but the
--- top waiters is right, and the owner states are these
+-- what a change of the waiters of state k, owned by o, leaves of which thread u came, went or got another key: all but
+-- the top waiters is right, and the owner states are these
 pub record IsStep (m n : States) (t now : NodeLists) (k o u : ℕ) (v : Owners) : Type 0 where
   pub frame : n ≡ record m { rows = n.rows; owners = n.owners }
   pub waiters : HoldsWaiters n now

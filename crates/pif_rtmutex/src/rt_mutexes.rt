@@ -217,8 +217,8 @@ impl RtMutexes {
         self.first(table, key)
     }
 
-    /// The waiter that stands right behind the thread `t`, which is queued on a state, among those of that state. `None`
-    /// if `t` is the last of them.
+    /// The waiter that stands right behind the thread `t`, which is queued on a state, among those of that state.
+    /// `None` if `t` is the last of them.
     pub fn behind(&self, table: &NodeTable, t: Tid) -> Option<Tid>
         requires holds { HoldsStates self.now table.now }
         requires queued { IsSome (waits_on (owners_in self.now table.now) t) }

@@ -215,7 +215,8 @@ impl RunQueue {
     }
 }
 
-/// The node of a list before which `before` others stand. `None` where it has so few, which are taken off `before` then.
+/// The node of a list before which `before` others stand. `None` where it has so few, which are taken off `before`
+/// then.
 fn nth_of_list(table: &NodeTable, list: List, before: &mut u32) -> Option<Node>
     requires { list < length table.now.lists }
     ensures nth { result ≡ slice_get (list_at table.now list) before.old }

@@ -35,8 +35,8 @@ pub const END_ROOM: usize = VERDICT_ROOM + 1;
 /// The most bytes that are read at once.
 pub const CHUNK: usize = 4096;
 
-/// How many bytes of answers are written before there are more. Replies to the lines of a chunk, of which each byte ends
-/// at most one, are no more.
+/// How many bytes of answers are written before there are more. Replies to the lines of a chunk, of which each byte
+/// ends at most one, are no more.
 pub const FULL: usize = CHUNK * REPLY_ROOM;
 
 /// Room for answers that are not yet too many, for one more, and for what is said at an end.
@@ -73,8 +73,8 @@ pub trait Listener: Sized {
     // How this listener hears a script.
     ghost hearing: { Hearing Self };
 
-    /// The listener that a line makes while there is none, or `None` where the line is passed over. `version` is the one
-    /// that the first line named, if that line was passed over. The answer to the line is appended to `output`.
+    /// The listener that a line makes while there is none, or `None` where the line is passed over. `version` is the
+    /// one that the first line named, if that line was passed over. The answer to the line is appended to `output`.
     ///
     /// # Errors
     ///

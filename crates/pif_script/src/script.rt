@@ -13,8 +13,8 @@ use std::alloc::Global;
 use std::io::{Read, Write};
 
 /// Reads a script or a trace to its end, or to the first line that ends it. What its lines are answered is written,
-/// chunk by chunk, before more is read, and at last what is said at its end, or of the line that ends it. `notice` keeps
-/// that line, and is left as it is where there is none.
+/// chunk by chunk, before more is read, and at last what is said at its end, or of the line that ends it. `notice`
+/// keeps that line, and is left as it is where there is none.
 ///
 /// # Errors
 ///

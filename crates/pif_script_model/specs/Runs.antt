@@ -84,8 +84,8 @@ RunsPart h s t before after held holds (Ok true) =
 RunsPart h s t before after held holds (Ok false) = RunsFrom h s before after held holds (Ok tt)
 RunsPart h s t before after held holds (Err e) = RunsFrom h s before after held holds (Err e)
 
--- bytes that were read from where the script stood at s, and left it at t: what their lines are answered was written; or
--- they ended the run
+-- bytes that were read from where the script stood at s, and left it at t: what their lines are answered was written;
+-- or they ended the run
 abbrev pub Feeds : {S : Type 0} → Hearing S → Scan S → List ℕ → Scan S → (held holds : Option (List ℕ))
     → Result (Unit {0}) CliFault → Type 0
 Feeds h s read t held holds (Ok x) =

@@ -71,8 +71,8 @@ addition_entries (Thread p) s = thread_entries p (add_thread_answer p s)
 addition_entries (Mutex k robust) s = mutex_entries k robust (add_mutex_answer s)
 addition_entries (Cond m) s = cond_entries m (add_cond_answer m s)
 
--- the entries that a command makes of a core that stands at s: additions that were made, and each event, refused or not;
--- a question makes none
+-- the entries that a command makes of a core that stands at s: additions that were made, and each event, refused or
+-- not; a question makes none
 unfoldable pub command_entries : Command → Table → List Entry
 command_entries (Limits t m c n) s = []
 command_entries (Add a) s = addition_entries a s
@@ -101,8 +101,8 @@ entries_by (Some s) c = command_entries c s
 unfoldable pub line_entries : Scan Table → List Entry
 line_entries s = elim (command_in s.line) [ None ↦ [] | Some c ↦ entries_by s.listener c ]
 
--- the entries that a script makes that stands at s and goes on so, up to its first fault or its end: those of each line,
--- at its LF
+-- the entries that a script makes that stands at s and goes on so, up to its first fault or its end: those of each
+-- line, at its LF
 unfoldable pub script_entries : Scan Table → List ℕ → List Entry
 script_entries s [] = []
 script_entries s (b ∷ bs) =
@@ -123,7 +123,8 @@ script_limits s (b ∷ bs) =
       | Err e ↦ None
     ]
 
--- what is written of a script of these bytes: the trace of the entries that it makes, and nothing where it makes no core
+-- what is written of a script of these bytes: the trace of the entries that it makes, and nothing where it makes no
+-- core
 unfoldable pub script_trace : List ℕ → List ℕ
 script_trace bytes = elim (script_limits start bytes) [ None ↦ [] | Some b ↦ trace b (script_entries start bytes) ]
 
@@ -210,8 +211,8 @@ first_line_lines line = elim (command_in line) [ None ↦ [] | Some c ↦ first_
 unfoldable pub later_line_lines : Table → List ℕ → List ℕ
 later_line_lines s line = elim (command_in line) [ None ↦ [] | Some c ↦ entry_lines (command_entries c s) ]
 
--- how a script is heard whose trace is written: as in a run, but for what its lines are answered; nothing is said of the
--- line that ends it
+-- how a script is heard whose trace is written: as in a run, but for what its lines are answered; nothing is said of
+-- the line that ends it
 abbrev pub transcript : Hearing Table
 transcript = record {
   first_meaning = λ version line. first_with_text (first_line_lines line) (first_line_meaning line);

@@ -3,8 +3,8 @@ use pif_story_model::AnsweredRow;
 use pif_text::{Command, Reply};
 use std::alloc::{AllocError, Global};
 
-/// Where the commands of a story stand, beside what they ask for and what they are answered, in their order. As many are
-/// told as there are of both.
+/// Where the commands of a story stand, beside what they ask for and what they are answered, in their order. As many
+/// are told as there are of both.
 ///
 /// # Errors
 ///

@@ -37,8 +37,8 @@ impl Bar {
         self.owner == Some(owner) && self.slot == slot
     }
 
-    /// Looks at who holds the mutex behind a command, and draws what was before if that changed. From now on it is drawn
-    /// in this place.
+    /// Looks at who holds the mutex behind a command, and draws what was before if that changed. From now on it is
+    /// drawn in this place.
     fn see(&mut self, core: &Core, slot: u32, moment: Moment, plan: &Plan, sheet: &mut Sheet) {
         let owner = self.owner_now(core);
         if owner != self.owner {

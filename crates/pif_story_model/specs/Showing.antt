@@ -29,8 +29,8 @@ abbrev pub LeavesScriptTo : (before after : Option (List ℕ)) → Result (List 
 LeavesScriptTo before after script =
     (read : List ℕ) × Consumes before after read × (length read ≤ 16777217) × LeavesScript read after script
 
--- a script was shown, or its trace was written, as a reader's whole input; what is left of that does not matter. Without
--- a script nothing was written, and it ends as reading the story did
+-- a script was shown, or its trace was written, as a reader's whole input; what is left of that does not matter.
+-- Without a script nothing was written, and it ends as reading the story did
 abbrev pub EndsWith : (does : (before after held holds : Option (List ℕ)) → Result (Unit {0}) CliFault → Type 0)
     → Result (List ℕ) CliFault → (held holds : Option (List ℕ)) → Result (Unit {0}) CliFault → Type 0
 EndsWith does (Ok script) held holds result = (left : Option (List ℕ)) × does (Some script) left held holds result

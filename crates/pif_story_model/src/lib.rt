@@ -1,6 +1,6 @@
-//! Stories, as definitions: their lines, the script that is left of one, its answers beside the lines that a run prints,
-//! filling in, the line that says what a story comes to, and what checking, filling in, showing or tracing one reads,
-//! writes and answers. The definitions are in `specs/`. `proofs/` has the lemmas on them, which `pif_story` and
+//! Stories, as definitions: their lines, the script that is left of one, its answers beside the lines that a run
+//! prints, filling in, the line that says what a story comes to, and what checking, filling in, showing or tracing one
+//! reads, writes and answers. The definitions are in `specs/`. `proofs/` has the lemmas on them, which `pif_story` and
 //! `pif_job_check` cite.
 #![tactic(auto)]
 

@@ -91,7 +91,8 @@ pub(crate) fn check_cut(rt: &impl Abort, ended: u8, written: &[u8], expected: &[
     assert!(rt; ended == 3 && written == expected);
 }
 
-/// What a job writes to the output and to the errors, or that it is out of memory: then nothing is written but the message.
+/// What a job writes to the output and to the errors, or that it is out of memory: then nothing is written but the
+/// message.
 fn check_written(
     rt: &(impl Abort + Threads + Wait + Sync),
     alloc: Global,
@@ -110,7 +111,8 @@ fn check_written(
     check_end(rt, ended);
 }
 
-/// Each allocation of a run is refused in turn by `rt try --test --fail-alloc N`: then nothing is written but the message.
+/// Each allocation of a run is refused in turn by `rt try --test --fail-alloc N`: then nothing is written but the
+/// message.
 #[test]
 fn out_of_memory_writes_nothing(rt: HostRuntime) {
     check_written(

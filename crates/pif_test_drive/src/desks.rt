@@ -1,5 +1,5 @@
-//! The journal of a desk as a trace. One growth of memory may be refused anywhere: what was refused is then asked again,
-//! and no answer changes.
+//! The journal of a desk as a trace. One growth of memory may be refused anywhere: what was refused is then asked
+//! again, and no answer changes.
 use arrayvec::ArrayVec;
 use pif_desk::{Book, Client, Desk, DeskFault, NoPause, Room};
 use pif_job_replay::replay;
@@ -210,7 +210,8 @@ fn went_well(rt: &impl Abort, done: Result<(), DeskFault>) {
     assert_eq!(rt; done, Ok(()));
 }
 
-/// Two clients make their calls and settle, and the book is replayed: 4 additions, 36 events, and the line of the limits.
+/// Two clients make their calls and settle, and the book is replayed: 4 additions, 36 events, and the line of the
+/// limits.
 fn settle<R: Wait + Abort>(rt: &R, alloc: Global, desk: Desk<NoPause>) -> Result<(), Fail> {
     let mut clients = room_for_two(alloc)?;
     went_well(rt, make_calls(rt, &desk, &mut clients));
@@ -273,8 +274,8 @@ fn make_timed_calls<R: Wait + Abort>(
 }
 
 /// A client makes calls with deadlines and settles, and the book is replayed: 3 additions, 2 ticks, and the calls, of 2
-/// steps to lock, 3 to wait for its own mutex and give up, 6 to wait for the variable, give up and lock again, 2 to unlock
-/// and 2 to lock, each behind its begin; and the line of the limits.
+/// steps to lock, 3 to wait for its own mutex and give up, 6 to wait for the variable, give up and lock again, 2 to
+/// unlock and 2 to lock, each behind its begin; and the line of the limits.
 fn settle_in_time<R: Wait + Abort>(rt: &R, alloc: Global, desk: Desk<NoPause>) -> Result<(), Fail> {
     let mut clients = room_for_two(alloc)?;
     went_well(rt, make_timed_calls(rt, &desk, &mut clients));

@@ -14,8 +14,8 @@ use std::time::Duration;
 /// How often a held client looks whether it may go on, a millisecond each time.
 const TURNS: u32 = 10_000;
 
-/// Holds each client once its first call has begun: client 1 until a call of the other was answered, and the other until
-/// client 1 has begun.
+/// Holds each client once its first call has begun: client 1 until a call of the other was answered, and the other
+/// until client 1 has begun.
 #[derive(Drop)]
 struct Overlap {
     rt: HostRuntime,

@@ -1,5 +1,5 @@
-//! Tests of what is made on desks, in a crate of their own: a crate with tests is proved twice by the gate. Beside tests
-//! there is nothing in it.
+//! Tests of what is made on desks, in a crate of their own: a crate with tests is proved twice by the gate. Beside
+//! tests there is nothing in it.
 //!
 //! | Module | Tests of |
 //! |---|---|

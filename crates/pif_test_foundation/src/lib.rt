@@ -1,5 +1,5 @@
-//! Tests of the crates at the foundation, in a crate of their own: a crate with tests is proved twice by the gate, and these
-//! are proved once, all together. Beside tests there is nothing in it.
+//! Tests of the crates at the foundation, in a crate of their own: a crate with tests is proved twice by the gate, and
+//! these are proved once, all together. Beside tests there is nothing in it.
 //!
 //! | Module | Tests of |
 //! |---|---|

@@ -1,5 +1,5 @@
-//! Tests of the crates of stories, shows, shells, random scripts and pictures, in a crate of their own: a crate with tests is
-//! proved twice by the gate, and these are proved once, all together. Beside tests there is nothing in it.
+//! Tests of the crates of stories, shows, shells, random scripts and pictures, in a crate of their own: a crate with
+//! tests is proved twice by the gate, and these are proved once, all together. Beside tests there is nothing in it.
 //!
 //! | Module | Tests of |
 //! |---|---|
@@ -10,8 +10,8 @@
 //! | `pictures` | `pif_job_draw`: writes and growths of memory that fail |
 //! | `jobs` | none: what the others have done between two streams |
 //!
-//! `stories` tests `show_story` of `pif_job_show` and `trace_story` of `pif_job_trace` too, and `shells` the sessions of
-//! `pif_job_shell`. What words and an input can ask is a transcript (docs/TRANSCRIPTS.md).
+//! `stories` tests `show_story` of `pif_job_show` and `trace_story` of `pif_job_trace` too, and `shells` the sessions
+//! of `pif_job_shell`. What words and an input can ask is a transcript (docs/TRANSCRIPTS.md).
 #![tactic(auto)]
 
 #[cfg(test)]

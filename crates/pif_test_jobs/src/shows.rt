@@ -1,4 +1,5 @@
-//! What `show` writes of the longest line, what it tells of a write that fails, wherever that is, and the errors' names.
+//! What `show` writes of the longest line, what it tells of a write that fails, wherever that is, and the errors'
+//! names.
 
 mod states;
 

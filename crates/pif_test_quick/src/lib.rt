@@ -1,5 +1,5 @@
-//! Tests of the quick path, most of them with real threads, in a crate of their own: a crate with tests is proved twice by
-//! the gate. Beside tests there is nothing in it.
+//! Tests of the quick path, most of them with real threads, in a crate of their own: a crate with tests is proved twice
+//! by the gate. Beside tests there is nothing in it.
 //!
 //! | Module | Tests of |
 //! |---|---|

@@ -1,5 +1,5 @@
-//! What no clause says: that calls succeed, that a pass takes a word that becomes free while it comes for it, that a pass
-//! that waits sleeps and is served in its turn, and that sums over many turns are exact.
+//! What no clause says: that calls succeed, that a pass takes a word that becomes free while it comes for it, that a
+//! pass that waits sleeps and is served in its turn, and that sums over many turns are exact.
 mod stress;
 mod tries;
 mod turns;

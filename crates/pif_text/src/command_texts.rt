@@ -12,7 +12,8 @@ use crate::{Addition, Command, TEXT_ROOM, Text};
 use pif_model::Event;
 use pif_types::{CondId, Kind, MutexId, Request, Tid};
 
-/// How many bytes of room `command_text` asks for. The longest is `begin tN timedwait cN mN D`, each number of 10 digits.
+/// How many bytes of room `command_text` asks for. The longest is `begin tN timedwait cN mN D`, each number of 10
+/// digits.
 pub const COMMAND_ROOM: usize = 62;
 
 /// Appends the command that adds a mutex of this type, robust or not, with no line feed, at most `COMMAND_ROOM` bytes.

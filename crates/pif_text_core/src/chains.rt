@@ -7,8 +7,8 @@ use pif_core::Core;
 use pif_types::{MutexId, Tid};
 use std::io::Write;
 
-/// Writes a line for each chain of waiting, from a thread that waits and for which nobody waits. If there is a core from
-/// before, only chains are written that weren't there, and that there are none if the last ones are gone.
+/// Writes a line for each chain of waiting, from a thread that waits and for which nobody waits. If there is a core
+/// from before, only chains are written that weren't there, and that there are none if the last ones are gone.
 pub fn show_chains<W: Write>(before: Option<&Core>, core: &Core, page: &mut Page, writer: &mut W)
     ensures { Stays (W.contents writer.old) (W.contents writer.new) }
 {

@@ -7,7 +7,8 @@ use pif_core::{Core, Order};
 use pif_types::CondId;
 use std::io::Write;
 
-/// Writes a line for each condition variable, or if there is a core from before, for each of which the line has changed.
+/// Writes a line for each condition variable, or if there is a core from before, for each of which the line has
+/// changed.
 pub fn show_conds<W: Write>(before: Option<&Core>, core: &Core, page: &mut Page, writer: &mut W)
     ensures { Stays (W.contents writer.old) (W.contents writer.new) }
 {

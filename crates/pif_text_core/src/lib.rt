@@ -11,9 +11,9 @@
 //!   chain: t3 -> m2 -> t2 -> m1 -> t1
 //! ```
 //!
-//! What is empty is left out, and a time of 0. Of changes the lines are written that weren't there before, and `none` for
-//! a run queue, or for chains, of which nothing is left. The text is written in parts, and takes no memory. Pictures show
-//! the same chains (`begins_chain`).
+//! What is empty is left out, and a time of 0. Of changes the lines are written that weren't there before, and `none`
+//! for a run queue, or for chains, of which nothing is left. The text is written in parts, and takes no memory.
+//! Pictures show the same chains (`begins_chain`).
 #![tactic(auto)]
 
 mod calls;

@@ -83,8 +83,8 @@ fn show_state<W: Write>(health: Health, word: u32, page: &mut Page, writer: &mut
     NEXT_LINE
 }
 
-/// The state of a robust mutex by POSIX, of which this is the health word and this the word. Once its owner has ended it
-/// is inconsistent, though the health word is written only when a thread takes the mutex over.
+/// The state of a robust mutex by POSIX, of which this is the health word and this the word. Once its owner has ended
+/// it is inconsistent, though the health word is written only when a thread takes the mutex over.
 fn state_of(health: Health, word: u32) -> Health
     ensures { health_of (health_word result) false ≡ health_of (health_word health) (word_of word).died }
 {

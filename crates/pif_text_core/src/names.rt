@@ -5,8 +5,8 @@ ghost use Rattle.pif_text_core.specs.Names.{errno_name};
 
 use pif_types::{Answer, Errno};
 
-/// The error of which this is the number, as <errno.h> of Linux on x86-64 has it. `None` for 0, and for a number of which
-/// there is no `Errno`.
+/// The error of which this is the number, as <errno.h> of Linux on x86-64 has it. `None` for 0, and for a number of
+/// which there is no `Errno`.
 pub fn errno_of(answer: Answer) -> Option<Errno>
     ensures { MatchOption result ((errno : Errno) → (number_of errno ≡ answer) → ⊥) (λ errno. number_of errno ≡ answer) }
 {

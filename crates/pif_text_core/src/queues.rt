@@ -42,8 +42,8 @@ pub fn is_same_queue(before: &Core, core: &Core, order: &Order) -> bool {
     true
 }
 
-/// Writes the line of the run queue; nothing if no thread is ready. If there is a core from before, it is written only if
-/// it has changed, and then also if no thread is ready.
+/// Writes the line of the run queue; nothing if no thread is ready. If there is a core from before, it is written only
+/// if it has changed, and then also if no thread is ready.
 pub fn show_run_queue<W: Write>(before: Option<&Core>, core: &Core, page: &mut Page, writer: &mut W)
     ensures { Stays (W.contents writer.old) (W.contents writer.new) }
 {

@@ -21,9 +21,9 @@ pub fn write_state<W: Write>(core: &Core, writer: &mut W) -> Result<(), Unwritte
     write_lines(None, core, writer)
 }
 
-/// Writes what has changed since a core did what `before` does, which has the same limits: of the lines of `write_state`
-/// those that weren't there, `none` for a run queue or for chains of which nothing is left, and an empty line behind
-/// them. What the writer held stays in front.
+/// Writes what has changed since a core did what `before` does, which has the same limits: of the lines of
+/// `write_state` those that weren't there, `none` for a run queue or for chains of which nothing is left, and an empty
+/// line behind them. What the writer held stays in front.
 ///
 /// # Errors
 ///

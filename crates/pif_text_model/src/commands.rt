@@ -15,8 +15,8 @@ pub enum Command {
     Add(Addition),
     /// `begin tN Q`, `go tN`, `end tN` or `tick N`: one event.
     Event(Event),
-    /// `call tN Q`: the thread begins the call, and goes on until it is answered or waits. `finish tN`, with no request:
-    /// the thread goes on with the call that it has open.
+    /// `call tN Q`: the thread begins the call, and goes on until it is answered or waits. `finish tN`, with no
+    /// request: the thread goes on with the call that it has open.
     Run(Tid, Option<Request>),
     /// A question, which changes nothing.
     Ask(Question),

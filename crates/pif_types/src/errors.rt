@@ -7,7 +7,7 @@ use thiserror::Error;
 pub type Answer = u32;
 
 /// The errors of <errno.h> that a pthread call or a kernel call can answer.
-#[derive(Clone, Copy, Debug, PartialEq, Eq, Hash, Error)]
+#[derive(Clone, Copy, Debug, PartialEq, Eq, Error)]
 pub enum Errno {
     /// EPERM: the caller isn't the owner.
     #[error("EPERM")]
@@ -66,12 +66,12 @@ impl Errno {
 }
 
 /// A growth of memory was refused. Nothing has changed.
-#[derive(Clone, Copy, Debug, PartialEq, Eq, Hash, Error)]
+#[derive(Clone, Copy, Debug, PartialEq, Eq, Error)]
 #[error("out of memory")]
 pub struct NoMemory;
 
 /// Why a thread, mutex or condition variable wasn't added. Nothing has changed.
-#[derive(Clone, Copy, Debug, PartialEq, Eq, Hash, Error)]
+#[derive(Clone, Copy, Debug, PartialEq, Eq, Error)]
 pub enum AddFault {
     /// The limit is reached.
     #[error("too many")]
@@ -85,7 +85,7 @@ pub enum AddFault {
 }
 
 /// Why an event was refused. Nothing has changed.
-#[derive(Clone, Copy, Debug, PartialEq, Eq, Hash, Error)]
+#[derive(Clone, Copy, Debug, PartialEq, Eq, Error)]
 pub enum Refusal {
     /// The thread has ended.
     #[error("dead")]

@@ -5,7 +5,7 @@ use std::marker::Model;
 
 /// How much a core may take: 1 to 1,024 threads ever, 0 to 1,024 mutexes, 0 to 256 condition variables, and 1 to
 /// 4,294,967,295 signals and broadcasts together on one variable.
-#[derive(Clone, Copy, Debug, PartialEq, Eq, Hash)]
+#[derive(Clone, Copy, Debug, PartialEq, Eq)]
 pub struct Limits {
     threads: u32,
     mutexes: u32,

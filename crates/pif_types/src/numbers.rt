@@ -4,7 +4,7 @@ use std::marker::Model;
 
 /// The number of a thread. Threads are numbered from 1 in the order in which they are added, and a number is never used
 /// again; it is the number that futex(2) keeps in a word (a thread identifier).
-#[derive(Clone, Copy, Debug, PartialEq, Eq, Hash, PartialOrd, Ord)]
+#[derive(Clone, Copy, Debug, PartialEq, Eq, PartialOrd, Ord)]
 pub struct Tid {
     thread: u32,
 }
@@ -51,7 +51,7 @@ impl Default for Tid {
 }
 
 /// The number of a mutex, from 1 in the order in which mutexes are added.
-#[derive(Clone, Copy, Debug, PartialEq, Eq, Hash, PartialOrd, Ord)]
+#[derive(Clone, Copy, Debug, PartialEq, Eq, PartialOrd, Ord)]
 pub struct MutexId {
     mutex: u32,
 }
@@ -98,7 +98,7 @@ impl Default for MutexId {
 }
 
 /// The number of a condition variable, from 1 in the order in which variables are added.
-#[derive(Clone, Copy, Debug, PartialEq, Eq, Hash, PartialOrd, Ord)]
+#[derive(Clone, Copy, Debug, PartialEq, Eq, PartialOrd, Ord)]
 pub struct CondId {
     cond: u32,
 }
@@ -136,7 +136,7 @@ impl CondId {
 }
 
 /// A priority, 1 to 99, as sched(7) has them for SCHED_FIFO. A larger number is a higher priority.
-#[derive(Clone, Copy, Debug, PartialEq, Eq, Hash, PartialOrd, Ord)]
+#[derive(Clone, Copy, Debug, PartialEq, Eq, PartialOrd, Ord)]
 pub struct Prio {
     level: u32,
 }

@@ -1,7 +1,7 @@
 use crate::{CondId, MutexId, Tid};
 
 /// The type of a mutex, as pthread_mutexattr_settype has it. PTHREAD_MUTEX_DEFAULT is `Normal`.
-#[derive(Clone, Copy, Debug, PartialEq, Eq, Hash)]
+#[derive(Clone, Copy, Debug, PartialEq, Eq)]
 pub enum Kind {
     /// PTHREAD_MUTEX_NORMAL: a thread that locks a mutex that it owns waits for good.
     Normal,
@@ -14,7 +14,7 @@ pub enum Kind {
 
 /// What is known of the state that a robust mutex protects, as its health word has it (pthread_mutexattr_setrobust and
 /// pthread_mutex_consistent of POSIX). That of a stalled mutex is `Fine`.
-#[derive(Clone, Copy, Debug, PartialEq, Eq, Hash)]
+#[derive(Clone, Copy, Debug, PartialEq, Eq)]
 pub enum Health {
     /// It is in order, as far as the health word says. Right after its owner ended it is so still: who takes the mutex
     /// next writes `Inconsistent`.
@@ -26,7 +26,7 @@ pub enum Health {
 }
 
 /// A pthread call that a thread may begin.
-#[derive(Clone, Copy, Debug, PartialEq, Eq, Hash)]
+#[derive(Clone, Copy, Debug, PartialEq, Eq)]
 pub enum Request {
     /// pthread_mutex_lock
     Lock(MutexId),

@@ -1,7 +1,7 @@
 use pif_types::{CondId, MutexId};
 
 /// The name of a word that threads share.
-#[derive(Clone, Copy, Debug, PartialEq, Eq, Hash)]
+#[derive(Clone, Copy, Debug, PartialEq, Eq)]
 pub enum Cell {
     /// The word of this mutex: its owner's number and the flags.
     Mutex(MutexId),

@@ -1,5 +1,5 @@
--- The deadline of a thread is reached, in whatever it waits for: the kernel keeps what it keeps, and what it has at each
--- place then.
+-- The deadline of a thread is reached, in whatever it waits for: the kernel keeps what it keeps, and what it has at
+-- each place then.
 use Rattle.std.proofs.Common.{◌≡◌, ◌≢◌, ◌==◌, ℕ, List, true, false, cond, [], ◌∷◌, length, set, refl, sym, ap, ◌∙◌, subst, if◌then◌else◌}
 use Rattle.pif_model.specs.declared.lines.Status.TheVariants.{Ready, Stopped}
 use Rattle.pif_model.specs.declared.lines.Woken.TheVariants.{Expired as WokenExpired}

@@ -1,5 +1,5 @@
--- A thread has left what it waited for and its level, and neither runs nor waits: the kernel keeps what it keeps, and what
--- it has at each place then.
+-- A thread has left what it waited for and its level, and neither runs nor waits: the kernel keeps what it keeps, and
+-- what it has at each place then.
 use Rattle.std.proofs.Common.{◌≡◌, ◌≢◌, ◌⊎◌, ◌+◌, ◌<◌, ℕ, ◌≤◌, List, true, false, ◌==◌, nat_lt, length, refl, sym, ap, ◌∙◌, subst, arith, if◌then◌else◌, eq-eqb, ne_eqb, true≢false, inl, inr, length-set, get_or-set_same, get_or-set_other}
 use Rattle.std.proofs.lemmas.Bool.{cases_eq, cases_Bool}
 use Rattle.pif_model.specs.declared.lines.Status.{Status}

@@ -1,5 +1,5 @@
--- A step of a call that is due expires it, and is an entry of the POSIX machine that keeps the invariant: a lock that is
--- queued, one that is stopped, and a wait that is parked.
+-- A step of a call that is due expires it, and is an entry of the POSIX machine that keeps the invariant: a lock that
+-- is queued, one that is stopped, and a wait that is parked.
 use Rattle.std.proofs.Common.{◌≡◌, ◌≢◌, ◌⊎◌, inl, inr, ℕ, ◌<◌, Bool, true, false, length, None, refl, sym, ap, ◌∙◌, subst, if◌then◌else◌, true≢false, get_or}
 use Rattle.std.proofs.lemmas.List.{length-set, set-set, get_or-set_same}
 use Rattle.pif_types.specs.declared.requests.Request.{Request}

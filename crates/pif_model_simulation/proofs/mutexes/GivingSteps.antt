@@ -1,7 +1,7 @@
--- The steps by which a call gives up a mutex that it holds once. An unlock or a wait names it in the pending field, loads
--- its health word, stores that it is unusable where it was inconsistent, and takes it off its list; then it exchanges its
--- word, or calls the kernel, and so does who leaves an unusable mutex. Each step is an entry of the POSIX machine and
--- keeps the invariant.
+-- The steps by which a call gives up a mutex that it holds once. An unlock or a wait names it in the pending field,
+-- loads its health word, stores that it is unusable where it was inconsistent, and takes it off its list; then it
+-- exchanges its word, or calls the kernel, and so does who leaves an unusable mutex. Each step is an entry of the POSIX
+-- machine and keeps the invariant.
 use Rattle.std.proofs.Common.{◌≡◌, ◌≢◌, ℕ, Bool, true, false, ◌==◌, Some, List, [], ◌∷◌, ◌++◌, length, refl, sym, ap, ◌∙◌, subst, if◌then◌else◌}
 use Rattle.std.proofs.lemmas.Bool.{true≢false}
 use Rattle.pif_types.specs.declared.requests.Request.{Request}

@@ -1,5 +1,5 @@
--- What becomes of calls with a deadline over a run: time never falls, nobody that is due is told to wait, and ETIMEDOUT is
--- answered to nobody but who has expired.
+-- What becomes of calls with a deadline over a run: time never falls, nobody that is due is told to wait, and ETIMEDOUT
+-- is answered to nobody but who has expired.
 use Rattle.std.proofs.Common.{◌≡◌, ◌≢◌, ◌⊎◌, inl, inr, ℕ, ◌≤◌, ◌<◌, Bool, true, false, ◌==◌, List, [], ◌∷◌, Option, Some, None, get_or, length, refl, sym, ap, ◌∙◌, subst, arith, if◌then◌else◌, true≢false, eq-eqb, ne_eqb, ◌||◌, zero, suc}
 use Rattle.std.proofs.lemmas.Bool.{cases_eq}
 use Rattle.std.proofs.lemmas.Bool.Decides.{nat_tests}

@@ -133,8 +133,8 @@ fn sleeping_places(alloc: Global, passes: u32) -> Result<Vec<Condvar>, NoMemory>
 
 impl<T: Drop> Quick<T> {
     /// Words with these values, each free, and so many passes, with the numbers from 1. At least one value, and 1 to 64
-    /// passes. It alone takes memory, for the words and values, and for each pass a seat at each word and a place to sleep,
-    /// and answers `NoMemory` if that is refused: the values are then gone.
+    /// passes. It alone takes memory, for the words and values, and for each pass a seat at each word and a place to
+    /// sleep, and answers `NoMemory` if that is refused: the values are then gone.
     pub fn open(
         alloc: Global,
         values: Vec<T>,

@@ -31,8 +31,8 @@ fn pause(tries: u32) {
 }
 
 impl<T: Drop> Quick<T> {
-    /// Locks the word `m`, and gives its value. If the word isn't free, tries for a while; then marks it, and sleeps until
-    /// it is handed over. A pass that holds the word itself waits for good.
+    /// Locks the word `m`, and gives its value. If the word isn't free, tries for a while; then marks it, and sleeps
+    /// until it is handed over. A pass that holds the word itself waits for good.
     pub fn lock<R: Wait>(&self, rt: &R, pass: &mut Pass<T>, m: usize) -> Held<T>
         requires word { m < word_count self.now }
         requires own { IsPassOf self.now pass.old }

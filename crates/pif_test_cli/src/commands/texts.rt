@@ -13,7 +13,8 @@ const UNWRITTEN: [(&[&str], usize); 3] = [
     (&["pif"], 0),
 ];
 
-/// Asks so where each stream takes four bytes: the status, and how many bytes are written to the output and to the errors.
+/// Asks so where each stream takes four bytes: the status, and how many bytes are written to the output and to the
+/// errors.
 fn cut(rt: &(impl Threads + Wait + Sync), alloc: Global, words: &[&str]) -> (u8, usize, usize) {
     let mut output = ArrayVec::<u8, 4>::new();
     let mut errors = ArrayVec::<u8, 4>::new();

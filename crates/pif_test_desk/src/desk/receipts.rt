@@ -54,8 +54,8 @@ fn check_more<R: Wait + Abort>(rt: &R, desk: &Desk<Watch>, before: usize, more: 
     is_count(rt, desk.entries(rt).wrapping_sub(before), more);
 }
 
-/// A client locks the mutex and quits, by one event. Then its call is refused, and it has none to go on with, which makes
-/// no event.
+/// A client locks the mutex and quits, by one event. Then its call is refused, and it has none to go on with, which
+/// makes no event.
 fn lock_and_quit<R: Wait + Abort>(rt: &R, desk: &Desk<Watch>, client: &mut Client) {
     check_call(rt, desk, client, lock(), Ok(0));
     let before = desk.entries(rt);
@@ -72,8 +72,8 @@ fn lock_and_quit<R: Wait + Abort>(rt: &R, desk: &Desk<Watch>, client: &mut Clien
     check_more(rt, desk, before, 2);
 }
 
-/// A client has no call to go on with, which makes no event. It gets the mutex from an owner that has ended, and signals
-/// the variable.
+/// A client has no call to go on with, which makes no event. It gets the mutex from an owner that has ended, and
+/// signals the variable.
 fn lock_and_signal<R: Wait + Abort>(rt: &R, desk: &Desk<Watch>, client: &mut Client) {
     let before = desk.entries(rt);
     check_resume(rt, desk, client, Refusal::Idle);

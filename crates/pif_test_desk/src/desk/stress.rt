@@ -215,7 +215,8 @@ fn end_at(room: &mut Room, client: &mut Client, waits: bool, steps: u32) -> Resu
     Ok(taken.wrapping_add(answered))
 }
 
-/// Each of these clients ends one step later in its call than the one before: the first in a lock, the others in a wait.
+/// Each of these clients ends one step later in its call than the one before: the first in a lock, the others in a
+/// wait.
 fn end_all(room: &mut Room, clients: &mut Vec<Client>) -> Result<u64, NoMemory> {
     let mut answered = 0u64;
     let mut waits = false;

@@ -1,4 +1,5 @@
-//! Stories that are shown, and whose traces are written, as `pif_job_trace` does it of the scripts that are left of them.
+//! Stories that are shown, and whose traces are written, as `pif_job_trace` does it of the scripts that are left of
+//! them.
 
 use super::BOOSTED;
 use crate::jobs::{Job, Telling};

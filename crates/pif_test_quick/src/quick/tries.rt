@@ -43,8 +43,8 @@ fn linger(pauses: u32) {
     }
 }
 
-/// Locks the word 0 and writes the round's number, lets the other pass come, and unlocks the word a little later. Nobody
-/// locks it then but the other pass.
+/// Locks the word 0 and writes the round's number, lets the other pass come, and unlocks the word a little later.
+/// Nobody locks it then but the other pass.
 fn give_up<R: Wait>(rt: &R, quick: &Quick<u64>, pass: &mut Pass<u64>, course: &Course, round: u32)
     requires { IsPassOf quick.now pass.old × IsIdle pass.old × (0 < word_count quick.now) }
     ensures { IsPassOf quick.now pass.new × IsIdle pass.new }

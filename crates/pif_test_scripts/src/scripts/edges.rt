@@ -137,7 +137,8 @@ static SIZES: [Size; 5] = [
 ];
 
 /// Has a script run that has this line, and then `pick` over and over, and checks that it is too large. A reader gives
-/// as many bytes as are asked for up to 4,096 bytes before the limit of 16,777,216, and from there on so many at a time.
+/// as many bytes as are asked for up to 4,096 bytes before the limit of 16,777,216, and from there on so many at a
+/// time.
 fn check_size(rt: &impl Abort, alloc: Global, size: &Size, each: usize) {
     let (first, answer, picks, fault) = size;
     let script = [(*first, 1), ("pick\n", 4_000_000)];
@@ -177,8 +178,8 @@ const REFUSED: &str = "call t4294967295 timedwait c4294967295 m4294967295 429496
 /// A first line, how many lines are refused behind it before the script is too large, and the fault.
 type Shifted = (&'static str, usize, &'static str);
 
-/// Has a script run whose first read gives so many bytes, and the others as many as are asked for. Checks that it is too
-/// large, in which line, and that no more was read than the chunk that has the first byte behind the limit of
+/// Has a script run whose first read gives so many bytes, and the others as many as are asked for. Checks that it is
+/// too large, in which line, and that no more was read than the chunk that has the first byte behind the limit of
 /// 16,777,216.
 fn check_shifted(rt: &impl Abort, alloc: Global, shifted: &Shifted, start: usize) {
     let (first, count, fault) = shifted;
