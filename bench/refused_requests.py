@@ -153,7 +153,7 @@ def main():
     program = Path(sys.argv[1] if len(sys.argv) > 1 else PROGRAM).resolve()
     try:
         if not program.is_file():
-            raise Stopped("there is no program %s; ./pif builds it" % program)
+            raise Stopped("there is no program %s; ./pif --prove builds it" % program)
         with tempfile.TemporaryDirectory() as folder:
             make_library(Path(folder))
             done = [sweep(Path(folder), row) for row in rows_of(program, sys.argv[2:])]

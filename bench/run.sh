@@ -8,7 +8,7 @@ set -euo pipefail
 case "${1-}" in -h | --help) sed -n '2,/^set /s/^# //p' "$0"; exit ;; esac
 here="$(cd "$(dirname "$0")/.." && pwd)"
 program="$here/crates/pif/out/pif"
-[ -x "$program" ] || "$here/pif" --help > /dev/null
+[ -x "$program" ] || "$here/pif" --prove
 python3 - "$program" <<'PYTHON'
 import subprocess, sys, tempfile, time
 
