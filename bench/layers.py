@@ -1,5 +1,5 @@
 #!/usr/bin/env python3
-"""Prints the rows of the table of docs/SPEED.md, 'Single layers': it runs each benchmark of a single layer several times,
+"""Prints the figures of single layers of docs/COSTS.md: it runs each benchmark of a single layer several times,
 41 by default, all of them in turn, and prints of each the median with the least and the greatest, and how many pairs of
 bare compare-exchanges of the same sitting the median is. It judges nothing.
 

@@ -1,6 +1,6 @@
 #!/usr/bin/env python3
 """Runs bench/run.sh several times, 11 by default, and prints each of its lines once, with the median of each figure and in
-brackets the least and the greatest. docs/SPEED.md has what it printed. It judges nothing.
+brackets the least and the greatest. docs/COSTS.md has what it printed. It judges nothing.
 
     bench/medians.py [TIMES]        once ./pif --prove has built the program
 """
