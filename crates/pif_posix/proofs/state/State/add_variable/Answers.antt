@@ -1,0 +1,28 @@
+use Rattle.std.proofs.Common.{◌≡◌, ◌∙◌, ◌==◌, ◌++◌, ◌∷◌, [], refl, sym, ap, length}
+use Rattle.std.specs.Prelude.{nat_le}
+use Rattle.pif_model.specs.Posix.{Variable, is_mutex, new_variable}
+use Rattle.pif_posix_model.specs.Doing.{variable_added, Does}
+use Rattle.pif_posix_model.specs.Doing.Does.{did_not}
+use Rattle.pif_posix_model.proofs.DoingCases.{did_this, choose_then, choose_else}
+use Rattle.pif_posix.proofs.Entering.{next_within, not_next_within, next_is}
+use Rattle.pif_posix.proofs.state.State.add_variable.Goals as goal
+
+pub returns-then-not-is_mutex : goal.returns-then-not-is_mutex
+returns-then-not-is_mutex c =
+    did_not (choose_else (is_mutex c.args.self.now c.args.mutex) _ _ (ap (is_mutex c.args.self.now) (sym c.get.ensures.value) ∙ sym c.is_mutex.ensures ∙ c.if-not-is_mutex.true)) refl
+
+pub returns-then-not-is_next : goal.returns-then-not-is_next
+returns-then-not-is_next c =
+    did_not
+    (choose_then (is_mutex c.args.self.now c.args.mutex) _ _ (ap (is_mutex c.args.self.now) (sym c.get.ensures.value) ∙ sym c.is_mutex.ensures ∙ c.if-not-is_mutex.false)
+    ∙ not_next_within (c.args.cond == length c.args.self.now.variables) (nat_le c.args.cond c.args.limits.now.conds) _
+    (next_is c.get-2.ensures.value c.variable_count.ensures c.most_variables.ensures c.is_next.ensures c.if-not-is_next.true)) refl
+
+pub returns : goal.returns
+returns c =
+    did_this (variable_added c.args.limits.now c.args.cond c.args.mutex c.args.self.now)
+    (choose_then (is_mutex c.args.self.now c.args.mutex) _ _ (ap (is_mutex c.args.self.now) (sym c.get.ensures.value) ∙ sym c.is_mutex.ensures ∙ c.if-not-is_mutex.false)
+    ∙ next_within (c.args.cond == length c.args.self.now.variables) (nat_le c.args.cond c.args.limits.now.conds) _
+    (next_is c.get-2.ensures.value c.variable_count.ensures c.most_variables.ensures c.is_next.ensures c.if-not-is_next.false))
+    (c.in_ok-push_signalled.ensures
+    ∙ ap (λ (x : Variable). record c.args.self.now { variables = c.args.self.now.variables ++ x ∷ [] }) (c.new_signalled.ensures ∙ ap new_variable c.get-3.ensures.value))

@@ -1,0 +1,27 @@
+//! The POSIX machine as a program: its state, and where one move of a thread or one entry of a history leads.
+#![tactic(auto)]
+
+mod acts;
+mod additions;
+mod calls;
+mod changes;
+mod choices;
+mod copies;
+mod ends;
+mod entries;
+mod keys;
+mod lists;
+mod moves;
+mod mutexes;
+mod parts;
+mod progress;
+mod refusals;
+mod requests;
+mod same;
+mod state;
+mod variables;
+mod waiting;
+
+pub use parts::{Lockable, Signalled, Task};
+pub use progress::{Call, Progress};
+pub use state::State;

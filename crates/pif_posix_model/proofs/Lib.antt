@@ -1,0 +1,16 @@
+pub mod DoingCalls
+pub mod DoingCases
+pub mod DoingChoices
+pub mod DoingEnds
+pub mod DoingEntries
+pub mod DoingLists
+pub mod DoingLocks
+pub mod DoingMoves
+pub mod DoingReleases
+pub mod DoingWaking
+pub mod Singles
+pub mod Blocking
+pub mod Splits
+pub mod Reaching
+pub mod Passing
+pub mod Ending
