@@ -1,0 +1,5 @@
+mod Lines
+mod Listing
+mod Numbers
+mod Settling
+mod Telling

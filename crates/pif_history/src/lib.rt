@@ -1,0 +1,26 @@
+//! Whether the lines of a history are shown by a run of the POSIX machine: a history is what the threads of another
+//! implementation began and were answered, with calls that overlap.
+//!
+//! | Function | What it answers |
+//! |---|---|
+//! | `judge_lines` | a witness, the first line up to which no run exists, or that the search gave up |
+//! | `refusal` | why no run has a line, whatever was answered |
+//! | `possible_answers`, `possible_priorities` | with which answers, or priorities, a line would be shown |
+//!
+//! The search is `judge` of `pif_search`, over the state of `pif_posix`. A verdict is a theorem: `IsVerdictOf`.
+#![tactic(auto)]
+
+mod dying;
+mod judge;
+mod lists;
+mod machine;
+mod position;
+mod refused;
+mod verdicts;
+
+pub use judge::{judge_lines, possible_answers, possible_priorities};
+pub use machine::HistoryMachine;
+pub use pif_search::{Stop, Unwatched, Watch};
+pub use position::Position;
+pub use refused::refusal;
+pub use verdicts::Verdict;

@@ -1,0 +1,10 @@
+pub mod Running
+pub mod Entries
+pub mod Completeness
+pub mod Soundness
+pub mod Moving
+pub mod Keeping
+pub mod Telling
+pub mod RefusedLines
+pub mod Judging
+pub mod Fitting

@@ -1,0 +1,5 @@
+pub mod Lines
+pub mod Shown
+pub mod Searched
+pub mod Refused
+pub mod Verdicts

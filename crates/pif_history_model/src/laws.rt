@@ -1,0 +1,36 @@
+ghost use Rattle.std.specs.Prelude.{◌≡◌, ◌≤◌, ℕ, true, List, ◌∷◌, Some, map};
+ghost use Rattle.pif_types.specs.Bounds.{Bounds};
+ghost use Rattle.pif_search.specs.Runs.{CanShow};
+ghost use Rattle.pif_history_model.specs.declared.lines.Line.{Line};
+ghost use Rattle.pif_history_model.specs.declared.lines.Line.TheVariants.{Answer, Prio};
+ghost use Rattle.pif_history_model.specs.declared.refusals.LineRefusal.{LineRefusal};
+ghost use Rattle.pif_history_model.specs.declared.labels.Label.TheVariants.{Shown};
+ghost use Rattle.pif_history_model.specs.Shown.{IsShown};
+ghost use Rattle.pif_history_model.specs.Searched.{Configuration, Advances, start_of, hides};
+ghost use Rattle.pif_history_model.specs.Refused.{refusal_of_line};
+ghost use Rattle.pif_history_model.specs.Verdicts.{is_answer};
+
+/// A law: lines that the machine that is searched can show, some run of the POSIX machine shows.
+pub fn searched_lines_are_shown()
+    ensures { (limits : Bounds) (lines : List Line) (last : Configuration) → CanShow (Advances limits) hides (start_of limits) (map (λ line. Shown line) lines) last → IsShown limits lines }
+{}
+
+/// A law: lines that some run of the POSIX machine shows, the machine that is searched can show.
+pub fn shown_lines_are_searched()
+    ensures { (limits : Bounds) (lines : List Line) → IsShown limits lines → (last : Configuration) × CanShow (Advances limits) hides (start_of limits) (map (λ line. Shown line) lines) last }
+{}
+
+/// A law: a line that the lines before it refuse is shown by no run, whatever was answered.
+pub fn refused_lines_are_not_shown()
+    ensures { (limits : Bounds) (before : List Line) (line : Line) (refusal : LineRefusal) → refusal_of_line limits before line ≡ Some refusal → IsShown limits (line ∷ before) → ⊥ }
+{}
+
+/// A law: an answer that some run shows is 0, or the number of an error that calls have.
+pub fn shown_answers_are_answers()
+    ensures { (limits : Bounds) (before : List Line) (thread answer : ℕ) → IsShown limits (Answer thread answer ∷ before) → is_answer answer ≡ true }
+{}
+
+/// A law: an effective priority that some run shows is 1 to 99.
+pub fn shown_priorities_are_priorities()
+    ensures { (limits : Bounds) (before : List Line) (thread priority : ℕ) → IsShown limits (Prio thread priority ∷ before) → (1 ≤ priority) × (priority ≤ 99) }
+{}

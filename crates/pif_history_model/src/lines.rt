@@ -1,0 +1,29 @@
+use pif_types::{Answer, Kind, MutexId, Request, Tid};
+
+/// One line of a history: what was seen of an implementation, in the order in which it was seen.
+///
+/// A line may name any thread, mutex or variable, also one that was never added: then no run shows it. Threads, mutexes
+/// and variables are numbered from 1, each by themselves, in the order in which the history adds them.
+#[derive(Clone, Copy, PartialEq, Eq)]
+pub enum Line {
+    /// `thread P`: a thread of this base priority, which may be out of range.
+    Thread(u32),
+    /// `mutex K` or `mutex K robust`: a mutex of this kind, robust where the second value is true.
+    Mutex(Kind, bool),
+    /// `cond mN`: a condition variable that is bound to this mutex.
+    Cond(MutexId),
+    /// `begin tN Q`: the thread entered this call.
+    Begin(Tid, Request),
+    /// `answer tN A`: the open call of the thread returned 0, or the number of an error.
+    Answer(Tid, Answer),
+    /// `dying tN`: the thread ends at some moment from here on. Without a later `end tN` it perhaps ends.
+    Dying(Tid),
+    /// `end tN`: the thread has ended. Behind `dying tN` it ended somewhere between the two lines, else at this line.
+    End(Tid),
+    /// `tick N`: the time is this from here on. It is 0 at first, and its unit is that of deadlines.
+    Tick(u32),
+    /// `rests tN`: the thread was seen blocked at this line.
+    Rests(Tid),
+    /// `prio tN P`: the effective priority of the thread was seen to be this at this line.
+    Prio(Tid, u32),
+}
