@@ -1,0 +1,3 @@
+mod PlaceLemmas
+mod SplitLemmas
+mod VerdictLemmas

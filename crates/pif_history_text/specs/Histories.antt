@@ -1,0 +1,103 @@
+-- Histories as bytes: their limits and their lines, or their first fault.
+use Rattle.std.specs.Prelude.{ℕ, ◌+◌, ◌==◌, ◌||◌, nat_le, Bool, not, is_some, List, [], ◌∷◌, ◌++◌, length, take, Option, Some, None, Result, Ok, Err, if◌then◌else◌}
+use Rattle.pif_types.specs.Bounds.{Bounds}
+use Rattle.pif_text_model.specs.declared.replies.Cause.{Cause}
+use Rattle.pif_text_model.specs.declared.replies.Cause.TheVariants.{Size, Long, Command}
+use Rattle.pif_story_model.specs.Lines.{lines}
+use Rattle.pif_story_model.specs.Verdicts.{Fault}
+use Rattle.pif_history_model.specs.declared.lines.Line.{Line}
+use Rattle.pif_history_text.specs.declared.said.Said.{Said}
+use Rattle.pif_history_text.specs.declared.said.Said.TheVariants.{Limits, Nothing, Shown}
+use Rattle.pif_history_text.specs.Lines.{said_in, text_of_line, is_long}
+
+-- A history, or the front of one.
+pub record Heard : Type 0 where
+  -- The limits that its first line names, if it does.
+  pub named : Option Bounds
+  -- Its lines: all but limits, comments and empty lines.
+  pub shown : List Line
+  -- The number of each of them in the text, from 1.
+  pub numbers : List ℕ
+  -- How many lines of the text there are, all of them counted.
+  pub count : ℕ
+
+-- Before its first line.
+abbrev pub unheard : Heard
+unheard = record { named = None; shown = []; numbers = []; count = 0 }
+
+-- The greatest limits that a line can write, which no history of this size reaches.
+abbrev pub most : Bounds
+most = record { threads = 4294967295; mutexes = 4294967295; conds = 4294967295; signals = 4294967295 }
+
+-- The limits of a history: the greatest, if it names none.
+abbrev pub limits_of : Heard → Bounds
+limits_of h = elim h.named [ Some b ↦ b | None ↦ most ]
+
+-- The number of the next line.
+abbrev pub next_number : Heard → ℕ
+next_number h = h.count + 1
+
+-- Whether there was a line already that is no comment and not empty.
+abbrev pub has_begun : Heard → Bool
+has_begun h = is_some h.named || not (length h.shown == 0)
+
+-- Limits, which stand only before all but comments and empty lines.
+abbrev pub after_limits : Heard → Bounds → Result Heard Cause
+after_limits h b = if has_begun h then Err Command else Ok (record h { named = Some b; count = next_number h })
+
+-- One line more that is shown by runs, or by none.
+abbrev pub after_shown : Heard → Line → Heard
+after_shown h l =
+    record h { shown = h.shown ++ l ∷ []; numbers = h.numbers ++ next_number h ∷ []; count = next_number h }
+
+-- One more line of the text, by what it says.
+abbrev pub after_said : Heard → Option Said → Result Heard Cause
+after_said h None = Err Command
+after_said h (Some Nothing) = Ok (record h { count = next_number h })
+after_said h (Some (Limits t m c s)) =
+    after_limits h (record { threads = t; mutexes = m; conds = c; signals = s })
+after_said h (Some (Shown l)) = Ok (after_shown h l)
+
+-- One more line of the text, of these bytes.
+unfoldable pub after_line : Heard → List ℕ → Result Heard Cause
+after_line h bytes =
+    if is_long (next_number h) bytes then Err Long
+    else after_said h (said_in (text_of_line (next_number h) bytes))
+
+-- A fault of the next line.
+abbrev pub fault_at : Heard → Cause → Result Heard Fault
+fault_at h cause = Err (next_number h, cause)
+
+abbrev pub numbered : Heard → Result Heard Cause → Result Heard Fault
+numbered h (Ok m) = Ok m
+numbered h (Err cause) = fault_at h cause
+
+-- The end of the text, behind which there is nothing: what stands behind the last LF is a line, unless it is empty.
+abbrev pub at_end : Heard → List ℕ → Result Heard Fault
+at_end h [] = Ok h
+at_end h (b ∷ bs) = numbered h (after_line h (b ∷ bs))
+
+-- The end of the bytes that a history may have, with more behind it: the line that stands there is too long already, or
+-- the history is too large.
+abbrev pub cut_off : Heard → List ℕ → Result Heard Fault
+cut_off h bytes = if is_long (next_number h) bytes then fault_at h Long else fault_at h Size
+
+-- What comes behind a line, if the line is no fault.
+abbrev pub goes_behind : (Heard → Result Heard Fault) → Result Heard Fault → Result Heard Fault
+goes_behind more (Ok m) = more m
+goes_behind more (Err fault) = Err fault
+
+-- These lines, up to the first fault. The last one has no LF, and behind it is nothing if all is read.
+unfoldable pub heard_from : (is_all : Bool) → Heard → List (List ℕ) → Result Heard Fault
+heard_from is_all h [] = Ok h
+heard_from is_all h (bytes ∷ []) = if is_all then at_end h bytes else cut_off h bytes
+heard_from is_all h (bytes ∷ next ∷ more) =
+    goes_behind (λ m. heard_from is_all m (next ∷ more)) (numbered h (after_line h bytes))
+
+-- The most bytes of a history.
+abbrev pub most_bytes : ℕ
+most_bytes = 268435456
+
+-- The history of these bytes, or its first fault.
+unfoldable pub history_of : List ℕ → Result Heard Fault
+history_of bytes = heard_from (nat_le (length bytes) most_bytes) unheard (lines (take most_bytes bytes))

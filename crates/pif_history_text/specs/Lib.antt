@@ -1,0 +1,5 @@
+pub mod Histories
+pub mod Lines
+pub mod Reading
+pub mod Texts
+pub mod Verdicts

@@ -1,0 +1,105 @@
+-- The lines of a history: what each of them says.
+use Rattle.std.specs.Prelude.{ℕ, ◌==◌, nat_lt, Bool, List, [], ◌∷◌, length, Option, Some, None, option_map, if◌then◌else◌, bytes_eq, codes}
+use Rattle.std.specs.Str.Lines.{strip_carriage_return}
+use Rattle.pif_types.specs.Numbers.{number_of}
+use Rattle.pif_types.specs.declared.errors.Errno.{Errno}
+use Rattle.pif_types.specs.declared.errors.Errno.TheVariants.{NotPermitted, NoSuchThread, Again, Fault, Busy, Invalid, Deadlock, Overflow, TimedOut, OwnerDead, NotRecoverable}
+use Rattle.pif_model.specs.declared.events.Event.{Event}
+use Rattle.pif_model.specs.declared.events.Event.TheVariants as event
+use Rattle.pif_text_model.specs.declared.commands.Command.{Command}
+use Rattle.pif_text_model.specs.declared.commands.Command.TheVariants as command
+use Rattle.pif_text_model.specs.declared.commands.Addition.{Addition}
+use Rattle.pif_text_model.specs.declared.commands.Addition.TheVariants as addition
+use Rattle.pif_text_model.specs.Commands.{◌>>=◌, command_in}
+use Rattle.pif_text_model.specs.Numbers.{number_in, thread_in}
+use Rattle.pif_text_model.specs.Words.{words}
+use Rattle.pif_story_model.specs.Lines.{is_passed, without_mark}
+use Rattle.pif_history_model.specs.declared.lines.Line.{Line}
+use Rattle.pif_history_model.specs.declared.lines.Line.TheVariants as line
+use Rattle.pif_history_text.specs.declared.said.Said.{Said}
+use Rattle.pif_history_text.specs.declared.said.Said.TheVariants.{Limits, Nothing, Shown}
+
+-- The error that a word names, as <errno.h> does.
+unfoldable pub errno_in : List ℕ → Option Errno
+errno_in word =
+    if bytes_eq word (codes "EPERM") then Some NotPermitted
+    else if bytes_eq word (codes "ESRCH") then Some NoSuchThread
+    else if bytes_eq word (codes "EAGAIN") then Some Again
+    else if bytes_eq word (codes "EFAULT") then Some Fault
+    else if bytes_eq word (codes "EBUSY") then Some Busy
+    else if bytes_eq word (codes "EINVAL") then Some Invalid
+    else if bytes_eq word (codes "EDEADLK") then Some Deadlock
+    else if bytes_eq word (codes "EOVERFLOW") then Some Overflow
+    else if bytes_eq word (codes "ETIMEDOUT") then Some TimedOut
+    else if bytes_eq word (codes "EOWNERDEAD") then Some OwnerDead
+    else if bytes_eq word (codes "ENOTRECOVERABLE") then Some NotRecoverable
+    else None
+
+-- What a call returned: a number as scripts write it, or else the number of the error that the word names.
+unfoldable pub answer_in : List ℕ → Option ℕ
+answer_in word = elim (number_in word) [ Some n ↦ Some n | None ↦ option_map number_of (errno_in word) ]
+
+-- What an event of scripts says in a history: begins, ends and ticks stand there. What a step of a thread came to is
+-- not seen from outside.
+abbrev pub event_said : Event → Option Said
+event_said (event.Begin t q) = Some (Shown (line.Begin t q))
+event_said (event.End t) = Some (Shown (line.End t))
+event_said (event.Tick n) = Some (Shown (line.Tick n))
+event_said (event.Go t) = None
+
+-- What an addition says.
+abbrev pub addition_said : Addition → Said
+addition_said (addition.Thread p) = Shown (line.Thread p)
+addition_said (addition.Mutex k robust) = Shown (line.Mutex k robust)
+addition_said (addition.Cond m) = Shown (line.Cond m)
+
+-- What a command of scripts says in a history, if it stands there: limits, additions, begins, ends and ticks do.
+abbrev pub command_said : Command → Option Said
+command_said (command.Limits t m c s) = Some (Limits t m c s)
+command_said (command.Add a) = Some (addition_said a)
+command_said (command.Event e) = event_said e
+command_said (command.Run t q) = None
+command_said (command.Ask q) = None
+
+-- A line of two words that is no command of scripts: `dying tN` or `rests tN`.
+unfoldable pub line_of_two : List ℕ → List ℕ → Option Line
+line_of_two name word =
+    if bytes_eq name (codes "dying") then option_map line.Dying (thread_in word)
+    else if bytes_eq name (codes "rests") then option_map line.Rests (thread_in word)
+    else None
+
+-- A line of three words that is no command of scripts: `answer tN A` or `prio tN P`.
+unfoldable pub line_of_three : List ℕ → List ℕ → List ℕ → Option Line
+line_of_three name first second =
+    if bytes_eq name (codes "answer") then (do
+      t ← thread_in first
+      a ← answer_in second
+      Some (line.Answer t a))
+    else if bytes_eq name (codes "prio") then (do
+      t ← thread_in first
+      p ← number_in second
+      Some (line.Prio t p))
+    else None
+
+-- The line that words make, if they make one that is no command of scripts.
+unfoldable pub line_of_words : List (List ℕ) → Option Line
+line_of_words (a ∷ b ∷ []) = line_of_two a b
+line_of_words (a ∷ b ∷ c ∷ []) = line_of_three a b c
+line_of_words more = None
+
+-- What the text of a line says, if it is no fault: an empty line and a comment say nothing.
+unfoldable pub said_in : List ℕ → Option Said
+said_in text =
+    if is_passed text then Some Nothing
+    else elim (command_in text) [ Some c ↦ command_said c | None ↦ option_map Shown (line_of_words (words text)) ]
+
+-- ---- the text of a line
+
+-- A line is passed over a byte order mark at the front of the history, and over a CR at its own end.
+unfoldable pub text_of_line : (number : ℕ) → List ℕ → List ℕ
+text_of_line number bytes =
+    if number == 1 then without_mark (strip_carriage_return bytes) else strip_carriage_return bytes
+
+-- A line has at most 120 bytes of text.
+abbrev pub is_long : (number : ℕ) → List ℕ → Bool
+is_long number bytes = nat_lt 120 (length (text_of_line number bytes))

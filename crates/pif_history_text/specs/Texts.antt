@@ -1,0 +1,22 @@
+-- The texts of lines.
+use Rattle.std.specs.Prelude.{ℕ, List, ◌++◌, codes, decimal}
+use Rattle.pif_model.specs.declared.events.Event.TheVariants as event
+use Rattle.pif_text_model.specs.declared.commands.Command.TheVariants as command
+use Rattle.pif_text_model.specs.declared.commands.Addition.TheVariants as addition
+use Rattle.pif_text_model.specs.CommandTexts.{command_text}
+use Rattle.pif_text_model.specs.Replies.{thread_name}
+use Rattle.pif_history_model.specs.declared.lines.Line.{Line}
+use Rattle.pif_history_model.specs.declared.lines.Line.TheVariants.{Thread, Mutex, Cond, Begin, Answer, Dying, End, Tick, Rests, Prio}
+
+-- The text of a line, without a line feed: the words that say it, with one space between them.
+unfoldable pub line_text : Line → List ℕ
+line_text (Thread p) = command_text (command.Add (addition.Thread p))
+line_text (Mutex k robust) = command_text (command.Add (addition.Mutex k robust))
+line_text (Cond m) = command_text (command.Add (addition.Cond m))
+line_text (Begin t q) = command_text (command.Event (event.Begin t q))
+line_text (End t) = command_text (command.Event (event.End t))
+line_text (Tick n) = command_text (command.Event (event.Tick n))
+line_text (Answer t a) = codes "answer " ++ thread_name t ++ (codes " " ++ decimal a)
+line_text (Dying t) = codes "dying " ++ thread_name t
+line_text (Rests t) = codes "rests " ++ thread_name t
+line_text (Prio t p) = codes "prio " ++ thread_name t ++ (codes " " ++ decimal p)

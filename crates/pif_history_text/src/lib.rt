@@ -1,0 +1,31 @@
+//! The texts of histories: bytes are read chunk by chunk and cut into lines, and what each line says is kept; lines and
+//! verdicts are written.
+//!
+//! | Module | What it has |
+//! |---|---|
+//! | `said` | what a line says |
+//! | `lines` | a line, read |
+//! | `heard` | a history, line by line |
+//! | `reading` | a history, read whole |
+//! | `writing` | lines as text |
+#![tactic(auto)]
+
+mod heard;
+mod lines;
+mod numbers;
+mod reading;
+mod said;
+mod texts;
+mod verdicts;
+mod words;
+mod writing;
+
+pub use heard::{History, MOST_BYTES};
+pub use lines::said_of;
+pub use reading::read_history;
+pub use said::Said;
+pub use verdicts::{
+    push_began, push_fault, push_illegal, push_legal, push_possible, push_possible_undecided,
+    push_refused, push_undecided,
+};
+pub use writing::line_text;

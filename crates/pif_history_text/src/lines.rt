@@ -1,0 +1,161 @@
+ghost use Rattle.std.specs.Prelude.{◌≡◌, ◌∷◌, ◌+◌, ◌≤◌, ◌<◌, ◌↔◌, ◌==◌, IsTrue, length, option_map};
+ghost use Rattle.pif_types.specs.Numbers.{number_of};
+ghost use Rattle.pif_text_model.specs.Words.{words};
+ghost use Rattle.pif_history_text.specs.Lines.{addition_said, answer_in, command_said, errno_in, event_said, is_long, line_of_three, line_of_two, line_of_words, said_in, text_of_line};
+
+use crate::Said;
+use crate::numbers::{number_of, thread_of};
+use crate::texts::is_passed;
+use crate::words::{is_word, split_first};
+use pif_history_model::Line;
+use pif_model::Event;
+use pif_text::{Addition, Command, command_of};
+use pif_types::{Answer, Errno};
+
+/// The error that a word names.
+#[tactic(auto, unfolding(crate::specs::Lines::errno_in))]
+fn errno_of(word: &[u8]) -> Option<Errno>
+    ensures { result ≡ errno_in word.now }
+{
+    if is_word(word, b"EPERM") {
+        Some(Errno::NotPermitted)
+    } else if is_word(word, b"ESRCH") {
+        Some(Errno::NoSuchThread)
+    } else if is_word(word, b"EAGAIN") {
+        Some(Errno::Again)
+    } else if is_word(word, b"EFAULT") {
+        Some(Errno::Fault)
+    } else if is_word(word, b"EBUSY") {
+        Some(Errno::Busy)
+    } else if is_word(word, b"EINVAL") {
+        Some(Errno::Invalid)
+    } else if is_word(word, b"EDEADLK") {
+        Some(Errno::Deadlock)
+    } else if is_word(word, b"EOVERFLOW") {
+        Some(Errno::Overflow)
+    } else if is_word(word, b"ETIMEDOUT") {
+        Some(Errno::TimedOut)
+    } else if is_word(word, b"EOWNERDEAD") {
+        Some(Errno::OwnerDead)
+    } else if is_word(word, b"ENOTRECOVERABLE") {
+        Some(Errno::NotRecoverable)
+    } else {
+        None
+    }
+}
+
+/// The number that a word writes, or that of the error which it names.
+#[tactic(auto, unfolding(crate::specs::Lines::answer_in))]
+fn answer_of(word: &[u8]) -> Option<Answer>
+    ensures { result ≡ answer_in word.now }
+{
+    match number_of(word) {
+        Some(number) => Some(number),
+        None => Some(errno_of(word)?.number()),
+    }
+}
+
+/// What an event of scripts says.
+fn said_by_event(event: Event) -> Option<Said>
+    ensures { result ≡ event_said event }
+{
+    match event {
+        Event::Begin(thread, request) => Some(Said::Shown(Line::Begin(thread, request))),
+        Event::End(thread) => Some(Said::Shown(Line::End(thread))),
+        Event::Tick(time) => Some(Said::Shown(Line::Tick(time))),
+        Event::Go(_) => None,
+    }
+}
+
+/// What an addition says.
+fn said_by_addition(addition: Addition) -> Said
+    ensures { result ≡ addition_said addition }
+{
+    match addition {
+        Addition::Thread(priority) => Said::Shown(Line::Thread(priority)),
+        Addition::Mutex(kind, robust) => Said::Shown(Line::Mutex(kind, robust)),
+        Addition::Cond(mutex) => Said::Shown(Line::Cond(mutex)),
+    }
+}
+
+/// What a command of scripts says.
+fn said_by_command(command: Command) -> Option<Said>
+    ensures { result ≡ command_said command }
+{
+    match command {
+        Command::Limits(threads, mutexes, conds, signals) => {
+            Some(Said::Limits(threads, mutexes, conds, signals))
+        }
+        Command::Add(addition) => Some(said_by_addition(addition)),
+        Command::Event(event) => said_by_event(event),
+        Command::Run(..) | Command::Ask(_) => None,
+    }
+}
+
+/// The line of two words.
+#[tactic(auto, unfolding(crate::specs::Lines::line_of_two))]
+fn of_two(name: &[u8], word: &[u8]) -> Option<Line>
+    ensures { result ≡ line_of_two name.now word.now }
+{
+    if is_word(name, b"dying") {
+        Some(Line::Dying(thread_of(word)?))
+    } else if is_word(name, b"rests") {
+        Some(Line::Rests(thread_of(word)?))
+    } else {
+        None
+    }
+}
+
+/// The line of three words.
+#[tactic(auto, unfolding(crate::specs::Lines::line_of_three))]
+fn of_three(name: &[u8], first: &[u8], second: &[u8]) -> Option<Line>
+    ensures { result ≡ line_of_three name.now first.now second.now }
+{
+    if is_word(name, b"answer") {
+        Some(Line::Answer(thread_of(first)?, answer_of(second)?))
+    } else if is_word(name, b"prio") {
+        Some(Line::Prio(thread_of(first)?, number_of(second)?))
+    } else {
+        None
+    }
+}
+
+/// The line that begins with a name, before `rest`.
+fn of_named(name: &[u8], rest: &[u8]) -> Option<Line>
+    ensures { result ≡ line_of_words (name.now ∷ words rest.now) }
+{
+    let (first, rest) = split_first(rest);
+    let Some(rest) = rest else {
+        return of_two(name, first);
+    };
+    let (second, rest) = split_first(rest);
+    match rest {
+        None => of_three(name, first, second),
+        Some(_) => None,
+    }
+}
+
+/// The line that the words of a text make, if they make one that is no command of scripts.
+fn of_words(text: &[u8]) -> Option<Line>
+    ensures { result ≡ line_of_words (words text.now) }
+{
+    let (name, rest) = split_first(text);
+    match rest {
+        None => None,
+        Some(rest) => of_named(name, rest),
+    }
+}
+
+/// What the text of a line says, or `None` where the line is a fault.
+#[tactic(auto, unfolding(crate::specs::Lines::said_in))]
+pub fn said_of(text: &[u8]) -> Option<Said>
+    ensures { result ≡ said_in text.now }
+{
+    if is_passed(text) {
+        return Some(Said::Nothing);
+    }
+    match command_of(text) {
+        Some(command) => said_by_command(command),
+        None => Some(Said::Shown(of_words(text)?)),
+    }
+}

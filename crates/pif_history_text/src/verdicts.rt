@@ -1,0 +1,171 @@
+//! The lines of verdicts. Each is appended to `out`; where memory is refused, a part of it may be.
+ghost use Rattle.std.specs.Prelude.{◌≡◌, ◌++◌, None, OnOk, Some, decimal};
+ghost use Rattle.pif_history_text.specs.Verdicts.{at_number, began_line, colon_line, fault_line, illegal_line, legal_line, line_refusal_word, possible_line, possible_text, refused_line, undecided_line};
+
+use crate::writing::line_text;
+use itoa::Buffer;
+use pif_history_model::{Line, LineRefusal};
+use pif_text::{Cause, Text, fault_text};
+use pif_types::{AddFault, Refusal, Request, Tid};
+use std::alloc::AllocError;
+
+/// Appends a number in decimal digits.
+fn push_number(out: &mut Vec<u8>, number: u64) -> Result<(), AllocError>
+    ensures { OnOk result (out.new.items ≡ out.old.items ++ decimal number) }
+{
+    let mut buffer = Buffer::new();
+    out.extend_from_slice(buffer.format(number).as_bytes())
+}
+
+/// Appends a number behind what it counts or numbers.
+fn push_at(out: &mut Vec<u8>, head: &[u8], number: u32) -> Result<(), AllocError>
+    ensures { OnOk result (out.new.items ≡ out.old.items ++ at_number head.now number) }
+{
+    out.extend_from_slice(head)?;
+    push_number(out, u64::from(number))
+}
+
+/// Appends a line of a history behind a colon, and the end of the line.
+fn push_colon_line(out: &mut Vec<u8>, line: Line) -> Result<(), AllocError>
+    ensures { OnOk result (out.new.items ≡ out.old.items ++ colon_line line) }
+{
+    let mut text = Text::new();
+    line_text(line, &mut text);
+    out.extend_from_slice(b": ")?;
+    out.extend_from_slice(text.as_slice())?;
+    out.extend_from_slice(b"\n")
+}
+
+/// Appends the line of a legal history.
+///
+/// # Errors
+///
+/// A growth of memory was refused.
+pub fn push_legal(out: &mut Vec<u8>, lines: u32) -> Result<(), AllocError>
+    ensures { OnOk result (out.new.items ≡ out.old.items ++ legal_line lines) }
+{
+    push_at(out, b"legal ", lines)?;
+    out.extend_from_slice(b"\n")
+}
+
+/// Appends the line of a history that is illegal at the line of this number.
+///
+/// # Errors
+///
+/// A growth of memory was refused.
+pub fn push_illegal(out: &mut Vec<u8>, number: u32, line: Line) -> Result<(), AllocError>
+    ensures { OnOk result (out.new.items ≡ out.old.items ++ illegal_line number line) }
+{
+    push_at(out, b"illegal at ", number)?;
+    push_colon_line(out, line)
+}
+
+/// Appends the line of a history that was given up at the line of this number.
+///
+/// # Errors
+///
+/// A growth of memory was refused.
+pub fn push_undecided(out: &mut Vec<u8>, number: u32) -> Result<(), AllocError>
+    ensures { OnOk result (out.new.items ≡ out.old.items ++ undecided_line number) }
+{
+    push_at(out, b"undecided at ", number)?;
+    out.extend_from_slice(b"\n")
+}
+
+/// Appends the line of a fault.
+///
+/// # Errors
+///
+/// A growth of memory was refused.
+pub fn push_fault(out: &mut Vec<u8>, number: u64, cause: Cause) -> Result<(), AllocError>
+    ensures { OnOk result (out.new.items ≡ out.old.items ++ fault_line number cause) }
+{
+    let mut text = Text::new();
+    fault_text(number, cause, &mut text);
+    out.extend_from_slice(text.as_slice())?;
+    out.extend_from_slice(b"\n")
+}
+
+/// Why no run has a line, in one word.
+fn refusal_word(why: LineRefusal) -> &'static [u8]
+    ensures { result.now ≡ line_refusal_word why }
+{
+    match why {
+        LineRefusal::Addition(AddFault::TooMany) => b"toomany",
+        LineRefusal::Addition(AddFault::BadPrio) => b"badprio",
+        LineRefusal::Addition(AddFault::NoSuch) => b"nosuch",
+        LineRefusal::Event(Refusal::Dead) => b"dead",
+        LineRefusal::Event(Refusal::Busy) => b"busy",
+        LineRefusal::Event(Refusal::Idle) => b"idle",
+        LineRefusal::Event(Refusal::NoSuch) => b"nosuch",
+        LineRefusal::Event(Refusal::Past) => b"past",
+    }
+}
+
+/// Appends the line that says why no run has a line, whatever was answered.
+///
+/// # Errors
+///
+/// A growth of memory was refused.
+pub fn push_refused(out: &mut Vec<u8>, why: LineRefusal) -> Result<(), AllocError>
+    ensures { OnOk result (out.new.items ≡ out.old.items ++ refused_line why) }
+{
+    out.extend_from_slice(b"refused ")?;
+    out.extend_from_slice(refusal_word(why))?;
+    out.extend_from_slice(b"\n")
+}
+
+/// Appends numbers with a blank in front of each, or `none`.
+fn push_numbers(out: &mut Vec<u8>, numbers: &[u32]) -> Result<(), AllocError>
+    ensures { OnOk result (out.new.items ≡ out.old.items ++ possible_text numbers.now) }
+{
+    if numbers.is_empty() {
+        return out.extend_from_slice(b" none");
+    }
+    for number in numbers {
+        out.extend_from_slice(b" ")?;
+        push_number(out, u64::from(*number))?;
+    }
+    Ok(())
+}
+
+/// Appends the line that says which numbers may stand in the place of an answer or a priority.
+///
+/// # Errors
+///
+/// A growth of memory was refused.
+pub fn push_possible(out: &mut Vec<u8>, numbers: &[u32]) -> Result<(), AllocError>
+    ensures { OnOk result (out.new.items ≡ out.old.items ++ possible_line (Some numbers.now)) }
+{
+    out.extend_from_slice(b"possible there:")?;
+    push_numbers(out, numbers)?;
+    out.extend_from_slice(b"\n")
+}
+
+/// Appends the line that says that the search for such numbers was given up.
+///
+/// # Errors
+///
+/// A growth of memory was refused.
+pub fn push_possible_undecided(out: &mut Vec<u8>) -> Result<(), AllocError>
+    ensures { OnOk result (out.new.items ≡ out.old.items ++ possible_line None) }
+{
+    out.extend_from_slice(b"possible there: undecided\n")
+}
+
+/// Appends the line that says where the open call of a thread began.
+///
+/// # Errors
+///
+/// A growth of memory was refused.
+pub fn push_began(
+    out: &mut Vec<u8>,
+    number: u32,
+    thread: Tid,
+    request: Request,
+) -> Result<(), AllocError>
+    ensures { OnOk result (out.new.items ≡ out.old.items ++ began_line number thread request) }
+{
+    push_at(out, b"its call began at ", number)?;
+    push_colon_line(out, Line::Begin(thread, request))
+}

@@ -1,0 +1,10 @@
+use pif_script_model::CliFault;
+
+/// Why a history was not found to be legal.
+#[derive(Clone, Copy, Debug, PartialEq, Eq)]
+pub enum JudgeFault {
+    /// A fault as of scripts. `Differs` names the line, from 1, up to which there is no run.
+    Cli(CliFault),
+    /// At the line of this number, from 1, the search was given up.
+    Undecided(u64),
+}

@@ -1,0 +1,86 @@
+ghost use Rattle.std.specs.Prelude.{◌≡◌, ◌≤◌, IfErr, IfOk, None, take, vec_len};
+ghost use Rattle.pif_history.specs.Verdicts.{IsRefusalThere};
+ghost use Rattle.pif_history_text.specs.Histories.{limits_of};
+ghost use Rattle.pif_history_text.specs.Reading.{heard_of};
+ghost use Rattle.pif_job_judge.specs.Judging.{IsKnown};
+
+use pif_history::{possible_answers, possible_priorities, refusal};
+use pif_history_model::{Line, LineRefusal};
+use pif_history_text::History;
+use pif_script_model::CliFault;
+use pif_types::{Request, Tid};
+use std::alloc::Global;
+
+/// What is known of a line up to which there is no run.
+#[derive(Drop)]
+pub enum Known {
+    /// No run has it, whatever was answered, for this reason.
+    Refused(LineRefusal),
+    /// Exactly these numbers may stand in it, if the search for them was not given up.
+    Numbers(Option<Vec<u32>>),
+    /// Nothing more.
+    Nothing,
+}
+
+/// The begin of a call that is open.
+#[derive(Clone, Copy)]
+pub struct Began {
+    /// The number of its line, from 1.
+    pub number: u32,
+    /// The thread.
+    pub thread: Tid,
+    /// The call.
+    pub request: Request,
+}
+
+/// What is known of the line behind the first `before` lines of a history, if it isn't refused.
+fn numbers_of(
+    alloc: Global,
+    states: usize,
+    history: &History,
+    before: usize,
+    line: &Line,
+) -> Result<Known, CliFault>
+    requires within { before ≤ vec_len history.now.shown }
+    requires refused { IsRefusalThere (limits_of (heard_of history.now)) (take before history.now.shown.items) line.now None }
+    ensures known { IfOk result (IsKnown (heard_of history.now) before line.now) }
+    ensures failed { IfErr result (λ fault. fault ≡ CliFault.NoMemory) }
+{
+    let lines = &history.shown.as_slice()[..before];
+    let limits = history.limits();
+    match line {
+        Line::Answer(thread, _) => match possible_answers(alloc, limits, lines, *thread, states) {
+            Ok(answers) => Ok(Known::Numbers(answers)),
+            Err(_) => Err(CliFault::NoMemory),
+        },
+        Line::Prio(thread, _) => match possible_priorities(alloc, limits, lines, *thread, states) {
+            Ok(priorities) => Ok(Known::Numbers(priorities)),
+            Err(_) => Err(CliFault::NoMemory),
+        },
+        _ => Ok(Known::Nothing),
+    }
+}
+
+/// What is known of the line behind the first `before` lines of a history.
+///
+/// # Errors
+///
+/// `NoMemory`.
+pub fn known_of(
+    alloc: Global,
+    states: usize,
+    history: &History,
+    before: usize,
+    line: &Line,
+) -> Result<Known, CliFault>
+    requires { before ≤ vec_len history.now.shown }
+    ensures known { IfOk result (IsKnown (heard_of history.now) before line.now) }
+    ensures failed { IfErr result (λ fault. fault ≡ CliFault.NoMemory) }
+{
+    let lines = &history.shown.as_slice()[..before];
+    match refusal(history.limits(), lines, line) {
+        Ok(Some(why)) => Ok(Known::Refused(why)),
+        Ok(None) => numbers_of(alloc, states, history, before, line),
+        Err(_) => Err(CliFault::NoMemory),
+    }
+}

@@ -1,0 +1,153 @@
+//! What is told of a verdict.
+ghost use Rattle.std.specs.Prelude.{◌≡◌, ◌≤◌, ◌++◌, OnOk, vec_len};
+ghost use Rattle.pif_history_text.specs.Reading.{IsPaired};
+ghost use Rattle.pif_history_text.specs.Verdicts.{legal_line};
+ghost use Rattle.pif_job_judge.specs.Judging.{began_text, known_text, why_text};
+
+use crate::{Began, Known};
+use pif_history_model::{Label, Line};
+use pif_history_text::{
+    History, line_text, push_began, push_legal, push_possible, push_possible_undecided,
+    push_refused,
+};
+use pif_text::{Added, Reply, Text, reply_text};
+use pif_types::{Request, Tid};
+use std::alloc::{AllocError, Global};
+
+/// The thread whose line it is, if it is one of a thread.
+fn thread_of(line: &Line) -> Option<Tid> {
+    match line {
+        Line::Begin(thread, _)
+        | Line::Answer(thread, _)
+        | Line::Dying(thread)
+        | Line::End(thread)
+        | Line::Rests(thread)
+        | Line::Prio(thread, _) => Some(*thread),
+        Line::Thread(_) | Line::Mutex(..) | Line::Cond(_) | Line::Tick(_) => None,
+    }
+}
+
+/// The call that a thread has open behind the first `before` lines of a history.
+fn open_call(history: &History, thread: Tid, before: usize) -> Option<Began>
+    requires paired { IsPaired history.now }
+    requires within { before ≤ vec_len history.now.shown }
+{
+    for place in (0..before).rev() {
+        match history.shown[place] {
+            Line::Begin(other, request) => {
+                if other == thread {
+                    return Some(Began {
+                        number: history.numbers[place],
+                        thread,
+                        request,
+                    });
+                }
+            }
+            Line::Answer(other, _) | Line::End(other) => {
+                if other == thread {
+                    return None;
+                }
+            }
+            _ => {}
+        }
+    }
+    None
+}
+
+/// The call that the thread of a line behind the first `before` lines has open there; none if it is no line of a
+/// thread.
+pub fn began_before(history: &History, before: usize, line: &Line) -> Option<Began>
+    requires paired { IsPaired history.now }
+    requires within { before ≤ vec_len history.now.shown }
+{
+    open_call(history, thread_of(line)?, before)
+}
+
+/// Appends the line that says where an open call began, if there is one.
+fn tell_began(began: Option<Began>, out: &mut Vec<u8>) -> Result<(), AllocError>
+    ensures { OnOk result (out.new.items ≡ out.old.items ++ began_text began) }
+{
+    match began {
+        Some(call) => push_began(out, call.number, call.thread, call.request),
+        None => Ok(()),
+    }
+}
+
+/// Appends the line that says what is known of a line.
+fn tell_known(known: &Known, out: &mut Vec<u8>) -> Result<(), AllocError>
+    ensures { OnOk result (out.new.items ≡ out.old.items ++ known_text known.now) }
+{
+    match known {
+        Known::Refused(why) => push_refused(out, *why),
+        Known::Numbers(Some(numbers)) => push_possible(out, numbers.as_slice()),
+        Known::Numbers(None) => push_possible_undecided(out),
+        Known::Nothing => Ok(()),
+    }
+}
+
+/// Appends what is known of a line up to which there is no run, and where its thread's open call began, unless the line
+/// is refused whatever was answered.
+///
+/// # Errors
+///
+/// A growth of memory was refused.
+pub fn tell_why(known: &Known, began: Option<Began>, out: &mut Vec<u8>) -> Result<(), AllocError>
+    ensures { OnOk result (out.new.items ≡ out.old.items ++ why_text known.now began) }
+{
+    match known {
+        Known::Refused(why) => push_refused(out, *why),
+        Known::Numbers(_) => {
+            tell_known(known, out)?;
+            tell_began(began, out)
+        }
+        Known::Nothing => tell_began(began, out),
+    }
+}
+
+/// Appends the line of a legal history, and what stands behind it.
+///
+/// # Errors
+///
+/// A growth of memory was refused.
+pub fn tell_legal(lines: u32, witness: &[u8], out: &mut Vec<u8>) -> Result<(), AllocError>
+    ensures { OnOk result (out.new.items ≡ out.old.items ++ (legal_line lines ++ witness.now)) }
+{
+    push_legal(out, lines)?;
+    out.extend_from_slice(witness)
+}
+
+/// Appends two blanks, a thread and what it does.
+fn push_move(thread: Tid, does: &[u8], out: &mut Vec<u8>) -> Result<(), AllocError> {
+    let mut name = Text::new();
+    reply_text(Reply::Added(Added::Thread(thread)), &mut name);
+    out.extend_from_slice(b"  ")?;
+    out.extend_from_slice(name.as_slice())?;
+    out.extend_from_slice(does)
+}
+
+/// Appends one step of a witness as a line.
+fn push_label(label: Label, out: &mut Vec<u8>) -> Result<(), AllocError> {
+    match label {
+        Label::Shown(line) => {
+            let mut text = Text::new();
+            line_text(line, &mut text);
+            out.extend_from_slice(text.as_slice())?;
+            out.extend_from_slice(b"\n")
+        }
+        Label::Moves(thread) => push_move(thread, b" goes on\n", out),
+        Label::Ends(thread) => push_move(thread, b" ends\n", out),
+    }
+}
+
+/// The lines of a witness, which is given newest first, with what happens between them behind two blanks each.
+///
+/// # Errors
+///
+/// A growth of memory was refused.
+pub fn witness_text(alloc: Global, witness: &[Label]) -> Result<Vec<u8>, AllocError> {
+    let mut out = Vec::new(alloc);
+    for label in witness.iter().rev() {
+        push_label(*label, &mut out)?;
+    }
+    Ok(out)
+}
