@@ -24,11 +24,11 @@ abbrev pub TellsOf : Result (Unit {0}) JobFault → (held holds : Option (List �
 TellsOf (Ok x) held holds = Keeps held holds
 TellsOf (Err e) held holds = TellsLine held holds
 
--- what is told at a status of the program: nothing at 0; a text at 1; one line at 2 to 6; and at 3, where the text of 1
+-- what is told at a status of the program: nothing at 0; a text at 1; one line at 2 to 7; and at 3, where the text of 1
 -- could not be written, a proper part of that
 abbrev pub TellsAt : ℕ → (held holds : Option (List ℕ)) → Type 0
 TellsAt status held holds =
     ((status ≡ 0) × Keeps held holds)
     ⊎ (((status ≡ 1) × ((text : List ℕ) × Appends held holds text))
-    ⊎ (((2 ≤ status) × (status ≤ 6) × TellsLine held holds)
+    ⊎ (((2 ≤ status) × (status ≤ 7) × TellsLine held holds)
     ⊎ ((status ≡ 3) × ((text : List ℕ) × WritesPart held holds text))))

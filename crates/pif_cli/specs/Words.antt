@@ -1,5 +1,5 @@
 -- What the program does by its words, what is written, and its status.
-use Rattle.std.specs.Prelude.{ℕ, ◌≡◌, ◌⊎◌, ◌==◌, MatchBool, List, [], ◌∷◌, Option, Result, Ok, Err, codes, bytes_eq, if◌then◌else◌}
+use Rattle.std.specs.Prelude.{ℕ, ◌≡◌, ◌⊎◌, ◌==◌, MatchBool, List, [], ◌∷◌, Option, Some, None, Result, Ok, Err, codes, bytes_eq, if◌then◌else◌}
 use Rattle.std.specs.Io.KnownBytes.{Appends, Keeps}
 use Rattle.clap.specs.Words.{IsAmong, Kinds, Text}
 use Rattle.clap.specs.declared.error.kind.ErrorKind.{ErrorKind}
@@ -14,12 +14,16 @@ use Rattle.pif_script_model.specs.Runs.{WritesPart}
 use Rattle.pif_story_model.specs.Showing.{ShowsStoryTo, TracesStoryTo}
 use Rattle.pif_story_model.specs.Checks.{TellsTo, check_telling, fill_telling}
 use Rattle.pif_job_draw.specs.Pictures.{PicturesTo}
+use Rattle.pif_job_judge.specs.declared.faults.JudgeFault.{JudgeFault}
+use Rattle.pif_job_judge.specs.declared.faults.JudgeFault.TheVariants as judge_fault
+use Rattle.pif_job_judge.specs.Judging.{JudgesTo, front_of}
 use Rattle.pif_job_shell.specs.Talks.{TalksTo}
+use Rattle.pif_cli_words.specs.declared.jobs.Judging.{Judging}
 use Rattle.pif_cli_words.specs.declared.jobs.Job.{Job}
-use Rattle.pif_cli_words.specs.declared.jobs.Job.TheVariants.{Run, Replay, Trace, Migrate, Show, Picture, Shell, Check, Fill, Random, Drive}
+use Rattle.pif_cli_words.specs.declared.jobs.Job.TheVariants.{Run, Replay, Trace, Migrate, Show, Picture, Shell, Check, Fill, Judge, Random, Drive}
 use Rattle.pif_cli_words.specs.Words.{files_of, inputs_of, job_of, refusals_of, standard_name}
 use Rattle.pif_cli.specs.declared.statuses.JobFault.{JobFault}
-use Rattle.pif_cli.specs.declared.statuses.JobFault.TheVariants.{Cli}
+use Rattle.pif_cli.specs.declared.statuses.JobFault.TheVariants.{Cli, Undecided}
 use Rattle.pif_cli.specs.Messages.{TellsLine, TellsOf}
 use Rattle.pif_cli.specs.Random.{WritesRandom}
 use Rattle.pif_cli.specs.Statuses.{job_status}
@@ -38,6 +42,20 @@ as_job (Err e) = Err (Cli e)
 abbrev pub EndsAsCli : (Result (Unit {0}) CliFault → Type 0) → Result (Unit {0}) JobFault → Type 0
 EndsAsCli ends result = (done : Result (Unit {0}) CliFault) × ends done × (result ≡ as_job done)
 
+-- how a job over a history ends
+abbrev pub as_judged : Result (Unit {0}) JudgeFault → Result (Unit {0}) JobFault
+as_judged (Ok x) = Ok x
+as_judged (Err (judge_fault.Cli e)) = Err (Cli e)
+as_judged (Err (judge_fault.Undecided line)) = Err (Undecided line)
+
+-- a history of this name was judged; its name is told if there are several
+abbrev pub JudgesNamed : Judging → (name : Text) → (before held holds : Option (List ℕ))
+    → Result (Unit {0}) JobFault → Type 0
+JudgesNamed asked name before held holds result =
+    (done : Result (Unit {0}) JudgeFault)
+    × JudgesTo before held holds (front_of (if asked.several then Some name else None)) done
+    × (result ≡ as_judged done)
+
 -- a job over an input of this name, by the bytes that were read and written; `random` and `drive` read nothing
 abbrev pub Does : Job → (name : Text) → (before after held holds : Option (List ℕ)) → Result (Unit {0}) JobFault
     → Type 0
@@ -50,6 +68,7 @@ Does (Picture picture) name before after held holds result = EndsAsCli (Pictures
 Does Shell name before after held holds result = EndsAsCli (TalksTo before after held holds) result
 Does Check name before after held holds result = EndsAsCli (TellsTo (check_telling name) before after held holds) result
 Does Fill name before after held holds result = EndsAsCli (TellsTo (fill_telling name) before after held holds) result
+Does (Judge asked) name before after held holds result = JudgesNamed asked name before held holds result
 Does (Random recipe) name before after held holds result =
     Keeps before after × WritesRandom recipe.lines held holds result
 Does (Drive clients) name before after held holds result = Keeps before after × Drives clients held holds result

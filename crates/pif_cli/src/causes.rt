@@ -39,10 +39,20 @@ fn say_fault(job: Job, name: &str, fault: JobFault, notice: &Notice, message: &m
         JobFault::Cli(CliFault::Read) => say_unread(name, message),
         JobFault::Cli(fault) => match job {
             Job::Check | Job::Fill | Job::Picture(_) => say_story(name, fault, notice, message),
+            Job::Judge(_) => say_history(name, fault, message),
             _ => say_text(job, fault, notice, message),
         },
         JobFault::Threads => message.say("a thread cannot be started"),
         JobFault::Unsettled => message.say("the desk does not settle with its clients"),
+        JobFault::Undecided(number) => {
+            say_name(name, message);
+            say_line(
+                number,
+                "too many states were made to decide it",
+                b"",
+                message,
+            );
+        }
     }
 }
 
@@ -107,6 +117,35 @@ fn say_story(name: &str, fault: CliFault, notice: &Notice, message: &mut Message
             say_line(number, "the core gives another answer", b"", message);
         }
         CliFault::Read | CliFault::Write | CliFault::NoMemory => say_plain(fault, message),
+    }
+}
+
+/// Says a fault of a history of this name: of a line its number and what is wrong with it.
+fn say_history(name: &str, fault: CliFault, message: &mut Message) {
+    match fault {
+        CliFault::Script(number, cause) => {
+            say_name(name, message);
+            say_line(number, history_cause(cause), b"", message);
+        }
+        CliFault::Differs(number) => {
+            say_name(name, message);
+            say_line(
+                number,
+                "no run of the POSIX machine shows the lines up to here",
+                b"",
+                message,
+            );
+        }
+        CliFault::Read | CliFault::Write | CliFault::NoMemory => say_plain(fault, message),
+    }
+}
+
+/// The words of a cause, of a history.
+fn history_cause(cause: Cause) -> &'static str {
+    match cause {
+        Cause::Size => "the input has more than 268435456 bytes",
+        Cause::Command => "no line of a history, or limits behind another line",
+        _ => plain_cause(cause),
     }
 }
 

@@ -15,21 +15,24 @@ pub enum JobFault {
     Threads,
     /// The desk didn't settle with its clients.
     Unsettled,
+    /// At the line of this number, from 1, the search for a run of a history was given up.
+    Undecided(u64),
 }
 
 /// The status of the program after this fault of a job: 6 where a thread could not be started, or the desk didn't
-/// settle.
+/// settle, and 7 where a history was not decided.
 pub fn job_fault_status(fault: JobFault) -> u8
     ensures { result ≡ job_fault_status fault }
 {
     match fault {
         JobFault::Cli(fault) => fault_status(fault),
         JobFault::Threads | JobFault::Unsettled => 6,
+        JobFault::Undecided(_) => 7,
     }
 }
 
-/// The status of the program after this fault: 2 for a fault of the script or trace, 3 for a read or a write that
-/// failed, 4 for out of memory, and 5 for a difference.
+/// The status of the program after this fault: 2 for a fault of the script, trace or history, 3 for a read or a write that
+/// failed, 4 for out of memory, and 5 for a difference, or a history that is illegal.
 pub fn fault_status(fault: CliFault) -> u8
     ensures { result ≡ fault_status fault }
 {

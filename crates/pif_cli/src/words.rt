@@ -1,9 +1,9 @@
-ghost use Rattle.std.specs.Prelude.{◌≡◌, ◌⊎◌, map};
+ghost use Rattle.std.specs.Prelude.{◌≡◌, ◌⊎◌, None, Some, if◌then◌else◌, map, option_copied};
 ghost use Rattle.clap.specs.Words.{kind_of};
 ghost use Rattle.pif_cli_words.specs.Words.{refusals_of, job_of, name_of};
 ghost use Rattle.pif_cli.specs.Messages.{TellsAt, TellsLine};
 ghost use Rattle.pif_cli.specs.Statuses.{fault_status};
-ghost use Rattle.pif_cli.specs.Words.{Did, Does, as_job, EndsBy, HadNoMemory, RefusedFor, Shows, ShowsHelp};
+ghost use Rattle.pif_cli.specs.Words.{Did, Does, JudgesNamed, as_job, as_judged, EndsBy, HadNoMemory, RefusedFor, Shows, ShowsHelp};
 
 use crate::causes::{message_of, plain_message};
 use crate::drive::drive;
@@ -14,6 +14,7 @@ use clap::error::ErrorKind;
 use pif_cli_words::{Job, first_name, near_command, read_words};
 use pif_job_check::{check_noting, fill_noting};
 use pif_job_draw::write_picture;
+use pif_job_judge::{JudgeFault, Judging, Unwatched, judge};
 use pif_job_replay::{migrate_noting, replay_noting};
 use pif_job_shell::{NoShelf, Shelf, shell};
 use pif_job_show::show_story;
@@ -33,6 +34,42 @@ fn as_job(done: Result<(), CliFault>) -> Result<(), JobFault>
         Ok(()) => Ok(()),
         Err(fault) => Err(JobFault::Cli(fault)),
     }
+}
+
+/// The fault of a job over a history.
+fn as_judged(done: Result<(), JudgeFault>) -> Result<(), JobFault>
+    ensures { result ≡ as_judged done }
+{
+    match done {
+        Ok(()) => Ok(()),
+        Err(JudgeFault::Cli(fault)) => Err(JobFault::Cli(fault)),
+        Err(JudgeFault::Undecided(line)) => Err(JobFault::Undecided(line)),
+    }
+}
+
+/// The name that is told of a history, where there are several.
+fn told_name(several: bool, name: &str) -> Option<&[u8]>
+    ensures { option_copied result ≡ if several then Some name.now else None }
+{
+    if several { Some(name.as_bytes()) } else { None }
+}
+
+/// Judges the history of this name.
+fn judge_input<R: Read, W: Write>(
+    alloc: Global,
+    asked: pif_cli_words::Judging,
+    name: &str,
+    input: &mut R,
+    output: &mut W,
+) -> Result<(), JobFault>
+    ensures { JudgesNamed asked name.now (R.remaining input.old) (W.contents output.old) (W.contents output.new) result }
+{
+    let judging = Judging {
+        name: told_name(asked.several, name),
+        witness: asked.witness,
+        states: asked.states,
+    };
+    as_judged(judge(alloc, &judging, input, output, &mut Unwatched))
 }
 
 /// Does a job over an input of this name, and has `notice` keep the line that ends it. The errors are told nothing.
@@ -59,6 +96,7 @@ fn do_job<P: Threads + Wait + Sync, S: Shelf, R: Read, W: Write, E: Write>(
         Job::Shell => as_job(shell(alloc, host.shelf, host.is_terminal, input, host.output)),
         Job::Check => as_job(check_noting(alloc, name.as_bytes(), input, host.output, notice)),
         Job::Fill => as_job(fill_noting(alloc, name.as_bytes(), input, host.output, notice)),
+        Job::Judge(asked) => judge_input(alloc, asked, name, input, host.output),
         Job::Random(recipe) => write_random(alloc, recipe, host.output),
         Job::Drive(clients) => drive(alloc, host.process, clients, host.output),
     }
@@ -167,7 +205,8 @@ pub fn refuse<W: Write, E: Write>(
 /// writes to `output` each command, its answer and what it has changed, as `show_story` does; with `--all` the state
 /// behind it; with `--json` or `--dot` it writes a picture of it, as `pif draw` does. `pif check` reads a story from
 /// `input`, and writes to `output` a line that says whether it is ok, as `check` does; with `--print` it writes it with
-/// its answers, as `fill` does. `pif shell` reads the lines of a person from `input`, and answers each to `output`, as
+/// its answers, as `fill` does. `pif judge` reads a history from `input`, and writes to `output` whether it is legal, as
+/// `judge` does. `pif shell` reads the lines of a person from `input`, and answers each to `output`, as
 /// `shell` does without a prompt; it saves no story, since no file is opened here. `pif replay` reads a trace from
 /// `input`, and writes to `output` what it comes to, as `replay` does. `pif trace` reads a story or a script from
 /// `input`, and writes its trace to `output`, as `trace_story` does, without the line of a fault. `pif migrate` reads a
@@ -178,11 +217,12 @@ pub fn refuse<W: Write, E: Write>(
 /// is opened here, and `input` stands for the first.
 ///
 /// The status is 0 if the job was done, or help or the version was asked for, whose text goes to `output`; 1 if the
-/// words are refused, and the reason goes to `errors`; 2 for a fault of the script, story or trace; 3 if a read or a
-/// write fails; 4 if it ran out of memory; 5 if a story or a trace differs; and 6 if a thread can't be started, or the
-/// desk of the clients doesn't settle. Nothing is read if no job is asked for.
+/// words are refused, and the reason goes to `errors`; 2 for a fault of the script, story, history or trace; 3 if a read
+/// or a write fails; 4 if it ran out of memory; 5 if a story or a trace differs, or a history is illegal; 6 if a thread
+/// can't be started, or the desk of the clients doesn't settle; and 7 if a history stayed undecided. Nothing is read if
+/// no job is asked for.
 ///
-/// At status 0 nothing goes to `errors`, and at 2 to 6 one line of printable ASCII, which says what went wrong; where
+/// At status 0 nothing goes to `errors`, and at 2 to 7 one line of printable ASCII, which says what went wrong; where
 /// that line cannot be written, the status stays. At 3 it is a part of the reason why the words are refused, where that
 /// is what could not be written. No memory is taken for the line.
 pub fn command<T: Threads + Wait + Sync, S: AsStr, R: Read, W: Write, E: Write>(

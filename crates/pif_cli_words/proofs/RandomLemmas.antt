@@ -3,17 +3,18 @@ use Rattle.std.proofs.Common.{◌≡◌, ℕ, ◌≤◌, Bool, true, false, List
 use Rattle.std.specs.Str.{bytes_eq}
 use Rattle.clap.specs.Words.{Row, Text, first_of}
 use Rattle.pif_cli_words.specs.declared.random.Recipe.{Recipe}
-use Rattle.pif_cli_words.specs.declared.jobs.Job.TheVariants.{Run, Replay, Trace, Migrate, Show, Picture, Shell, Check, Fill, Random, Drive}
+use Rattle.pif_cli_words.specs.declared.jobs.Judging.{Judging}
+use Rattle.pif_cli_words.specs.declared.jobs.Job.TheVariants.{Run, Replay, Trace, Migrate, Show, Picture, Shell, Check, Fill, Judge, Random, Drive}
 use Rattle.pif_script_model.specs.declared.pictures.Picture.TheVariants.{Drawing, States, Graph}
 use Rattle.pif_script_model.specs.declared.details.Detail.TheVariants.{Changes, All}
 use Rattle.pif_cli_words.specs.Options.{flag_in, number_between}
 use Rattle.pif_cli_words.specs.Random.{recipe_in}
-use Rattle.pif_cli_words.specs.Words.{job_by}
+use Rattle.pif_cli_words.specs.Words.{job_by, judging_in}
 use Rattle.pif_cli_words.proofs.OptionsLemmas.{number_within}
 
 -- of the jobs that a name may have, one alone is a random script
-random_job : (replay trace migrate show json dot whole draw shell check print random drive : Bool)
-    (mine recipe : Recipe) (clients : ℕ) → mine.lines ≤ 262144
+random_job : (replay trace migrate show json dot whole draw shell check print judge random drive : Bool)
+    (asked : Judging) (mine recipe : Recipe) (clients : ℕ) → mine.lines ≤ 262144
     → (if replay then Replay
     else (if trace then Trace
     else (if migrate then Migrate
@@ -22,24 +23,26 @@ random_job : (replay trace migrate show json dot whole draw shell check print ra
     else (if draw then Picture Drawing
     else (if shell then Shell
     else (if check then (if print then Fill else Check)
-    else (if random then Random mine else (if drive then Drive clients else Run))))))))) ≡ Random recipe
+    else (if judge then Judge asked
+    else (if random then Random mine else (if drive then Drive clients else Run)))))))))) ≡ Random recipe
     → recipe.lines ≤ 262144
-random_job true trace migrate show json dot whole draw shell check print random drive mine recipe clients most e = cc
-random_job false true migrate show json dot whole draw shell check print random drive mine recipe clients most e = cc
-random_job false false true show json dot whole draw shell check print random drive mine recipe clients most e = cc
-random_job false false false true true dot whole draw shell check print random drive mine recipe clients most e = cc
-random_job false false false true false true whole draw shell check print random drive mine recipe clients most e = cc
-random_job false false false true false false true draw shell check print random drive mine recipe clients most e = cc
-random_job false false false true false false false draw shell check print random drive mine recipe clients most e = cc
-random_job false false false false json dot whole true shell check print random drive mine recipe clients most e = cc
-random_job false false false false json dot whole false true check print random drive mine recipe clients most e = cc
-random_job false false false false json dot whole false false true true random drive mine recipe clients most e = cc
-random_job false false false false json dot whole false false true false random drive mine recipe clients most e = cc
-random_job false false false false json dot whole false false false print true drive mine recipe clients most e =
+random_job true trace migrate show json dot whole draw shell check print judge random drive asked mine recipe clients most e = cc
+random_job false true migrate show json dot whole draw shell check print judge random drive asked mine recipe clients most e = cc
+random_job false false true show json dot whole draw shell check print judge random drive asked mine recipe clients most e = cc
+random_job false false false true true dot whole draw shell check print judge random drive asked mine recipe clients most e = cc
+random_job false false false true false true whole draw shell check print judge random drive asked mine recipe clients most e = cc
+random_job false false false true false false true draw shell check print judge random drive asked mine recipe clients most e = cc
+random_job false false false true false false false draw shell check print judge random drive asked mine recipe clients most e = cc
+random_job false false false false json dot whole true shell check print judge random drive asked mine recipe clients most e = cc
+random_job false false false false json dot whole false true check print judge random drive asked mine recipe clients most e = cc
+random_job false false false false json dot whole false false true true judge random drive asked mine recipe clients most e = cc
+random_job false false false false json dot whole false false true false judge random drive asked mine recipe clients most e = cc
+random_job false false false false json dot whole false false false print true random drive asked mine recipe clients most e = cc
+random_job false false false false json dot whole false false false print false true drive asked mine recipe clients most e =
     let same : mine ≡ recipe = cc in
     subst (λ (r : Recipe). r.lines ≤ 262144) same most
-random_job false false false false json dot whole false false false print false true mine recipe clients most e = cc
-random_job false false false false json dot whole false false false print false false mine recipe clients most e = cc
+random_job false false false false json dot whole false false false print false false true asked mine recipe clients most e = cc
+random_job false false false false json dot whole false false false print false false false asked mine recipe clients most e = cc
 
 -- a random script that is asked for has as many lines as it may have, or fewer
 pub lines_within : (command : Option (Text × List Row)) (recipe : Recipe) → job_by command ≡ Random recipe
@@ -50,6 +53,7 @@ lines_within (Some command) recipe e =
     (bytes_eq command.0 (codes "migrate")) (bytes_eq command.0 (codes "show")) (flag_in (codes "json") command.1)
     (flag_in (codes "dot") command.1) (flag_in (codes "all") command.1) (bytes_eq command.0 (codes "draw"))
     (bytes_eq command.0 (codes "shell")) (bytes_eq command.0 (codes "check")) (flag_in (codes "print") command.1)
-    (bytes_eq command.0 (codes "random")) (bytes_eq command.0 (codes "drive")) (recipe_in command.1) recipe
+    (bytes_eq command.0 (codes "judge")) (bytes_eq command.0 (codes "random")) (bytes_eq command.0 (codes "drive"))
+    (judging_in command.1) (recipe_in command.1) recipe
     (number_between 1 64 (first_of (codes "N") command.1))
     (number_within 1 262144 (first_of (codes "lines") command.1)) e

@@ -1,13 +1,14 @@
 -- The words of the program: its commands, and the job, the files and the refusals of words.
-use Rattle.std.specs.Prelude.{ℕ, true, List, [], ◌∷◌, Option, Some, None, unwrap_or, codes, bytes_eq, if◌then◌else◌}
+use Rattle.std.specs.Prelude.{ℕ, Bool, true, nat_lt, length, List, [], ◌∷◌, Option, Some, None, unwrap_or, codes, bytes_eq, if◌then◌else◌}
 use Rattle.clap.specs.Lexer.{usize_max}
 use Rattle.clap.specs.Words.{App, Kinds, Row, Rule, Text, all_of, fault_of, first_of, new_app, new_rule, subcommand_of, with_rule, with_subcommand}
 use Rattle.clap.specs.declared.builder.value_parser.ValueParser.TheVariants.{Unsigned}
 use Rattle.pif_script_model.specs.declared.details.Detail.TheVariants.{Changes, All}
 use Rattle.pif_script_model.specs.declared.pictures.Picture.TheVariants.{Drawing, States, Graph}
+use Rattle.pif_cli_words.specs.declared.jobs.Judging.{Judging}
 use Rattle.pif_cli_words.specs.declared.jobs.Job.{Job}
-use Rattle.pif_cli_words.specs.declared.jobs.Job.TheVariants.{Run, Replay, Trace, Migrate, Show, Picture, Shell, Check, Fill, Random, Drive}
-use Rattle.pif_cli_words.specs.Options.{flag_in, flag_rule, number_between}
+use Rattle.pif_cli_words.specs.declared.jobs.Job.TheVariants.{Run, Replay, Trace, Migrate, Show, Picture, Shell, Check, Fill, Judge, Random, Drive}
+use Rattle.pif_cli_words.specs.Options.{chosen_rule, flag_in, flag_rule, number_between}
 use Rattle.pif_cli_words.specs.Random.{random_app, recipe_in}
 
 -- the file of a command over one input, which may be left out
@@ -49,6 +50,15 @@ files_rule =
 abbrev pub check_app : App
 check_app = with_rule (with_rule (new_app (codes "check")) print_rule) files_rule
 
+-- the command `judge`, with its flag for a run, and its option for how many states may be made for a line
+abbrev pub judged_app : App
+judged_app =
+    with_rule (with_rule (new_app (codes "judge")) (flag_rule (codes "witness")))
+    (chosen_rule (codes "states") 1 16777216 (codes "200000"))
+
+abbrev pub judge_app : App
+judge_app = with_rule judged_app files_rule
+
 -- the command `show` for a person, with its flag for all there is
 abbrev pub shown_app : App
 shown_app = with_rule (new_app (codes "show")) (flag_rule (codes "all"))
@@ -65,15 +75,17 @@ shell_app = new_app (codes "shell")
 abbrev pub with_states : App → App
 with_states pif = with_job (with_subcommand (with_job pif (codes "run")) show_app.top) (codes "draw")
 
--- a program with the commands over scripts and stories that show answers: these, `shell` and `check`
+-- a program with the commands over scripts, stories and histories that show answers: these, `shell`, `check` and
+-- `judge`
 abbrev pub with_runs : App → App
-with_runs pif = with_subcommand (with_subcommand (with_states pif) shell_app.top) check_app.top
+with_runs pif =
+    with_subcommand (with_subcommand (with_subcommand (with_states pif) shell_app.top) check_app.top) judge_app.top
 
 -- a program with the commands over traces: `replay`, `trace` and `migrate`
 abbrev pub with_traces : App → App
 with_traces pif = with_job (with_job (with_job pif (codes "replay")) (codes "trace")) (codes "migrate")
 
--- the program's commands: `run`, `show`, `draw`, `shell`, `check`, `replay`, `trace`, `migrate`, `random` and `drive`
+-- the program's commands: `run`, `show`, `draw`, `shell`, `check`, `judge`, `replay`, `trace`, `migrate`, `random` and `drive`
 abbrev pub program : App
 program = with_subcommand (with_subcommand (with_traces (with_runs bare_program)) random_app.top) drive_app.top
 
@@ -89,6 +101,18 @@ shown_in rows =
     else (if flag_in (codes "dot") rows then Picture Graph
     else (if flag_in (codes "all") rows then Show All else Show Changes))
 
+-- whether several files are given to a command
+abbrev pub has_several : List Row → Bool
+has_several rows = nat_lt 1 (length (unwrap_or (all_of (codes "FILE") rows) []))
+
+-- how histories are judged
+abbrev pub judging_in : List Row → Judging
+judging_in rows = record {
+  witness = flag_in (codes "witness") rows;
+  states = number_between 1 16777216 (first_of (codes "states") rows);
+  several = has_several rows;
+}
+
 -- the job of this name, with what was given to it
 abbrev pub job_named : Text → List Row → Job
 job_named name rows =
@@ -99,8 +123,9 @@ job_named name rows =
     else (if bytes_eq name (codes "draw") then Picture Drawing
     else (if bytes_eq name (codes "shell") then Shell
     else (if bytes_eq name (codes "check") then (if flag_in (codes "print") rows then Fill else Check)
+    else (if bytes_eq name (codes "judge") then Judge (judging_in rows)
     else (if bytes_eq name (codes "random") then Random (recipe_in rows)
-    else (if bytes_eq name (codes "drive") then Drive (number_between 1 64 (first_of (codes "N") rows)) else Run))))))))
+    else (if bytes_eq name (codes "drive") then Drive (number_between 1 64 (first_of (codes "N") rows)) else Run)))))))))
 
 -- the job of a command, by its name and what was given to it
 abbrev pub job_by : Option (Text × List Row) → Job

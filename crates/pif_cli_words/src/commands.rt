@@ -4,17 +4,18 @@ ghost use Rattle.std.specs.Prelude.{◌≡◌, IfOk, false};
 ghost use Rattle.clap.specs.Words.{App, app_of, new_app, rule_of, with_rule, with_subcommand};
 ghost use Rattle.pif_cli_words.specs.Commands.{IsApp, IsCommand};
 ghost use Rattle.pif_cli_words.specs.Options.{flag_rule};
-ghost use Rattle.pif_cli_words.specs.Words.{bare_program, check_app, clients_rule, drive_app, file_rule, files_rule, program, show_app, with_job, with_runs, with_states, with_traces};
+ghost use Rattle.pif_cli_words.specs.Words.{bare_program, check_app, clients_rule, drive_app, file_rule, files_rule, judge_app, program, show_app, with_job, with_runs, with_states, with_traces};
 
 use crate::helps::{
     ABOUT, ABOUT_ALL, ABOUT_CHECK, ABOUT_CLIENTS, ABOUT_DOT, ABOUT_DRAW, ABOUT_DRIVE, ABOUT_FILE,
-    ABOUT_FILES, ABOUT_JSON, ABOUT_MIGRATE, ABOUT_PRINT, ABOUT_REPLAY, ABOUT_RUN, ABOUT_SHELL,
-    ABOUT_SHOW, ABOUT_TRACE, EXAMPLE, MORE_CHECK, MORE_DRAW, MORE_DRIVE, MORE_MIGRATE, MORE_REPLAY,
-    MORE_RUN, MORE_SHELL, MORE_SHOW, MORE_TRACE, USAGE_CHECK, USAGE_DRAW, USAGE_DRIVE,
+    ABOUT_FILES, ABOUT_HISTORIES, ABOUT_JSON, ABOUT_JUDGE, ABOUT_MIGRATE, ABOUT_PRINT,
+    ABOUT_REPLAY, ABOUT_RUN, ABOUT_SHELL, ABOUT_SHOW, ABOUT_STATES, ABOUT_TRACE, ABOUT_WITNESS,
+    EXAMPLE, MORE_CHECK, MORE_DRAW, MORE_DRIVE, MORE_JUDGE, MORE_MIGRATE, MORE_REPLAY, MORE_RUN,
+    MORE_SHELL, MORE_SHOW, MORE_TRACE, USAGE_CHECK, USAGE_DRAW, USAGE_DRIVE, USAGE_JUDGE,
     USAGE_MIGRATE, USAGE_REPLAY, USAGE_RUN, USAGE_SHELL, USAGE_SHOW, USAGE_TRACE, VERSION,
 };
 use crate::options::flag_given;
-use crate::random::random_command;
+use crate::random::{random_command, with_chosen};
 use clap::builder::ValueParser;
 use std::alloc::{AllocError, Global};
 
@@ -120,14 +121,12 @@ fn with_job<'a>(
     with_command(pif, job)
 }
 
-/// The files of a command over any number of inputs.
-fn files_given<'a>(alloc: Global) -> clap::Arg<'a>
+/// The files of a command over any number of inputs, with what help says of them.
+fn files_given<'a>(alloc: Global, about: &'a str) -> clap::Arg<'a>
     ensures rule { rule_of result ≡ files_rule }
     ensures local { result.global ≡ false }
 {
-    clap::Arg::new(alloc, "FILE")
-        .num_args(0..)
-        .help(ABOUT_FILES)
+    clap::Arg::new(alloc, "FILE").num_args(0..).help(about)
 }
 
 /// The command `show`.
@@ -147,7 +146,26 @@ fn check_command<'a>(alloc: Global) -> Made<'a>
 {
     let check = described(alloc, "check", ABOUT_CHECK, USAGE_CHECK, MORE_CHECK);
     let print = with_flag(alloc, check, "print", ABOUT_PRINT);
-    with_arg(print, files_given(alloc))
+    with_arg(print, files_given(alloc, ABOUT_FILES))
+}
+
+/// The command `judge`.
+fn judge_command<'a>(alloc: Global) -> Made<'a>
+    ensures { IsApp judge_app result }
+{
+    let judge = described(alloc, "judge", ABOUT_JUDGE, USAGE_JUDGE, MORE_JUDGE);
+    let witness = with_flag(alloc, judge, "witness", ABOUT_WITNESS);
+    let states = with_chosen(
+        alloc,
+        witness,
+        "states",
+        "N",
+        1,
+        16_777_216,
+        "200000",
+        ABOUT_STATES,
+    );
+    with_arg(states, files_given(alloc, ABOUT_HISTORIES))
 }
 
 /// The program with the commands that run a script and show its states.
@@ -166,7 +184,8 @@ fn with_runs<'a>(alloc: Global, pif: Made<'a>) -> Made<'a>
     let states = with_states(alloc, pif);
     let shell = described(alloc, "shell", ABOUT_SHELL, USAGE_SHELL, MORE_SHELL);
     let shells = with_command(states, shell);
-    with_command(shells, check_command(alloc))
+    let checks = with_command(shells, check_command(alloc));
+    with_command(checks, judge_command(alloc))
 }
 
 /// The program with the commands over traces.

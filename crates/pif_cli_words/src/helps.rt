@@ -39,6 +39,19 @@ pub const ABOUT_DOT: &str = "Writes who waits for whom at the end, for Graphviz"
 /// What `check` does.
 pub const ABOUT_CHECK: &str = "Reads stories, and says whether the core gives their answers";
 
+/// What `judge` does.
+pub const ABOUT_JUDGE: &str =
+    "Reads histories of an implementation, and says whether they are legal";
+
+/// What the flag of `judge` does.
+pub const ABOUT_WITNESS: &str = "Writes a run of each legal history, too";
+
+/// What the option of `judge` does.
+pub const ABOUT_STATES: &str = "The most states for a line, 1 to 16777216";
+
+/// What the files of `judge` are.
+pub const ABOUT_HISTORIES: &str = "The histories to read; '-' or none is the standard input";
+
 /// What the file of a command is.
 pub const ABOUT_FILE: &str = "The file to read; '-' or none is the standard input";
 
@@ -50,6 +63,9 @@ pub const ABOUT_PRINT: &str = "Writes each story with its answers, and checks no
 
 /// How `check` is called.
 pub const USAGE_CHECK: &str = "pif check [--print] [FILE]...";
+
+/// How `judge` is called.
+pub const USAGE_JUDGE: &str = "pif judge [--witness] [--states N] [FILE]...";
 
 /// How `run` is called.
 pub const USAGE_RUN: &str = "pif run [FILE]";
@@ -280,6 +296,39 @@ At a terminal each line has '> ' before it. The end of input, Ctrl-D, ends.
 
 Status: 0 at the end of input, 1 wrong words, 3 a read or write failed.
 Standard error says what went wrong.";
+
+/// What `judge` reads, and what it answers.
+pub const MORE_JUDGE: &str =
+    "A history is what was seen of an implementation with real threads, in the order
+in which it was seen. Its lines:
+  limits T M C S              first, or not at all
+  thread P, mutex K [robust], cond mN
+                              as in scripts, before the first use
+  begin tN CALL               the thread entered the call, as 'begin t1 lock m1'
+  answer tN A                 its call returned 0, or an error: 16 or EBUSY
+  dying tN, later end tN      the thread ended somewhere between these lines
+  tick N                      the time is N from here on
+  rests tN, prio tN P         the thread was seen blocked, or at this priority
+
+For each history it prints:
+  legal N
+    some run of the POSIX machine shows its N lines
+  illegal at L: LINE
+    no run shows the lines up to L; 'possible there: A ..' has the answers with
+    which one does, and 'refused WORD' says why there is none, whatever was
+    answered
+  undecided at L
+    more states than --states were made for line L
+  fault L CAUSE
+    line L is the first that is a fault
+
+Example:
+  printf 'thread 10\\nmutex normal\\nbegin t1 lock m1\\nanswer t1 0\\n' | pif judge
+prints 'legal 4'.
+
+Status, of the first history that is not legal: 0 legal, 1 wrong words, 2 a
+fault, 3 a read or write failed, 4 out of memory, 5 illegal, 7 undecided.
+Standard error says what went wrong, and in which line.";
 
 /// The end of the help of `check`.
 pub const MORE_CHECK: &str =

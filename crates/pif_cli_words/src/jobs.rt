@@ -1,7 +1,7 @@
 //! Jobs: what the words ask for, and over which files.
 ghost use Rattle.std.specs.Prelude.{◌≡◌, IfOk, map};
 ghost use Rattle.clap.specs.Words.{FailsBy, found_of, rows_of};
-ghost use Rattle.pif_cli_words.specs.Words.{refusals_of, job_of, job_named, files_in, files_of, shown_in, first_name};
+ghost use Rattle.pif_cli_words.specs.Words.{refusals_of, job_of, job_named, files_in, files_of, first_name, has_several, judging_in, shown_in};
 
 use crate::commands::program;
 use crate::options::{is_given, small_number_between};
@@ -12,6 +12,17 @@ use std::convert::AsStr;
 
 /// The name of the standard input.
 pub const STANDARD_NAME: &str = "-";
+
+/// How histories are judged.
+#[derive(Clone, Copy)]
+pub struct Judging {
+    /// Whether a run of a legal history is written.
+    pub witness: bool,
+    /// How many states may be made for a line.
+    pub states: u32,
+    /// Whether there are several files, so that the name of each is told.
+    pub several: bool,
+}
 
 /// What the words ask the program to do.
 #[derive(Clone, Copy)]
@@ -35,6 +46,8 @@ pub enum Job {
     Check,
     /// `check --print`: fill a story in.
     Fill,
+    /// `judge`: say whether a history is legal.
+    Judge(Judging),
     /// `random`: write a random script.
     Random(Recipe),
     /// `drive`: let so many clients make calls in threads of their own.
@@ -95,6 +108,27 @@ fn shown_in(given: &clap::ArgMatches) -> Job
     }
 }
 
+/// Whether several files are given to a command.
+fn has_several(given: &clap::ArgMatches) -> bool
+    ensures { result ≡ has_several (rows_of (found_of given.now)) }
+{
+    match given.get_strs("FILE") {
+        Some(files) => files.len() > 1,
+        None => false,
+    }
+}
+
+/// How `judge` is to judge its histories.
+fn judging_in(given: &clap::ArgMatches) -> Judging
+    ensures { result ≡ judging_in (rows_of (found_of given.now)) }
+{
+    Judging {
+        witness: is_given(given, "witness"),
+        states: small_number_between(given, "states", 1, 16_777_216),
+        several: has_several(given),
+    }
+}
+
 /// The job of a command's name, with what was given to it.
 fn job_named(name: &str, given: &clap::ArgMatches) -> Job
     ensures { result ≡ job_named name.now (rows_of (found_of given.now)) }
@@ -117,6 +151,8 @@ fn job_named(name: &str, given: &clap::ArgMatches) -> Job
         } else {
             Job::Check
         }
+    } else if name == "judge" {
+        Job::Judge(judging_in(given))
     } else if name == "random" {
         Job::Random(recipe_in(given))
     } else if name == "drive" {

@@ -1,5 +1,5 @@
 //! Laws on words: which job they ask for, and why they are refused.
-ghost use Rattle.std.specs.Prelude.{◌≡◌, ◌≤◌, ℕ, List, [], ◌∷◌, codes};
+ghost use Rattle.std.specs.Prelude.{◌≡◌, ◌≤◌, ℕ, List, [], ◌∷◌, codes, true, false};
 ghost use Rattle.clap.specs.declared.error.kind.ErrorKind.TheVariants.{DisplayHelp, DisplayVersion, InvalidSubcommand, MissingRequiredArgument, MissingSubcommand, ValueValidation};
 ghost use Rattle.pif_cli_words.specs.Random.{plain_shape};
 ghost use Rattle.pif_cli_words.specs.Words.{refusals_of, job_of, files_of};
@@ -9,8 +9,9 @@ use crate::random::Recipe;
 use pif_script_model::{Detail, Picture};
 
 /// Which words ask for which job: `run`, `show`, `draw`, `shell`, `replay`, `trace` and `migrate` alone, `show` with
-/// each of its flags, `run` with a file, `check` alone, with `--print` and with two files, `random` with a seed and
-/// from 1 to 262,144 lines, and `drive` with a number from 1 to 64 do; no word, `--help` and `--version` don't.
+/// each of its flags, `run` with a file, `check` alone, with `--print` and with two files, `judge` alone, and with its
+/// options and two files, `random` with a seed and from 1 to 262,144 lines, and `drive` with a number from 1 to 64 do;
+/// no word, `--help` and `--version` don't.
 #[tactic(auto, unfolding(clap::proofs::OnLiterals::clap_on_literals))]
 pub fn words_of_the_program()
     ensures run { (name : List ℕ) → (refusals_of (name ∷ codes "run" ∷ []) ≡ []) × (job_of (name ∷ codes "run" ∷ []) ≡ Job.Run) }
@@ -31,6 +32,13 @@ pub fn words_of_the_program()
         × (job_of (name ∷ codes "check" ∷ []) ≡ Job.Check) }
     ensures fill { (name : List ℕ) → (refusals_of (name ∷ codes "check" ∷ codes "--print" ∷ []) ≡ [])
         × (job_of (name ∷ codes "check" ∷ codes "--print" ∷ []) ≡ Job.Fill) }
+    ensures judge { (name : List ℕ) → (refusals_of (name ∷ codes "judge" ∷ []) ≡ [])
+        × (job_of (name ∷ codes "judge" ∷ []) ≡ Job.Judge (record { witness = false; states = 200000; several = false })) }
+    ensures judges { (name : List ℕ) → (refusals_of (name ∷ codes "judge" ∷ codes "--witness" ∷ codes "--states=7" ∷ codes "a" ∷ codes "b" ∷ []) ≡ [])
+        × (job_of (name ∷ codes "judge" ∷ codes "--witness" ∷ codes "--states=7" ∷ codes "a" ∷ codes "b" ∷ [])
+        ≡ Job.Judge (record { witness = true; states = 7; several = true })) }
+    ensures no_states { (name : List ℕ) → refusals_of (name ∷ codes "judge" ∷ codes "--states=0" ∷ []) ≡ ValueValidation ∷ [] }
+    ensures too_many_states { (name : List ℕ) → refusals_of (name ∷ codes "judge" ∷ codes "--states=16777217" ∷ []) ≡ ValueValidation ∷ [] }
     ensures file { (name : List ℕ) → (refusals_of (name ∷ codes "run" ∷ codes "a" ∷ []) ≡ [])
         × (files_of (name ∷ codes "run" ∷ codes "a" ∷ []) ≡ codes "a" ∷ []) }
     ensures files { (name : List ℕ) → (refusals_of (name ∷ codes "check" ∷ codes "a" ∷ codes "b" ∷ []) ≡ [])

@@ -20,7 +20,7 @@ mod near;
 mod options;
 mod random;
 
-pub use jobs::{Asked, Job, STANDARD_NAME, first_name, read_words};
+pub use jobs::{Asked, Job, Judging, STANDARD_NAME, first_name, read_words};
 pub use laws::{random_lines_have_a_bound, words_of_the_program};
 pub use near::near_command;
 pub use random::Recipe;

@@ -42,7 +42,7 @@ fn with_needed<'a>(
 }
 
 /// A command with one more option, whose number is `default` where none is given.
-fn with_chosen<'a>(
+pub fn with_chosen<'a>(
     alloc: Global,
     made: Made<'a>,
     name: &'a str,

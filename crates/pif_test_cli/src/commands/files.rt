@@ -5,12 +5,22 @@ const STORY: &str = "thread 10 = t1\n";
 
 const UNREAD: &str = "pif: no/such: cannot be read\n";
 
+/// A file that isn't there, and a story in place of a history.
+const UNREAD_AND_NO_HISTORY: &str = "pif: no/such: cannot be read\n\
+    pif: line 1: no line of a history, or limits behind another line\n";
+
 /// What is asked, the status, and what is written to the output and to the errors.
-const ASKED: [(&[&str], u8, (&str, &str)); 15] = [
+const ASKED: [(&[&str], u8, (&str, &str)); 17] = [
     (&["pif", "check"], 0, ("ok - 1\n", "")),
     (&["pif", "check", "-"], 0, ("ok - 1\n", "")),
     (&["pif", "check", "-", "-"], 0, ("ok - 1\nok - 0\n", "")),
     (&["pif", "check", "no/such", "-"], 3, ("ok - 1\n", UNREAD)),
+    (
+        &["pif", "judge", "no/such", "-"],
+        3,
+        ("-: fault 1 command\n", UNREAD_AND_NO_HISTORY),
+    ),
+    (&["pif", "judge", "no/such"], 3, ("", UNREAD)),
     (
         &["pif", "check", "--print", "-"],
         0,

@@ -3,14 +3,14 @@ use Rattle.clap.specs.Words.{kind_of}
 use Rattle.pif_script_model.specs.declared.faults.CliFault.{CliFault}
 use Rattle.pif_script_model.specs.declared.faults.CliFault.TheVariants.{Read, Write, NoMemory, Script, Differs}
 use Rattle.pif_cli.specs.declared.statuses.JobFault.{JobFault}
-use Rattle.pif_cli.specs.declared.statuses.JobFault.TheVariants.{Cli, Threads, Unsettled}
+use Rattle.pif_cli.specs.declared.statuses.JobFault.TheVariants.{Cli, Threads, Unsettled, Undecided}
 use Rattle.pif_cli.specs.Messages.{TellsAt, TellsLine, TellsOf}
 use Rattle.pif_cli.specs.Statuses.{fault_status, job_fault_status, job_status}
 use Rattle.pif_cli.proofs.WordsLemmas.{EndsIf-refused, refusal_tells}
 use Rattle.pif_cli.proofs.words.command.Goals as goal
 
--- one line, at a status from 2 to 6
-tells_line : (status given : ℕ) (held holds : Option (List ℕ)) → 2 ≤ given → given ≤ 6 → status ≡ given
+-- one line, at a status from 2 to 7
+tells_line : (status given : ℕ) (held holds : Option (List ℕ)) → 2 ≤ given → given ≤ 7 → status ≡ given
     → TellsLine held holds → TellsAt status held holds
 tells_line status given held holds low high is told =
     inr (inr (inl (omega (arith, is, low), omega (arith, is, high), told)))
@@ -32,6 +32,7 @@ fault_tells : (fault : JobFault) (status : ℕ) (held holds : Option (List ℕ))
 fault_tells (Cli fault) status held holds is told = cli_fault_tells fault status held holds is told
 fault_tells Threads status held holds is told = tells_line status 6 held holds (omega arith) (omega arith) is told
 fault_tells Unsettled status held holds is told = tells_line status 6 held holds (omega arith) (omega arith) is told
+fault_tells (Undecided line) status held holds is told = tells_line status 7 held holds (omega arith) (omega arith) is told
 
 -- what a job tells them
 job_tells : (result : Result (Unit {0}) JobFault) (status : ℕ) (held holds : Option (List ℕ))
