@@ -1,0 +1,62 @@
+/* Bytes in, bytes out: a text that fits, one that doesn't, faults and differences. */
+#include <string.h>
+
+#include "expect.h"
+
+enum { ROOM = 256 };
+
+typedef pif_text job(const char *text, uint8_t *room, size_t length);
+
+static pif_text runs(const char *text, uint8_t *room, size_t length)
+{
+    return pif_run((const uint8_t *)text, strlen(text), room, length);
+}
+
+static pif_text replays(const char *text, uint8_t *room, size_t length)
+{
+    return pif_replay((const uint8_t *)text, strlen(text), room, length);
+}
+
+static pif_text checks(const char *text, uint8_t *room, size_t length)
+{
+    return pif_check((const uint8_t *)"mine", 4, (const uint8_t *)text, strlen(text), room, length);
+}
+
+/* A job writes this of a text, into just as much room, and nothing where a byte is missing. */
+static void expect_text(int line, job *does, const char *text, uint32_t ended, const char *out)
+{
+    uint8_t room[ROOM], before[ROOM];
+    size_t length = strlen(out);
+    pif_text is;
+
+    memset(before, 7, ROOM);
+    memset(room, 7, ROOM);
+    is = does(text, room, length);
+    expect_true(line, "the end", is.ended == ended && is.wanted == length);
+    expect_true(line, "the text", memcmp(room, out, length) == 0);
+    expect_true(line, "what stands behind it", memcmp(room + length, before, ROOM - length) == 0);
+    if (length == 0)
+        return;
+    memset(room, 7, ROOM);
+    is = does(text, room, length - 1);
+    expect_true(line, "the end without room", is.ended == ended && is.wanted == length);
+    expect_true(line, "the room that is too small", memcmp(room, before, ROOM) == 0);
+}
+
+#define TEXT(does, text, ended, out) expect_text(__LINE__, does, text, ended, out)
+
+int main(void)
+{
+    TEXT(runs, "", PIF_WHOLE, "");
+    TEXT(runs, "thread 10\nmutex normal\ncall t1 lock m1\nword m1\n", PIF_WHOLE, "t1\nm1\nanswer 0\n0x00000001\n");
+    TEXT(runs, "thread 10\nthred 10\n", PIF_FAULT, "t1\nfault 2 command\n");
+    TEXT(runs, "thread 10", PIF_FAULT, "fault 1 cut\n");
+    TEXT(checks, "# a story\nthread 10 = t1\n", PIF_WHOLE, "ok mine 1\n");
+    TEXT(checks, "thread 10 = t2\n", PIF_DIFFERS,
+         "mine: differs 1: thread 10 = t2, but the core gives t1\n");
+    TEXT(checks, "thread\n", PIF_FAULT, "mine: fault 1 command: thread\n");
+    TEXT(replays, "pif-trace 2\nthread 10 = t1\n", PIF_WHOLE, "same 1\n");
+    TEXT(replays, "pif-trace 2\nthread 10 = t2\n", PIF_DIFFERS, "differs 2 t1\n");
+    TEXT(replays, "thread 10 = t1\n", PIF_FAULT, "fault 1 command\n");
+    return outcome();
+}

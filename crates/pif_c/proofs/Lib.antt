@@ -1,0 +1,4 @@
+pub mod Words
+pub mod Handed
+pub mod Keeping
+pub mod Making

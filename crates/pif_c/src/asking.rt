@@ -1,0 +1,141 @@
+ghost use Rattle.std.specs.Prelude.{◌≡◌, Option, Some, None};
+ghost use Rattle.pif_c.specs.Handles.{held};
+ghost use Rattle.pif_c.specs.Asking.{outcome_of, turn_told, turn_after, shown, shown_told};
+ghost use Rattle.pif_c.specs.Standing.{HeldKeeps};
+
+use crate::handles::PifCore;
+use crate::numbers::{PifNumber, PifSeen, health_number, number_told, seen_told};
+use pif_core::{Core, Event, Seen};
+use pif_types::{CondId, MutexId, Request, Tid};
+use std::alloc::Global;
+
+/// What changes a core: an event, a whole call, or the rest of one.
+#[derive(Clone, Copy)]
+pub enum Turn {
+    /// One event.
+    Event(Event),
+    /// This thread makes this call.
+    Call(Tid, Request),
+    /// This thread goes on with its open call.
+    Finish(Tid),
+}
+
+/// A number that a core shows.
+#[derive(Clone, Copy)]
+pub enum Look {
+    /// The effective priority of this thread.
+    Effective(u32),
+    /// Whether this thread rests: 1 where it does, else 0.
+    Waiting(u32),
+    /// The word of this mutex.
+    Word(u32),
+    /// The health of this mutex.
+    Health(u32),
+    /// The condition word of this variable.
+    CondWord(u32),
+    /// The thread that runs next.
+    Pick,
+}
+
+/// A turn of a core: what was seen.
+fn take_turn(core: &mut Core, turn: Turn) -> Seen
+    ensures seen { result ≡ (outcome_of turn core.old).seen }
+    ensures after { core.new ≡ (outcome_of turn core.old).after }
+{
+    match turn {
+        Turn::Event(event) => core.step(event),
+        Turn::Call(thread, request) => core.call(thread, request),
+        Turn::Finish(thread) => core.finish(thread),
+    }
+}
+
+/// A turn of the core that a handle holds, where the numbers name one.
+#[tactic(auto, using(crate::proofs::Keeping::keeps_after))]
+pub(crate) fn turn_on(alloc: Global, handle: &mut PifCore, asked: Option<Turn>) -> PifSeen
+    ensures answer { result ≡ turn_told asked (held handle.old) }
+    ensures after { held handle.new ≡ turn_after asked (held handle.old) }
+    ensures keeps { HeldKeeps asked (held handle.old) (held handle.new) }
+{
+    match handle.take(alloc) {
+        Some(mut core) => {
+            let told = told_turn(&mut core, asked);
+            handle.put(core);
+            told
+        }
+        None => PifSeen { what: 0, detail: 0 },
+    }
+}
+
+/// A turn of a core, where the numbers name one.
+fn told_turn(core: &mut Core, asked: Option<Turn>) -> PifSeen
+    ensures answer { result ≡ turn_told asked (Some core.old) }
+    ensures after { Some core.new ≡ turn_after asked (Some core.old) }
+{
+    match asked {
+        Some(asked) => seen_told(take_turn(core, asked)),
+        None => PifSeen { what: 8, detail: 0 },
+    }
+}
+
+/// What a core shows.
+fn see(core: &Core, look: Look) -> Option<u32>
+    ensures { result ≡ shown look core.now }
+{
+    match look {
+        Look::Effective(thread) => effective(core, thread),
+        Look::Waiting(thread) => waiting(core, thread),
+        Look::Word(mutex) => core.word(MutexId::new(mutex)?),
+        Look::Health(mutex) => health(core, mutex),
+        Look::CondWord(cond) => core.cond_word(CondId::new(cond)?),
+        Look::Pick => pick(core),
+    }
+}
+
+fn effective(core: &Core, thread: u32) -> Option<u32>
+    ensures { result ≡ shown (Look.Effective thread) core.now }
+{
+    let prio = core.effective(Tid::new(thread)?)?;
+    Some(prio.get())
+}
+
+fn waiting(core: &Core, thread: u32) -> Option<u32>
+    ensures { result ≡ shown (Look.Waiting thread) core.now }
+{
+    if core.waiting(Tid::new(thread)?)? {
+        Some(1)
+    } else {
+        Some(0)
+    }
+}
+
+fn health(core: &Core, mutex: u32) -> Option<u32>
+    ensures { result ≡ shown (Look.Health mutex) core.now }
+{
+    let health = core.health(MutexId::new(mutex)?)?;
+    Some(health_number(health))
+}
+
+fn pick(core: &Core) -> Option<u32>
+    ensures { result ≡ shown Look.Pick core.now }
+{
+    let thread = core.pick()?;
+    Some(thread.get())
+}
+
+/// A number that the core of a handle shows. The handle holds the same core afterwards.
+pub(crate) fn look_on(alloc: Global, handle: &mut PifCore, asked: Look) -> PifNumber
+    ensures answer { result ≡ shown_told asked (held handle.old) }
+    ensures same { held handle.new ≡ held handle.old }
+{
+    match handle.take(alloc) {
+        Some(core) => {
+            let shown = see(&core, asked);
+            handle.put(core);
+            number_told(shown)
+        }
+        None => PifNumber {
+            result: 1,
+            number: 0,
+        },
+    }
+}

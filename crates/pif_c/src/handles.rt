@@ -1,0 +1,33 @@
+ghost use Rattle.std.specs.Prelude.{◌≡◌, Some, None, option_map, if◌then◌else◌};
+
+use crate::loose::Loose;
+use pif_core::Core;
+
+/// What C holds of a core: none, as the zeros with which C begins are, or one. To let it go frees the core.
+#[repr(C)]
+pub struct PifCore {
+    pub(crate) loose: Loose,
+    pub(crate) full: bool,
+    ghost same: { loose.holds ≡ full },
+}
+
+impl PifCore {
+    /// The core that it holds.
+    pub(crate) fn into_core(self) -> Option<Box<Core>>
+        ensures { option_map (λ core. core.value) result ≡ (if self.full then Some self.loose.table else None) }
+    {
+        let PifCore { loose, full } = self;
+        if full {
+            Some(loose.into_opened().close())
+        } else {
+            loose.let_go();
+            None
+        }
+    }
+}
+
+impl Drop for PifCore {
+    fn drop(self) {
+        drop(self.into_core());
+    }
+}

@@ -1,0 +1,36 @@
+//! The core for C programs, and for whoever calls C: what `include/pif.h` declares.
+//!
+//! C owns a handle, which it begins as zeros: it holds no core then. `pif_core_new` has it hold one, `pif_core_free`
+//! gives that up. Each call takes a handle, and answers by numbers; on a handle with no core it says so, and changes
+//! nothing. No call requires more of its caller than what C owes of memory: a handle is handed back as the library wrote
+//! it, is not copied, and is in one call at a time.
+//!
+//! | Module | What it has |
+//! |---|---|
+//! | `loose` | a core behind a pointer that may cross to C, and its box again |
+//! | `handles` | the handle |
+//! | `holding` | a handle filled and emptied, and that it may pass to another thread between two calls |
+//! | `numbers` | the structs and the numbers that cross, and what they stand for |
+//! | `asking` | what is asked of a core, on a handle: turns, and looks |
+//! | `adding` | threads, mutexes and condition variables added |
+//! | `cores` | a core made, and given up |
+//! | `events` | events and whole calls |
+//! | `readers` | what a core shows |
+//! | `texts` | scripts, traces and stories: bytes in, bytes out |
+#![tactic(auto)]
+
+mod adding;
+mod asking;
+mod cores;
+mod events;
+mod handles;
+mod holding;
+mod loose;
+mod numbers;
+mod readers;
+mod texts;
+
+pub use handles::PifCore;
+pub use holding::handle_crosses;
+pub use numbers::{PifDoing, PifNumber, PifOwned, PifRequest, PifSeen};
+pub use texts::PifText;

@@ -1,0 +1,144 @@
+ghost use Rattle.std.specs.Prelude.{◌≡◌, Option, Some, None};
+ghost use Rattle.pif_model.specs.Calls.{owner_answer, status_answer};
+ghost use Rattle.pif_c.specs.Handles.{held};
+ghost use Rattle.pif_c.specs.Numbers.{owner_told, status_told};
+ghost use Rattle.pif_c.specs.Asking.{shown_told, owner_shown, status_shown};
+
+use crate::asking::{Look, look_on};
+use crate::handles::PifCore;
+use crate::numbers::{PifDoing, PifNumber, PifOwned, doing_told};
+use pif_core::Core;
+use pif_types::{MutexId, Tid};
+use std::alloc::Global;
+
+/// The effective priority of a thread: `Core::effective`.
+#[unsafe(no_mangle)]
+pub extern "C" fn pif_effective(alloc: Global, handle: &mut PifCore, thread: u32) -> PifNumber
+    ensures answer { result ≡ shown_told (Look.Effective thread) (held handle.old) }
+    ensures same { held handle.new ≡ held handle.old }
+{
+    look_on(alloc, handle, Look::Effective(thread))
+}
+
+/// Whether a thread rests, 1 or 0: `Core::waiting`.
+#[unsafe(no_mangle)]
+pub extern "C" fn pif_waiting(alloc: Global, handle: &mut PifCore, thread: u32) -> PifNumber
+    ensures answer { result ≡ shown_told (Look.Waiting thread) (held handle.old) }
+    ensures same { held handle.new ≡ held handle.old }
+{
+    look_on(alloc, handle, Look::Waiting(thread))
+}
+
+/// The word of a mutex: `Core::word`.
+#[unsafe(no_mangle)]
+pub extern "C" fn pif_word(alloc: Global, handle: &mut PifCore, mutex: u32) -> PifNumber
+    ensures answer { result ≡ shown_told (Look.Word mutex) (held handle.old) }
+    ensures same { held handle.new ≡ held handle.old }
+{
+    look_on(alloc, handle, Look::Word(mutex))
+}
+
+/// The health of a mutex: `Core::health`.
+#[unsafe(no_mangle)]
+pub extern "C" fn pif_health(alloc: Global, handle: &mut PifCore, mutex: u32) -> PifNumber
+    ensures answer { result ≡ shown_told (Look.Health mutex) (held handle.old) }
+    ensures same { held handle.new ≡ held handle.old }
+{
+    look_on(alloc, handle, Look::Health(mutex))
+}
+
+/// The condition word of a variable: `Core::cond_word`.
+#[unsafe(no_mangle)]
+pub extern "C" fn pif_cond_word(alloc: Global, handle: &mut PifCore, cond: u32) -> PifNumber
+    ensures answer { result ≡ shown_told (Look.CondWord cond) (held handle.old) }
+    ensures same { held handle.new ≡ held handle.old }
+{
+    look_on(alloc, handle, Look::CondWord(cond))
+}
+
+/// The thread that runs next: `Core::pick`.
+#[unsafe(no_mangle)]
+pub extern "C" fn pif_pick(alloc: Global, handle: &mut PifCore) -> PifNumber
+    ensures answer { result ≡ shown_told Look.Pick (held handle.old) }
+    ensures same { held handle.new ≡ held handle.old }
+{
+    look_on(alloc, handle, Look::Pick)
+}
+
+fn owner(core: &Core, mutex: u32) -> PifOwned
+    ensures { result ≡ owner_shown mutex (Some core.now) }
+{
+    let none = PifOwned {
+        result: 2,
+        thread: 0,
+        count: 0,
+    };
+    let Some(mutex) = MutexId::new(mutex) else {
+        return none;
+    };
+    match core.owner(mutex) {
+        Some((thread, count)) => PifOwned {
+            result: 0,
+            thread: thread.get(),
+            count,
+        },
+        None => none,
+    }
+}
+
+/// The owner of a mutex, and how often it holds the mutex: `Core::owner`.
+#[unsafe(no_mangle)]
+pub extern "C" fn pif_owner(alloc: Global, handle: &mut PifCore, mutex: u32) -> PifOwned
+    ensures answer { result ≡ owner_shown mutex (held handle.old) }
+    ensures same { held handle.new ≡ held handle.old }
+{
+    match handle.take(alloc) {
+        Some(core) => {
+            let shown = owner(&core, mutex);
+            handle.put(core);
+            shown
+        }
+        None => PifOwned {
+            result: 1,
+            thread: 0,
+            count: 0,
+        },
+    }
+}
+
+fn status(core: &Core, thread: u32) -> PifDoing
+    ensures { result ≡ status_shown thread (Some core.now) }
+{
+    let none = PifDoing {
+        result: 2,
+        state: 0,
+        waits_for: 0,
+    };
+    let Some(thread) = Tid::new(thread) else {
+        return none;
+    };
+    match core.status(thread) {
+        Some(status) => doing_told(status),
+        None => none,
+    }
+}
+
+/// What a thread does: `Core::status`.
+#[unsafe(no_mangle)]
+pub extern "C" fn pif_status(alloc: Global, handle: &mut PifCore, thread: u32) -> PifDoing
+    ensures answer { result ≡ status_shown thread (held handle.old) }
+    ensures same { held handle.new ≡ held handle.old }
+{
+    match handle.take(alloc) {
+        Some(core) => {
+            let shown = status(&core, thread);
+            handle.put(core);
+            shown
+        }
+        None => PifDoing {
+            result: 1,
+            state: 0,
+            waits_for: 0,
+        },
+    }
+}

@@ -1,0 +1,298 @@
+"""The proved core of pif from Python, by ctypes over libpif.so.
+
+`make -C c` builds the library. It is looked for in the file that PIF_LIBRARY names, in c/out beside this folder, and
+where the system looks for libraries.
+
+    >>> core = Core(threads=4, mutexes=4)
+    >>> low, high = core.add_thread(10), core.add_thread(50)
+    >>> mutex = core.add_mutex()
+    >>> core.call(low, "lock", mutex)
+    Seen(what='answer', detail=0)
+    >>> core.call(high, "lock", mutex)
+    Seen(what='waits', detail=0)
+    >>> core.effective(low), hex(core.word(mutex))
+    (50, '0x80000001')
+    >>> core.call(low, "unlock", mutex)
+    Seen(what='answer', detail=0)
+    >>> core.finish(high), core.owner(mutex), core.effective(low)
+    (Seen(what='answer', detail=0), (2, 1), 10)
+
+A number that names nothing is told so, and nothing has changed:
+
+    >>> core.call(9, "lock", mutex)
+    Seen(what='refused', detail='nosuch')
+    >>> core.effective(9) is None
+    True
+    >>> core.add_thread(100)
+    Traceback (most recent call last):
+    pif.Refused: bad priority
+
+Texts go in and come out:
+
+    >>> print(run("thread 10\\nmutex normal\\ncall t1 lock m1\\n"), end="")
+    t1
+    m1
+    answer 0
+    >>> print(check("thread 10 = t2\\n", name="mine"), end="")
+    mine: differs 1: thread 10 = t2, but the core gives t1
+    >>> print(replay("pif-trace 2\\nthread 10 = t1\\n"), end="")
+    same 1
+
+The exceptions are Refused and MemoryError. A core is freed when nobody has it any more.
+`python3 -m doctest pif.py` tries the lines above.
+"""
+
+import ctypes
+import ctypes.util
+import os
+from collections import namedtuple
+from pathlib import Path
+
+__all__ = ["Core", "Refused", "Seen", "check", "replay", "run"]
+
+WHAT = ("no core", "begun", "went", "waits", "answer", "ended", "ticked", "refused", "unnamed")
+REFUSALS = (None, "nosuch", "dead", "busy", "idle", "past")
+STATES = ("ready", "queued", "parked", "stopped", "ended")
+HEALTHS = ("fine", "inconsistent", "unusable")
+KINDS = {"normal": 0, "recursive": 1, "errorcheck": 2}
+RESULTS = (None, "no core", "none", "too many", "bad priority", "no such mutex", "out of range",
+           "there is a core already", "out of memory")
+OK, NONE, NO_MEMORY = 0, 2, 8
+OUT_OF_MEMORY, UNWRITTEN = 3, 4
+
+# The calls by name: the number of each, and what its arguments are, in order.
+CALLS = {
+    "lock": (1, ("mutex",)),
+    "trylock": (2, ("mutex",)),
+    "unlock": (3, ("mutex",)),
+    "consistent": (4, ("mutex",)),
+    "timedlock": (5, ("mutex", "deadline")),
+    "wait": (6, ("cond", "mutex")),
+    "timedwait": (7, ("cond", "mutex", "deadline")),
+    "signal": (8, ("cond",)),
+    "broadcast": (9, ("cond",)),
+    "setprio": (10, ("thread", "prio")),
+}
+
+Seen = namedtuple("Seen", "what detail")
+Seen.__doc__ = "What became of an event: begun, went, waits, answer, ended, ticked, refused or unnamed; and its detail."
+
+
+class Refused(Exception):
+    """An addition, a core or a text was refused, and nothing has changed."""
+
+
+def words(name, *fields):
+    """A struct of 32-bit numbers."""
+    return type(name, (ctypes.Structure,), {"_fields_": [(field, ctypes.c_uint32) for field in fields]})
+
+
+class Handle(ctypes.Structure):
+    """What C holds of a core. Zeros hold none."""
+
+    _fields_ = [("at", ctypes.c_void_p), ("full", ctypes.c_bool)]
+
+
+class Text(ctypes.Structure):
+    """How a text came out."""
+
+    _fields_ = [("ended", ctypes.c_uint32), ("wanted", ctypes.c_size_t)]
+
+
+SeenBy = words("SeenBy", "what", "detail")
+Number = words("Number", "result", "number")
+Owned = words("Owned", "result", "thread", "count")
+Doing = words("Doing", "result", "state", "waits_for")
+Request = words("Request", "call", "mutex", "cond", "thread", "prio", "deadline")
+
+U32, HANDLE = ctypes.c_uint32, ctypes.POINTER(Handle)
+BYTES, SIZE = ctypes.c_char_p, ctypes.c_size_t
+
+# What each function answers, and takes.
+SIGNATURES = {
+    "pif_core_new": (U32, HANDLE, U32, U32, U32, U32),
+    "pif_core_free": (None, HANDLE),
+    "pif_add_thread": (Number, HANDLE, U32),
+    "pif_add_mutex": (Number, HANDLE, U32, ctypes.c_bool),
+    "pif_add_cond": (Number, HANDLE, U32),
+    "pif_begin": (SeenBy, HANDLE, U32, Request),
+    "pif_go": (SeenBy, HANDLE, U32),
+    "pif_call": (SeenBy, HANDLE, U32, Request),
+    "pif_finish": (SeenBy, HANDLE, U32),
+    "pif_end": (SeenBy, HANDLE, U32),
+    "pif_tick": (SeenBy, HANDLE, U32),
+    "pif_effective": (Number, HANDLE, U32),
+    "pif_waiting": (Number, HANDLE, U32),
+    "pif_word": (Number, HANDLE, U32),
+    "pif_health": (Number, HANDLE, U32),
+    "pif_cond_word": (Number, HANDLE, U32),
+    "pif_pick": (Number, HANDLE),
+    "pif_owner": (Owned, HANDLE, U32),
+    "pif_status": (Doing, HANDLE, U32),
+    "pif_run": (Text, BYTES, SIZE, BYTES, SIZE),
+    "pif_replay": (Text, BYTES, SIZE, BYTES, SIZE),
+    "pif_check": (Text, BYTES, SIZE, BYTES, SIZE, BYTES, SIZE),
+}
+
+
+def load():
+    """The library, with the signatures of its functions."""
+    beside = Path(__file__).resolve().parent.parent / "c" / "out" / "libpif.so"
+    found = os.environ.get("PIF_LIBRARY") or (str(beside) if beside.exists() else ctypes.util.find_library("pif"))
+    library = ctypes.CDLL(found or "libpif.so")
+    for name, (answers, *takes) in SIGNATURES.items():
+        function = getattr(library, name)
+        function.restype, function.argtypes = answers, takes
+    return library
+
+
+LIBRARY = load()
+
+
+def refuse(result):
+    """Raises what a result says."""
+    if result == NO_MEMORY:
+        raise MemoryError
+    if result != OK:
+        raise Refused(RESULTS[result])
+
+
+def added(told):
+    """The number of an addition."""
+    refuse(told.result)
+    return told.number
+
+
+def shown(told):
+    """A number that is shown, or None."""
+    if told.result == NONE:
+        return None
+    refuse(told.result)
+    return told.number
+
+
+def seen(told):
+    """What became of an event."""
+    what = WHAT[told.what]
+    return Seen(what, REFUSALS[told.detail] if what == "refused" else told.detail)
+
+
+def request(call, arguments):
+    """A call by its name, as lock, with what it names."""
+    number, names = CALLS[call]
+    if len(arguments) != len(names):
+        raise TypeError("%s takes %s" % (call, ", ".join(names)))
+    return Request(call=number, **dict(zip(names, arguments)))
+
+
+class Core:
+    """A core. Threads, mutexes and condition variables are numbers from 1, in the order in which they are added."""
+
+    def __init__(self, threads=1024, mutexes=1024, conds=256, signals=4294967295):
+        self.handle = Handle()
+        refuse(LIBRARY.pif_core_new(self.handle, threads, mutexes, conds, signals))
+
+    def __del__(self):
+        LIBRARY.pif_core_free(self.handle)
+
+    def add_thread(self, prio):
+        """Adds a thread of this base priority, 1 to 99: its number."""
+        return added(LIBRARY.pif_add_thread(self.handle, prio))
+
+    def add_mutex(self, kind="normal", robust=False):
+        """Adds a mutex, normal, recursive or errorcheck: its number."""
+        return added(LIBRARY.pif_add_mutex(self.handle, KINDS[kind], robust))
+
+    def add_cond(self, mutex):
+        """Adds a condition variable that is bound to this mutex: its number."""
+        return added(LIBRARY.pif_add_cond(self.handle, mutex))
+
+    def begin(self, thread, call, *arguments):
+        """A thread begins a call."""
+        return seen(LIBRARY.pif_begin(self.handle, thread, request(call, arguments)))
+
+    def go(self, thread):
+        """A thread takes one step of its open call."""
+        return seen(LIBRARY.pif_go(self.handle, thread))
+
+    def call(self, thread, call, *arguments):
+        """A thread makes a whole call: it is answered, or waits."""
+        return seen(LIBRARY.pif_call(self.handle, thread, request(call, arguments)))
+
+    def finish(self, thread):
+        """A thread goes on with its open call until it is answered or waits."""
+        return seen(LIBRARY.pif_finish(self.handle, thread))
+
+    def end(self, thread):
+        """A thread ends."""
+        return seen(LIBRARY.pif_end(self.handle, thread))
+
+    def tick(self, time):
+        """The time is this from now on."""
+        return seen(LIBRARY.pif_tick(self.handle, time))
+
+    def effective(self, thread):
+        """The effective priority of a thread, or None."""
+        return shown(LIBRARY.pif_effective(self.handle, thread))
+
+    def waiting(self, thread):
+        """Whether a thread rests, or None where it has no call open."""
+        rests = shown(LIBRARY.pif_waiting(self.handle, thread))
+        return None if rests is None else rests == 1
+
+    def word(self, mutex):
+        """The word of a mutex, or None."""
+        return shown(LIBRARY.pif_word(self.handle, mutex))
+
+    def health(self, mutex):
+        """The health of a mutex, fine, inconsistent or unusable, or None."""
+        health = shown(LIBRARY.pif_health(self.handle, mutex))
+        return None if health is None else HEALTHS[health]
+
+    def cond_word(self, cond):
+        """How often a condition variable was used, or None."""
+        return shown(LIBRARY.pif_cond_word(self.handle, cond))
+
+    def pick(self):
+        """The thread that runs next, or None."""
+        return shown(LIBRARY.pif_pick(self.handle))
+
+    def owner(self, mutex):
+        """The owner of a mutex, and how often it holds it, or None."""
+        told = LIBRARY.pif_owner(self.handle, mutex)
+        return None if told.result == NONE else (told.thread, told.count)
+
+    def status(self, thread):
+        """What a thread does, ready, queued, parked, stopped or ended, and for what it waits, or 0; or None."""
+        told = LIBRARY.pif_status(self.handle, thread)
+        return None if told.result == NONE else (STATES[told.state], told.waits_for)
+
+
+def written(function, *texts):
+    """What a job prints, in as much room as it wants."""
+    arguments = [part for text in texts for part in (text.encode(), len(text.encode()))]
+    size = 4096
+    while True:
+        room = ctypes.create_string_buffer(max(size, 1))
+        told = function(*arguments, room, size)
+        if told.ended in (OUT_OF_MEMORY, UNWRITTEN):
+            raise MemoryError
+        if told.wanted <= size:
+            return room.raw[:told.wanted].decode()
+        size = told.wanted
+
+
+def run(script):
+    """What `pif run` prints of a script."""
+    return written(LIBRARY.pif_run, script)
+
+
+def check(story, name="-"):
+    """What `pif check` prints of a story of this name."""
+    return written(LIBRARY.pif_check, name, story)
+
+
+def replay(trace):
+    """What `pif replay` prints of a trace."""
+    return written(LIBRARY.pif_replay, trace)
+
