@@ -10,7 +10,7 @@ use Rattle.pif_kernel_model.specs.States.{States, owners_in}
 use Rattle.pif_kernel_model.specs.Holds.{HoldsStates}
 use Rattle.pif_kernel_model.proofs.ViewLemmas.{length-seats}
 use Rattle.pif_kernel_model.specs.Boosts.{IsThread}
-use Rattle.pif_kernel_model.proofs.Greatest.{nobody_waits, out_waits, waits_for-owner}
+use Rattle.pif_kernel_model.proofs.Greatest.{nobody_waits, out_waits, waits_for-none, waits_for-owner}
 use Rattle.pif_kernel_model.proofs.Ways.{IsOnWay, onway-start, onway-hop, onway-few}
 
 -- for whom a thread waits has a row
@@ -93,3 +93,11 @@ module _ (m : States) (table : NodeLists) (holds : HoldsStates m table) (owner t
   -- it ends at `t`
   pub chaining-found : at ≡ t → Reaches (WaitsFor v) owner t
   chaining-found e = c.back (here e)
+
+  -- it ends before `t`
+  pub chaining-missed : (at ≡ t → ⊥) → waits_on v at ≡ None → Reaches (WaitsFor v) owner t → ⊥
+  chaining-missed ne none r = by_step (c.on r)
+    where
+      by_step : Reaches (WaitsFor v) at t → ⊥
+      by_step (here e) = absurd (ne e)
+      by_step (hop a r) = absurd (a.1 (sym a.0 ∙ waits_for-none v at none))

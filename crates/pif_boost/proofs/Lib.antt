@@ -3,3 +3,4 @@ pub mod Counting
 pub mod Ends
 pub mod Walking
 pub mod Chaining
+pub mod OnPaths

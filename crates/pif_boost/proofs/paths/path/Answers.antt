@@ -1,5 +1,5 @@
 -- Each hop goes on to whom the thread waits for, and the last one leads to nobody.
-use Rattle.std.proofs.Common.{◌≢◌, ◌∙◌, sym, ap, subst, arith}
+use Rattle.std.proofs.Common.{sym, ap, subst, arith}
 use Rattle.std.specs.Prelude.{unwrap_or}
 use Rattle.pif_kernel_model.specs.States.{owners_in}
 use Rattle.pif_kernel_model.proofs.Ways.{IsPathing, pathing-start, pathing-few, pathing-hop, pathing-end}

@@ -9,4 +9,4 @@ would_close-requires c = c.self.invariant.stand.owners
 
 pub returns : goal.returns
 returns c =
-    subst (λ (x : Chained). IsTrue c.would_close.result ↔ Reaches (WaitsFor x.owners) c.args.owner c.args.t) c.self.view_is c.would_close.ensures
+    subst (λ (x : Chained). IsTrue c.would_close.result ↔ Reaches (WaitsFor x.owners) c.args.owner c.args.t) c.self.view_is c.would_close.ensures.reached
