@@ -25,9 +25,10 @@ pub trait Chains {
     ghost seen: { Self → Chained };
 
     /// No owner state, and a place for each of `threads` threads, at most 1,024, of which none is admitted, parked or
-    /// ready.
-    fn new(alloc: Global, threads: u32) -> Result<Self, NoMemory>
-        requires { threads ≤ 1024 }
+    /// ready. Chains that give parked threads tickets begin with `first_ticket`, at least 1.
+    fn new(alloc: Global, threads: u32, first_ticket: u64) -> Result<Self, NoMemory>
+        requires threads { threads ≤ 1024 }
+        requires ticket { 1 ≤ first_ticket }
         ensures { IfOk result (λ c. IsUnused threads (seen c)) };
 
     /// Gives the thread `t`, which waits for nothing and is not parked, this base priority, which is its effective

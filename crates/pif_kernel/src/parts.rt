@@ -47,7 +47,7 @@ impl<C: Chains + Drop> Parts<C> {
         let threads = limits.threads();
         let mut statuses = with_room(alloc, threads as usize + 1)?;
         push_within(&mut statuses, Status::Ready(Woken::Fresh));
-        let chains = C::new(alloc, threads)?;
+        let chains = C::new(alloc, threads, first_ticket)?;
         Ok(Parts {
             limits,
             statuses,

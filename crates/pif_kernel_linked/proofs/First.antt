@@ -1,5 +1,5 @@
 -- Linked chains at first, in a table all of whose lists are empty.
-use Rattle.std.proofs.Common.{◌≡◌, ℕ, ◌+◌, ◌*◌, [], length, replicate, Option, Some, None, subst, sym, ap, ◌∙◌, inl, arith}
+use Rattle.std.proofs.Common.{◌≡◌, ℕ, ◌+◌, ◌*◌, ◌≤◌, [], length, replicate, Option, Some, None, subst, sym, ap, ◌∙◌, inl, arith}
 use Rattle.std.proofs.lemmas.List.{length-replicate}
 use Rattle.std.proofs.lemmas.List.FromFn.{fill_by_all}
 use Rattle.std.proofs.lemmas.List.{get_or-replicate}
@@ -18,7 +18,8 @@ use Rattle.pif_kernel_linked.specs.Parkings.{parkings_in}
 use Rattle.pif_kernel_linked.specs.Linked.{key_count, key_of, keys_in, StandLinked, IsLinked}
 use Rattle.pif_kernel_linked.proofs.ParkingLemmas.{nobody_parked, are_parked-nobody}
 
-module _ (threads lists : ℕ) (m : States) (q : Queue) (b : Buckets) (t : NodeLists) (count : lists ≡ 2 * threads + 419)
+module _ (threads lists next : ℕ) (m : States) (q : Queue) (b : Buckets) (t : NodeLists) (count : lists ≡ 2 * threads + 419)
+    (some : 1 ≤ next)
     (states : m ≡ empty_states 0 0 threads)
     (made : q ≡ record { first_list = 2 * threads; first_node = 2 * threads; threads = threads; mask = 0 })
     (bucketed : b ≡ no_buckets (2 * threads + 99) (3 * threads) 0 threads 256)
@@ -102,12 +103,12 @@ module _ (threads lists : ℕ) (m : States) (q : Queue) (b : Buckets) (t : NodeL
     lists = omega (arith, all, count, many);
   }
 
-  pub linked_first : IsLinked m q b t 1
+  pub linked_first : IsLinked m q b t next
   linked_first = record {
     stand = stand;
     words = λ w f is. let wrong : None ≡ Some f = sym (no_word t buckets_room w) ∙ is in absurd cc;
     parked = record {
-      parked = are_parked-nobody (parked_at b.parked t) b.parked.threads (nobody t);
+      parked = are_parked-nobody (parked_at b.parked t) b.parked.threads next some (nobody t);
       ranked = λ u x is. let wrong : None ≡ Some x = sym (nobody t u) ∙ is in absurd cc;
       idle = λ u x is. let wrong : None ≡ Some x = sym (nobody t u) ∙ is in absurd cc;
       admitted = λ u x is. let wrong : None ≡ Some x = sym (nobody t u) ∙ is in absurd cc;

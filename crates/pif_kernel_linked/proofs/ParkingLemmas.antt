@@ -148,10 +148,10 @@ nobody_parked at n none = ap (map (parking_of at)) (no_pairs (n + 1))
         let free : (parked_cond (at k) == 0) ≡ true = ap (λ (o : Option Parked). parked_cond o == 0) (none k) in
         rw free (no_pairs k)
 
-pub are_parked-nobody : (at : ℕ → Option Parked) (n : ℕ) → ((u : ℕ) → at u ≡ None) → AreParked at n 1
-are_parked-nobody at n none =
+pub are_parked-nobody : (at : ℕ → Option Parked) (n next : ℕ) → 1 ≤ next → ((u : ℕ) → at u ≡ None) → AreParked at n next
+are_parked-nobody at n next some none =
     record {
-      some = omega arith;
+      some = some;
       within = λ u x e. absurd (no u x e);
       cond = λ u x e. absurd (no u x e);
       most = λ u x e. absurd (no u x e);

@@ -14,7 +14,8 @@
 //! waiters a call goes through the bucket of its word, which has its number, to the key and the row of its owner state.
 //!
 //! A parked thread stands in the list of its variable by its effective priority, and then by its ticket. Those tickets
-//! have a counter of their own. At its last number the tickets of the parked threads are numbered anew, in their order.
+//! have a counter of their own, which begins where that of the waiters does. At its last number the tickets of the
+//! parked threads are numbered anew, in their order.
 //! A walk can give one parked thread another priority, the last thread of its chain: that one is moved in its list.
 #![tactic(auto)]
 

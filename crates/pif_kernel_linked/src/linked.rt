@@ -65,7 +65,7 @@ impl Model for LinkedChains {
 impl Chains for LinkedChains {
     ghost seen = { λ c. c };
 
-    fn new(alloc: Global, threads: u32) -> Result<Self, NoMemory> {
+    fn new(alloc: Global, threads: u32, first_ticket: u64) -> Result<Self, NoMemory> {
         let owners = RtMutexes::new(alloc, 0, 0, threads)?;
         let table = NodeTable::new(alloc, 4 * threads, 2 * threads + LEVELS + BUCKETS + CONDS)?;
         let queue = RunQueue::new(2 * threads, 2 * threads, threads);
@@ -75,7 +75,7 @@ impl Chains for LinkedChains {
             queue,
             table,
             buckets,
-            next: 1,
+            next: first_ticket,
         })
     }
 

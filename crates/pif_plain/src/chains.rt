@@ -59,7 +59,7 @@ impl Priorities for PlainChains {
 impl Chains for PlainChains {
     ghost seen = { λ c. c };
 
-    fn new(alloc: Global, threads: u32) -> Result<Self, NoMemory> {
+    fn new(alloc: Global, threads: u32, _first_ticket: u64) -> Result<Self, NoMemory> {
         let owners = RtMutexes::new(alloc, threads)?;
         let table = NodeTable::new(alloc, threads, LEVELS)?;
         let queue = RunQueue::new(0, 0, threads);

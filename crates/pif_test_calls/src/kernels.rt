@@ -2,6 +2,7 @@ mod conditions;
 mod expiries;
 mod parked;
 mod random_calls;
+mod tickets;
 
 ghost use Rattle.std.specs.Prelude.{◌≡◌, ◌<◌, ◌≤◌, ◌+◌, ℕ, true, false, length, OnSome};
 ghost use Rattle.pif_model.specs.PiKernel.{has_seat, is_living, is_ready, seat_at};
@@ -541,47 +542,6 @@ fn places_are_read_in_order(rt: HostRuntime) -> Result<(), Fail> {
         1,
         &[&WAITING, &PLACES],
     )
-}
-
-// Four threads of priority 10 lock mutex 1 in turn, and then unlock it in turn.
-const HAND_OVERS: [(Ask, Reply); 12] = [
-    (Ask::Lock(1, 1), Reply::Owns),
-    (Ask::Lock(2, 1), Reply::Queued),
-    (Ask::Lock(3, 1), Reply::Queued),
-    (Ask::Lock(4, 1), Reply::Queued),
-    (Ask::Unlock(1, 1), Reply::Done),
-    (Ask::Word(1), Reply::Bits(0x8000_0002)),
-    (Ask::Unlock(2, 1), Reply::Done),
-    (Ask::Word(1), Reply::Bits(0x8000_0003)),
-    (Ask::Unlock(3, 1), Reply::Done),
-    (Ask::Word(1), Reply::Bits(0x8000_0004)),
-    (Ask::Unlock(4, 1), Reply::Done),
-    (Ask::Word(1), Reply::Bits(0)),
-];
-
-// The same, between these two next tickets.
-fn hand_over_from<R: Abort>(rt: &R, alloc: Global, first: u64, next: u64) -> Result<(), Fail>
-    requires { 1 ≤ first }
-{
-    let levels = [10, 10, 10, 10];
-    let before = [(Ask::NextTicket, Reply::Ticket(first))];
-    let after = [(Ask::NextTicket, Reply::Ticket(next))];
-    let tables: [&[(Ask, Reply)]; 3] = [&before, &HAND_OVERS, &after];
-    play_on::<PlainChains, R>(rt, alloc, &levels, 1, first, &tables)?;
-    play_on::<LinkedChains, R>(rt, alloc, &levels, 1, first, &tables)
-}
-
-#[test]
-fn tickets_are_renumbered(rt: HostRuntime) -> Result<(), Fail> {
-    for (first, next) in [
-        (18446744073709551612, 18446744073709551615),
-        (18446744073709551613, 4),
-        (18446744073709551614, 4),
-        (18446744073709551615, 4),
-    ] {
-        hand_over_from(&rt, rt.alloc(), first, next)?;
-    }
-    Ok(())
 }
 
 // The word of the mutex on the list of thread 1, which ends, has the number of thread 2.
