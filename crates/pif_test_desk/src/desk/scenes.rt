@@ -74,6 +74,7 @@ fn check_book(rt: &impl Abort, book: &Book, scene: Scene) {
     match scene {
         Scene::Adds => receipts::check_entries(rt, book),
         Scene::Waits(_) => sleepers::has_two_waits(rt, book),
+        Scene::Deadline => ticks::has_both_ticks(rt, book),
         _ => {}
     }
 }

@@ -130,7 +130,7 @@ pub(crate) fn wait_for_first<R: Threads + Wait + Abort + Sync>(
 }
 
 /// How many entries say that a thread waits.
-fn waits_in(entries: &[Entry]) -> usize {
+pub(crate) fn waits_in(entries: &[Entry]) -> usize {
     let mut count = 0usize;
     for entry in entries {
         if let Entry::Step(_, Seen::Waits) = entry {

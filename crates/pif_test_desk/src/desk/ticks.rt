@@ -1,9 +1,9 @@
 //! Time at a desk: a tick lets those sleepers go on whose deadline it reaches.
-use super::scenes;
-use super::scenes::{Scene, add_mutex, enter, is_answer, is_fault, lock, play};
+use super::scenes::{Scene, add_mutex, enter, is_answer, is_count, is_fault, lock, play};
 use super::watch::Watch;
+use super::{scenes, sleepers};
 use crate::checks::{fails, holds};
-use pif_desk::{Client, Desk, DeskFault};
+use pif_desk::{Book, Client, Desk, DeskFault, Entry, Event, Seen};
 use pif_types::{MutexId, Refusal, Request, Tid};
 use std::process::Abort;
 use std::rt::Clock;
@@ -68,7 +68,28 @@ pub(crate) fn tick_for_two<R: Threads + Wait + Abort + Sync>(
     }
 }
 
-/// Both clients' logs are just what the journal has, which has both ticks.
+/// How often these entries have this one.
+fn count_of(entries: &[Entry], sought: Entry) -> usize {
+    let mut count = 0usize;
+    for entry in entries {
+        if *entry == sought {
+            count = count.saturating_add(1);
+        }
+    }
+    count
+}
+
+/// A book has one thread that waits, the tick that it waits for, and the tick into the past, which is refused.
+pub(crate) fn has_both_ticks(rt: &impl Abort, book: &Book) {
+    let entries = book.entries.as_slice();
+    is_count(rt, sleepers::waits_in(entries), 1);
+    let ticked = Entry::Step(Event::Tick(7), Seen::Ticked);
+    is_count(rt, count_of(entries, ticked), 1);
+    let refused = Entry::Step(Event::Tick(6), Seen::Refused(Refusal::Past));
+    is_count(rt, count_of(entries, refused), 1);
+}
+
+/// Both clients' logs are just what the journal has, which has a wait and both ticks.
 #[test]
 fn desk_ticks(rt: HostRuntime) -> Result<(), Fail> {
     play(&rt, rt.alloc(), Watch::new(rt), Scene::Deadline, Ok(2))
