@@ -80,6 +80,33 @@ fn check_calls<R: Wait + Abort>(
     }
 }
 
+/// What two clients do with a robust mutex and a condition variable.
+#[derive(Clone, Copy)]
+enum Course {
+    /// The first signals and ends with the mutex. The second takes it over, and repairs it.
+    Repair,
+    /// The first ends with the mutex, and its next call is refused. The second takes it over, and signals.
+    Signal,
+}
+
+/// The first client ends with the mutex, and its next call is refused. The second gets the mutex from an owner that has
+/// ended, and signals the variable.
+fn lock_and_signal<R: Wait + Abort>(
+    rt: &R,
+    desk: &Desk<NoPause>,
+    one: &mut Client,
+    two: &mut Client,
+    scene: Scene,
+) {
+    let (mutex, cond) = scene;
+    let lock = Request::Lock(mutex);
+    let second = [(lock, 130), (Request::Signal(cond), 0)];
+    check_calls(rt, desk, one, &[(lock, 0)]);
+    went_well(rt, quit(rt, desk, one));
+    is_refused(rt, answer(rt, desk, one, &lock).err(), Refusal::Dead);
+    check_calls(rt, desk, two, second.as_slice());
+}
+
 /// The first client ends with the mutex, and the second gets it from an owner that has ended.
 fn pass_on<R: Wait + Abort>(
     rt: &R,
@@ -139,25 +166,38 @@ fn make_calls<R: Wait + Abort>(
     rt: &R,
     desk: &Desk<NoPause>,
     clients: &mut Vec<Client>,
+    course: Course,
 ) -> Result<(), DeskFault> {
     let scene = make_scene(rt, desk, true)?;
     add_client(rt, desk, 10, clients)?;
     add_client(rt, desk, 20, clients)?;
     match clients.as_mut_slice() {
-        [one, two] => pass_on(rt, desk, one, two, scene),
+        [one, two] => match course {
+            Course::Repair => pass_on(rt, desk, one, two, scene),
+            Course::Signal => lock_and_signal(rt, desk, one, two, scene),
+        },
         _ => panic!(rt; "there are not two clients"),
     }
     Ok(())
 }
 
-/// A book has so many answered calls, and its trace prints this when it is replayed.
-fn check_book(rt: &impl Abort, alloc: Global, book: &Book, answered: u64, verdict: &str) {
+/// What a book has: so many answered calls, and so many entries. Its trace prints this verdict when it is replayed.
+#[derive(Clone, Copy)]
+struct Settled {
+    answered: u64,
+    entries: usize,
+    verdict: &'static str,
+}
+
+/// A book is so.
+fn check_book(rt: &impl Abort, alloc: Global, book: &Book, settled: Settled) {
     let mut trace = Kept::new();
     let mut output = Kept::new();
+    let counts = (book.answered, book.entries.len());
     let written = write_trace(book.limits, book.entries.as_slice(), &mut trace);
     let ended = replay_again(alloc, &trace, &mut output);
-    check_replayed(rt, (book.answered, written, ended), answered);
-    check_verdict(rt, output.as_slice(), verdict);
+    check_replayed(rt, (counts, written, ended), settled);
+    check_verdict(rt, output.as_slice(), settled.verdict);
 }
 
 /// Replays a trace, at the second time where memory was refused.
@@ -168,12 +208,13 @@ fn replay_again(alloc: Global, trace: &Kept, output: &mut Kept) -> Result<(), Cl
     }
 }
 
-/// How many calls a book has that were answered, and what came of writing and replaying its trace.
-type Replayed = (u64, Result<(), CliFault>, Result<(), CliFault>);
+/// How many answered calls and entries a book has, and what came of writing and replaying its trace.
+type Replayed = ((u64, usize), Result<(), CliFault>, Result<(), CliFault>);
 
-/// So many calls were answered, and the trace was written and replayed.
-fn check_replayed(rt: &impl Abort, replayed: Replayed, answered: u64) {
-    assert_eq!(rt; replayed, (answered, Ok(()), Ok(())));
+/// The book has so many, and the trace was written and replayed.
+fn check_replayed(rt: &impl Abort, replayed: Replayed, settled: Settled) {
+    let counts = (settled.answered, settled.entries);
+    assert_eq!(rt; replayed, (counts, Ok(()), Ok(())));
 }
 
 /// A replay has printed this.
@@ -197,10 +238,16 @@ fn desk_of(alloc: Global, limits: Limits) -> Result<Desk<NoPause>, NoMemory> {
     }
 }
 
-/// The room settles with these clients, and the book is replayed.
-fn check_settled(rt: &impl Abort, alloc: Global, room: Room, clients: Vec<Client>, verdict: &str) {
+/// The room settles so with these clients, and the book is replayed.
+fn check_settled(
+    rt: &impl Abort,
+    alloc: Global,
+    room: Room,
+    clients: Vec<Client>,
+    settled: Settled,
+) {
     match room.settle(clients) {
-        Ok(book) => check_book(rt, alloc, &book, 5, verdict),
+        Ok(book) => check_book(rt, alloc, &book, settled),
         Err(_) => panic!(rt; "the desk does not settle"),
     }
 }
@@ -210,19 +257,57 @@ fn went_well(rt: &impl Abort, done: Result<(), DeskFault>) {
     assert_eq!(rt; done, Ok(()));
 }
 
-/// Two clients make their calls and settle, and the book is replayed: 4 additions, 36 events, and the line of the
-/// limits.
-fn settle<R: Wait + Abort>(rt: &R, alloc: Global, desk: Desk<NoPause>) -> Result<(), Fail> {
+/// The book of a course, whose trace has the line of the limits besides. Behind 4 additions stand 36 events for a
+/// repair. For a signal they are 26: 8 to lock, an end and a begin that is refused, 12 to take the mutex over, and 4 to
+/// signal.
+fn settled_by(course: Course) -> Settled {
+    match course {
+        Course::Repair => Settled {
+            answered: 5,
+            entries: 40,
+            verdict: "same 41\n",
+        },
+        Course::Signal => Settled {
+            answered: 3,
+            entries: 30,
+            verdict: "same 31\n",
+        },
+    }
+}
+
+/// Two clients make their calls and settle, and the book is replayed.
+fn settle<R: Wait + Abort>(
+    rt: &R,
+    alloc: Global,
+    desk: Desk<NoPause>,
+    course: Course,
+) -> Result<(), Fail> {
     let mut clients = room_for_two(alloc)?;
-    went_well(rt, make_calls(rt, &desk, &mut clients));
-    check_settled(rt, alloc, desk.into_room(), clients, "same 41\n");
+    went_well(rt, make_calls(rt, &desk, &mut clients, course));
+    check_settled(rt, alloc, desk.into_room(), clients, settled_by(course));
     Ok(())
 }
 
 #[test]
 fn desk_keeps_receipts(rt: HostRuntime) -> Result<(), Fail> {
     let limits = Limits::new(2, 1, 1, 9).ok_or("limits")?;
-    settle(&rt, rt.alloc(), desk_of(rt.alloc(), limits)?)
+    settle(
+        &rt,
+        rt.alloc(),
+        desk_of(rt.alloc(), limits)?,
+        Course::Repair,
+    )
+}
+
+#[test]
+fn book_of_three_answers_is_replayed(rt: HostRuntime) -> Result<(), Fail> {
+    let limits = Limits::new(2, 1, 1, 9).ok_or("limits")?;
+    settle(
+        &rt,
+        rt.alloc(),
+        desk_of(rt.alloc(), limits)?,
+        Course::Signal,
+    )
 }
 
 /// The time is handed in.
@@ -233,9 +318,9 @@ fn tick<R: Wait>(rt: &R, desk: &Desk<NoPause>, time: u32) -> Result<(), DeskFaul
     }
 }
 
-/// A time was refused, since it is past.
-fn is_past(rt: &impl Abort, done: Result<(), DeskFault>) {
-    assert_eq!(rt; done, Err(DeskFault::Refused(Refusal::Past)));
+/// What was asked was refused so.
+fn is_refused(rt: &impl Abort, fault: Option<DeskFault>, refusal: Refusal) {
+    assert_eq!(rt; fault, Some(DeskFault::Refused(refusal)));
 }
 
 /// A client waits for its own mutex and for a variable, each time up to a time that has come.
@@ -254,7 +339,7 @@ fn run_out_of_time<R: Wait + Abort>(
     ];
     check_calls(rt, desk, client, &[(Request::Lock(mutex), 0)]);
     went_well(rt, tick(rt, desk, 7));
-    is_past(rt, tick(rt, desk, 6));
+    is_refused(rt, tick(rt, desk, 6).err(), Refusal::Past);
     check_calls(rt, desk, client, calls.as_slice());
 }
 
@@ -278,8 +363,13 @@ fn make_timed_calls<R: Wait + Abort>(
 /// unlock and 2 to lock, each behind its begin; and the line of the limits.
 fn settle_in_time<R: Wait + Abort>(rt: &R, alloc: Global, desk: Desk<NoPause>) -> Result<(), Fail> {
     let mut clients = room_for_two(alloc)?;
+    let settled = Settled {
+        answered: 5,
+        entries: 25,
+        verdict: "same 26\n",
+    };
     went_well(rt, make_timed_calls(rt, &desk, &mut clients));
-    check_settled(rt, alloc, desk.into_room(), clients, "same 26\n");
+    check_settled(rt, alloc, desk.into_room(), clients, settled);
     Ok(())
 }
 
