@@ -1,8 +1,12 @@
 use crate::jobs::Job;
+use arrayvec::ArrayVec;
+use pif_job_replay::{migrate, replay};
 use pif_script::CliFault;
 use pif_test_streams::{Part, check_memory, check_parts, check_read, check_write};
 use pif_text::Cause;
+use std::alloc::Global;
 use std::io::ErrorKind;
+use std::process::Abort;
 
 const FIRST: &str =
     "pif-trace 1\nthread 10 = t1\nmutex normal = m1\nbegin t1 lock m1 = begun\ngo t1 = went\n\
@@ -15,6 +19,38 @@ const SECOND: &str =
 const LATE: ErrorKind = ErrorKind::TimedOut;
 
 const BROKEN: Option<ErrorKind> = Some(ErrorKind::BrokenPipe);
+
+/// The first with another answer in its last line.
+const OTHER: &str =
+    "pif-trace 1\nthread 10 = t1\nmutex normal = m1\nbegin t1 lock m1 = begun\ngo t1 = went\n\
+    go t1 = went\n";
+
+/// Keeps what is written, and allocates nothing; past its room it takes no byte.
+type Kept = ArrayVec<u8, 256>;
+
+/// What comes of migrating a trace into this, and of replaying that.
+type Ended = (Result<(), CliFault>, Result<(), CliFault>);
+
+/// A trace is migrated, and what was written is replayed: both end so, and the replay prints this.
+fn check_replayed(rt: &impl Abort, alloc: Global, trace: &str, ended: Ended, verdict: &str) {
+    let (mut migrated, mut told) = (Kept::new(), Kept::new());
+    let written = migrate(alloc, &mut trace.as_bytes(), &mut migrated);
+    let replayed = replay(alloc, &mut migrated.as_slice(), &mut told);
+    assert_eq!(rt; (written, replayed), ended);
+    check_told(rt, told.as_slice(), verdict);
+}
+
+/// A replay has printed this.
+fn check_told(rt: &impl Abort, told: &[u8], verdict: &str) {
+    assert!(rt; told == verdict.as_bytes(), "{verdict:?}");
+}
+
+#[test]
+fn what_was_migrated_is_replayed(rt: HostRuntime) {
+    check_replayed(&rt, rt.alloc(), FIRST, (Ok(()), Ok(())), "same 5\n");
+    let differs = (Ok(()), Err(CliFault::Differs(6)));
+    check_replayed(&rt, rt.alloc(), OTHER, differs, "differs 6 answer 0\n");
+}
 
 /// Traces behind which a read fails.
 static PARTS: [&str; 3] = ["", "pif-trace 3\n", "pif-trace 1\nthread 10 = t1\nthr"];
