@@ -165,33 +165,52 @@ static const char *limits_fault(const Command *command, size_t before)
                : NULL;
 }
 
-/* The command of a line: without a CR, and if it has an answer what stands before the first ` = ` and its spaces. */
-static size_t command_length(const char *line, size_t length)
+/* Copies the words of a line with one space between them, without a comment and a CR at the line's end. The copy has
+   room for the line; the answer is its length. */
+static size_t copy_words(const char *line, size_t length, char *copy)
 {
-    size_t end = line[length - 1] == '\r' ? length - 1 : length;
-    size_t cut = 0;
+    size_t count = 0;
+    bool gap = false;
 
-    while (cut + 3 <= end && memcmp(line + cut, " = ", 3) != 0)
-        cut++;
-    if (cut + 3 > end)
-        return end;
-    while (cut > 0 && line[cut - 1] == ' ')
-        cut--;
-    return cut;
+    if (length > 0 && line[length - 1] == '\r')
+        length--;
+    for (size_t i = 0; i < length && line[i] != '#'; i++) {
+        if (line[i] == ' ' || line[i] == '\t') {
+            gap = count > 0;
+            continue;
+        }
+        if (gap)
+            copy[count++] = ' ';
+        gap = false;
+        copy[count++] = line[i];
+    }
+    return count;
 }
 
-/* Adds the command of a line to the script; the answer is the cause of a fault, or NULL. */
-static const char *add_line(const char *line, size_t length, Script *script)
+/* The command of a line: if it has an answer what stands before the first ` = `. */
+static size_t command_length(const char *line, size_t length)
+{
+    for (size_t cut = 0; cut + 3 <= length; cut++) {
+        if (memcmp(line + cut, " = ", 3) == 0)
+            return cut;
+    }
+    return length;
+}
+
+/* Adds the command of a line to the script; the answer is the cause of a fault, or NULL. The copy has room for the
+   line. */
+static const char *add_line(const char *line, size_t length, char *copy, Script *script)
 {
     Command *command = &script->commands[script->count];
     Words words;
 
-    if (length == 0 || line[0] == '#' || (length == 1 && line[0] == '\r'))
+    length = copy_words(line, length, copy);
+    if (length == 0)
         return NULL;
-    length = command_length(line, length);
+    length = command_length(copy, length);
     if (length > LONGEST_COMMAND)
         return "long";
-    if (!split(line, length, &words) || !read_command(&words, command))
+    if (!split(copy, length, &words) || !read_command(&words, command))
         return "command";
     const char *fault = limits_fault(command, script->count);
     if (fault == NULL)
@@ -211,21 +230,23 @@ static size_t count_lines(const char *text, size_t length)
 bool read_script(const char *text, size_t length, Script *script)
 {
     size_t start = length >= 3 && memcmp(text, "\xef\xbb\xbf", 3) == 0 ? 3 : 0;
+    char *copy = malloc(length + 1);
 
     *script = (Script){.commands = calloc(count_lines(text, length), sizeof(Command))};
-    if (script->commands == NULL)
+    if (script->commands == NULL || copy == NULL) {
+        free(copy);
         return false;
-    for (size_t line = 1; start < length; line++) {
+    }
+    for (size_t line = 1; start < length && script->fault == NULL; line++) {
         const char *end = memchr(text + start, '\n', length - start);
         size_t bytes = end == NULL ? length - start : (size_t)(end - (text + start));
 
         script->commands[script->count].line = line;
-        script->fault = add_line(text + start, bytes, script);
-        if (script->fault != NULL) {
+        script->fault = add_line(text + start, bytes, copy, script);
+        if (script->fault != NULL)
             script->fault_line = line;
-            return true;
-        }
         start += bytes + 1;
     }
+    free(copy);
     return true;
 }

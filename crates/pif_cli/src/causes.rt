@@ -2,9 +2,8 @@ use crate::messages::Message;
 use crate::statuses::JobFault;
 use pif_cli_words::{Job, STANDARD_NAME};
 use pif_script::{CliFault, Notice};
-use pif_text::{Cause, Command, split_answer};
-use pif_text_core::{errno_name, errno_of};
-use pif_text_errors::{Slip, Wrong, read_command};
+use pif_text::{Cause, Command, errno_name, errno_of, split_answer};
+use pif_text_errors::{Slip, Wrong, call_form, read_command};
 use pif_types::Errno;
 use std::fmt::Write;
 use std::str::from_utf8;
@@ -76,7 +75,8 @@ fn say_text(job: Job, fault: CliFault, notice: &Notice, message: &mut Message) {
     match fault {
         CliFault::Script(number, Cause::Command) => match job {
             Job::Replay | Job::Migrate => no_traced(number, notice, message),
-            _ => no_command(number, notice.line(), message),
+            Job::Run => no_command(number, notice.line(), message),
+            _ => no_row(number, notice.line(), message),
         },
         CliFault::Script(number, cause) => {
             say_line(number, plain_cause(cause), notice.line(), message)
@@ -106,7 +106,7 @@ fn say_story(name: &str, fault: CliFault, notice: &Notice, message: &mut Message
     match fault {
         CliFault::Script(number, Cause::Command) => {
             say_name(name, message);
-            no_command(number, notice.line(), message);
+            no_row(number, notice.line(), message);
         }
         CliFault::Script(number, cause) => {
             say_name(name, message);
@@ -199,7 +199,7 @@ fn plain_cause(cause: Cause) -> &'static str {
 }
 
 /// Says what is wrong with the line of this number, behind the front of the message: its column, the slip, the nearest
-/// word and the form of the command, if there are such, and the text of the line.
+/// word, or else what is allowed, and the form of the command, if there are such, and the text of the line.
 fn say_slip(number: u64, slip: Slip, line: &[u8], message: &mut Message) {
     let _ = write!(message, "line {number}");
     if slip.wrong != Wrong::Empty {
@@ -208,9 +208,24 @@ fn say_slip(number: u64, slip: Slip, line: &[u8], message: &mut Message) {
     }
     message.say(": ");
     message.say(slip.wrong.words());
+    if slip.near.is_none() {
+        say_allowed(slip, message);
+    }
     say_hint(", perhaps '", slip.near, message);
     say_hint(", in '", slip.form, message);
     show_line(line, message);
+}
+
+/// Says which calls or kinds of mutexes there are, in place of a wrong one, or how a call is written that begins a line.
+fn say_allowed(slip: Slip, message: &mut Message) {
+    if slip.wrong == Wrong::NoCommand {
+        say_hint("; calls are written '", call_form(slip.word), message);
+    }
+    if let Some(words) = slip.wrong.allowed() {
+        message.say(" (");
+        message.say(words);
+        message.say(")");
+    }
 }
 
 /// Appends words and a hint between quotes, if there is one.
@@ -222,8 +237,33 @@ fn say_hint(words: &str, hint: Option<&'static str>, message: &mut Message) {
     }
 }
 
+/// Says why a line of a story is no command there, behind the front of the message.
+fn no_row(number: u64, line: &[u8], message: &mut Message) {
+    match wrong_mark(line) {
+        Some(words) => say_line(number, words, line, message),
+        None => no_command(number, line, message),
+    }
+}
+
+/// What is wrong with the `=` of a line of a story that is no command and has no ` = `, if there is one.
+fn wrong_mark(line: &[u8]) -> Option<&'static str> {
+    if line.starts_with(b"= ") || line == b"=".as_slice() {
+        Some("no command stands in front of '='")
+    } else if line.ends_with(b" =") {
+        Some("no answer stands behind '='; without '=' none is compared")
+    } else if line.contains(&b'=') {
+        Some("an answer stands behind ' = ', with a blank on both sides of '='")
+    } else {
+        None
+    }
+}
+
 /// Says why a line of a script is no command there, behind the front of the message.
 fn no_command(number: u64, line: &[u8], message: &mut Message) {
+    if line.starts_with(b"\xef\xbb\xbf") {
+        let words = "the line begins with a byte order mark, which a script has not";
+        return say_line(number, words, line, message);
+    }
     if line.starts_with(b"pif-trace ") {
         let words = "a trace is no script: 'pif replay' takes it";
         return say_line(number, words, line, message);

@@ -334,7 +334,8 @@ Standard error says what went wrong, and in which line.";
 pub const MORE_CHECK: &str =
     "A story is a script for people. A line of it is a command, as 'pif run' takes
 it, with ' = ' and its answer behind it or without, as in 'thread 10   = t1'; or
-it begins with '#'; or it is empty.
+it is empty. More blanks, and tabs, do as one, and '#' begins a comment. The
+answer of an error may name it, as 'answer EDEADLK' or 'answer 35 EDEADLK'.
 
 For each story it prints one line:
   ok NAME N
@@ -345,7 +346,7 @@ For each story it prints one line:
     line L is the first that is a fault, with the command C
 
 With --print it prints each story with the answers of all its commands, in one
-column.
+column, and in the form that they have there.
 
 Status, of the first story that is not ok: 0 ok, 1 wrong words, 2 a fault,
 3 a read or write failed, 4 out of memory, 5 a difference.

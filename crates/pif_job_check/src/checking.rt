@@ -1,11 +1,11 @@
-ghost use Rattle.std.specs.Prelude.{◌≡◌, IfErr, IfOk, option_copied};
+ghost use Rattle.std.specs.Prelude.{◌≡◌, ◌≤◌, IfErr, IfOk, length, option_copied};
 ghost use Rattle.pif_story_model.specs.Checks.{IsUntold, OkExactly, TellsTo, WritesTelling, check_telling, check_end, fill_telling, verdict_beside, text_of_run, script_fault, verdict_telling};
-ghost use Rattle.pif_story_model.specs.Lines.{lines_behind};
-ghost use Rattle.pif_story_model.specs.Stories.{script_of};
+ghost use Rattle.pif_story_model.specs.Lines.{lines, lines_behind, plain_lines};
+ghost use Rattle.pif_story_model.specs.Stories.{rows_from, script_by, script_of};
 ghost use Rattle.pif_story_model.specs.Verdicts.{verdict_of};
 
 use pif_script::{CliFault, Notice, read_all, run, write_whole};
-use pif_story::{MOST, compare, filled_text, line_at_end, script_of, verdict_line};
+use pif_story::{MOST, compare, filled_text, line_at_end, plain_story, script_of, verdict_line};
 use pif_story_model::Flaw;
 use pif_text::Cause;
 use std::alloc::Global;
@@ -17,17 +17,34 @@ type Telling = (Vec<u8>, Result<(), CliFault>);
 /// What is printed for a script, and its first fault.
 type Ran = (Vec<u8>, Option<(u64, Cause)>);
 
-/// Runs the script of a story. Answers what is printed for it, and its first fault, if it has one.
+/// A story with nothing but its words.
 ///
 /// # Errors
 ///
 /// `NoMemory`.
-fn run_story(alloc: Global, story: &[u8]) -> Result<Ran, CliFault>
-    ensures printed { IfOk result (λ ran. ran.0.items ≡ text_of_run (script_of story.now)) }
-    ensures fault { IfOk result (λ ran. ran.1 ≡ script_fault (script_of story.now)) }
+fn words_of(alloc: Global, story: &[u8]) -> Result<Vec<u8>, CliFault>
+    ensures lines { IfOk result (λ plain. lines plain.items ≡ plain_lines story.now) }
+    ensures shorter { IfOk result (λ plain. length plain.items ≤ length story.now) }
     ensures failed { IfErr result IsUntold }
 {
-    let Ok(script) = script_of(alloc, story) else {
+    match plain_story(alloc, story) {
+        Ok(plain) => Ok(plain),
+        Err(_) => Err(CliFault::NoMemory),
+    }
+}
+
+/// Runs the script of a story, of which nothing but its words is given. Answers what is printed for it, and its first
+/// fault, if it has one.
+///
+/// # Errors
+///
+/// `NoMemory`.
+fn run_story(alloc: Global, plain: &[u8]) -> Result<Ran, CliFault>
+    ensures printed { IfOk result (λ ran. ran.0.items ≡ text_of_run (script_by (rows_from 1 (lines plain.now)))) }
+    ensures fault { IfOk result (λ ran. ran.1 ≡ script_fault (script_by (rows_from 1 (lines plain.now)))) }
+    ensures failed { IfErr result IsUntold }
+{
+    let Ok(script) = script_of(alloc, plain) else {
         return Err(CliFault::NoMemory);
     };
     let mut output = Vec::new(alloc);
@@ -75,24 +92,27 @@ fn tell(
     }
 }
 
-/// What a story comes to that may be too large.
+/// What a story comes to that may be too large. `plain` is the story with nothing but its words.
 #[tactic(auto, unfolding(pif_story_model::specs::Checks::verdict_beside))]
 pub fn judge<'a>(
-    story: &'a [u8],
+    story: &[u8],
+    plain: &'a [u8],
     answers: Option<&'a [u8]>,
     fault: Option<(u64, Cause)>,
 ) -> Result<u64, Flaw<'a>>
-    requires { fault ≡ script_fault (script_of story.now) }
+    requires lines { lines plain.now ≡ plain_lines story.now }
+    requires shorter { length plain.now ≤ length story.now }
+    requires fault { fault ≡ script_fault (script_of story.now) }
     ensures { verdict_of result ≡ verdict_beside story.now (lines_behind (option_copied answers.entry)) }
 {
     if story.len() > MOST {
         return Err(Flaw::Fault(line_at_end(&story[..MOST]), b"", Cause::Size));
     }
-    compare(story, answers, fault)
+    compare(plain, answers, fault)
 }
 
 /// What a check tells of a story of this name.
-#[tactic(auto, unfolding(pif_story_model::specs::Checks::check_telling, pif_story_model::specs::Checks::story_verdict))]
+#[tactic(auto, unfolding(pif_story_model::specs::Checks::check_telling, pif_story_model::specs::Checks::story_verdict, pif_story_model::specs::Stories::script_of))]
 fn check_text(
     alloc: Global,
     name: &[u8],
@@ -102,17 +122,15 @@ fn check_text(
     ensures told { IfOk result (λ telling. (telling.0.items, telling.1) ≡ check_telling name.now story.now) }
     ensures failed { IfErr result IsUntold }
 {
-    let (output, fault) = run_story(alloc, story)?;
-    tell(
-        alloc,
-        name,
-        judge(story, Some(output.as_slice()), fault),
-        notice,
-    )
+    let plain = words_of(alloc, story)?;
+    let words = plain.as_slice();
+    let (output, fault) = run_story(alloc, words)?;
+    let verdict = judge(story, words, Some(output.as_slice()), fault);
+    tell(alloc, name, verdict, notice)
 }
 
 /// What is told of a story of this name that is filled in.
-#[tactic(auto, unfolding(pif_story_model::specs::Checks::fill_telling))]
+#[tactic(auto, unfolding(pif_story_model::specs::Checks::fill_telling, pif_story_model::specs::Stories::script_of))]
 fn fill_text(
     alloc: Global,
     name: &[u8],
@@ -122,9 +140,11 @@ fn fill_text(
     ensures told { IfOk result (λ telling. (telling.0.items, telling.1) ≡ fill_telling name.now story.now) }
     ensures failed { IfErr result IsUntold }
 {
-    let (output, fault) = run_story(alloc, story)?;
-    match judge(story, None, fault) {
-        Ok(_) => match filled_text(alloc, story, output.as_slice()) {
+    let plain = words_of(alloc, story)?;
+    let words = plain.as_slice();
+    let (output, fault) = run_story(alloc, words)?;
+    match judge(story, words, None, fault) {
+        Ok(_) => match filled_text(alloc, story, words, output.as_slice()) {
             Ok(text) => Ok((text, Ok(()))),
             Err(_) => Err(CliFault::NoMemory),
         },
@@ -142,7 +162,7 @@ fn write_telling<W: Write>(telling: Telling, writer: &mut W) -> Result<(), CliFa
 }
 
 /// Checks a story: reads its bytes to the end, runs the script that is left when comments, empty lines and answers are
-/// taken out, and compares each answer that is written with what `run` prints for its command. One line is written:
+/// taken out, and asks of each answer that is written whether it says what `run` prints for its command. One line is written:
 /// `ok` with `name` and the number of commands; or `name` with the first flaw. That is a fault, or a command with the
 /// answer that is written and the one that the core gives. Lines are counted in the story, from 1. It is kept in
 /// memory, and so is what `run` prints.
@@ -227,7 +247,7 @@ pub fn fill_noting<R: Read, W: Write>(
 }
 
 /// A check of a story of at most 16,777,216 bytes is ok exactly if the script that is left has no fault, and each
-/// command with an answer has the one that `run` prints for it.
+/// command with an answer has one that says what `run` prints for it.
 pub fn ok_is_exact()
     ensures { OkExactly }
 {}

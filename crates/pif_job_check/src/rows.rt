@@ -3,13 +3,14 @@ ghost use Rattle.pif_script_model.specs.Running.{script};
 ghost use Rattle.pif_script_model.specs.Scripts.{start, closed_at};
 ghost use Rattle.pif_script.specs.Scanners.{scan_of};
 ghost use Rattle.pif_story_model.specs.Checks.{fault_by, fault_in, script_fault};
-ghost use Rattle.pif_story_model.specs.Stories.{script_of};
+ghost use Rattle.pif_story_model.specs.Lines.{lines};
+ghost use Rattle.pif_story_model.specs.Stories.{rows_from, script_by, script_of};
 ghost use Rattle.pif_job_check.specs.Rows.{FillsRows};
 
 use crate::asked::Asked;
 use crate::checking::judge;
 use pif_script::{CliFault, End, Ending, Notice, Output, Scanner, Stop};
-use pif_story::{answered_rows, script_of};
+use pif_story::{answered_rows, plain_story, script_of};
 use pif_story_model::{AnsweredRow, Flaw};
 use pif_text::{Cause, Command, Reply};
 use std::alloc::{AllocError, Global};
@@ -76,51 +77,57 @@ fn run_script(
     Ok(fault_at_end(scanner, &mut output))
 }
 
-/// Runs the script of a story, and appends each of its commands with what it is answered. Answers its first fault, if
-/// it has one.
+/// Runs the script of a story, of which nothing but its words is given, and appends each of its commands with what it is
+/// answered. Answers its first fault, if it has one.
 ///
 /// # Errors
 ///
 /// A growth of memory was refused.
 fn run_commands(
     alloc: Global,
-    story: &[u8],
+    plain: &[u8],
     replies: &mut Vec<(Command, Reply)>,
 ) -> Result<Option<(u64, Cause)>, AllocError>
-    ensures { IfOk result (λ fault. fault ≡ script_fault (script_of story.now)) }
+    ensures { IfOk result (λ fault. fault ≡ script_fault (script_by (rows_from 1 (lines plain.now)))) }
 {
-    let text = script_of(alloc, story)?;
+    let text = script_of(alloc, plain)?;
     let mut scanner = Scanner::<Asked>::new();
     run_script(alloc, text.as_slice(), &mut scanner, replies)
 }
 
-/// Fills in a story that is in memory, as rows: where each of its commands stands, what it asks for, and what it is
-/// answered, in their order. `notice` keeps the command that is a fault; if there is none, it is left as it is.
+/// Fills in a story that is in memory, as rows. Answers the story with nothing but its words, and where each of its
+/// commands stands in that, what it asks for, and what it is answered, in their order. `notice` keeps the command that
+/// is a fault; if there is none, it is left as it is.
 ///
 /// # Errors
 ///
 /// `Script` with the line of the first fault, as of `fill`; and `NoMemory`.
-#[tactic(auto, unfolding(pif_story_model::specs::Checks::fill_telling))]
+#[tactic(auto, unfolding(pif_story_model::specs::Checks::fill_telling, pif_story_model::specs::Stories::script_of))]
 pub fn fill_rows(
     alloc: Global,
     story: &[u8],
     notice: &mut Notice,
-) -> Result<Vec<AnsweredRow>, CliFault>
+) -> Result<(Vec<u8>, Vec<AnsweredRow>), CliFault>
     ensures { FillsRows story.now result }
 {
-    let mut replies = Vec::new(alloc);
-    let Ok(fault) = run_commands(alloc, story, &mut replies) else {
+    let Ok(plain) = plain_story(alloc, story) else {
         return Err(CliFault::NoMemory);
     };
-    match judge(story, None, fault) {
-        Ok(_) => match answered_rows(alloc, story, replies.as_slice()) {
-            Ok(rows) => Ok(rows),
-            Err(_) => Err(CliFault::NoMemory),
-        },
+    let words = plain.as_slice();
+    let mut replies = Vec::new(alloc);
+    let Ok(fault) = run_commands(alloc, words, &mut replies) else {
+        return Err(CliFault::NoMemory);
+    };
+    match judge(story, words, None, fault) {
+        Ok(_) => {}
         Err(Flaw::Fault(line, command, cause)) => {
             notice.keep_command(command);
-            Err(CliFault::Script(line, cause))
+            return Err(CliFault::Script(line, cause));
         }
-        Err(Flaw::Differs(line, ..)) => Err(CliFault::Differs(line)),
+        Err(Flaw::Differs(line, ..)) => return Err(CliFault::Differs(line)),
+    }
+    match answered_rows(alloc, words, replies.as_slice()) {
+        Ok(rows) => Ok((plain, rows)),
+        Err(_) => Err(CliFault::NoMemory),
     }
 }

@@ -99,8 +99,9 @@ fn picture_text(
 ) -> Result<String, CliFault>
     ensures { FillsRows story.now result }
 {
-    let rows = fill_rows(alloc, story, notice)?;
-    match picture_of(alloc, picture, story, rows.as_slice()) {
+    let filled = fill_rows(alloc, story, notice)?;
+    let (plain, rows) = filled;
+    match picture_of(alloc, picture, plain.as_slice(), rows.as_slice()) {
         Ok(text) => Ok(text),
         Err(NoMemory) => Err(CliFault::NoMemory),
     }

@@ -7,7 +7,7 @@ use Rattle.pif_model.specs.declared.events.Seen.TheVariants as seen
 use Rattle.pif_text_model.specs.declared.replies.Reply.{Reply}
 use Rattle.pif_text_model.specs.declared.replies.Reply.TheVariants as reply
 use Rattle.pif_text_model.specs.Replies.{text_of}
-use Rattle.pif_text_core.specs.Names.{errno_name}
+use Rattle.pif_text_model.specs.Errors.{errno_name}
 
 -- a text of this kind was appended
 abbrev pub AddsSome : (List ℕ → Type 0) → (old new : List ℕ) → Type 0

@@ -1,12 +1,11 @@
 ghost use Rattle.std.specs.Prelude.{◌≡◌, ◌+◌, ◌≤◌, ◌++◌, ◌∷◌, length};
 ghost use Rattle.arrayvec.specs.ArrayVec.{array_vec_len};
 ghost use Rattle.pif_text_model.specs.Replies.{text_of};
-ghost use Rattle.pif_text_core.specs.Names.{errno_name};
+ghost use Rattle.pif_text_model.specs.Errors.{errno_name};
 ghost use Rattle.pif_job_shell.specs.Replies.{AddsSome, IsBehindAnswer, IsLineOf, number_of_reply, number_seen};
 
 use pif_model::Seen;
-use pif_text::{Reply, Text, reply_text};
-use pif_text_core::{errno_name, errno_of};
+use pif_text::{Reply, Text, errno_name, errno_of, reply_text};
 use pif_types::Errno;
 
 /// The number with which an event was answered, if that is what was seen of it.

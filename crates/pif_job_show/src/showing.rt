@@ -13,7 +13,8 @@ use pif_script::{
     write_whole,
 };
 use pif_script_model::Detail;
-use pif_text_core::{Unwritten, errno_name, write_changes, write_state};
+use pif_text::errno_name;
+use pif_text_core::{Unwritten, write_changes, write_state};
 use pif_types::Errno;
 use std::alloc::Global;
 use std::io::Write;

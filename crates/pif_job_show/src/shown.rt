@@ -11,8 +11,7 @@ use pif_script::{
     ANSWER_ROOM, End, Ending, Listener, OUTPUT_ROOM, OpenFault, Output, append_end, obey,
     open_core, tell,
 };
-use pif_text::{Cause, Command, Reply, Version, command_of};
-use pif_text_core::errno_of;
+use pif_text::{Cause, Command, Reply, Version, command_of, errno_of};
 use pif_types::Errno;
 use std::alloc::Global;
 use std::marker::Model;

@@ -1,10 +1,11 @@
 ghost use Rattle.std.specs.Prelude.{◌≡◌, ◌≤◌, length, option_copied};
-ghost use Rattle.pif_story_model.specs.Lines.{lines_behind};
-ghost use Rattle.pif_story_model.specs.Stories.{rows_of, story_lines};
+ghost use Rattle.pif_story_model.specs.Lines.{lines, lines_behind};
+ghost use Rattle.pif_story_model.specs.Stories.{rows_from};
 ghost use Rattle.pif_story_model.specs.Comparing.{answers_left, cause_at, row_compared};
 ghost use Rattle.pif_story_model.specs.Verdicts.{verdict_of_rows, verdict_of};
 
-use crate::lines::{Row, row_of, split_line, without_mark};
+use crate::answers::says;
+use crate::lines::{Row, row_of, split_line};
 use pif_story_model::Flaw;
 use pif_text::Cause;
 
@@ -39,7 +40,7 @@ fn compare_row<'a>(
     };
     let (given, more) = split_line(output);
     match written {
-        Some(written) => if written == given {
+        Some(written) => if says(written, given) {
             Ok(more)
         } else {
             Err(Flaw::Differs(number, command, written, given))
@@ -48,7 +49,7 @@ fn compare_row<'a>(
     }
 }
 
-/// Compares the commands of a story with the lines that are printed for its script, which has this first fault or none;
+/// Compares the commands of a story, of which nothing but its words is given, with the lines that are printed for its script, which has this first fault or none;
 /// if no text is given, nothing is compared. Answers how many commands there are.
 ///
 /// # Errors
@@ -62,10 +63,10 @@ pub fn compare<'a>(
 ) -> Result<u64, Flaw<'a>>
     requires { length story.now ≤ 16777216 }
     ensures { verdict_of result
-        ≡ verdict_of_rows (length (story_lines story.now)) fault (rows_of story.now)
+        ≡ verdict_of_rows (length (lines story.now)) fault (rows_from 1 (lines story.now))
         (lines_behind (option_copied output.entry)) }
 {
-    let mut rest = Some(without_mark(story));
+    let mut rest = Some(story);
     let mut answers = output;
     let mut number = 0;
     let mut commands = 0;

@@ -1,18 +1,21 @@
 ghost use Rattle.std.specs.Prelude.{◌≡◌, ◌++◌, ◌-◌, length, replicate, OnOk, IfOk, option_copied};
-ghost use Rattle.pif_story_model.specs.Filling.{answered_row, answers_behind, filled_line, filled_text, next_answer, more_answers, width_from};
-ghost use Rattle.pif_story_model.specs.Lines.{lines, lines_behind};
-ghost use Rattle.pif_story_model.specs.Stories.{story_lines};
+ghost use Rattle.pif_story_model.specs.Answers.{in_form};
+ghost use Rattle.pif_story_model.specs.Filling.{answered_row, answers_behind, filled_line, filled_text, behind_words, form_from, form_or, next_answer, more_answers, width_from};
+ghost use Rattle.pif_story_model.specs.Lines.{lines, lines_behind, plain_lines};
 
-use crate::lines::{row_of, split_line, without_mark, without_return};
+use crate::answers::{append_in_form, form_written};
+use crate::lines::{commentless, row_of, split_line, without_blanks, without_mark};
+use crate::plain::append_plain;
+use pif_story_model::Form;
 use std::alloc::{AllocError, Global};
 
-/// The length of the longest command of a story.
+/// The length of the longest command of a story, of which nothing but its words is given.
 #[tactic(auto, using(pif_story_model::proofs::FillingLemmas::width_from_nothing, pif_story_model::proofs::FillingLemmas::width_from_passed, pif_story_model::proofs::FillingLemmas::width_from_row))]
 fn width_of(story: &[u8]) -> usize
-    ensures { result ≡ width_from 0 (story_lines story.now) }
+    ensures { result ≡ width_from 0 (lines story.now) }
 {
     let mut width = 0;
-    let mut rest = Some(without_mark(story));
+    let mut rest = Some(story);
     'lines: while let Some(text) = rest {
         let (line, behind) = split_line(text);
         rest = behind;
@@ -21,6 +24,25 @@ fn width_of(story: &[u8]) -> usize
         }
     }
     width
+}
+
+/// The first form in which a story, of which nothing but its words is given, has the answer of an error; that by
+/// numbers, if it has none.
+#[tactic(auto, using(pif_story_model::proofs::FillingLemmas::form_from_nothing, pif_story_model::proofs::FillingLemmas::form_from_passed, pif_story_model::proofs::FillingLemmas::form_from_row))]
+fn form_of(story: &[u8]) -> Form
+    ensures { result ≡ form_from (lines story.now) }
+{
+    let mut rest = Some(story);
+    'lines: while let Some(text) = rest {
+        let (line, behind) = split_line(text);
+        rest = behind;
+        if let Some((_, written)) = row_of(line) {
+            if let Some(form) = form_written(written) {
+                return form;
+            }
+        }
+    }
+    Form::Number
 }
 
 /// The first of these lines, and those behind it; if there is none, an empty one.
@@ -44,38 +66,63 @@ fn append_blanks(text: &mut Vec<u8>, count: usize) -> Result<(), AllocError>
     Ok(())
 }
 
-/// Appends a command and its answer, which stands behind so many columns.
+/// Appends a command and its answer in a form, which stands behind so many columns.
 fn append_row(
     text: &mut Vec<u8>,
     width: usize,
     command: &[u8],
+    form: Form,
     answer: &[u8],
 ) -> Result<(), AllocError>
-    ensures { OnOk result (text.new.items ≡ text.old.items ++ answered_row width command.now answer.now) }
+    ensures { OnOk result (text.new.items ≡ text.old.items ++ answered_row width command.now (in_form form answer.now)) }
 {
     text.extend_from_slice(command)?;
     append_blanks(text, width.saturating_sub(command.len()))?;
     text.extend_from_slice(b" = ")?;
-    text.extend_from_slice(answer)
+    append_in_form(text, form, answer)
 }
 
-/// Appends a line, with the first of these answers if it has a command. Answers those that are left.
+/// This form, or else another one.
+fn form_or(form: Option<Form>, other: Form) -> Form
+    ensures { result ≡ form_or form other }
+{
+    match form {
+        Some(form) => form,
+        None => other,
+    }
+}
+
+/// What stands behind the words of a line: blanks, a comment, and a CR.
+#[tactic(auto, unfolding(pif_story_model::specs::Filling::behind_words))]
+fn behind_words(line: &[u8]) -> &[u8]
+    ensures { result.now ≡ behind_words line.now }
+{
+    &line[without_blanks(commentless(line)).len()..]
+}
+
+/// Appends a line, with the first of these answers if it has a command: in the form of the one that is written, or else
+/// in this one. Answers those that are left. What `words` holds is lost.
 fn append_line<'a>(
     text: &mut Vec<u8>,
+    words: &mut Vec<u8>,
     width: usize,
+    form: Form,
     line: &[u8],
     answers: Option<&'a [u8]>,
 ) -> Result<Option<&'a [u8]>, AllocError>
     ensures text { OnOk result (text.new.items
-        ≡ text.old.items ++ filled_line width line.now (lines_behind (option_copied answers.entry))) }
+        ≡ text.old.items ++ filled_line width form line.now (lines_behind (option_copied answers.entry))) }
     ensures left { IfOk result (λ left. lines_behind (option_copied left)
         ≡ answers_behind line.now (lines_behind (option_copied answers.entry))) }
 {
-    match row_of(line) {
-        Some((command, _)) => {
+    words.clear();
+    append_plain(words, commentless(line))?;
+    match row_of(words.as_slice()) {
+        Some((command, written)) => {
             let (answer, more) = next_answer(answers);
-            append_row(text, width, command, answer)?;
-            text.extend_from_slice(&line[without_return(line).len()..])?;
+            let own = form_or(form_written(written), form);
+            append_row(text, width, command, own, answer)?;
+            text.extend_from_slice(behind_words(line))?;
             Ok(more)
         }
         None => {
@@ -85,17 +132,25 @@ fn append_line<'a>(
     }
 }
 
-/// A story with the lines of this output as the answers to its commands, in the column behind the longest; all else
-/// stays.
+/// A story with the lines of this output as the answers to its commands, in the column behind the longest, and in the
+/// form that the story has; all else stays. `plain` is the story with nothing but its words.
 ///
 /// # Errors
 ///
 /// A growth of memory was refused.
 #[tactic(auto, using(pif_story_model::proofs::FillingLemmas::filled_last, pif_story_model::proofs::FillingLemmas::filled_more), unfolding(pif_story_model::specs::Filling::filled_text))]
-pub fn filled_text(alloc: Global, story: &[u8], output: &[u8]) -> Result<Vec<u8>, AllocError>
+pub fn filled_text(
+    alloc: Global,
+    story: &[u8],
+    plain: &[u8],
+    output: &[u8],
+) -> Result<Vec<u8>, AllocError>
+    requires { lines plain.now ≡ plain_lines story.now }
     ensures { IfOk result (λ text. text.items ≡ filled_text story.now (lines output.now)) }
 {
-    let width = width_of(story);
+    let width = width_of(plain);
+    let form = form_of(plain);
+    let mut words = Vec::new(alloc);
     let without_mark = without_mark(story);
     let mut text = Vec::from_slice(alloc, &story[..story.len() - without_mark.len()])?;
     let mut rest = Some(without_mark);
@@ -103,7 +158,7 @@ pub fn filled_text(alloc: Global, story: &[u8], output: &[u8]) -> Result<Vec<u8>
     'lines: while let Some(left) = rest {
         let (line, behind) = split_line(left);
         rest = behind;
-        answers = append_line(&mut text, width, line, answers)?;
+        answers = append_line(&mut text, &mut words, width, form, line, answers)?;
         if rest.is_some() {
             text.push(b'\n')?;
         }

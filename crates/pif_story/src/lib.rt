@@ -1,13 +1,16 @@
 //! The texts of stories: their lines, the script that is left of one, its answers beside the lines that a run prints,
 //! filling in, and the line that says what a story comes to.
 //!
-//! A line of a story is a command of scripts, with ` = ` and its answer behind it or without; or it begins with `#`; or
-//! it is empty. Blanks before ` = ` line the answers up. A CR at the end of a line and a byte order mark at the front
-//! are passed over, and the last line needs no LF.
+//! A line of a story is a command of scripts, with ` = ` and its answer behind it or without, or it has no words. Words
+//! stand between blanks, and `#` begins a comment. A CR at the end of a line and a byte order mark at the front are
+//! passed over, and the last line needs no LF. All that is compared and run is the story with nothing but its words,
+//! which has the same lines.
 //!
 //! | Module | What it has |
 //! |---|---|
 //! | `lines` | a text as lines, and what a line says |
+//! | `plain` | a story with nothing but its words |
+//! | `answers` | the answers that are written: what they say, and in which form |
 //! | `scripts` | the script that is left of a story |
 //! | `reading` | that script, of a story that is read |
 //! | `comparing` | the answers that are written, beside the lines that are printed |
@@ -16,18 +19,21 @@
 //! | `verdicts` | what a story comes to, as a line |
 #![tactic(auto)]
 
+mod answers;
 mod comparing;
 mod filling;
 mod lines;
 mod pairing;
+mod plain;
 mod reading;
 mod scripts;
 mod verdicts;
 
 pub use comparing::compare;
 pub use filling::filled_text;
-pub use lines::line_at_end;
+pub use lines::{is_passed, line_at_end, without_mark, without_return};
 pub use pairing::answered_rows;
+pub use plain::plain_story;
 pub use reading::{MOST, read_script_of_story};
 pub use scripts::script_of;
 pub use verdicts::verdict_line;

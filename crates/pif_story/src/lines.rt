@@ -1,6 +1,7 @@
-ghost use Rattle.std.specs.Prelude.{◌≡◌, ◌≢◌, ◌<◌, ◌≤◌, ◌∷◌, ℕ, length, slice_index, IfSome, option_copied, option_map};
+ghost use Rattle.std.specs.Prelude.{◌≡◌, ◌≢◌, ◌<◌, ◌≤◌, ◌∷◌, ◌+◌, ℕ, length, slice_index, IfSome, option_copied, option_map};
+ghost use Rattle.std.specs.Option.{option_map_or};
 ghost use Rattle.std.specs.Str.Lines.{strip_carriage_return};
-ghost use Rattle.pif_story_model.specs.Lines.{without_mark, lines, lines_behind, without_blanks, is_passed, row_in};
+ghost use Rattle.pif_story_model.specs.Lines.{commentless, without_comment, without_mark, lines, lines_behind, is_blank, without_blanks, is_passed, row_in};
 
 use pif_text::split_answer;
 
@@ -20,14 +21,14 @@ pub fn without_mark(text: &[u8]) -> &[u8]
     }
 }
 
-/// The place of the first LF of a text, or the text's length if it has none.
-fn first_end(text: &[u8]) -> usize
+/// The first place of a byte in a text, or the text's length if it has none.
+fn first_of(text: &[u8], wanted: u8) -> usize
     ensures within { result ≤ length text.now }
-    ensures before { (k : ℕ) → k < result → slice_index text.now k ≢ 10 }
-    ensures found { result < length text.now → slice_index text.now result ≡ 10 }
+    ensures before { (k : ℕ) → k < result → slice_index text.now k ≢ wanted }
+    ensures found { result < length text.now → slice_index text.now result ≡ wanted }
 {
     for (place, byte) in text.iter().enumerate() {
-        if *byte == b'\n' {
+        if *byte == wanted {
             return place;
         }
     }
@@ -39,8 +40,9 @@ fn first_end(text: &[u8]) -> usize
 pub fn split_line(text: &[u8]) -> (&[u8], Option<&[u8]>)
     ensures split { lines text.now ≡ result.0.now ∷ lines_behind (option_copied result.1) }
     ensures shorter { IfSome result.1 (λ behind. length behind.now < length text.now) }
+    ensures parts { length result.0.now + option_map_or (λ behind. length behind.now + 1) result.1 0 ≡ length text.now }
 {
-    let end = first_end(text);
+    let end = first_of(text, b'\n');
     if end < text.len() {
         (&text[..end], Some(&text[end + 1..]))
     } else {
@@ -60,13 +62,38 @@ pub fn without_return(line: &[u8]) -> &[u8]
     }
 }
 
-/// A text without the spaces at its end.
+/// What stands in a text before its first comment.
+fn without_comment(text: &[u8]) -> &[u8]
+    ensures text { result.now ≡ without_comment text.now }
+    ensures shorter { length result.now ≤ length text.now }
+{
+    let end = first_of(text, b'#');
+    &text[..end]
+}
+
+/// A line without a CR at its end, and without the comment before that.
+pub fn commentless(line: &[u8]) -> &[u8]
+    ensures text { result.now ≡ commentless line.now }
+    ensures shorter { length result.now ≤ length line.now }
+{
+    without_comment(without_return(line))
+}
+
+/// Whether a byte is a space or a tab.
+pub fn is_blank(byte: u8) -> bool
+    ensures { result ≡ is_blank byte }
+{
+    byte == b' ' || byte == b'\t'
+}
+
+/// A text without the blanks at its end.
 #[tactic(auto, using(pif_story_model::proofs::LinesLemmas::blanks_none, pif_story_model::proofs::LinesLemmas::blanks_step, pif_story_model::proofs::LinesLemmas::blanks_stop))]
-fn without_blanks(text: &[u8]) -> &[u8]
-    ensures { result.now ≡ without_blanks text.now }
+pub fn without_blanks(text: &[u8]) -> &[u8]
+    ensures text { result.now ≡ without_blanks text.now }
+    ensures shorter { length result.now ≤ length text.now }
 {
     for place in (0..text.len()).rev() {
-        if text[place] != b' ' {
+        if !is_blank(text[place]) {
             return &text[..place + 1];
         }
     }
@@ -74,7 +101,7 @@ fn without_blanks(text: &[u8]) -> &[u8]
 }
 
 /// Whether a line is empty or a comment.
-fn is_passed(text: &[u8]) -> bool
+pub fn is_passed(text: &[u8]) -> bool
     ensures { result ≡ is_passed text.now }
 {
     match text {
@@ -83,19 +110,18 @@ fn is_passed(text: &[u8]) -> bool
     }
 }
 
-/// What a line of a story says: a command and the answer that is written behind it, if there is one; `None` if the
-/// line is empty or a comment. A CR at its end is no part of it, and neither are spaces before ` = `.
+/// What a line with nothing but its words says: a command and the answer that is written behind it, if there is one;
+/// `None` if the line is empty.
 #[tactic(auto, unfolding(pif_story_model::specs::Lines::row_in))]
 pub fn row_of(line: &[u8]) -> Option<Row<'_>>
     ensures { option_map (λ row. (row.0.now, option_copied row.1)) result ≡ row_in line.now }
 {
-    let text = without_return(line);
-    if is_passed(text) {
+    if is_passed(line) {
         return None;
     }
-    match split_answer(text) {
-        Some((command, written)) => Some((without_blanks(command), Some(written))),
-        None => Some((text, None)),
+    match split_answer(line) {
+        Some((command, written)) => Some((command, Some(written))),
+        None => Some((line, None)),
     }
 }
 

@@ -1,10 +1,10 @@
-use crate::lines::{row_of, split_line, without_mark};
+use crate::lines::{row_of, split_line};
 use pif_story_model::AnsweredRow;
 use pif_text::{Command, Reply};
 use std::alloc::{AllocError, Global};
 
-/// Where the commands of a story stand, beside what they ask for and what they are answered, in their order. As many
-/// are told as there are of both.
+/// Where the commands of a story, of which nothing but its words is given, stand in this, beside what they ask for and
+/// what they are answered, in their order. As many are told as there are of both.
 ///
 /// # Errors
 ///
@@ -16,7 +16,7 @@ pub fn answered_rows(
 ) -> Result<Vec<AnsweredRow>, AllocError> {
     let mut rows = Vec::new(alloc);
     let mut line = 0u32;
-    let mut rest = Some(without_mark(story));
+    let mut rest = Some(story);
     'lines: while let Some(text) = rest {
         let (written, behind) = split_line(text);
         rest = behind;

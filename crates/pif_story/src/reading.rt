@@ -1,11 +1,13 @@
-ghost use Rattle.std.specs.Prelude.{Err, IfErr, IfOk, Ok};
+ghost use Rattle.std.specs.Prelude.{◌≡◌, Err, IfErr, IfOk, Ok};
 ghost use Rattle.pif_story_model.specs.Showing.{LeavesScriptTo};
+ghost use Rattle.pif_story_model.specs.Stories.{script_of};
 
 use crate::lines::line_at_end;
+use crate::plain::plain_story;
 use crate::scripts::script_of;
 use pif_script::{CliFault, MOST_BYTES, read_all};
 use pif_text::Cause;
-use std::alloc::Global;
+use std::alloc::{AllocError, Global};
 use std::io::Read;
 
 /// The most bytes of a story.
@@ -25,8 +27,21 @@ pub fn read_script_of_story<R: Read>(alloc: Global, reader: &mut R) -> Result<Ve
     if text.len() > MOST {
         return Err(CliFault::Script(line_at_end(&text[..MOST]), Cause::Size));
     }
-    match script_of(alloc, text) {
+    match script_left(alloc, text) {
         Ok(script) => Ok(script),
         Err(_) => Err(CliFault::NoMemory),
     }
+}
+
+/// The script that is left of a story.
+///
+/// # Errors
+///
+/// A growth of memory was refused.
+#[tactic(auto, using(pif_story_model::proofs::StoriesLemmas::script_in_all), unfolding(pif_story_model::specs::Stories::script_of))]
+fn script_left(alloc: Global, story: &[u8]) -> Result<Vec<u8>, AllocError>
+    ensures { IfOk result (λ script. script.items ≡ script_of story.now) }
+{
+    let plain = plain_story(alloc, story)?;
+    script_of(alloc, plain.as_slice())
 }

@@ -1,21 +1,22 @@
 ghost use Rattle.std.specs.Prelude.{◌≡◌, IfOk};
-ghost use Rattle.pif_story_model.specs.Stories.{script_of};
+ghost use Rattle.pif_story_model.specs.Lines.{lines};
+ghost use Rattle.pif_story_model.specs.Stories.{rows_from, script_by};
 
-use crate::lines::{row_of, split_line, without_mark};
+use crate::lines::{row_of, split_line};
 use std::alloc::{AllocError, Global};
 
-/// The script that is left of a story when its comments, its empty lines and its answers are taken out: a line for each
-/// of its commands.
+/// The script that is left of a story, of which nothing but its words is given, when its empty lines and its answers are
+/// taken out: a line for each of its commands.
 ///
 /// # Errors
 ///
 /// A growth of memory was refused.
-#[tactic(auto, using(pif_story_model::proofs::StoriesLemmas::script_in_all, pif_story_model::proofs::StoriesLemmas::script_in_nothing, pif_story_model::proofs::StoriesLemmas::script_in_passed, pif_story_model::proofs::StoriesLemmas::script_in_row))]
+#[tactic(auto, using(pif_story_model::proofs::StoriesLemmas::script_in_whole, pif_story_model::proofs::StoriesLemmas::script_in_nothing, pif_story_model::proofs::StoriesLemmas::script_in_passed, pif_story_model::proofs::StoriesLemmas::script_in_row))]
 pub fn script_of(alloc: Global, story: &[u8]) -> Result<Vec<u8>, AllocError>
-    ensures { IfOk result (λ script. script.items ≡ script_of story.now) }
+    ensures { IfOk result (λ script. script.items ≡ script_by (rows_from 1 (lines story.now))) }
 {
     let mut script = Vec::new(alloc);
-    let mut rest = Some(without_mark(story));
+    let mut rest = Some(story);
     'lines: while let Some(text) = rest {
         let (line, behind) = split_line(text);
         rest = behind;

@@ -1,10 +1,12 @@
 pub mod AnswerLines
 pub mod AnswerTexts
+pub mod AnswersLemmas
 pub mod ChecksLemmas
 pub mod ComparingLemmas
 pub mod FillingLemmas
 pub mod LinesLemmas
 pub mod OkLemmas
 pub mod OrderLemmas
+pub mod PlainLemmas
 pub mod RowLemmas
 pub mod StoriesLemmas

@@ -1,11 +1,10 @@
 -- Which stories are ok.
-use Rattle.std.proofs.Common.{◌≡◌, ℕ, ◌-◌, ◌≤◌, ◌==◌, not, nat_lt, Bool, true, false, cond, List, [], ◌∷◌, ◌++◌, length, Option, Some, None, Result, Ok, Err, inl, inr, append-nil, append_assoc, arith, refl, sym, ap, ◌∙◌, subst, bytes_eq}
+use Rattle.std.proofs.Common.{◌≡◌, ℕ, ◌-◌, ◌≤◌, ◌==◌, not, nat_lt, Bool, true, false, cond, List, [], ◌∷◌, ◌++◌, length, Option, Some, None, Result, Ok, Err, inl, inr, append-nil, append_assoc, arith, refl, sym, ap, ◌∙◌, subst}
 use Rattle.std.specs.Prelude.{find, is_ok, slice_get}
 use Rattle.std.specs.List.{zip}
 use Rattle.std.proofs.lemmas.Bool.{and_parts, false≢true}
 use Rattle.std.proofs.lemmas.Bool.Decides.{nat_tests}
 use Rattle.std.proofs.lemmas.List.{append_cancel_left, append_cancel_right}
-use Rattle.std.proofs.lemmas.Slice.Eq.{bytes_eq-Decides}
 use Rattle.pif_model.specs.Table.{Table}
 use Rattle.pif_text_model.specs.declared.replies.Cause.TheVariants.{Cut}
 use Rattle.pif_text_model.proofs.Plain.{lacks}
@@ -18,11 +17,13 @@ use Rattle.pif_script_model.specs.Scripts.{Scan, ended_by, end_at, reading_of, s
 use Rattle.pif_script_model.specs.Transcripts.{script_end}
 use Rattle.pif_script_model.proofs.DifferenceLemmas.{script_ends-with_fault}
 use Rattle.pif_script_model.proofs.ScriptLemmas.{by_cases}
-use Rattle.pif_story_model.specs.Lines.{lines}
-use Rattle.pif_story_model.specs.Stories.{NumberedRow, rows_of, script_of, story_lines}
+use Rattle.pif_story_model.specs.Answers.{Says, says}
+use Rattle.pif_story_model.specs.Lines.{lines, plain_lines}
+use Rattle.pif_story_model.specs.Stories.{NumberedRow, rows_of, script_of}
 use Rattle.pif_story_model.specs.Verdicts.{Fault as ScriptFault, Flaw, Verdict, verdict_of_rows, difference, differs, differs_from, fault_at, rows_before}
 use Rattle.pif_story_model.specs.Checks.{HasItsAnswers, OkExactly, fault_by, fault_in, verdict_beside, text_of_run, script_fault, story_verdict}
 use Rattle.pif_story_model.proofs.AnswerLines.{AreAnswered, answer_lines, answered_all, answered_behind, answered_nothing, answered_text, answers_from, line_of}
+use Rattle.pif_story_model.proofs.AnswersLemmas.{says_back, says_forth}
 use Rattle.pif_story_model.proofs.RowLemmas.{none_ends}
 
 -- ---- lines of answers
@@ -46,27 +47,23 @@ lines-answered (row ∷ rows) (x ∷ xs) s t a =
     ap lines (append_assoc x (10 ∷ []) (answer_lines xs)) ∙ line-first x (answer_lines xs) a.3
     ∙ ap (λ l. x ∷ l) (lines-answered rows xs a.0 t a.4)
 
--- ---- answers that are as they are written
+-- ---- answers that say what is written
 
-same-text : (xs ys : List ℕ) → not (bytes_eq xs ys) ≡ false → xs ≡ ys
-same-text xs ys e = by_test (bytes_eq xs ys) refl e
-  where
-    by_test : (b : Bool) → bytes_eq xs ys ≡ b → not b ≡ false → xs ≡ ys
-    by_test true p q = (bytes_eq-Decides xs ys).0 p
-    by_test false p q = absurd (false≢true (sym q))
-
-test-same : (xs ys : List ℕ) → xs ≡ ys → not (bytes_eq xs ys) ≡ false
-test-same xs ys e = ap not ((bytes_eq-Decides xs ys).1 e)
+not_false : (b : Bool) → not b ≡ false → b ≡ true
+not_false true e = refl
+not_false false e = absurd (false≢true (sym e))
 
 -- a command beside its answer
 module _ (row : NumberedRow) (answer : List ℕ) where
-  written-given : (o : Option (List ℕ)) (w : List ℕ) → differs_from o answer ≡ false → o ≡ Some w → w ≡ answer
-  written-given None w d e = cc
-  written-given (Some v) w d e = let q : v ≡ w = cc in sym q ∙ same-text v answer d
+  written-says : (o : Option (List ℕ)) (w : List ℕ) → differs_from o answer ≡ false → o ≡ Some w → Says w answer
+  written-says None w d e = cc
+  written-says (Some v) w d e =
+      let q : v ≡ w = cc in
+      subst (λ v. Says v answer) q (says_forth v answer (not_false (says v answer) d))
 
-  given-written : (o : Option (List ℕ)) → ((w : List ℕ) → o ≡ Some w → answer ≡ w) → differs_from o answer ≡ false
-  given-written None h = refl
-  given-written (Some w) h = test-same w answer (sym (h w refl))
+  says-written : (o : Option (List ℕ)) → ((w : List ℕ) → o ≡ Some w → Says w answer) → differs_from o answer ≡ false
+  says-written None h = refl
+  says-written (Some w) h = ap not (says_back w answer (h w refl))
 
 -- no command differs from its answer
 find-none : (p : NumberedRow × List ℕ) (ps : List (NumberedRow × List ℕ)) → find differs (p ∷ ps) ≡ None
@@ -78,49 +75,65 @@ find-none p ps e = by_test (differs p) refl e
     by_test true d e = cc
     by_test false d e = (refl, e)
 
--- then the command at any place is answered as it is written
+-- the command behind these is answered so that what is written says it
+abbrev IsSaidAt : Scan Table → List NumberedRow → NumberedRow → (written : List ℕ) → Type 0
+IsSaidAt s before row written =
+    (answer : List ℕ) × (answers_from s (before ++ row ∷ []) ≡ answers_from s before ++ (answer ++ 10 ∷ []))
+    × Says written answer
+
+-- then that is so of the command at any place
 at-place : (before behind : List NumberedRow) (row : NumberedRow) (written : List ℕ) (answers more : List (List ℕ))
     (s t : Scan Table) → AreAnswered s (before ++ row ∷ behind) answers t
     → find differs (zip (before ++ row ∷ behind) (answers ++ more)) ≡ None → row.1.1 ≡ Some written
-    → answers_from s (before ++ row ∷ []) ≡ answers_from s before ++ (written ++ 10 ∷ [])
+    → IsSaidAt s before row written
 at-place [] behind row written [] more s t a e w = absurd a
 at-place [] behind row written (x ∷ xs) more s t a e w =
-    let same : written ≡ x = written-given row x row.1.1 written (find-none (row, x) (zip behind (xs ++ more)) e).0 w in
-    answered_behind row [] s a.0 a.2 ∙ ap (λ l. (reading_of script s (line_of row)).text ++ l) (answered_nothing a.0)
-    ∙ append-nil _ ∙ a.1 ∙ ap (λ l. l ++ 10 ∷ []) (sym same)
-    ∙ ap (λ l. l ++ (written ++ 10 ∷ [])) (sym (answered_nothing s))
+    let says = written-says row x row.1.1 written (find-none (row, x) (zip behind (xs ++ more)) e).0 w in (
+      x,
+      answered_behind row [] s a.0 a.2 ∙ ap (λ l. (reading_of script s (line_of row)).text ++ l) (answered_nothing a.0)
+          ∙ append-nil _ ∙ a.1 ∙ ap (λ l. l ++ (x ++ 10 ∷ [])) (sym (answered_nothing s)),
+      says,
+    )
 at-place (first ∷ before) behind row written [] more s t a e w = absurd a
 at-place (first ∷ before) behind row written (x ∷ xs) more s t a e w =
-    answered_behind first (before ++ row ∷ []) s a.0 a.2
-    ∙ ap (λ l. (reading_of script s (line_of first)).text ++ l)
-    (at-place before behind row written xs more a.0 t a.4
-    (find-none (first, x) (zip (before ++ row ∷ behind) (xs ++ more)) e).1 w)
-    ∙ sym (append_assoc _ (answers_from a.0 before) (written ++ 10 ∷ []))
-    ∙ ap (λ l. l ++ (written ++ 10 ∷ [])) (sym (answered_behind first before s a.0 a.2))
+    let here =
+    at-place before behind row written xs more a.0 t a.4
+    (find-none (first, x) (zip (before ++ row ∷ behind) (xs ++ more)) e).1 w in (
+      here.0,
+      answered_behind first (before ++ row ∷ []) s a.0 a.2
+          ∙ ap (λ l. (reading_of script s (line_of first)).text ++ l) here.1
+          ∙ sym (append_assoc _ (answers_from a.0 before) (here.0 ++ 10 ∷ []))
+          ∙ ap (λ l. l ++ (here.0 ++ 10 ∷ [])) (sym (answered_behind first before s a.0 a.2)),
+      here.2,
+    )
 
--- where each command with an answer has the one that is given, none differs
+-- where each command with an answer has one that says what is given, none differs
 none-differs : (rows : List NumberedRow) (answers more : List (List ℕ)) (s t : Scan Table)
     → AreAnswered s rows answers t
     → ((before behind : List NumberedRow) (row : NumberedRow) (written : List ℕ) → rows ≡ before ++ row ∷ behind
-    → row.1.1 ≡ Some written
-    → answers_from s (before ++ row ∷ []) ≡ answers_from s before ++ (written ++ 10 ∷ []))
+    → row.1.1 ≡ Some written → IsSaidAt s before row written)
     → find differs (zip rows (answers ++ more)) ≡ None
 none-differs [] answers more s t a h = refl
 none-differs (row ∷ rows) [] more s t a h = absurd a
 none-differs (row ∷ rows) (x ∷ xs) more s t a h =
     let here : differs (row, x) ≡ false =
-    given-written row x row.1.1 (λ w e.
-    append_cancel_right x w (10 ∷ [])
+    says-written row x row.1.1 (λ w e.
+    let said = h [] rows row w refl e in
+    let same : x ≡ said.0 =
+    append_cancel_right x said.0 (10 ∷ [])
     (sym a.1 ∙ sym (append-nil _)
     ∙ ap (λ l. (reading_of script s (line_of row)).text ++ l) (sym (answered_nothing a.0))
-    ∙ sym (answered_behind row [] s a.0 a.2) ∙ h [] rows row w refl e
-    ∙ ap (λ l. l ++ (w ++ 10 ∷ [])) (answered_nothing s))) in
+    ∙ sym (answered_behind row [] s a.0 a.2) ∙ said.1 ∙ ap (λ l. l ++ (said.0 ++ 10 ∷ [])) (answered_nothing s)) in
+    subst (λ l. Says w l) (sym same) said.2) in
     rw here (none-differs rows xs more a.0 t a.4 (λ before behind r w e f.
-    append_cancel_left (reading_of script s (line_of row)).text _ _
-    (sym (answered_behind row (before ++ r ∷ []) s a.0 a.2)
-    ∙ h (row ∷ before) behind r w (ap (λ l. row ∷ l) e) f
-    ∙ ap (λ l. l ++ (w ++ 10 ∷ [])) (answered_behind row before s a.0 a.2)
-    ∙ append_assoc _ (answers_from a.0 before) (w ++ 10 ∷ []))))
+    let said = h (row ∷ before) behind r w (ap (λ l. row ∷ l) e) f in (
+      said.0,
+      append_cancel_left (reading_of script s (line_of row)).text _ _
+          (sym (answered_behind row (before ++ r ∷ []) s a.0 a.2) ∙ said.1
+          ∙ ap (λ l. l ++ (said.0 ++ 10 ∷ [])) (answered_behind row before s a.0 a.2)
+          ∙ append_assoc _ (answers_from a.0 before) (said.0 ++ 10 ∷ [])),
+      said.2,
+    )))
 
 -- ---- scripts without a fault
 
@@ -202,7 +215,7 @@ compared-same last rows answers e =
 
 story_verdict-small : (story : List ℕ) → length story ≤ 16777216
     → story_verdict story
-    ≡ verdict_of_rows (length (story_lines story)) (script_fault (script_of story)) (rows_of story)
+    ≡ verdict_of_rows (length (plain_lines story)) (script_fault (script_of story)) (rows_of story)
     (lines (text_of_run (script_of story)))
 unfolding story_verdict verdict_beside
 story_verdict-small story h = let small : nat_lt 16777216 (length story) ≡ false = grind (arith, nat_tests) in rw small refl
@@ -238,9 +251,9 @@ ok-back story h p =
     let none = none-differs rows all.0 ([] ∷ []) start end.0 all.1 p.1 in
     let same = subst (λ l. find differs (zip rows l) ≡ None) (sym given) none in
     ap is_ok (story_verdict-small story h)
-    ∙ ap (λ f. is_ok (verdict_of_rows (length (story_lines story)) f rows (lines (text_of_run (script_of story)))))
+    ∙ ap (λ f. is_ok (verdict_of_rows (length (plain_lines story)) f rows (lines (text_of_run (script_of story)))))
     (fault-none (script_of story) p.0)
-    ∙ compared-same (length (story_lines story)) rows (lines (text_of_run (script_of story))) same
+    ∙ compared-same (length (plain_lines story)) rows (lines (text_of_run (script_of story))) same
 
 pub ok_exactly : OkExactly
 ok_exactly story h = (ok-forth story h, ok-back story h)

@@ -1,7 +1,7 @@
 -- The script and the commands of lines, line by line.
 use Rattle.std.proofs.Common.{◌≡◌, ℕ, ◌+◌, List, [], ◌∷◌, ◌++◌, Option, Some, None, refl, sym, ap, ◌∙◌, ◌⊎◌, inl, inr, append-nil, append_assoc}
-use Rattle.pif_story_model.specs.Lines.{StoryRow, row_in}
-use Rattle.pif_story_model.specs.Stories.{NumberedRow, rows_from, script_by, script_of, story_lines}
+use Rattle.pif_story_model.specs.Lines.{StoryRow, plain_lines, row_in}
+use Rattle.pif_story_model.specs.Stories.{NumberedRow, rows_from, script_by, script_of}
 
 pub rows_from_nothing : (number : ℕ) → rows_from number [] ≡ []
 unfolding rows_from
@@ -64,9 +64,13 @@ script_in_row line lines row e =
     ap script_by (rows_from_row 1 line lines row e) ∙ script_by_row (1, row) (rows_from 2 lines)
     ∙ ap (λ l. (row.0 ++ 10 ∷ []) ++ l) (script-same 2 1 lines)
 
-pub script_in_all : (story : List ℕ) → script_of story ≡ script_in (story_lines story)
+pub script_in_all : (story : List ℕ) → script_of story ≡ script_in (plain_lines story)
 unfolding script_of script_in
 script_in_all story = refl
+
+pub script_in_whole : (lines : List (List ℕ)) → script_by (rows_from 1 lines) ≡ script_in lines
+unfolding script_in
+script_in_whole lines = refl
 
 -- a script that was made as far as a line with a command, and the command and LF behind it
 pub script_grown : (whole script line : List ℕ) (behind : List (List ℕ)) (row : StoryRow)

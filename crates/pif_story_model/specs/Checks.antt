@@ -11,9 +11,10 @@ use Rattle.pif_script_model.specs.Migrating.{IsAllRead}
 use Rattle.pif_script_model.specs.Running.{script}
 use Rattle.pif_script_model.specs.Runs.{WritesPart, output_of}
 use Rattle.pif_script_model.specs.Transcripts.{script_end, script_reading}
+use Rattle.pif_story_model.specs.Answers.{Says}
 use Rattle.pif_story_model.specs.Filling.{filled_text}
-use Rattle.pif_story_model.specs.Lines.{lines}
-use Rattle.pif_story_model.specs.Stories.{NumberedRow, rows_of, script_by, script_of, story_lines}
+use Rattle.pif_story_model.specs.Lines.{lines, plain_lines}
+use Rattle.pif_story_model.specs.Stories.{NumberedRow, rows_of, script_by, script_of}
 use Rattle.pif_story_model.specs.Verdicts.{Fault, Verdict, verdict_of_rows, differing, faulty, verdict_line}
 
 -- ---- the script of a story
@@ -43,7 +44,7 @@ script_fault bytes = fault_in (script_end bytes)
 unfoldable pub verdict_beside : List ℕ → (answers : List (List ℕ)) → Verdict
 verdict_beside story answers =
     if nat_lt 16777216 (length story) then Err (faulty (length (lines (take 16777216 story))) [] Size)
-    else verdict_of_rows (length (story_lines story)) (script_fault (script_of story)) (rows_of story) answers
+    else verdict_of_rows (length (plain_lines story)) (script_fault (script_of story)) (rows_of story) answers
 
 -- what a story comes to: ok with the number of its commands, or its first flaw. Its commands are compared with the
 -- lines that `run` prints for its script
@@ -124,14 +125,15 @@ answers_to rows = (script_reading (script_by rows)).text
 abbrev pub IsAnswerBehind : List NumberedRow → NumberedRow → List ℕ → Type 0
 IsAnswerBehind before row answer = answers_to (before ++ row ∷ []) ≡ answers_to before ++ (answer ++ 10 ∷ [])
 
--- each command of a story with an answer has the one that `run` prints for it
+-- each command of a story with an answer has one that says what `run` prints for it
 abbrev pub HasItsAnswers : List ℕ → Type 0
 HasItsAnswers story =
     (before behind : List NumberedRow) (row : NumberedRow) (written : List ℕ)
-    → rows_of story ≡ before ++ row ∷ behind → row.1.1 ≡ Some written → IsAnswerBehind before row written
+    → rows_of story ≡ before ++ row ∷ behind → row.1.1 ≡ Some written
+    → (answer : List ℕ) × IsAnswerBehind before row answer × Says written answer
 
--- a story that is not too large is ok exactly if its script has no fault and each command with an answer has the one
--- that `run` prints for it
+-- a story that is not too large is ok exactly if its script has no fault and each command with an answer has one that
+-- says what `run` prints for it
 abbrev pub OkExactly : Type 0
 OkExactly =
     (story : List ℕ) → length story ≤ 16777216

@@ -1,6 +1,6 @@
 -- The lines of a story.
-use Rattle.std.specs.Prelude.{ℕ, ◌==◌, Bool, true, List, [], ◌∷◌, drop, Option, Some, None, nat_eq, if◌then◌else◌}
-use Rattle.std.specs.List.{list_all, slice_split, starts_with}
+use Rattle.std.specs.Prelude.{ℕ, ◌==◌, ◌||◌, Bool, true, false, List, [], ◌∷◌, drop, filter, map, Option, Some, None, nat_eq, if◌then◌else◌}
+use Rattle.std.specs.List.{join_with_byte, list_all, slice_split, starts_with}
 use Rattle.std.specs.Str.Lines.{strip_carriage_return}
 use Rattle.pif_text_model.specs.Traces.{parts_of}
 
@@ -21,14 +21,48 @@ abbrev pub lines_behind : Option (List ℕ) → List (List ℕ)
 lines_behind None = []
 lines_behind (Some text) = lines text
 
--- a space
-abbrev pub is_blank : ℕ → Bool
-is_blank byte = byte == 32
+-- ---- what stands in a line besides its words
 
--- a text without the spaces at its end
+-- a space or a tab
+abbrev pub is_blank : ℕ → Bool
+is_blank byte = byte == 32 || byte == 9
+
+-- what stands before a comment: a comment begins with the first `#`
+unfoldable pub without_comment : List ℕ → List ℕ
+without_comment [] = []
+without_comment (byte ∷ more) = if byte == 35 then [] else byte ∷ without_comment more
+
+-- a line without a CR at its end, and without the comment before that
+abbrev pub commentless : List ℕ → List ℕ
+commentless line = without_comment (strip_carriage_return line)
+
+-- a text without the blanks at its end
 unfoldable pub without_blanks : List ℕ → List ℕ
 without_blanks [] = []
 without_blanks (byte ∷ more) = if list_all is_blank (byte ∷ more) then [] else byte ∷ without_blanks more
+
+-- whether a word has a byte
+abbrev pub is_word : List ℕ → Bool
+is_word [] = false
+is_word (byte ∷ more) = true
+
+-- the words of a text: what stands between its blanks
+unfoldable pub words_in : List ℕ → List (List ℕ)
+words_in text = filter is_word (slice_split is_blank text)
+
+-- a text with one space between its words, and no other blank
+unfoldable pub plain : List ℕ → List ℕ
+plain text = join_with_byte 32 (words_in text)
+
+-- a line with nothing but its words
+abbrev pub plain_line : List ℕ → List ℕ
+plain_line line = plain (commentless line)
+
+-- the lines of a text, with nothing but their words; a byte order mark at its front is no part of them
+abbrev pub plain_lines : List ℕ → List (List ℕ)
+plain_lines text = map plain_line (lines (without_mark text))
+
+-- ---- what a line says
 
 -- a command, and the answer that is written behind it, if there is one
 abbrev pub StoryRow : Type 0
@@ -42,12 +76,8 @@ is_passed (byte ∷ more) = byte == 35
 -- what a line says, by its parts before and behind its first ` = `, if it has one
 abbrev pub row_by : List ℕ → Option (List ℕ × List ℕ) → StoryRow
 row_by line None = (line, None)
-row_by line (Some parts) = (without_blanks parts.0, Some parts.1)
+row_by line (Some parts) = (parts.0, Some parts.1)
 
--- what a line says without its line's end
-abbrev pub row_in_text : List ℕ → Option StoryRow
-row_in_text text = if is_passed text then None else Some (row_by text (parts_of text))
-
--- what a line says; a CR at its end is no part of that
+-- what a line with nothing but its words says
 unfoldable pub row_in : List ℕ → Option StoryRow
-row_in line = row_in_text (strip_carriage_return line)
+row_in line = if is_passed line then None else Some (row_by line (parts_of line))

@@ -1,11 +1,7 @@
 -- Stories: the commands in them, and the script that is left when all else is taken out.
 use Rattle.std.specs.Prelude.{ℕ, List, [], ◌∷◌, ◌++◌, Option, option_map, filter_map, flat_map}
 use Rattle.std.specs.List.{enumerate_from}
-use Rattle.pif_story_model.specs.Lines.{StoryRow, lines, row_in, without_mark}
-
--- the lines of a story; a byte order mark at the front is no part of them
-abbrev pub story_lines : List ℕ → List (List ℕ)
-story_lines story = lines (without_mark story)
+use Rattle.pif_story_model.specs.Lines.{StoryRow, plain_lines, row_in}
 
 -- what a line says, behind the line's number
 abbrev pub NumberedRow : Type 0
@@ -14,13 +10,13 @@ NumberedRow = ℕ × StoryRow
 abbrev pub numbered_row : ℕ × List ℕ → Option NumberedRow
 numbered_row line = option_map (λ row. (line.0, row)) (row_in line.1)
 
--- what lines say, if the number of the first is this
+-- what lines with nothing but their words say, if the number of the first is this
 unfoldable pub rows_from : ℕ → List (List ℕ) → List NumberedRow
 rows_from number lines = filter_map numbered_row (enumerate_from number lines)
 
 -- the commands of a story, with the answers that are written behind them and the numbers of their lines, from 1
 abbrev pub rows_of : List ℕ → List NumberedRow
-rows_of story = rows_from 1 (story_lines story)
+rows_of story = rows_from 1 (plain_lines story)
 
 -- a command as a line of a script
 abbrev pub row_line : StoryRow → List ℕ
@@ -31,6 +27,6 @@ unfoldable pub script_by : List NumberedRow → List ℕ
 script_by rows = flat_map (λ row. row_line row.1) rows
 
 -- the script that is left of a story when its comments, its empty lines and its answers are taken out: a line for each
--- of its commands
+-- of its commands, with one space between its words
 unfoldable pub script_of : List ℕ → List ℕ
 script_of story = script_by (rows_of story)

@@ -1,10 +1,11 @@
 -- What a check of a story comes to.
-use Rattle.std.specs.Prelude.{ℕ, ◌-◌, nat_le, Bool, false, not, ◌&&◌, List, [], ◌++◌, length, map, find, take, slice_get, Option, Some, None, Result, Ok, Err, if◌then◌else◌, bytes_eq, codes, decimal}
+use Rattle.std.specs.Prelude.{ℕ, ◌-◌, nat_le, Bool, false, not, ◌&&◌, List, [], ◌++◌, length, map, find, take, slice_get, Option, Some, None, Result, Ok, Err, if◌then◌else◌, codes, decimal}
 use Rattle.std.specs.List.{zip}
 use Rattle.pif_text_model.specs.declared.replies.Cause.{Cause}
 use Rattle.pif_text_model.specs.Replies.{fault_of}
 use Rattle.pif_story_model.specs.declared.flaws.Flaw.{Flaw as Found}
 use Rattle.pif_story_model.specs.declared.flaws.Flaw.TheVariants as found
+use Rattle.pif_story_model.specs.Answers.{says}
 use Rattle.pif_story_model.specs.Lines.{StoryRow}
 
 -- why a story is not ok
@@ -22,10 +23,10 @@ Verdict = Result ℕ Flaw
 abbrev pub Fault : Type 0
 Fault = ℕ × Cause
 
--- whether an answer is written that is another than the given one
+-- whether an answer is written that says another than the given one
 abbrev pub differs_from : Option (List ℕ) → List ℕ → Bool
 differs_from None given = false
-differs_from (Some written) given = not (bytes_eq written given)
+differs_from (Some written) given = not (says written given)
 
 -- whether that is so of a command, beside what `run` prints for it
 abbrev pub differs : (ℕ × StoryRow) × List ℕ → Bool

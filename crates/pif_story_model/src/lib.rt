@@ -5,7 +5,9 @@
 #![tactic(auto)]
 
 mod flaws;
+mod forms;
 mod rows;
 
 pub use flaws::Flaw;
+pub use forms::Form;
 pub use rows::AnsweredRow;

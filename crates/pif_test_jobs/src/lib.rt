@@ -3,7 +3,7 @@
 //!
 //! | Module | Tests of |
 //! |---|---|
-//! | `shows` | `pif_job_show`: the longest line, a crowd, and writes that fail; the names of errors of `pif_text_core` |
+//! | `shows` | `pif_job_show`: the longest line, a crowd, and writes that fail; the names of errors of `pif_text` |
 //! | `stories` | `pif_job_check`: stories that are shown and traced, and reads and writes that fail |
 //! | `shells` | `pif_job_shell`: a prompt, stories that are saved, sessions, and what fails |
 //! | `random` | `pif_job_random`: scripts by a seed |

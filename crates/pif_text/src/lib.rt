@@ -1,7 +1,9 @@
-//! The grammar that scripts and traces share: the command of a line, and the texts of replies and faults.
+//! The grammar that scripts and traces share: the command of a line, and the texts of replies and faults. The names of
+//! errors stand here too.
 #![tactic(auto)]
 
 mod command_texts;
+mod errors;
 mod kinds;
 mod numbers;
 mod questions;
@@ -14,8 +16,9 @@ mod writing;
 pub use command_texts::{
     COMMAND_ROOM, command_reads_back, command_text, commands_of_lines_are_written, mutex_text,
 };
+pub use errors::{errno_name, errno_of};
 pub use kinds::{DEFAULT_WORD, ERROR_CHECK_WORD, NORMAL_WORD, RECURSIVE_WORD, kind_word};
-pub use numbers::number_reads_back;
+pub use numbers::{number_of, number_reads_back, thread_of};
 pub use pif_text_model::{Added, Addition, Cause, Command, Fact, Question, Reply, Version};
 pub use reading::command_of;
 pub use text::{TEXT_ROOM, Text};
@@ -23,4 +26,5 @@ pub use traces::{
     HEADER_ROOM, RECORDED_ROOM, VERDICT_ROOM, differs_text, header_text, if_traced, recorded_text,
     same_text, split_answer, version_of,
 };
-pub use writing::{REPLY_ROOM, fault_text, reply_text};
+pub use words::{is_word, split_first};
+pub use writing::{REPLY_ROOM, append, append_number, append_thread, fault_text, reply_text};

@@ -1,5 +1,5 @@
 //! What a core does, as text that a person reads at a glance: the time, each thread, mutex and condition variable, the
-//! run queue, and who waits for whom; or only what of it has changed. And the names of errors.
+//! run queue, and who waits for whom; or only what of it has changed.
 //!
 //! ```text
 //!   t1: priority 50 (base 10); ready; holds m1
@@ -21,13 +21,11 @@ mod chains;
 mod changes;
 mod conds;
 mod mutexes;
-mod names;
 mod pages;
 mod queues;
 mod states;
 mod threads;
 
 pub use chains::begins_chain;
-pub use names::{errno_name, errno_of};
 pub use pages::Unwritten;
 pub use states::{write_changes, write_state};

@@ -11,5 +11,5 @@ mod wrongs;
 
 pub use near::nearest_name;
 pub use slips::Slip;
-pub use walk::read_command;
+pub use walk::{call_form, read_command};
 pub use wrongs::Wrong;

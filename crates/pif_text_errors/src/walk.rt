@@ -136,6 +136,14 @@ fn slip_of_rest<'a>(
     }
 }
 
+/// The form of the call that begins with this word, behind `call`, if there is such a call.
+pub fn call_form(word: &[u8]) -> Option<&'static str> {
+    match form_of(word, &CALLS) {
+        Some(form) => Some(form.text),
+        None => None,
+    }
+}
+
 /// The slip of the words of a line that is no command.
 fn slip_of_words(line: &[u8]) -> Slip
     ensures { IsIn line.now result }

@@ -7,7 +7,7 @@ pub enum Wrong {
     CarriageReturn,
     /// A blank stands at an end of the line or behind another blank, or there is a tab.
     Spaces,
-    /// There is a `#`: scripts have no comments, and those of stories are whole lines.
+    /// There is a `#`: scripts have no comments, but stories may have them.
     Comment,
     /// The word would be right in small letters.
     Capitals,
@@ -36,13 +36,25 @@ pub enum Wrong {
 }
 
 impl Wrong {
+    /// The words that are allowed in the place of the wrong one, if they are calls or kinds of mutexes: printable ASCII,
+    /// and at most 100 bytes.
+    pub fn allowed(self) -> Option<&'static str> {
+        match self {
+            Wrong::NoCall => Some(
+                "lock, trylock, unlock, consistent, wait, signal, broadcast, setprio, timedlock, timedwait",
+            ),
+            Wrong::NoKind => Some("normal, default, errorcheck, recursive"),
+            _ => None,
+        }
+    }
+
     /// What is wrong, in words: printable ASCII, and at most 70 bytes.
     pub fn words(self) -> &'static str {
         match self {
             Wrong::Empty => "an empty line is no command",
             Wrong::CarriageReturn => "the line ends in CR LF, and not in LF alone",
             Wrong::Spaces => "words are separated by one space, with none at either end",
-            Wrong::Comment => "scripts have no comments; a story's are lines that begin with '#'",
+            Wrong::Comment => "scripts have no comments; a story may have them",
             Wrong::Capitals => "no word has capital letters",
             Wrong::NoCommand => "no such command",
             Wrong::NoCall => "no such call",

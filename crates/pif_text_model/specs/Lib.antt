@@ -1,5 +1,6 @@
 pub mod CommandTexts
 pub mod Commands
+pub mod Errors
 pub mod Extends
 pub mod Numbers
 pub mod Questions

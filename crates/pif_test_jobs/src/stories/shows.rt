@@ -71,7 +71,7 @@ const SCRIPT: &str =
     call t1 unlock m1\nword m1\nprio t1\nfinish t2\ncall t2 unlock m1\nword m1\n";
 
 /// Stories, and the scripts that are left of them.
-static STORIES: [(&str, &str); 9] = [
+static STORIES: [(&str, &str); 11] = [
     (BOOSTED, SCRIPT),
     (SCRIPT, SCRIPT),
     ("", ""),
@@ -87,6 +87,11 @@ static STORIES: [(&str, &str); 9] = [
         "thread 10\nlok\npick\n",
     ),
     ("#\nlimits 0 0 0 1 = ok\n", "limits 0 0 0 1\n"),
+    (
+        "  thread\t10 # low\r\n\t\n pick#\n pick  =\t t1  = t2 \n",
+        "thread 10\npick\npick\n",
+    ),
+    ("thread 10 =t1\n", "thread 10 =t1\n"),
 ];
 
 #[test]

@@ -1,18 +1,18 @@
 use Rattle.std.proofs.Common.{◌≡◌, ◌+◌, ◌≤◌, length}
 use Rattle.std.specs.Prelude.{option_copied}
 use Rattle.std.specs.Option.{option_map_or}
-use Rattle.pif_story_model.specs.Lines.{lines_behind}
-use Rattle.pif_story_model.specs.Stories.{rows_from, rows_of, story_lines}
+use Rattle.pif_story_model.specs.Lines.{lines, lines_behind}
+use Rattle.pif_story_model.specs.Stories.{rows_from}
 use Rattle.pif_story_model.specs.Verdicts.{verdict_of_rows}
 use Rattle.pif_story_model.proofs.ComparingLemmas.{compared_from}
 use Rattle.pif_story.proofs.comparing.compare.Given as goal
 
 abbrev pub invariant-lines : goal.invariant-lines
 invariant-lines l = record {
-  same : verdict_of_rows (length (story_lines l.story)) l.fault (rows_of l.story) (lines_behind (option_copied l.fn.output))
-      ≡ compared_from (length (story_lines l.story)) l.fault l.commands
+  same : verdict_of_rows (length (lines l.story)) l.fault (rows_from 1 (lines l.story)) (lines_behind (option_copied l.fn.output))
+      ≡ compared_from (length (lines l.story)) l.fault l.commands
       (rows_from (l.number + 1) (lines_behind (option_copied l.rest))) (lines_behind (option_copied l.answers));
-  last : l.number + length (lines_behind (option_copied l.rest)) ≡ length (story_lines l.story);
+  last : l.number + length (lines_behind (option_copied l.rest)) ≡ length (lines l.story);
   fewer : l.commands ≤ l.number;
   within : l.number + option_map_or (λ text. length text.now + 1) l.rest 0 ≤ 16777217;
 }

@@ -11,7 +11,7 @@ lines-preserved-in-Continue-branch-3 c =
     let more = some_copied behind ∙ sym c.is_some.ensures ∙ c.if-is_some.true in
     let before = rw (c.in-Some.is, c.split_line.ensures.split) at c.lines.invariant in
     rw (c.in_ok-push.ensures.items, c.in_ok-answers.ensures.text)
-    (filled_on c.width_of-width.result (filled_text c.args.story.now (lines c.args.output.now)) c.lines.text.items
+    (filled_on c.width_of-width.result c.form_of-form.result (filled_text c.args.story.now (lines c.args.output.now)) c.lines.text.items
     c.split_line.result.0.now (option_copied behind) (lines_behind (option_copied c.lines.answers))
     (lines_behind (option_copied c.in_ok-answers.answers)) more c.in_ok-answers.ensures.left before)
 
@@ -21,11 +21,11 @@ lines-preserved c =
     let none = some_copied behind ∙ sym c.is_some.ensures ∙ c.if-is_some.false in
     let before = rw (c.in-Some.is, c.split_line.ensures.split) at c.lines.invariant in
     rw c.in_ok-answers.ensures.text
-    (filled_out c.width_of-width.result (filled_text c.args.story.now (lines c.args.output.now)) c.lines.text.items
+    (filled_out c.width_of-width.result c.form_of-form.result (filled_text c.args.story.now (lines c.args.output.now)) c.lines.text.items
     c.split_line.result.0.now (option_copied behind) (lines_behind (option_copied c.lines.answers))
     (lines_behind (option_copied c.in_ok-answers.answers)) none before)
 
 pub returns : goal.returns
 returns c =
-    filled_whole c.width_of-width.result (filled_text c.args.story.now (lines c.args.output.now)) c.lines.text.items
+    filled_whole c.width_of-width.result c.form_of-form.result (filled_text c.args.story.now (lines c.args.output.now)) c.lines.text.items
     (lines_behind (option_copied c.lines.answers)) (rw c.in_default.is at c.lines.invariant)

@@ -11,7 +11,7 @@ invariant-lines l =
     filled_text l.fn.story (lines l.fn.output)
     ≡ l.text.items
     ++ join_with_byte 10
-    (filled_lines l.width (lines_behind (option_copied l.rest)) (lines_behind (option_copied l.answers)))
+    (filled_lines l.width l.form (lines_behind (option_copied l.rest)) (lines_behind (option_copied l.answers)))
 
 abbrev pub decreases-lines : goal.decreases-lines
 decreases-lines l = option_map_or (λ text. length text.now + 1) l.rest 0

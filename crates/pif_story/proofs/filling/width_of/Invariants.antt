@@ -2,12 +2,11 @@ use Rattle.std.proofs.Common.{◌≡◌, ◌+◌, length}
 use Rattle.std.specs.Prelude.{option_copied}
 use Rattle.std.specs.Option.{option_map_or}
 use Rattle.pif_story_model.specs.Filling.{width_from}
-use Rattle.pif_story_model.specs.Lines.{lines_behind}
-use Rattle.pif_story_model.specs.Stories.{story_lines}
+use Rattle.pif_story_model.specs.Lines.{lines, lines_behind}
 use Rattle.pif_story.proofs.filling.width_of.Given as goal
 
 abbrev pub invariant-lines : goal.invariant-lines
-invariant-lines l = width_from 0 (story_lines l.fn.story) ≡ width_from l.width (lines_behind (option_copied l.rest))
+invariant-lines l = width_from 0 (lines l.fn.story) ≡ width_from l.width (lines_behind (option_copied l.rest))
 
 abbrev pub decreases-lines : goal.decreases-lines
 decreases-lines l = option_map_or (λ text. length text.now + 1) l.rest 0

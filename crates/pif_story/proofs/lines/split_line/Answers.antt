@@ -6,6 +6,6 @@ use Rattle.pif_story.proofs.lines.split_line.Goals as goal
 pub returns-then-end-text-clause-split : goal.returns-then-end-text-clause-split
 returns-then-end-text-clause-split c =
     let text = c.args.text.now in
-    let end = c.first_end-end.result in
+    let end = c.first_of-end.result in
     let lt : end < length text = omega arith in
-    rw take_rest (split_at_end text end lt (c.first_end-end.ensures.found lt) c.first_end-end.ensures.before)
+    rw take_rest (split_at_end text end lt (c.first_of-end.ensures.found lt) c.first_of-end.ensures.before)

@@ -1,13 +1,12 @@
 use Rattle.std.proofs.Common.{◌≡◌, ◌+◌, ◌++◌, length}
 use Rattle.std.specs.Prelude.{option_copied}
 use Rattle.std.specs.Option.{option_map_or}
-use Rattle.pif_story_model.specs.Lines.{lines_behind}
-use Rattle.pif_story_model.specs.Stories.{script_of}
+use Rattle.pif_story_model.specs.Lines.{lines, lines_behind}
 use Rattle.pif_story_model.proofs.StoriesLemmas.{script_in}
 use Rattle.pif_story.proofs.scripts.script_of.Given as goal
 
 abbrev pub invariant-lines : goal.invariant-lines
-invariant-lines l = script_of l.fn.story ≡ l.script.items ++ script_in (lines_behind (option_copied l.rest))
+invariant-lines l = script_in (lines l.fn.story) ≡ l.script.items ++ script_in (lines_behind (option_copied l.rest))
 
 abbrev pub decreases-lines : goal.decreases-lines
 decreases-lines l = option_map_or (λ text. length text.now + 1) l.rest 0

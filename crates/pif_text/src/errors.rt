@@ -1,7 +1,7 @@
 ghost use Rattle.std.specs.Prelude.{◌≡◌, MatchOption};
 ghost use Rattle.pif_types.specs.declared.errors.Errno.{Errno};
 ghost use Rattle.pif_types.specs.Numbers.{number_of};
-ghost use Rattle.pif_text_core.specs.Names.{errno_name};
+ghost use Rattle.pif_text_model.specs.Errors.{errno_name};
 
 use pif_types::{Answer, Errno};
 
