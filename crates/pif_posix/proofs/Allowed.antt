@@ -1,14 +1,10 @@
 -- Whether an event is allowed, by why it would be refused.
-use Rattle.std.proofs.Common.{ℕ, zero, suc, ◌≡◌, ◌∙◌, ◌<◌, Bool, true, false, List, [], ◌∷◌, length, get_or, Option, Some, None, sym, ap, refl, arith, if◌then◌else◌}
+use Rattle.std.proofs.Common.{◌≡◌, ◌∙◌, Bool, true, false, Option, sym, ap, if◌then◌else◌}
 use Rattle.std.specs.Prelude.{is_some}
 use Rattle.pif_types.specs.declared.errors.Refusal.{Refusal}
-use Rattle.pif_types.specs.declared.requests.Kind.{Kind}
-use Rattle.pif_types.specs.declared.requests.Request.{Request}
-use Rattle.pif_types.specs.Bounds.{Bounds}
 use Rattle.pif_model.specs.declared.events.Event.{Event}
-use Rattle.pif_model.specs.declared.events.Event.TheVariants.{Begin, Go, End, Tick}
 use Rattle.pif_model.specs.Posix.{World, refusal_of}
-use Rattle.pif_posix_model.specs.Doing.{is_allowed, moved, acted, ended, inherited, robust_of, begun, ticked, answered}
+use Rattle.pif_posix_model.specs.Doing.{is_allowed}
 
 allowed_by : (w : World) (x : Event) (o : Option Refusal) (b : Bool) → o ≡ refusal_of w x → is_some o ≡ b → is_allowed w x ≡ (if b then false else true)
 allowed_by w x o b e f = ap (λ (r : Option Refusal). if is_some r then false else true) (sym e) ∙ ap (λ (c : Bool). if c then false else true) f

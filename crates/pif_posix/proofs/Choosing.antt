@@ -1,7 +1,7 @@
 -- Whom a signal or a broadcast wakes: one step of the loops that look for them.
-use Rattle.std.proofs.Common.{ℕ, zero, suc, ◌≡◌, ◌≢◌, ◌<◌, ◌≤◌, ◌+◌, ◌∙◌, ◌==◌, Bool, true, false, List, [], ◌∷◌, ◌++◌, get_or, take, drop, map, refl, sym, ap, arith, append-nil, append_assoc, nat_le, ◌&&◌, length, if◌then◌else◌}
+use Rattle.std.proofs.Common.{ℕ, zero, suc, ◌≡◌, ◌≢◌, ◌∙◌, ◌==◌, Bool, true, false, List, [], ◌∷◌, ◌++◌, drop, map, refl, sym, ap, arith, append-nil, append_assoc, nat_le, ◌&&◌, length, if◌then◌else◌}
 use Rattle.std.specs.List.{filter, list_all, list_any}
-use Rattle.std.proofs.lemmas.List.{at_drop_all, drop_more, map-append, length-map}
+use Rattle.std.proofs.lemmas.List.{map-append, length-map}
 use Rattle.std.proofs.lemmas.List.Elements.{filter_agree}
 use Rattle.std.proofs.lemmas.Bool.{ne_eqb, eq-eqb}
 use Rattle.pif_model.specs.Posix.{World, all_unblocked, with_call_by, after_unblocking, blocked_below, effective_of, is_blocked_on, is_found, is_still_blocked, thread_at, with_progress}
@@ -54,30 +54,6 @@ still_blocked w t c u k fs b e f =
     ∙ sym (choose_then (is_blocked_on w c u) (is_found w t u) false b)
 
 -- BROADCASTS
-
-module _ (ms : List (ℕ × Bool)) (i : ℕ) (w : World) where
-  pub wakings-end : length ms ≤ i → wakings (drop i ms) w ≡ w ∷ []
-  wakings-end h = at_drop_all (λ (xs : List (ℕ × Bool)). wakings xs w) ms i h
-
-  wakings-here : i < length ms
-      → wakings (drop i ms) w
-      ≡ wakings (drop (i + 1) ms) (with_call_by (get_or ms i (0, false)).0 after_unblocking w)
-      ++ (if (get_or ms i (0, false)).1 then [] else wakings (drop (i + 1) ms) w)
-  wakings-here lt = ap (λ (xs : List (ℕ × Bool)). wakings xs w) (drop_more ms i (0, false) lt)
-
-  pub wakings-must : i < length ms → (get_or ms i (0, false)).1 ≡ true
-      → wakings (drop i ms) w ≡ wakings (drop (i + 1) ms) (with_call_by (get_or ms i (0, false)).0 after_unblocking w)
-  wakings-must lt e =
-      wakings-here lt
-      ∙ ap (λ (b : Bool). wakings (drop (i + 1) ms) (with_call_by (get_or ms i (0, false)).0 after_unblocking w) ++ (if b then [] else wakings (drop (i + 1) ms) w)) e
-      ∙ append-nil (wakings (drop (i + 1) ms) (with_call_by (get_or ms i (0, false)).0 after_unblocking w))
-
-  pub wakings-may : i < length ms → (get_or ms i (0, false)).1 ≡ false
-      → wakings (drop i ms) w
-      ≡ wakings (drop (i + 1) ms) (with_call_by (get_or ms i (0, false)).0 after_unblocking w) ++ wakings (drop (i + 1) ms) w
-  wakings-may lt e =
-      wakings-here lt
-      ∙ ap (λ (b : Bool). wakings (drop (i + 1) ms) (with_call_by (get_or ms i (0, false)).0 after_unblocking w) ++ (if b then [] else wakings (drop (i + 1) ms) w)) e
 
 map_map : {A B C : Type 0} (f : B → C) (g : A → B) (xs : List A) → map f (map g xs) ≡ map (λ x. f (g x)) xs
 map_map f g [] = refl

@@ -1,10 +1,10 @@
 -- Additions, ticks, begins and answers: which case holds.
-use Rattle.std.proofs.Common.{ℕ, ◌≡◌, ◌≢◌, ◌∙◌, ◌<◌, ◌≤◌, ◌==◌, Bool, true, false, List, length, get_or, set, Option, Some, None, refl, sym, ap, arith, nat_lt, get_or-set_same, if◌then◌else◌}
+use Rattle.std.proofs.Common.{ℕ, ◌≡◌, ◌∙◌, ◌<◌, ◌==◌, Bool, true, false, List, length, set, Option, Some, None, refl, sym, ap, get_or-set_same, if◌then◌else◌}
 use Rattle.std.specs.Prelude.{nat_le}
 use Rattle.std.specs.List.{list_any}
 use Rattle.pif_types.specs.declared.requests.Request.{Request}
 use Rattle.pif_types.specs.declared.requests.Request.TheVariants.{Lock, TryLock, Unlock, Consistent, Wait, Signal, Broadcast, SetPrio, TimedLock, TimedWait}
-use Rattle.pif_model.specs.declared.events.Event.TheVariants.{Begin, Go, End, Tick}
+use Rattle.pif_model.specs.declared.events.Event.TheVariants.{Begin, Go, Tick}
 use Rattle.pif_model.specs.Deadlines.{plain, timer_of}
 use Rattle.pif_model.specs.World.Progress.{Fresh}
 use Rattle.std.proofs.lemmas.List.{set-set}

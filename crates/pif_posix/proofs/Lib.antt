@@ -1,4 +1,3 @@
-pub mod Acted
 pub mod Allowed
 pub mod Choosing
 pub mod Entering

@@ -1,5 +1,5 @@
 -- One step of loops over lists and numbers.
-use Rattle.std.proofs.Common.{ℕ, zero, suc, ◌≡◌, ◌≤◌, ◌<◌, ◌+◌, ◌∙◌, Bool, true, false, List, [], ◌∷◌, ◌++◌, length, get_or, take, drop, map, refl, sym, ap, arith, add-one, append-nil, append_assoc, set}
+use Rattle.std.proofs.Common.{ℕ, zero, suc, ◌≡◌, ◌≤◌, ◌<◌, ◌+◌, ◌∙◌, Bool, true, false, List, [], ◌∷◌, ◌++◌, length, get_or, take, drop, map, sym, ap, arith, append-nil, append_assoc, set}
 use Rattle.std.specs.List.{filter, flat_map}
 use Rattle.std.proofs.lemmas.List.{take_more, take_all, drop_all, drop_more, map_more, map-append, length-map, length-take-le, get_or_at, set_at}
 use Rattle.std.proofs.lemmas.List.Elements.{filter-append}
@@ -23,49 +23,9 @@ changed_more f xs ys i old new lt e h =
 
 -- OVER NUMBERS, FROM BEHIND
 
-module _ (test : ℕ → Bool) (n : ℕ) where
-  passing-more : test n ≡ true → passing test (suc n) ≡ n ∷ passing test n
-  passing-more e = rw e
-
-  passing-same : test n ≡ false → passing test (suc n) ≡ passing test n
-  passing-same e = rw e
-
-  -- how many there are
-  pub counted-more : (k : ℕ) → k ≡ length (passing test n) → test n ≡ true → k + 1 ≡ length (passing test (n + 1))
-  counted-more k e h = add-one k ∙ ap suc e ∙ sym (ap length (ap (passing test) (add-one n) ∙ passing-more h))
-
-  pub counted-same : (k : ℕ) → k ≡ length (passing test n) → test n ≡ false → k ≡ length (passing test (n + 1))
-  counted-same k e h = e ∙ sym (ap length (ap (passing test) (add-one n) ∙ passing-same h))
-
-module _ {A : Type 0} (f : ℕ → List A) (test : ℕ → Bool) (j n : ℕ) (xs all : List A) (s : j ≡ suc n) (h : xs ++ flat_map f (passing test j) ≡ all) where
-  -- the number passes the test
-  pub each_found : (ys : List A) → test n ≡ true → ys ≡ xs ++ f n → ys ++ flat_map f (passing test n) ≡ all
-  each_found ys e g =
-      ap (λ (zs : List A). zs ++ flat_map f (passing test n)) g
-      ∙ append_assoc xs (f n) (flat_map f (passing test n))
-      ∙ ap (λ (ms : List ℕ). xs ++ flat_map f ms) (sym (passing-more test n e) ∙ ap (passing test) (sym s)) ∙ h
-
-  -- it doesn't
-  pub each_passed : test n ≡ false → xs ++ flat_map f (passing test n) ≡ all
-  each_passed e =
-      ap (λ (ms : List ℕ). xs ++ flat_map f ms) (sym (passing-same test n e) ∙ ap (passing test) (sym s)) ∙ h
-
 pub each_done : {A : Type 0} (f : ℕ → List A) (test : ℕ → Bool) (n : ℕ) (xs all : List A) → n ≡ 0 → xs ++ flat_map f (passing test n) ≡ all → xs ≡ all
 each_done f test zero xs all e h = sym (append-nil xs) ∙ h
 each_done f test (suc n) xs all e h = absurd (omega arith)
-
-module _ (test : ℕ → Bool) (j n : ℕ) (xs all : List ℕ) (s : j ≡ suc n) (h : xs ++ passing test j ≡ all) where
-  pub passing_found : (ys : List ℕ) → test n ≡ true → ys ≡ xs ++ n ∷ [] → ys ++ passing test n ≡ all
-  passing_found ys e g =
-      ap (λ (zs : List ℕ). zs ++ passing test n) g ∙ append_assoc xs (n ∷ []) (passing test n)
-      ∙ ap (λ (ms : List ℕ). xs ++ ms) (sym (passing-more test n e) ∙ ap (passing test) (sym s)) ∙ h
-
-  pub passing_passed : test n ≡ false → xs ++ passing test n ≡ all
-  passing_passed e = ap (λ (ms : List ℕ). xs ++ ms) (sym (passing-same test n e) ∙ ap (passing test) (sym s)) ∙ h
-
-pub passing_done : (test : ℕ → Bool) (n : ℕ) (xs all : List ℕ) → n ≡ 0 → xs ++ passing test n ≡ all → xs ≡ all
-passing_done test zero xs all e h = sym (append-nil xs) ∙ h
-passing_done test (suc n) xs all e h = absurd (omega arith)
 
 -- OVER A LIST, FROM THE FRONT
 
@@ -85,6 +45,3 @@ module _ {A : Type 0} (f : ℕ → A) (test : ℕ → Bool) (us : List ℕ) (i :
   -- it doesn't
   pub kept_same : test (get_or us i 0) ≡ false → map f (filter test (take (i + 1) us)) ≡ map f (filter test (take i us))
   kept_same e = step [] (rw e) ∙ append-nil (map f (filter test (take i us)))
-
-pub kept_all : {A : Type 0} (f : ℕ → A) (test : ℕ → Bool) (us : List ℕ) (i : ℕ) → length us ≤ i → map f (filter test (take i us)) ≡ map f (filter test us)
-kept_all f test us i h = ap (λ (xs : List ℕ). map f (filter test xs)) (take_all i us h)

@@ -1,5 +1,5 @@
 -- What a function gives that says whether it did something.
-use Rattle.std.proofs.Common.{◌≡◌, ◌∙◌, sym, ap, List, [], ◌∷◌, Bool, true, false, Option, Some, None}
+use Rattle.std.proofs.Common.{◌≡◌, ◌∙◌, sym, ap, List, Bool, Option}
 use Rattle.std.specs.Prelude.{option_to_list}
 use Rattle.pif_model.specs.Posix.{World}
 use Rattle.pif_posix_model.specs.Doing.{Does}

@@ -1,5 +1,5 @@
 -- Whom a broadcast wakes, thread by thread.
-use Rattle.std.specs.Prelude.{ℕ, List, [], ◌∷◌, ◌++◌, Bool, true, false, if◌then◌else◌}
+use Rattle.std.specs.Prelude.{ℕ, List, [], ◌∷◌, ◌++◌, Bool, if◌then◌else◌}
 use Rattle.pif_model.specs.Posix.{World, with_call_by, after_unblocking}
 
 -- the states once some of these threads are unblocked, among which are all that are marked

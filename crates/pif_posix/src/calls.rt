@@ -106,7 +106,7 @@ impl State {
     }
 
     /// Whether the open call of a thread has a result and is answered this.
-    fn is_answered(&self, thread: usize, answer: Answer) -> bool
+    pub(crate) fn is_answered(&self, thread: usize, answer: Answer) -> bool
         requires { thread < length self.now.threads }
         ensures { result ≡ is_answered (thread_at self.now thread).call (thread_at self.now thread).timer.expired answer }
     {

@@ -85,8 +85,15 @@ impl State {
     fn answered(&self, alloc: Global, thread: Tid, answer: Answer) -> Result<Vec<State>, Stop>
         ensures { IfOk result (λ v. v.items ≡ option_to_list (answered thread answer self.now)) }
     {
+        let number = thread.get();
+        if number as usize >= self.thread_count() {
+            return Err(Stop::Range);
+        }
+        if !self.is_answered(number as usize, answer) {
+            return Ok(Vec::new(alloc));
+        }
         let mut next = self.copied(alloc)?;
-        let did = next.answer(thread.get(), answer)?;
+        let did = next.answer(number, answer)?;
         let all = if_done(alloc, did, next)?;
         Ok(all)
     }

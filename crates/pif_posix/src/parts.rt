@@ -1,4 +1,4 @@
-ghost use Rattle.std.specs.Prelude.{◌≡◌, IfOk, if◌then◌else◌, false};
+ghost use Rattle.std.specs.Prelude.{◌≡◌, if◌then◌else◌, false};
 ghost use Rattle.pif_model.specs.World.{is_call_blocked, sleeps, at_progress};
 ghost use Rattle.pif_model.specs.Posix.{after_use, is_newly_blocked, is_counting};
 ghost use Rattle.pif_model.specs.Deadlines.{ran_out, is_reached};
@@ -8,9 +8,7 @@ ghost use Rattle.pif_posix.specs.Shapes.{health_of, progress_of, call_of};
 use crate::progress::{Call, Progress};
 use crate::requests::is_reached;
 use pif_model::Timer;
-use pif_search::Stop;
 use pif_types::{Health, Kind};
-use std::alloc::Global;
 use std::marker::Model;
 
 /// A thread of the POSIX machine.
@@ -69,49 +67,7 @@ impl Model for Signalled {
     ghost view = { λ x. record { mutex = x.mutex; uses = x.uses } };
 }
 
-impl Lockable {
-    /// A copy.
-    pub(crate) fn copied(&self) -> Lockable
-        ensures { result ≡ self.now }
-    {
-        Lockable {
-            kind: self.kind,
-            robust: self.robust,
-            owner: self.owner,
-            count: self.count,
-            health: self.health,
-        }
-    }
-}
-
-impl Signalled {
-    /// A copy.
-    pub(crate) fn copied(&self) -> Signalled
-        ensures { result ≡ self.now }
-    {
-        Signalled {
-            mutex: self.mutex,
-            uses: self.uses,
-        }
-    }
-}
-
 impl Task {
-    /// A copy.
-    pub(crate) fn copied(&self, alloc: Global) -> Result<Task, Stop>
-        ensures { IfOk result (λ t. t ≡ self.now) }
-    {
-        let found = Vec::from_slice(alloc, self.found.as_slice())?;
-        Ok(Task {
-            base: self.base,
-            living: self.living,
-            call: self.call,
-            timer: self.timer,
-            waits: self.waits,
-            found,
-        })
-    }
-
     /// Its open call comes this far.
     pub(crate) fn come(&mut self, progress: Progress)
         ensures { self.new ≡ record self.old { call = at_progress (progress_of progress) self.old.call } }

@@ -41,7 +41,7 @@ impl State {
     }
 
     /// The owner of a mutex; 0 where it has none or was not added.
-    pub(crate) fn owner_or_none(&self, mutex: usize) -> u32
+    pub fn owner_or_none(&self, mutex: usize) -> u32
         ensures { result ≡ (mutex_at self.now mutex).owner }
     {
         if mutex < self.mutexes.len() {
@@ -83,7 +83,7 @@ impl State {
     }
 
     /// The health of a mutex.
-    pub(crate) fn health(&self, mutex: usize) -> Health
+    pub fn health(&self, mutex: usize) -> Health
         requires { mutex < length self.now.mutexes }
         ensures { health_of result ≡ (mutex_at self.now mutex).health }
     {
@@ -92,7 +92,7 @@ impl State {
     }
 
     /// The kind of a mutex.
-    pub(crate) fn kind(&self, mutex: usize) -> Kind
+    pub fn kind(&self, mutex: usize) -> Kind
         requires { mutex < length self.now.mutexes }
         ensures { result ≡ (mutex_at self.now mutex).kind }
     {
@@ -101,7 +101,7 @@ impl State {
     }
 
     /// How often the owner of a mutex holds it.
-    pub(crate) fn count(&self, mutex: usize) -> u32
+    pub fn count(&self, mutex: usize) -> u32
         requires { mutex < length self.now.mutexes }
         ensures { result ≡ (mutex_at self.now mutex).count }
     {
@@ -131,7 +131,7 @@ impl State {
     }
 
     /// Whether a mutex is robust.
-    pub(crate) fn is_robust(&self, mutex: usize) -> bool
+    pub fn is_robust(&self, mutex: usize) -> bool
         requires { mutex < length self.now.mutexes }
         ensures { result ≡ (mutex_at self.now mutex).robust }
     {
@@ -140,7 +140,7 @@ impl State {
     }
 
     /// The mutex to which a variable is bound.
-    pub(crate) fn bound(&self, variable: usize) -> u32
+    pub fn bound(&self, variable: usize) -> u32
         requires { variable < length self.now.variables }
         ensures { result ≡ (variable_at self.now variable).mutex }
     {
@@ -172,7 +172,7 @@ impl State {
     }
 
     /// The open call of a thread, if it has one.
-    pub(crate) fn call(&self, thread: usize) -> Option<Call>
+    pub fn call(&self, thread: usize) -> Option<Call>
         ensures { call_of result ≡ (thread_at self.now thread).call }
     {
         if thread < self.threads.len() {
@@ -184,7 +184,7 @@ impl State {
     }
 
     /// What the last call of a thread has of its deadline.
-    pub(crate) fn timer(&self, thread: usize) -> Timer
+    pub fn timer(&self, thread: usize) -> Timer
         requires { thread < length self.now.threads }
         ensures { result ≡ (thread_at self.now thread).timer }
     {
@@ -211,7 +211,7 @@ impl State {
     }
 
     /// Whether a thread is blocked on a variable.
-    pub(crate) fn is_blocked_on(&self, thread: usize, variable: u32) -> bool
+    pub fn is_blocked_on(&self, thread: usize, variable: u32) -> bool
         requires { thread < length self.now.threads }
         ensures { result ≡ is_blocked_on self.now variable thread }
     {
@@ -220,7 +220,7 @@ impl State {
     }
 
     /// Whether the open call of a thread is due: its deadline counts, and is reached.
-    pub(crate) fn is_due(&self, thread: usize) -> bool
+    pub fn is_due(&self, thread: usize) -> bool
         requires { thread < length self.now.threads }
         ensures { result ≡ is_due self.now thread }
     {
@@ -241,7 +241,7 @@ impl State {
     }
 
     /// Whether a thread is among the waiters of a mutex.
-    pub(crate) fn is_waiter(&self, thread: usize) -> bool
+    pub fn is_waiter(&self, thread: usize) -> bool
         ensures { result ≡ list_any (λ p. p.0 == thread) self.now.waiters }
     {
         self.waiters.iter().any(|pair| pair.0 as usize == thread)

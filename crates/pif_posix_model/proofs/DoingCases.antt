@@ -2,7 +2,7 @@
 use Rattle.std.proofs.Common.{◌≡◌, ◌∙◌, Bool, true, false, Option, Some, None, refl, sym, ap, if◌then◌else◌}
 use Rattle.pif_model.specs.Posix.{World}
 use Rattle.pif_posix_model.specs.Doing.{Does}
-use Rattle.pif_posix_model.specs.Doing.Does.{did, did_not}
+use Rattle.pif_posix_model.specs.Doing.Does.{did}
 
 pub choose_then : {A : Type 0} (b : Bool) (x y : A) → b ≡ true → (if b then x else y) ≡ x
 choose_then b x y e = rw e
@@ -36,9 +36,3 @@ else_to false o v e = (refl, e)
 -- it did what comes to this
 pub did_this : {old new w : World} (o : Option World) → o ≡ Some w → new ≡ w → Does old o true new
 did_this o e f = did (e ∙ ap Some (sym f))
-
-pub did_is : {old new : World} {o : Option World} → Does old o true new → o ≡ Some new
-did_is (did e) = e
-
-pub did_not_is : {old new : World} {o : Option World} → Does old o false new → o ≡ None
-did_not_is (did_not e f) = e

@@ -1,4 +1,4 @@
-use Rattle.std.proofs.Common.{◌≡◌, ℕ, ◌==◌, true, false, if◌then◌else◌, rules, tests}
+use Rattle.std.proofs.Common.{ℕ, ◌==◌, true, false, if◌then◌else◌, rules, tests}
 use Rattle.std.proofs.lemmas.Fn.{filter_same}
 use Rattle.pif_posix.proofs.changes.drop_from.Goals as goal
 

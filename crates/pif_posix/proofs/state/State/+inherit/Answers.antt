@@ -1,4 +1,4 @@
-use Rattle.std.proofs.Common.{◌≡◌, ◌≢◌, ◌++◌, ◌-◌, ◌∙◌, List, sym, ap, arith}
+use Rattle.std.proofs.Common.{◌++◌, ◌-◌, ◌∙◌, List, sym, ap, arith}
 use Rattle.std.specs.List.{flat_map}
 use Rattle.pif_model.specs.Posix.{World}
 use Rattle.pif_posix_model.specs.Doing.{owns_robust, robust_of, inherited, passed_on_by_death}

@@ -1,8 +1,8 @@
-use Rattle.std.proofs.Common.{◌≡◌, ◌∙◌, ◌==◌, ◌++◌, ◌∷◌, [], Bool, true, false, refl, sym, ap, length, Some, None, if◌then◌else◌}
+use Rattle.std.proofs.Common.{◌∙◌, ◌==◌, ◌++◌, ◌∷◌, [], refl, sym, ap, length, Some, None}
 use Rattle.std.specs.Prelude.{nat_le}
 use Rattle.pif_model.specs.Graph.{is_priority}
-use Rattle.pif_model.specs.Posix.{World, Thread, new_thread}
-use Rattle.pif_posix_model.specs.Doing.{thread_added, Does}
+use Rattle.pif_model.specs.Posix.{Thread, new_thread}
+use Rattle.pif_posix_model.specs.Doing.{thread_added}
 use Rattle.pif_posix_model.specs.Doing.Does.{did_not}
 use Rattle.pif_posix_model.proofs.DoingCases.{did_this, choose_then}
 use Rattle.pif_posix_model.proofs.DoingEntries.{priority_from}

@@ -1,4 +1,3 @@
-use Rattle.std.proofs.Common.{◌≡◌}
 use Rattle.pif_posix_model.specs.Doing.{begun}
 use Rattle.pif_posix.proofs.Results.{done_on_copy}
 use Rattle.pif_posix.proofs.state.State.begun.Goals as goal

@@ -1,4 +1,4 @@
-use Rattle.std.proofs.Common.{◌≡◌, ◌∙◌, ◌-◌, sym, length, arith}
+use Rattle.std.proofs.Common.{◌∙◌, ◌-◌, sym, length, arith}
 use Rattle.pif_model.specs.Posix.{blocked_below}
 use Rattle.pif_posix.proofs.Choosing.{blocked_found, blocked_passed, blocked_all}
 use Rattle.pif_posix.proofs.state.State.blocked.Goals as goal

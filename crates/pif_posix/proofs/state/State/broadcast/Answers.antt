@@ -1,4 +1,4 @@
-use Rattle.std.proofs.Common.{◌≡◌, ◌∙◌, ap}
+use Rattle.std.proofs.Common.{◌∙◌, ap}
 use Rattle.pif_model.specs.Posix.{with_progress}
 use Rattle.pif_model.specs.World.Progress.{Has}
 use Rattle.pif_posix.proofs.Choosing.{broadcast_is}

@@ -1,9 +1,9 @@
-use Rattle.std.proofs.Common.{◌≡◌, ◌∙◌, Option, None, refl, sym, ap}
+use Rattle.std.proofs.Common.{◌∙◌, refl, ap}
 use Rattle.pif_types.specs.declared.requests.Request.{Request}
-use Rattle.pif_model.specs.Posix.{World, with_progress}
+use Rattle.pif_model.specs.Posix.{with_progress}
 use Rattle.pif_model.specs.NamedNumbers.{ETIMEDOUT}
 use Rattle.pif_model.specs.World.Progress.{Has, Owing}
-use Rattle.pif_posix_model.specs.Doing.{expired_by, Does}
+use Rattle.pif_posix_model.specs.Doing.{expired_by}
 use Rattle.pif_posix_model.specs.Doing.Does.{did_not}
 use Rattle.pif_posix_model.proofs.DoingCases.{did_this}
 use Rattle.pif_posix.proofs.state.State.expire.Goals as goal

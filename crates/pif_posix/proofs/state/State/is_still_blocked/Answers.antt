@@ -1,4 +1,4 @@
-use Rattle.std.proofs.Common.{◌≡◌, ◌∙◌, sym}
+use Rattle.std.proofs.Common.{◌∙◌, sym}
 use Rattle.pif_posix.proofs.Choosing.{still_blocked}
 use Rattle.pif_posix.proofs.state.State.is_still_blocked.Goals as goal
 

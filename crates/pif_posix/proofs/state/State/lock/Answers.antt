@@ -1,9 +1,9 @@
-use Rattle.std.proofs.Common.{◌≡◌, ◌≢◌, ◌≤◌, ◌<◌, ◌∙◌, refl, sym, ap, ℕ, false}
+use Rattle.std.proofs.Common.{◌∙◌, sym, ap}
 use Rattle.pif_model.specs.Kinds.{relock_of}
-use Rattle.pif_model.specs.declared.lines.Relock.TheVariants.{Stops, Answers, Counts}
-use Rattle.pif_model.specs.Posix.{is_lost, leads_to, mutex_at, with_progress}
+use Rattle.pif_model.specs.declared.lines.Relock.TheVariants.{Stops, Answers}
+use Rattle.pif_model.specs.Posix.{leads_to, with_progress}
 use Rattle.pif_model.specs.World.Progress.{Waiting}
-use Rattle.pif_posix_model.specs.Doing.{locked, Does}
+use Rattle.pif_posix_model.specs.Doing.{locked}
 use Rattle.pif_posix_model.proofs.DoingCases.{did_this}
 use Rattle.pif_posix_model.proofs.DoingLocks.{locked-relock, locked-free, locked-lost, locked-cycle, locked-joins}
 use Rattle.pif_posix.proofs.state.State.lock.Goals as goal

@@ -1,6 +1,6 @@
-use Rattle.std.proofs.Common.{◌≡◌, ◌∙◌, refl, sym}
+use Rattle.std.proofs.Common.{◌∙◌, refl, sym}
 use Rattle.pif_model.specs.declared.events.Event.TheVariants.{Tick}
-use Rattle.pif_posix_model.specs.Doing.{ticked, Does}
+use Rattle.pif_posix_model.specs.Doing.{ticked}
 use Rattle.pif_posix_model.specs.Doing.Does.{did_not}
 use Rattle.pif_posix_model.proofs.DoingCases.{did_this}
 use Rattle.pif_posix.proofs.Allowed.{allowed, not_allowed}

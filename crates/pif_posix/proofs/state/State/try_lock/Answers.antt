@@ -1,7 +1,7 @@
-use Rattle.std.proofs.Common.{◌≡◌, ◌≢◌, ◌∙◌, sym, ap}
+use Rattle.std.proofs.Common.{◌∙◌, sym, ap}
 use Rattle.pif_model.specs.Kinds.{relock_of}
 use Rattle.pif_model.specs.declared.lines.Relock.TheVariants.{Stops, Answers}
-use Rattle.pif_posix_model.specs.Doing.{tried, Does}
+use Rattle.pif_posix_model.specs.Doing.{tried}
 use Rattle.pif_posix_model.proofs.DoingCases.{did_this}
 use Rattle.pif_posix_model.proofs.DoingLocks.{tried-free, tried-own, tried-busy}
 use Rattle.pif_posix.proofs.state.State.try_lock.Goals as goal

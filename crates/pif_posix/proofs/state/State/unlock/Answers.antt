@@ -1,7 +1,7 @@
-use Rattle.std.proofs.Common.{◌≡◌, ◌≢◌, ◌≤◌, ◌<◌, ◌∙◌, refl, sym, ap, ℕ, ◌-◌, arith}
+use Rattle.std.proofs.Common.{◌<◌, ◌∙◌, refl, sym, ap, ◌-◌, arith}
 use Rattle.pif_model.specs.Posix.{mutex_at, with_progress, with_hold_count}
 use Rattle.pif_model.specs.World.Progress.{Has}
-use Rattle.pif_posix_model.specs.Doing.{unlocked, Does}
+use Rattle.pif_posix_model.specs.Doing.{unlocked}
 use Rattle.pif_posix_model.specs.Doing.Does.{did_not}
 use Rattle.pif_posix_model.proofs.DoingCases.{did_this}
 use Rattle.pif_posix_model.proofs.DoingReleases.{unlocked-not_owner, unlocked-once, unlocked-falls, unlocked-none}

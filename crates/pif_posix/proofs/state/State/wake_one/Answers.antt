@@ -1,4 +1,4 @@
-use Rattle.std.proofs.Common.{ℕ, ◌≡◌, ◌∙◌, ◌++◌, ◌∷◌, [], List, sym, ap, nat_le, map, take, arith}
+use Rattle.std.proofs.Common.{ℕ, ◌∙◌, ◌++◌, ◌∷◌, [], List, sym, ap, nat_le, map, take, arith}
 use Rattle.std.specs.List.{filter, list_all}
 use Rattle.pif_model.specs.Posix.{World, effective_of}
 use Rattle.pif_posix_model.specs.Doing.{woken}
