@@ -3,3 +3,4 @@ mod Listing
 mod Numbers
 mod Settling
 mod Telling
+pub mod Guided

@@ -1,3 +1,4 @@
 pub mod Listed
 pub mod Told
 pub mod Verdicts
+pub mod Guided

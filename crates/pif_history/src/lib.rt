@@ -7,15 +7,21 @@
 //! | `refusal` | why no run has a line, whatever was answered |
 //! | `possible_answers`, `possible_priorities` | with which answers, or priorities, a line would be shown |
 //!
-//! The search is `judge` of `pif_search`, over the state of `pif_posix`. A verdict is a theorem: `IsVerdictOf`.
+//! The searches are `find` and `judge` of `pif_search`, over the state of `pif_posix`: the first is guided by what later
+//! lines say, and finds witnesses alone; the second is exact. A verdict is a theorem: `IsVerdictOf`.
 #![tactic(auto)]
 
 mod dying;
+mod guide;
 mod judge;
+mod later;
 mod lists;
 mod machine;
+mod needs;
+mod plans;
 mod position;
 mod refused;
+mod scene;
 mod verdicts;
 
 pub use judge::{judge_lines, possible_answers, possible_priorities};
