@@ -49,11 +49,11 @@ as_judged (Err (judge_fault.Cli e)) = Err (Cli e)
 as_judged (Err (judge_fault.Undecided line)) = Err (Undecided line)
 
 -- a history of this name was judged; its name is told if there are several
-abbrev pub JudgesNamed : Judging → (name : Text) → (before held holds : Option (List ℕ))
+abbrev pub JudgesNamed : Judging → (name : Text) → (before after held holds : Option (List ℕ))
     → Result (Unit {0}) JobFault → Type 0
-JudgesNamed asked name before held holds result =
+JudgesNamed asked name before after held holds result =
     (done : Result (Unit {0}) JudgeFault)
-    × JudgesTo before held holds (front_of (if asked.several then Some name else None)) done
+    × JudgesTo before after held holds (front_of (if asked.several then Some name else None)) done
     × (result ≡ as_judged done)
 
 -- a job over an input of this name, by the bytes that were read and written; `random` and `drive` read nothing
@@ -68,7 +68,7 @@ Does (Picture picture) name before after held holds result = EndsAsCli (Pictures
 Does Shell name before after held holds result = EndsAsCli (TalksTo before after held holds) result
 Does Check name before after held holds result = EndsAsCli (TellsTo (check_telling name) before after held holds) result
 Does Fill name before after held holds result = EndsAsCli (TellsTo (fill_telling name) before after held holds) result
-Does (Judge asked) name before after held holds result = JudgesNamed asked name before held holds result
+Does (Judge asked) name before after held holds result = JudgesNamed asked name before after held holds result
 Does (Random recipe) name before after held holds result =
     Keeps before after × WritesRandom recipe.lines held holds result
 Does (Drive clients) name before after held holds result = Keeps before after × Drives clients held holds result

@@ -7,6 +7,7 @@ use crate::causes::unread;
 use crate::hosts::Host;
 use crate::words::{do_and_tell, refuse};
 use pif_cli_words::{Job, STANDARD_NAME, near_command, read_words};
+use pif_job_judge::Watch;
 use pif_job_shell::Shelf;
 use std::convert::AsStr;
 use std::fs;
@@ -28,10 +29,10 @@ fn fail_to_open<E: Write>(name: &str, errors: &mut E) -> u8
 }
 
 /// Does a job over the file of this name. Answers the status.
-fn do_file<P: Files + Threads + Wait + Sync, S: Shelf, W: Write, E: Write>(
+fn do_file<P: Files + Threads + Wait + Sync, S: Shelf, W: Write, E: Write, V: Watch>(
     job: Job,
     name: &str,
-    host: &mut Host<P, S, W, E>,
+    host: &mut Host<P, S, W, E, V>,
 ) -> u8
     ensures same_output { host.new.output.ghost_name ≡ host.old.output.ghost_name }
     ensures same_errors { host.new.errors.ghost_name ≡ host.old.errors.ghost_name }
@@ -45,11 +46,11 @@ fn do_file<P: Files + Threads + Wait + Sync, S: Shelf, W: Write, E: Write>(
 }
 
 /// Does a job over the file of this name, or over `input` if it is that of the standard input. Answers the status.
-fn do_over<P: Files + Threads + Wait + Sync, S: Shelf, R: Read, W: Write, E: Write>(
+fn do_over<P: Files + Threads + Wait + Sync, S: Shelf, R: Read, W: Write, E: Write, V: Watch>(
     job: Job,
     name: &str,
     input: &mut R,
-    host: &mut Host<P, S, W, E>,
+    host: &mut Host<P, S, W, E, V>,
 ) -> u8
     ensures same_output { host.new.output.ghost_name ≡ host.old.output.ghost_name }
     ensures same_errors { host.new.errors.ghost_name ≡ host.old.errors.ghost_name }
@@ -71,11 +72,11 @@ fn first_status(first: u8, second: u8) -> u8
 }
 
 /// Does a job over each of these files in turn. Answers the first status that is not 0, if there is one.
-fn do_all<P: Files + Threads + Wait + Sync, S: Shelf, R: Read, W: Write, E: Write>(
+fn do_all<P: Files + Threads + Wait + Sync, S: Shelf, R: Read, W: Write, E: Write, V: Watch>(
     job: Job,
     names: &[&str],
     input: &mut R,
-    host: &mut Host<P, S, W, E>,
+    host: &mut Host<P, S, W, E, V>,
 ) -> u8
     ensures same_output { host.new.output.ghost_name ≡ host.old.output.ghost_name }
     ensures same_errors { host.new.errors.ghost_name ≡ host.old.errors.ghost_name }
@@ -111,7 +112,8 @@ pub fn command_over_files<
     R: Read,
     W: Write,
     E: Write,
->(words: &[T], input: &mut R, host: &mut Host<P, S, W, E>) -> u8
+    V: Watch,
+>(words: &[T], input: &mut R, host: &mut Host<P, S, W, E, V>) -> u8
     ensures same_output { host.new.output.ghost_name ≡ host.old.output.ghost_name }
     ensures same_errors { host.new.errors.ghost_name ≡ host.old.errors.ghost_name }
     ensures ends { EndsIf (refusals_of (map T.text words.now))

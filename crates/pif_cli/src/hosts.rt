@@ -3,7 +3,7 @@ use std::alloc::Global;
 /// What a run of the program works with besides its input, lent to one job after the other. Each reference has a
 /// lifetime of its own.
 #[derive(Drop)]
-pub struct Host<'p, 's, 'o, 'e, P, S, W, E> {
+pub struct Host<'p, 's, 'o, 'e, 'v, P, S, W, E, V> {
     /// Where memory comes from.
     pub alloc: Global,
     /// What starts threads and, where words name files, opens them.
@@ -16,4 +16,6 @@ pub struct Host<'p, 's, 'o, 'e, P, S, W, E> {
     pub output: &'o mut W,
     /// What is told of faults.
     pub errors: &'e mut E,
+    /// Who is told of each line of a history how many states were made for it.
+    pub watch: &'v mut V,
 }

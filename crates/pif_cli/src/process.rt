@@ -8,6 +8,7 @@ use crate::messages::Message;
 use crate::shelves::FileShelf;
 use crate::statuses::Status;
 use crate::words::{fail, show};
+use pif_job_judge::{Unwatched, Watch};
 use pif_script::CliFault;
 use std::io::{ErrorKind, Read, Write};
 use std::rt::{Env, Files};
@@ -19,13 +20,22 @@ use std::{env, io};
 const NO_TEXT: &str = "error: a word is not UTF-8\n";
 
 /// The program over the words of a process, as `command_of_process` has it; if `is_terminal`, `input` is a terminal,
-/// and `pif shell` writes a prompt before each line that it reads.
+/// and `pif shell` writes a prompt before each line that it reads. `watch` is told of each line of a history that `pif
+/// judge` judges how many states were made for it; what it tells a person is no part of what `errors` is told.
 pub fn command_at_terminal<
     P: Env + AllocGlobal + Files + Threads + Wait + Sync,
     R: Read,
     W: Write,
     E: Write,
->(process: &P, is_terminal: bool, input: &mut R, output: &mut W, errors: &mut E) -> Status
+    V: Watch,
+>(
+    process: &P,
+    is_terminal: bool,
+    input: &mut R,
+    output: &mut W,
+    errors: &mut E,
+    watch: &mut V,
+) -> Status
     ensures { (words : Result (List (List ℕ)) IoErrorKind) × EndsOver words (R.remaining input.old) (R.remaining input.new)
         (W.contents output.old) (W.contents output.new) (E.contents errors.old) (E.contents errors.new) result }
 {
@@ -39,6 +49,7 @@ pub fn command_at_terminal<
                 is_terminal,
                 output,
                 errors,
+                watch,
             };
             Status::new(command_over_files(words.as_slice(), input, &mut host))
         }
@@ -65,7 +76,7 @@ pub fn command_of_process<
     ensures { (words : Result (List (List ℕ)) IoErrorKind) × EndsOver words (R.remaining input.old) (R.remaining input.new)
         (W.contents output.old) (W.contents output.new) (E.contents errors.old) (E.contents errors.new) result }
 {
-    command_at_terminal(process, false, input, output, errors)
+    command_at_terminal(process, false, input, output, errors, &mut Unwatched)
 }
 
 /// The words of a process, its name first.

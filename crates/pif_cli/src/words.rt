@@ -14,7 +14,7 @@ use clap::error::ErrorKind;
 use pif_cli_words::{Job, first_name, near_command, read_words};
 use pif_job_check::{check_noting, fill_noting};
 use pif_job_draw::write_picture;
-use pif_job_judge::{JudgeFault, Judging, Unwatched, judge};
+use pif_job_judge::{JudgeFault, Judging, Unwatched, Watch, judge};
 use pif_job_replay::{migrate_noting, replay_noting};
 use pif_job_shell::{NoShelf, Shelf, shell};
 use pif_job_show::show_story;
@@ -55,29 +55,30 @@ fn told_name(several: bool, name: &str) -> Option<&[u8]>
 }
 
 /// Judges the history of this name.
-fn judge_input<R: Read, W: Write>(
+fn judge_input<R: Read, W: Write, V: Watch>(
     alloc: Global,
     asked: pif_cli_words::Judging,
     name: &str,
     input: &mut R,
     output: &mut W,
+    watch: &mut V,
 ) -> Result<(), JobFault>
-    ensures { JudgesNamed asked name.now (R.remaining input.old) (W.contents output.old) (W.contents output.new) result }
+    ensures { JudgesNamed asked name.now (R.remaining input.old) (R.remaining input.new) (W.contents output.old) (W.contents output.new) result }
 {
     let judging = Judging {
         name: told_name(asked.several, name),
         witness: asked.witness,
         states: asked.states,
     };
-    as_judged(judge(alloc, &judging, input, output, &mut Unwatched))
+    as_judged(judge(alloc, &judging, input, output, watch))
 }
 
 /// Does a job over an input of this name, and has `notice` keep the line that ends it. The errors are told nothing.
-fn do_job<P: Threads + Wait + Sync, S: Shelf, R: Read, W: Write, E: Write>(
+fn do_job<P: Threads + Wait + Sync, S: Shelf, R: Read, W: Write, E: Write, V: Watch>(
     job: Job,
     name: &str,
     input: &mut R,
-    host: &mut Host<P, S, W, E>,
+    host: &mut Host<P, S, W, E, V>,
     notice: &mut Notice,
 ) -> Result<(), JobFault>
     ensures same_output { host.new.output.ghost_name ≡ host.old.output.ghost_name }
@@ -96,7 +97,7 @@ fn do_job<P: Threads + Wait + Sync, S: Shelf, R: Read, W: Write, E: Write>(
         Job::Shell => as_job(shell(alloc, host.shelf, host.is_terminal, input, host.output)),
         Job::Check => as_job(check_noting(alloc, name.as_bytes(), input, host.output, notice)),
         Job::Fill => as_job(fill_noting(alloc, name.as_bytes(), input, host.output, notice)),
-        Job::Judge(asked) => judge_input(alloc, asked, name, input, host.output),
+        Job::Judge(asked) => judge_input(alloc, asked, name, input, host.output, host.watch),
         Job::Random(recipe) => write_random(alloc, recipe, host.output),
         Job::Drive(clients) => drive(alloc, host.process, clients, host.output),
     }
@@ -104,11 +105,11 @@ fn do_job<P: Threads + Wait + Sync, S: Shelf, R: Read, W: Write, E: Write>(
 
 /// Does a job over an input of this name, and tells the errors of a fault. Answers the status, which is that of the job
 /// where the errors cannot be told, too.
-pub fn do_and_tell<P: Threads + Wait + Sync, S: Shelf, R: Read, W: Write, E: Write>(
+pub fn do_and_tell<P: Threads + Wait + Sync, S: Shelf, R: Read, W: Write, E: Write, V: Watch>(
     job: Job,
     name: &str,
     input: &mut R,
-    host: &mut Host<P, S, W, E>,
+    host: &mut Host<P, S, W, E, V>,
 ) -> u8
     ensures same_output { host.new.output.ghost_name ≡ host.old.output.ghost_name }
     ensures same_errors { host.new.errors.ghost_name ≡ host.old.errors.ghost_name }
@@ -248,6 +249,7 @@ pub fn command<T: Threads + Wait + Sync, S: AsStr, R: Read, W: Write, E: Write>(
                 is_terminal: false,
                 output,
                 errors,
+                watch: &mut Unwatched,
             };
             do_and_tell(asked.job, name, input, &mut host)
         }

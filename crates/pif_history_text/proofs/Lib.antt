@@ -1,3 +1,3 @@
+mod LineTexts
 mod PlaceLemmas
 mod SplitLemmas
-mod VerdictLemmas

@@ -1,9 +1,9 @@
 -- How bytes bring a text from one place to another, and what it comes to at its end.
-use Rattle.std.proofs.Common.{◌≡◌, ◌≢◌, ℕ, ◌+◌, ◌-◌, ◌<◌, ◌≤◌, List, [], ◌∷◌, ◌++◌, Bool, true, false, cond, Option, Some, None, Result, Ok, Err, IfSome, length, get_or, take, drop, refl, sym, ap, ◌∙◌, subst, arith, append_assoc, append-nil, length-append, length-take, take_all, take-append-drop, zero, suc}
+use Rattle.std.proofs.Common.{◌≡◌, ◌≢◌, ℕ, ◌+◌, ◌-◌, ◌<◌, ◌≤◌, List, [], ◌∷◌, ◌++◌, Bool, true, false, cond, Option, Some, None, Result, Ok, Err, inl, inr, length, get_or, take, drop, refl, sym, ap, ◌∙◌, subst, arith, append_assoc, append-nil, length-append, length-take, take_all, take-append-drop, zero, suc}
 use Rattle.std.specs.Prelude.{nat_le}
-use Rattle.std.specs.Io.KnownBytes.{Consumes, IsAtEnd}
+use Rattle.std.specs.Io.KnownBytes.{Consumes, IsAtEnd, Keeps}
 use Rattle.std.proofs.Math.Seq.{take-append-add}
-use Rattle.std.proofs.KnownBytes.{Consumes-trans, Consumes-whole}
+use Rattle.std.proofs.KnownBytes.{Consumes-kept, Consumes-trans}
 use Rattle.std.proofs.lemmas.Bool.Decides.{nat_tests}
 use Rattle.std.proofs.lemmas.Grind.{take_at_read}
 use Rattle.pif_text_model.specs.declared.replies.Cause.{Cause}
@@ -65,10 +65,6 @@ heard_from-cut h bytes = refl
 
 -- ---- places
 
--- no bytes bring a text nowhere
-pub Brings-none : (p : Place) → Brings p [] p (Ok tt)
-Brings-none p is_all rest = refl
-
 -- bytes, and further ones
 pub Brings-more : (p q r : Place) (a b : List ℕ) (result : Result (Unit {0}) CliFault) → Brings p a q (Ok tt)
     → Brings q b r result → Brings p (a ++ b) r result
@@ -91,22 +87,11 @@ Brings-fault p q r a b Read h = h
 Brings-fault p q r a b Write h = h
 Brings-fault p q r a b (Differs line) h = h
 
--- where a fault leaves the text does not matter
-pub Brings-anywhere : (p q r : Place) (a : List ℕ) (fault : CliFault) → Brings p a q (Err fault) → Brings p a r (Err fault)
-Brings-anywhere p q r a (Script line cause) h = h
-Brings-anywhere p q r a NoMemory h = tt
-Brings-anywhere p q r a Read h = h
-Brings-anywhere p q r a Write h = h
-Brings-anywhere p q r a (Differs line) h = h
-
 -- some of the bytes are taken, and the rest are not yet
 pub record IsTaking (p : Place) (bytes : List ℕ) (q : Place) (rest : List ℕ) : Type 0 where
   pub done : List ℕ
   pub split : bytes ≡ done ++ rest
   pub brings : Brings p done q (Ok tt)
-
-pub IsTaking-start : (p : Place) (bytes : List ℕ) → IsTaking p bytes p bytes
-IsTaking-start p bytes = record { done = []; split = refl; brings = Brings-none p }
 
 pub IsTaking-more : (p : Place) (bytes : List ℕ) (q r : Place) (rest : List ℕ) (count : ℕ) → IsTaking p bytes q rest
     → Brings q (take count rest) r (Ok tt) → IsTaking p bytes r (drop count rest)
@@ -120,16 +105,6 @@ pub IsTaking-fault : (p : Place) (bytes : List ℕ) (q r : Place) (rest : List �
     → Brings q rest r (Err fault) → Brings p bytes r (Err fault)
 IsTaking-fault p bytes q r rest fault t b =
     subst (λ (l : List ℕ). Brings p l r (Err fault)) (sym t.split) (Brings-more p q r t.done rest (Err fault) t.brings b)
-
-pub IsTaking-end : (p : Place) (bytes : List ℕ) (q : Place) (rest : List ℕ) → IsTaking p bytes q rest → rest ≡ []
-    → Brings p bytes q (Ok tt)
-IsTaking-end p bytes q rest t e =
-    subst (λ (l : List ℕ). Brings p l q (Ok tt)) (sym (t.split ∙ ap (λ l. t.done ++ l) e ∙ append-nil t.done)) t.brings
-
--- bytes that are kept of a line
-pub Brings-kept : (h : Heard) (line bytes : List ℕ)
-    → Brings (record { heard = h; line = line }) bytes (record { heard = h; line = line ++ bytes }) (Ok tt)
-Brings-kept h line bytes is_all rest = ap (λ l. heard_from is_all h (lines l)) (sym (append_assoc line bytes rest))
 
 HasNoFeed-cons : (x : ℕ) (xs : List ℕ) → x ≢ 10 → HasNoFeed xs → HasNoFeed (x ∷ xs)
 HasNoFeed-cons x xs h f zero lt = h
@@ -190,13 +165,6 @@ feed_taken : (bytes : List ℕ) (i : ℕ) → i < length bytes → get_or bytes 
     → take (i + 1) bytes ≡ take i bytes ++ 10 ∷ []
 feed_taken bytes i lt e = (take_at_read bytes i 0 lt).1 ∙ ap (λ (b : ℕ). take i bytes ++ b ∷ []) e
 
--- bytes of a line, and its LF behind them
-pub Brings-line : (p q r : Place) (bytes : List ℕ) (plain : ℕ) → plain < length bytes → get_or bytes plain 0 ≡ 10
-    → Brings p (take plain bytes) q (Ok tt) → Brings q (10 ∷ []) r (Ok tt) → Brings p (take (plain + 1) bytes) r (Ok tt)
-Brings-line p q r bytes plain lt e first second =
-    subst (λ (l : List ℕ). Brings p l r (Ok tt)) (sym (feed_taken bytes plain lt e))
-    (Brings-more p q r (take plain bytes) (10 ∷ []) (Ok tt) first second)
-
 pub Brings-line_fault : (p q r s : Place) (bytes : List ℕ) (plain : ℕ) (fault : CliFault) → plain < length bytes
     → get_or bytes plain 0 ≡ 10 → Brings p (take plain bytes) q (Ok tt) → Brings q (10 ∷ []) r (Err fault)
     → Brings p bytes s (Err fault)
@@ -206,17 +174,6 @@ Brings-line_fault p q r s bytes plain fault lt e first second =
     (Brings-more p q r (take plain bytes) (10 ∷ []) (Err fault) first second))
 
 -- ---- the end
-
--- the last line, which has no LF
-pub Closes-line : (h m : Heard) (line : List ℕ) (result : Result (Unit {0}) CliFault) → 0 < length line
-    → Comes h (after_line h line) m result → Closes (record { heard = h; line = line }) m result
-Closes-line h m [] result lt e = absurd (omega arith)
-Closes-line h m (b ∷ bs) (Ok x) lt e = ap (numbered h) e
-Closes-line h m (b ∷ bs) (Err (Script number cause)) lt e = ap (numbered h) e.1 ∙ ap (λ n. Err (n, cause)) (sym e.0)
-Closes-line h m (b ∷ bs) (Err NoMemory) lt e = tt
-Closes-line h m (b ∷ bs) (Err Read) lt e = e
-Closes-line h m (b ∷ bs) (Err Write) lt e = e
-Closes-line h m (b ∷ bs) (Err (Differs number)) lt e = e
 
 history_of-fits : (read : List ℕ) → length read ≤ most_bytes → history_of read ≡ heard_from true unheard (lines read)
 unfolding history_of
@@ -234,23 +191,15 @@ history_of-whole read p le b f =
 -- all was read
 pub reads_to_end : (a b : Option (List ℕ)) (read : List ℕ) (p : Place) (m : Heard) (result : Result (Unit {0}) CliFault)
     → Consumes a b read → IsAtEnd b → length read ≤ most_bytes → Brings start read p (Ok tt) → HasNoFeed p.line
-    → Closes p m result → ReadsHistory a (with_heard m result)
+    → Closes p m result → ReadsHistory a b (with_heard m result)
 reads_to_end a b read p m (Ok x) c end le brings f closes =
-    Consumes-whole a b read (λ bytes. history_of bytes ≡ Ok m) c end (history_of-whole read p le brings f ∙ closes)
+    (read, c, end, history_of-whole read p le brings f ∙ closes)
 reads_to_end a b read p m (Err (Script line cause)) c end le brings f closes =
-    Consumes-whole a b read (λ bytes. history_of bytes ≡ Err (line, cause)) c end
-    (history_of-whole read p le brings f ∙ closes)
-reads_to_end a b read p m (Err NoMemory) c end le brings f closes = tt
+    (read, (c, omega arith), inr (end, history_of-whole read p le brings f ∙ closes))
+reads_to_end a b read p m (Err NoMemory) c end le brings f closes = (read, (c, omega arith))
 reads_to_end a b read p m (Err Read) c end le brings f closes = absurd closes
 reads_to_end a b read p m (Err Write) c end le brings f closes = closes
 reads_to_end a b read p m (Err (Differs number)) c end le brings f closes = closes
-
--- what is said of all bytes that begin with those that were read
-begun : (a b : Option (List ℕ)) (read : List ℕ) (P : List ℕ → Type 0) → Consumes a b read
-    → ((more : List ℕ) → P (read ++ more)) → IfSome a P
-begun None b read P c h = tt
-begun (Some xs) None read P c h = absurd c
-begun (Some xs) (Some ys) read P c h = subst P (sym c) (h ys)
 
 take-front : (most : ℕ) (read more : List ℕ) → length read ≤ most
     → take most (read ++ more) ≡ read ++ take (most - length read) more
@@ -266,15 +215,10 @@ history_of-stopped read more p line cause le b =
     ∙ b (nat_le (length (read ++ more)) most_bytes) (take (most_bytes - length read) more)
 
 -- a line was a fault
-pub reads_to_fault : (a b : Option (List ℕ)) (read : List ℕ) (p : Place) (fault : CliFault) → Consumes a b read
-    → length read ≤ most_bytes → Brings start read p (Err fault) → ReadsHistory a (Err fault)
-reads_to_fault a b read p (Script line cause) c le brings =
-    begun a b read (λ bytes. history_of bytes ≡ Err (line, cause)) c
-    (λ more. history_of-stopped read more p line cause le brings)
-reads_to_fault a b read p NoMemory c le brings = tt
-reads_to_fault a b read p Read c le brings = absurd brings
-reads_to_fault a b read p Write c le brings = brings
-reads_to_fault a b read p (Differs number) c le brings = brings
+reads_to_fault : (a b : Option (List ℕ)) (read : List ℕ) (p : Place) (line : ℕ) (cause : Cause) → Consumes a b read
+    → length read ≤ most_bytes → Brings start read p (Err (Script line cause)) → ReadsHistory a b (Err (Script line cause))
+reads_to_fault a b read p line cause c le brings =
+    (read, (c, omega arith), inl (λ more. history_of-stopped read more p line cause le brings))
 
 history_of-large : (read more : List ℕ) (p : Place) → length read ≡ most_bytes → 0 < length more
     → Brings start read p (Ok tt) → HasNoFeed p.line → history_of (read ++ more) ≡ cut_off p.heard p.line
@@ -291,34 +235,45 @@ history_of-large read more p e lt b f =
     ∙ ap (λ l. heard_from false p.heard (lines l)) (append-nil p.line)
     ∙ ap (heard_from false p.heard) (lines-one p.line f) ∙ heard_from-cut p.heard p.line
 
--- there are more bytes than a history may have
-pub reads_too_much : (a b c : Option (List ℕ)) (read bytes : List ℕ) (p : Place) (fault : CliFault) → Consumes a b read
-    → Consumes b c bytes → length read ≡ most_bytes → 0 < length bytes → Brings start read p (Ok tt)
-    → HasNoFeed p.line → IsCutOff p fault → ReadsHistory a (Err fault)
-reads_too_much a b c read bytes p (Script line cause) x y e lt brings f cut =
-    begun a c (read ++ bytes) (λ all. history_of all ≡ Err (line, cause)) (Consumes-trans a b c read bytes x y)
-    (λ more. ap history_of (append_assoc read bytes more)
-    ∙ history_of-large read (bytes ++ more) p e (let l = length-append bytes more in omega arith) brings f ∙ cut)
-reads_too_much a b c read bytes p NoMemory x y e lt brings f cut = absurd cut
-reads_too_much a b c read bytes p Read x y e lt brings f cut = absurd cut
-reads_too_much a b c read bytes p Write x y e lt brings f cut = absurd cut
-reads_too_much a b c read bytes p (Differs number) x y e lt brings f cut = absurd cut
+-- there is one byte more than a history may have
+reads_too_much : (a b c : Option (List ℕ)) (read bytes : List ℕ) (p : Place) (fault : CliFault) → Consumes a b read
+    → Consumes b c bytes → length read ≡ most_bytes → length bytes ≡ 1 → Brings start read p (Ok tt)
+    → HasNoFeed p.line → IsCutOff p fault → ReadsHistory a c (Err fault)
+reads_too_much a b c read bytes p (Script line cause) x y e one brings f cut =
+    let all = length-append read bytes in (
+      read ++ bytes,
+      (Consumes-trans a b c read bytes x y, omega arith),
+      inl (λ more. ap history_of (append_assoc read bytes more)
+          ∙ history_of-large read (bytes ++ more) p e (let l = length-append bytes more in omega arith) brings f ∙ cut),
+    )
+reads_too_much a b c read bytes p NoMemory x y e one brings f cut = absurd cut
+reads_too_much a b c read bytes p Read x y e one brings f cut = absurd cut
+reads_too_much a b c read bytes p Write x y e one brings f cut = absurd cut
+reads_too_much a b c read bytes p (Differs line) x y e one brings f cut = absurd cut
 
 -- ---- reads
 
--- a read failed
-pub reads_failed : (a b c : Option (List ℕ)) (chunk : List ℕ) (fault : CliFault) → Gives b c chunk (Err fault)
-    → ReadsHistory a (Err fault)
-reads_failed a b c chunk Read g = tt
-reads_failed a b c chunk NoMemory g = tt
-reads_failed a b c chunk Write g = absurd g
-reads_failed a b c chunk (Script line cause) g = absurd g
-reads_failed a b c chunk (Differs line) g = absurd g
+-- a read failed, and nothing was read
+failed : (a b c : Option (List ℕ)) (taken : ℕ) (p : Place) → HasRead a b taken p → taken ≤ most_bytes → HasNoFeed p.line
+    → Keeps b c → ReadsHistory a c (Err Read)
+failed a b c taken p h le f k =
+    let same : HasRead a c taken p =
+    record { read = h.read; consumes = Consumes-kept a b c h.read h.consumes k; fits = h.fits; brings = h.brings } in
+    (taken, p, same, f, le)
+
+-- as much was read as a history may have, and the next read failed
+pub full_failed : (a b c : Option (List ℕ)) (chunk : List ℕ) (p : Place) (fault : CliFault) → HasRead a b most_bytes p
+    → HasNoFeed p.line → Gives b c chunk (Err fault) → ReadsHistory a c (Err fault)
+full_failed a b c chunk p Read h f g = failed a b c most_bytes p h (omega arith) f g
+full_failed a b c chunk p NoMemory h f g = absurd g
+full_failed a b c chunk p Write h f g = absurd g
+full_failed a b c chunk p (Script line cause) h f g = absurd g
+full_failed a b c chunk p (Differs line) h f g = absurd g
 
 -- as much was read as a history may have, and there is no more
 pub full_closed : (a b c : Option (List ℕ)) (chunk : List ℕ) (count : ℕ) (p : Place) (m : Heard)
     (result : Result (Unit {0}) CliFault) → HasRead a b most_bytes p → Gives b c chunk (Ok count) → count ≡ 0
-    → 0 < length chunk → HasNoFeed p.line → Closes p m result → ReadsHistory a (with_heard m result)
+    → 0 < length chunk → HasNoFeed p.line → Closes p m result → ReadsHistory a c (with_heard m result)
 full_closed a b c chunk count p m result h g none lt f closes =
     let front : Consumes b c [] = subst (λ (n : ℕ). Consumes b c (take n chunk)) none g.0 in
     let all : Consumes a c h.read =
@@ -327,9 +282,9 @@ full_closed a b c chunk count p m result h g none lt f closes =
 
 -- as much was read, and there is more
 pub full_cut : (a b c : Option (List ℕ)) (chunk : List ℕ) (count : ℕ) (p : Place) (fault : CliFault)
-    → HasRead a b most_bytes p → Gives b c chunk (Ok count) → 0 < count → HasNoFeed p.line → IsCutOff p fault
-    → ReadsHistory a (Err fault)
-full_cut a b c chunk count p fault h g lt f cut =
+    → HasRead a b most_bytes p → Gives b c chunk (Ok count) → 0 < count → length chunk ≡ 1 → HasNoFeed p.line
+    → IsCutOff p fault → ReadsHistory a c (Err fault)
+full_cut a b c chunk count p fault h g lt one f cut =
     reads_too_much a b c h.read (take count chunk) p fault h.consumes g.0 h.fits
     (let l = length-take count chunk in let le = g.1 in omega arith) h.brings f cut
 
@@ -343,23 +298,27 @@ part_more a b c taken room count p q h t = record {
   brings = Brings-more start p q h.read t.0 (Ok tt) h.brings t.5;
 }
 
--- a part had a fault
+-- a part had a fault, or was not read
 pub part_failed : (a b c : Option (List ℕ)) (taken room : ℕ) (p q : Place) (fault : CliFault) → HasRead a b taken p
-    → taken + room ≤ most_bytes → TakesPart b c room p q (Err fault) → ReadsHistory a (Err fault)
-part_failed a b c taken room p q (Script line cause) h le t =
-    reads_to_fault a c (h.read ++ t.0) q (Script line cause) (Consumes-trans a b c h.read t.0 h.consumes t.1)
+    → taken + room ≤ most_bytes → HasNoFeed p.line → TakesPart b c room p q (Err fault) → ReadsHistory a c (Err fault)
+part_failed a b c taken room p q (Script line cause) h le f t =
+    reads_to_fault a c (h.read ++ t.0) q line cause (Consumes-trans a b c h.read t.0 h.consumes t.1)
     (let l = length-append h.read t.0 in let f = h.fits in let k = t.2 in omega arith)
     (Brings-more start p q h.read t.0 (Err (Script line cause)) h.brings t.3)
-part_failed a b c taken room p q Read h le t = tt
-part_failed a b c taken room p q NoMemory h le t = tt
-part_failed a b c taken room p q Write h le t = absurd t.3
-part_failed a b c taken room p q (Differs line) h le t = absurd t.3
+part_failed a b c taken room p q Read h le f t = failed a b c taken p h (omega arith) f t
+part_failed a b c taken room p q NoMemory h le f t =
+    let l = length-append h.read t.0 in
+    let fits = h.fits in
+    let k = t.2 in
+    (h.read ++ t.0, (Consumes-trans a b c h.read t.0 h.consumes t.1, omega arith))
+part_failed a b c taken room p q Write h le f t = absurd t.3
+part_failed a b c taken room p q (Differs line) h le f t = absurd t.3
 
 -- a part had no bytes, so that all was read before
 pub part_closed : (a b c : Option (List ℕ)) (taken room count : ℕ) (p q : Place) (m : Heard)
     (result : Result (Unit {0}) CliFault) → HasRead a b taken p → taken ≤ most_bytes
     → TakesPart b c room p q (Ok count) → count ≡ 0 → HasNoFeed q.line → Closes q m result
-    → ReadsHistory a (with_heard m result)
+    → ReadsHistory a c (with_heard m result)
 part_closed a b c taken room count p q m result h le t none f closes =
     let more = part_more a b c taken room count p q h t in
     reads_to_end a c more.read q m result more.consumes (t.4 none) (let k = more.fits in omega arith) more.brings f closes

@@ -1,5 +1,5 @@
 -- What reading a history does: by the bytes that the reader gave, the history of them.
-use Rattle.std.specs.Prelude.{ℕ, ◌≡◌, ◌≢◌, ◌<◌, ◌≤◌, Bool, List, [], ◌++◌, length, take, slice_index, IfSome, Option, Result, Ok, Err}
+use Rattle.std.specs.Prelude.{ℕ, ◌≡◌, ◌≢◌, ◌+◌, ◌<◌, ◌≤◌, ◌⊎◌, Bool, List, [], ◌++◌, length, take, slice_index, Option, Result, Ok, Err}
 use Rattle.std.specs.Io.KnownBytes.{Consumes, IsAtEnd, Keeps}
 use Rattle.pif_story_model.specs.Lines.{lines}
 use Rattle.pif_story_model.specs.Verdicts.{Fault}
@@ -8,7 +8,7 @@ use Rattle.pif_script_model.specs.declared.faults.CliFault.{CliFault}
 use Rattle.pif_script_model.specs.declared.faults.CliFault.TheVariants.{Differs, NoMemory, Read, Script, Write}
 use Rattle.pif_history_text.specs.declared.heard.History.{History}
 use Rattle.pif_history_text.specs.declared.reading.TextSoFar.{TextSoFar}
-use Rattle.pif_history_text.specs.Histories.{Heard, at_end, cut_off, heard_from, history_of, next_number, unheard}
+use Rattle.pif_history_text.specs.Histories.{Heard, at_end, cut_off, heard_from, history_of, most_bytes, next_number, unheard}
 
 -- A history as the code has it.
 abbrev pub heard_of : History → Heard
@@ -98,7 +98,7 @@ abbrev pub TakesPart : (before after : Option (List ℕ)) → (most : ℕ) → P
 TakesPart before after most p q (Ok count) =
     (bytes : List ℕ) × Consumes before after bytes × (length bytes ≡ count) × (count ≤ most)
     × (count ≡ 0 → IsAtEnd after) × Brings p bytes q (Ok tt)
-TakesPart before after most p q (Err Read) = Unit {0}
+TakesPart before after most p q (Err Read) = Keeps before after
 TakesPart before after most p q (Err fault) =
     (bytes : List ℕ) × Consumes before after bytes × (length bytes ≤ most) × Brings p bytes q (Err fault)
 
@@ -109,15 +109,31 @@ pub record HasRead (before after : Option (List ℕ)) (taken : ℕ) (p : Place) 
   pub fits : length read ≡ taken
   pub brings : Brings start read p (Ok tt)
 
--- What reading the bytes of a history comes to, as far as they are known. It is exactly their history, or its first
--- fault; a read failed, or memory ran out.
-abbrev pub ReadsHistory : (before : Option (List ℕ)) → Result Heard CliFault → Type 0
-ReadsHistory before (Ok h) = IfSome before (λ bytes. history_of bytes ≡ Ok h)
-ReadsHistory before (Err (Script line cause)) = IfSome before (λ bytes. history_of bytes ≡ Err (line, cause))
-ReadsHistory before (Err Read) = Unit {0}
-ReadsHistory before (Err NoMemory) = Unit {0}
-ReadsHistory before (Err (Differs line)) = ⊥
-ReadsHistory before (Err Write) = ⊥
+-- The first fault of the bytes that a reader has: it stands among those that were read, whatever stands behind them, or
+-- at the end of all.
+abbrev pub IsFirstFault : (read : List ℕ) → (after : Option (List ℕ)) → Fault → Type 0
+IsFirstFault read after fault =
+    ((more : List ℕ) → history_of (read ++ more) ≡ Err fault) ⊎ (IsAtEnd after × (history_of read ≡ Err fault))
+
+-- At most so many bytes were read: those of a history, and one more.
+abbrev pub ReadsSome : (before after : Option (List ℕ)) → List ℕ → Type 0
+ReadsSome before after read = Consumes before after read × (length read ≤ most_bytes + 1)
+
+-- What reading the bytes of a history comes to, by what the reader had and has left.
+--   a history: it is exactly that of all bytes, and none is left
+--   a fault: it is their first
+--   a read failed: the lines that had been read have no fault
+--   out of memory: that may be anywhere
+abbrev pub ReadsHistory : (before after : Option (List ℕ)) → Result Heard CliFault → Type 0
+ReadsHistory before after (Ok h) =
+    (read : List ℕ) × Consumes before after read × IsAtEnd after × (history_of read ≡ Ok h)
+ReadsHistory before after (Err (Script line cause)) =
+    (read : List ℕ) × ReadsSome before after read × IsFirstFault read after (line, cause)
+ReadsHistory before after (Err Read) =
+    (taken : ℕ) × (p : Place) × HasRead before after taken p × HasNoFeed p.line × (taken ≤ most_bytes)
+ReadsHistory before after (Err NoMemory) = (read : List ℕ) × ReadsSome before after read
+ReadsHistory before after (Err (Differs line)) = ⊥
+ReadsHistory before after (Err Write) = ⊥
 
 -- A history that was heard, where nothing failed.
 abbrev pub with_heard : Heard → Result (Unit {0}) CliFault → Result Heard CliFault

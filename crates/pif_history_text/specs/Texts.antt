@@ -3,7 +3,8 @@ use Rattle.std.specs.Prelude.{ℕ, List, ◌++◌, codes, decimal}
 use Rattle.pif_model.specs.declared.events.Event.TheVariants as event
 use Rattle.pif_text_model.specs.declared.commands.Command.TheVariants as command
 use Rattle.pif_text_model.specs.declared.commands.Addition.TheVariants as addition
-use Rattle.pif_text_model.specs.CommandTexts.{command_text}
+use Rattle.pif_text_model.specs.CommandTexts.{IsRequestWritten, command_text}
+use Rattle.pif_text_model.specs.Numbers.{IsName, IsNumber}
 use Rattle.pif_text_model.specs.Replies.{thread_name}
 use Rattle.pif_history_model.specs.declared.lines.Line.{Line}
 use Rattle.pif_history_model.specs.declared.lines.Line.TheVariants.{Thread, Mutex, Cond, Begin, Answer, Dying, End, Tick, Rests, Prio}
@@ -20,3 +21,16 @@ line_text (Answer t a) = codes "answer " ++ thread_name t ++ (codes " " ++ decim
 line_text (Dying t) = codes "dying " ++ thread_name t
 line_text (Rests t) = codes "rests " ++ thread_name t
 line_text (Prio t p) = codes "prio " ++ thread_name t ++ (codes " " ++ decimal p)
+
+-- A line whose numbers a text can write.
+abbrev pub IsLineWritten : Line → Type 0
+IsLineWritten (Thread p) = IsNumber p
+IsLineWritten (Mutex k robust) = Unit {0}
+IsLineWritten (Cond m) = IsName m
+IsLineWritten (Begin t q) = IsName t × IsRequestWritten q
+IsLineWritten (End t) = IsName t
+IsLineWritten (Tick n) = IsNumber n
+IsLineWritten (Answer t a) = IsName t × IsNumber a
+IsLineWritten (Dying t) = IsName t
+IsLineWritten (Rests t) = IsName t
+IsLineWritten (Prio t p) = IsName t × IsNumber p

@@ -12,12 +12,10 @@
 
 mod heard;
 mod lines;
-mod numbers;
 mod reading;
 mod said;
 mod texts;
 mod verdicts;
-mod words;
 mod writing;
 
 pub use heard::{History, MOST_BYTES};
@@ -28,4 +26,4 @@ pub use verdicts::{
     push_began, push_fault, push_illegal, push_legal, push_possible, push_possible_undecided,
     push_refused, push_undecided,
 };
-pub use writing::line_text;
+pub use writing::{line_reads_back, line_text, lines_of_texts_are_written};

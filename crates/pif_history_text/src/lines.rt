@@ -4,12 +4,10 @@ ghost use Rattle.pif_text_model.specs.Words.{words};
 ghost use Rattle.pif_history_text.specs.Lines.{addition_said, answer_in, command_said, errno_in, event_said, is_long, line_of_three, line_of_two, line_of_words, said_in, text_of_line};
 
 use crate::Said;
-use crate::numbers::{number_of, thread_of};
 use crate::texts::is_passed;
-use crate::words::{is_word, split_first};
 use pif_history_model::Line;
 use pif_model::Event;
-use pif_text::{Addition, Command, command_of};
+use pif_text::{Addition, Command, command_of, is_word, number_of, split_first, thread_of};
 use pif_types::{Answer, Errno};
 
 /// The error that a word names.

@@ -181,7 +181,7 @@ fn close_full<R: Read>(reader: &mut R, text: &mut TextSoFar) -> Result<(), CliFa
     requires open { HasNoFeed text.old.line.items }
     requires fits { text.old.history.count ≤ 268435456 }
     ensures read { (before : Option (List ℕ)) → HasRead before (R.remaining reader.old) 268435456 (place_of text.old)
-        → ReadsHistory before (with_heard (heard_of text.new.history) result) }
+        → ReadsHistory before (R.remaining reader.new) (with_heard (heard_of text.new.history) result) }
     ensures paired { OnOk result (IsPaired text.old.history → IsPaired text.new.history) }
 {
     let mut byte = [0u8; 1];
@@ -199,7 +199,7 @@ fn close_full<R: Read>(reader: &mut R, text: &mut TextSoFar) -> Result<(), CliFa
 fn read_text<R: Read>(reader: &mut R, text: &mut TextSoFar) -> Result<(), CliFault>
     requires place { place_of text.old ≡ start }
     requires paired { IsPaired text.old.history }
-    ensures read { ReadsHistory (R.remaining reader.old) (with_heard (heard_of text.new.history) result) }
+    ensures read { ReadsHistory (R.remaining reader.old) (R.remaining reader.new) (with_heard (heard_of text.new.history) result) }
     ensures paired { OnOk result (IsPaired text.new.history) }
 {
     let mut taken = 0;
@@ -224,8 +224,8 @@ fn read_text<R: Read>(reader: &mut R, text: &mut TextSoFar) -> Result<(), CliFau
 /// `Script` with the number and the cause of the first line that is a fault, whatever stands behind what was read then;
 /// `Read`, where the reader fails; and `NoMemory`.
 pub fn read_history<R: Read>(alloc: Global, reader: &mut R) -> Result<History, CliFault>
-    ensures read { IfOk result (λ history. ReadsHistory (R.remaining reader.old) (Ok (heard_of history))) }
-    ensures failed { IfErr result (λ fault. ReadsHistory (R.remaining reader.old) (Err fault)) }
+    ensures read { IfOk result (λ history. ReadsHistory (R.remaining reader.old) (R.remaining reader.new) (Ok (heard_of history))) }
+    ensures failed { IfErr result (λ fault. ReadsHistory (R.remaining reader.old) (R.remaining reader.new) (Err fault)) }
     ensures paired { IfOk result IsPaired }
 {
     let mut text = TextSoFar::new(alloc);

@@ -1,31 +1,18 @@
-ghost use Rattle.std.specs.Prelude.{◌≡◌, ◌+◌, ◌≤◌, ◌++◌, codes, decimal, length};
+ghost use Rattle.std.specs.Prelude.{◌≡◌, ℕ, ◌+◌, ◌≤◌, ◌++◌, List, Some, codes, decimal, length};
 ghost use Rattle.arrayvec.specs.ArrayVec.{array_vec_len};
 ghost use Rattle.pif_text_model.specs.Replies.{thread_name};
-ghost use Rattle.pif_history_text.specs.Texts.{line_text};
+ghost use Rattle.pif_history_model.specs.declared.lines.Line.{Line};
+ghost use Rattle.pif_history_text.specs.declared.said.Said.TheVariants.{Shown};
+ghost use Rattle.pif_history_text.specs.Lines.{said_in};
+ghost use Rattle.pif_history_text.specs.Texts.{IsLineWritten, line_text};
 
-use itoa::Buffer;
 use pif_history_model::Line;
 use pif_model::Event;
-use pif_text::{Addition, COMMAND_ROOM, Command, TEXT_ROOM, Text, command_text};
+use pif_text::{
+    Addition, COMMAND_ROOM, Command, TEXT_ROOM, Text, append, append_number, append_thread,
+    command_text,
+};
 use pif_types::Tid;
-
-/// Appends bytes.
-fn append(out: &mut Text, text: &[u8])
-    requires { array_vec_len out.old + length text.now ≤ TEXT_ROOM }
-    ensures { out.new.items ≡ out.old.items ++ text.now }
-{
-    let _ = out.try_extend_from_slice(text);
-}
-
-/// Appends a number in decimal digits.
-fn append_number(out: &mut Text, number: u32)
-    requires { array_vec_len out.old + 10 ≤ TEXT_ROOM }
-    ensures items { out.new.items ≡ out.old.items ++ decimal number }
-    ensures len { length (decimal number) ≤ 10 }
-{
-    let mut buffer = Buffer::new();
-    append(out, buffer.format(number).as_bytes());
-}
 
 /// Appends a name of at most seven letters with its space, and a thread.
 fn append_of_thread(out: &mut Text, name: &[u8], thread: Tid)
@@ -34,8 +21,7 @@ fn append_of_thread(out: &mut Text, name: &[u8], thread: Tid)
     ensures len { array_vec_len out.new ≤ array_vec_len out.old + length name.now + 11 }
 {
     append(out, name);
-    append(out, b"t");
-    append_number(out, thread.get());
+    append_thread(out, thread);
 }
 
 /// Appends a number behind a space.
@@ -76,3 +62,13 @@ pub fn line_text(line: Line, out: &mut Text)
         }
     }
 }
+
+/// Each line of a history is read from the text that `line_text` writes for it, as that very line.
+pub fn line_reads_back()
+    ensures { (line : Line) → IsLineWritten line → said_in (line_text line) ≡ Some (Shown line) }
+{}
+
+/// Each line that a text says has numbers that `line_text` can write.
+pub fn lines_of_texts_are_written()
+    ensures { (text : List ℕ) (line : Line) → said_in text ≡ Some (Shown line) → IsLineWritten line }
+{}

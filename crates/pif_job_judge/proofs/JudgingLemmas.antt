@@ -11,12 +11,12 @@ use Rattle.pif_history.specs.declared.verdicts.Verdict.{Verdict}
 use Rattle.pif_history.specs.declared.verdicts.Verdict.TheVariants.{Illegal, Undecided}
 use Rattle.pif_history.specs.Verdicts.{IsRefusalThere, IsVerdictOf}
 use Rattle.pif_history_text.specs.Histories.{Heard, limits_of}
-use Rattle.pif_history_text.specs.Verdicts.{illegal_line, undecided_line}
+use Rattle.pif_history_text.specs.Verdicts.{illegal_line, legal_line, undecided_line}
 use Rattle.pif_job_judge.specs.declared.known.Began.{Began}
 use Rattle.pif_job_judge.specs.declared.known.Known.{Known}
 use Rattle.pif_job_judge.specs.declared.faults.JudgeFault.{JudgeFault}
 use Rattle.pif_job_judge.specs.declared.faults.JudgeFault.TheVariants as fault
-use Rattle.pif_job_judge.specs.Judging.{AppendsTold, ArePossible, IsKnown, IsLegalVerdict, IsNumbered, Judges, TellsIllegal, TellsLegal, WritesText, why_text}
+use Rattle.pif_job_judge.specs.Judging.{AppendsTold, ArePossible, IsKnown, IsNumbered, Judges, TellsIllegal, TellsVerdict, WritesText, why_text}
 use Rattle.pif_job_judge.specs.Judging.IsTold.{legal, illegal, undecided}
 
 -- the lines of an illegal history
@@ -37,9 +37,9 @@ tells_illegal h n old mid new number line known began there numbered is first se
     )
 
 -- a history of each verdict
-pub told_legal : (h : Heard) (v : Verdict) (old new : List ℕ) → IsVerdictOf (limits_of h) h.shown v → IsLegalVerdict v
-    → TellsLegal h old new → AppendsTold h (Ok tt) old new
-told_legal h v old new is lawful tells = (_, legal v tells.0 is lawful refl refl, tells.1)
+pub told_legal : (h : Heard) (v : Verdict) (witness old new : List ℕ) → IsVerdictOf (limits_of h) h.shown v
+    → TellsVerdict (limits_of h) v witness → new ≡ old ++ (legal_line h.count ++ witness) → AppendsTold h (Ok tt) old new
+told_legal h v witness old new is told e = (_, legal v witness is told refl refl, e)
 
 pub told_illegal : (h : Heard) (n : ℕ) (old new : List ℕ) (end : JudgeFault)
     → IsVerdictOf (limits_of h) h.shown (Illegal n) → TellsIllegal h n old new end → AppendsTold h (Err end) old new

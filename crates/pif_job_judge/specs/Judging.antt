@@ -4,15 +4,19 @@ use Rattle.std.specs.Io.KnownBytes.{Appends, Keeps}
 use Rattle.pif_script_model.specs.declared.faults.CliFault.{CliFault}
 use Rattle.pif_script_model.specs.declared.faults.CliFault.TheVariants.{Differs, NoMemory, Script, Write}
 use Rattle.pif_script_model.specs.Runs.{WritesPart}
+use Rattle.pif_types.specs.Bounds.{Bounds}
+use Rattle.pif_history_model.specs.declared.labels.Label.{Label}
 use Rattle.pif_history_model.specs.declared.lines.Line.{Line}
 use Rattle.pif_history_model.specs.declared.lines.Line.TheVariants.{Answer, Prio}
 use Rattle.pif_history.specs.declared.verdicts.Verdict.{Verdict}
 use Rattle.pif_history.specs.declared.verdicts.Verdict.TheVariants.{Legal, Illegal, Undecided}
 use Rattle.pif_history.specs.Verdicts.{IsRefusalThere, IsVerdictOf}
 use Rattle.pif_history_model.specs.Verdicts.{ArePossibleAnswers, ArePossiblePriorities}
+use Rattle.pif_history_model.specs.Searched.{Configuration}
 use Rattle.pif_history_text.specs.Histories.{Heard, limits_of}
 use Rattle.pif_history_text.specs.Reading.{ReadsHistory}
 use Rattle.pif_history_text.specs.Verdicts.{began_line, fault_line, illegal_line, legal_line, possible_line, refused_line, undecided_line}
+use Rattle.pif_history_witness.specs.Tellings.{IsTold as IsRunTold}
 use Rattle.pif_job_judge.specs.declared.known.Began.{Began}
 use Rattle.pif_job_judge.specs.declared.known.Known.{Known}
 use Rattle.pif_job_judge.specs.declared.known.Known.TheVariants.{Refused, Numbers, Nothing}
@@ -64,20 +68,23 @@ abbrev pub front_of : Option (List ℕ) → List ℕ
 front_of None = []
 front_of (Some name) = name ++ codes ": "
 
--- A verdict that there is a run.
-abbrev pub IsLegalVerdict : Verdict → Type 0
-IsLegalVerdict (Legal witness) = Unit {0}
-IsLegalVerdict (Illegal n) = ⊥
-IsLegalVerdict (Undecided n) = ⊥
+-- A text tells nothing, or a run whose steps have these labels, newest first.
+abbrev pub TellsRun : Bounds → List Label → (text : List ℕ) → Type 0
+TellsRun l labels text = (text ≡ []) ⊎ ((last : Configuration) × IsRunTold l labels last text)
+
+-- A verdict that there is a run, which a text tells, or which isn't told.
+abbrev pub TellsVerdict : Bounds → Verdict → (text : List ℕ) → Type 0
+TellsVerdict l (Legal witness) text = TellsRun l witness.items text
+TellsVerdict l (Illegal n) text = ⊥
+TellsVerdict l (Undecided n) text = ⊥
 
 -- A line of a history, the nth, has this number in the text.
 abbrev pub IsNumbered : Heard → (n : ℕ) → (number : ℕ) → Type 0
 IsNumbered h n number = slice_get h.numbers (n - 1) ≡ Some number
 
--- What is told of a history, and how that ends. Behind the line of a legal one its witness may be told, which is only
--- tested.
+-- What is told of a history, and how that ends. Behind the line of a legal one its witness may be told.
 pub data IsTold (h : Heard) (text : List ℕ) (end : Result (Unit {0}) JudgeFault) : Type 0 where
-  legal : (v : Verdict) (witness : List ℕ) → IsVerdictOf (limits_of h) h.shown v → IsLegalVerdict v
+  legal : (v : Verdict) (witness : List ℕ) → IsVerdictOf (limits_of h) h.shown v → TellsVerdict (limits_of h) v witness
       → text ≡ legal_line h.count ++ witness → end ≡ Ok tt → IsTold h text end
   illegal : (n number : ℕ) (line : Line) (why : List ℕ) → IsVerdictOf (limits_of h) h.shown (Illegal n)
       → slice_get h.shown (n - 1) ≡ Some line → IsNumbered h n number → TellsWhy h (n - 1) line why
@@ -89,9 +96,10 @@ pub data IsTold (h : Heard) (text : List ℕ) (end : Result (Unit {0}) JudgeFaul
 abbrev pub AppendsTold : Heard → (end : Result (Unit {0}) JudgeFault) → (old new : List ℕ) → Type 0
 AppendsTold h end old new = (text : List ℕ) × IsTold h text end × (new ≡ old ++ text)
 
--- Bytes grew by the line of a legal history, and by what is told of its witness.
-abbrev pub TellsLegal : Heard → (old new : List ℕ) → Type 0
-TellsLegal h old new = (witness : List ℕ) × (new ≡ old ++ (legal_line h.count ++ witness))
+-- Bytes grew by the line of a legal history, and by what is told of the run whose steps have these labels.
+abbrev pub TellsLegal : Heard → List Label → (old new : List ℕ) → Type 0
+TellsLegal h labels old new =
+    (witness : List ℕ) × TellsRun (limits_of h) labels witness × (new ≡ old ++ (legal_line h.count ++ witness))
 
 -- Bytes grew by what is told of a history whose nth line is the first up to which there is no run, and this is how it
 -- ends.
@@ -124,7 +132,8 @@ Judges (Err (Script line cause)) held holds front result =
     ⊎ WritesText held holds (front ++ fault_line line cause) (Err (fault.Cli (Script line cause))) result
 Judges (Err other) held holds front result = (result ≡ Err (fault.Cli other)) × Keeps held holds
 
--- The same, by what the reader had, and what the writer held and holds.
-abbrev pub JudgesTo : (before held holds : Option (List ℕ)) → (front : List ℕ) → Result (Unit {0}) JudgeFault → Type 0
-JudgesTo before held holds front result =
-    (history : Result Heard CliFault) × ReadsHistory before history × Judges history held holds front result
+-- The same, by what the reader had and has left, and what the writer held and holds.
+abbrev pub JudgesTo : (before after held holds : Option (List ℕ)) → (front : List ℕ) → Result (Unit {0}) JudgeFault
+    → Type 0
+JudgesTo before after held holds front result =
+    (history : Result Heard CliFault) × ReadsHistory before after history × Judges history held holds front result

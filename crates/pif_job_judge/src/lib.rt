@@ -4,7 +4,7 @@
 //! |---|---|
 //! | `faults` | why a history was not found to be legal |
 //! | `known` | what is known of an illegal line |
-//! | `telling` | what is told of an illegal line, and of a witness |
+//! | `telling` | what is told of a legal history, and of an illegal line |
 //! | `judging` | a history, read and judged |
 #![tactic(auto)]
 

@@ -5,14 +5,12 @@ ghost use Rattle.pif_history_text.specs.Verdicts.{legal_line};
 ghost use Rattle.pif_job_judge.specs.Judging.{began_text, known_text, why_text};
 
 use crate::{Began, Known};
-use pif_history_model::{Label, Line};
+use pif_history_model::Line;
 use pif_history_text::{
-    History, line_text, push_began, push_legal, push_possible, push_possible_undecided,
-    push_refused,
+    History, push_began, push_legal, push_possible, push_possible_undecided, push_refused,
 };
-use pif_text::{Added, Reply, Text, reply_text};
-use pif_types::{Request, Tid};
-use std::alloc::{AllocError, Global};
+use pif_types::Tid;
+use std::alloc::AllocError;
 
 /// The thread whose line it is, if it is one of a thread.
 fn thread_of(line: &Line) -> Option<Tid> {
@@ -114,40 +112,4 @@ pub fn tell_legal(lines: u32, witness: &[u8], out: &mut Vec<u8>) -> Result<(), A
 {
     push_legal(out, lines)?;
     out.extend_from_slice(witness)
-}
-
-/// Appends two blanks, a thread and what it does.
-fn push_move(thread: Tid, does: &[u8], out: &mut Vec<u8>) -> Result<(), AllocError> {
-    let mut name = Text::new();
-    reply_text(Reply::Added(Added::Thread(thread)), &mut name);
-    out.extend_from_slice(b"  ")?;
-    out.extend_from_slice(name.as_slice())?;
-    out.extend_from_slice(does)
-}
-
-/// Appends one step of a witness as a line.
-fn push_label(label: Label, out: &mut Vec<u8>) -> Result<(), AllocError> {
-    match label {
-        Label::Shown(line) => {
-            let mut text = Text::new();
-            line_text(line, &mut text);
-            out.extend_from_slice(text.as_slice())?;
-            out.extend_from_slice(b"\n")
-        }
-        Label::Moves(thread) => push_move(thread, b" goes on\n", out),
-        Label::Ends(thread) => push_move(thread, b" ends\n", out),
-    }
-}
-
-/// The lines of a witness, which is given newest first, with what happens between them behind two blanks each.
-///
-/// # Errors
-///
-/// A growth of memory was refused.
-pub fn witness_text(alloc: Global, witness: &[Label]) -> Result<Vec<u8>, AllocError> {
-    let mut out = Vec::new(alloc);
-    for label in witness.iter().rev() {
-        push_label(*label, &mut out)?;
-    }
-    Ok(out)
 }

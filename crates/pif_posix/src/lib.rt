@@ -24,4 +24,5 @@ mod waiting;
 
 pub use parts::{Lockable, Signalled, Task};
 pub use progress::{Call, Progress};
+pub use requests::{named_by, variable_of};
 pub use state::State;

@@ -6,7 +6,7 @@ ghost use Rattle.pif_model.specs.Deadlines.{plain, deadline_of, is_reached, told
 use pif_types::{Answer, Errno, Request};
 
 /// The variable that a request names; 0 where it names none.
-pub(crate) fn variable_of(request: &Request) -> u32
+pub fn variable_of(request: &Request) -> u32
     ensures { result ≡ variable_of request.now }
 {
     match *request {
@@ -19,7 +19,7 @@ pub(crate) fn variable_of(request: &Request) -> u32
 }
 
 /// The mutex that a request names; 0 where it names none.
-pub(crate) fn named_by(request: &Request) -> u32
+pub fn named_by(request: &Request) -> u32
     ensures { result ≡ named_by request.now }
 {
     match *request {

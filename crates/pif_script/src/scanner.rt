@@ -18,7 +18,7 @@ pub const MOST_LINE: usize = 120;
 
 /// How many bytes stand before the first LF, or all of them, where there is none.
 #[inline(always)]
-pub fn before_feed(bytes: &[u8]) -> usize
+fn before_feed(bytes: &[u8]) -> usize
     ensures within { result ≤ length bytes.now }
     ensures before { (k : ℕ) → k < result → slice_index bytes.now k ≢ 10 }
     ensures found { result < length bytes.now → slice_index bytes.now result ≡ 10 }

@@ -31,7 +31,7 @@ mod verdicts;
 
 pub use comparing::compare;
 pub use filling::filled_text;
-pub use lines::{is_passed, line_at_end, without_mark, without_return};
+pub use lines::line_at_end;
 pub use pairing::answered_rows;
 pub use plain::plain_story;
 pub use reading::{MOST, read_script_of_story};

@@ -101,7 +101,7 @@ pub fn without_blanks(text: &[u8]) -> &[u8]
 }
 
 /// Whether a line is empty or a comment.
-pub fn is_passed(text: &[u8]) -> bool
+fn is_passed(text: &[u8]) -> bool
     ensures { result ≡ is_passed text.now }
 {
     match text {

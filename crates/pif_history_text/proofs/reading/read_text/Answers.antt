@@ -7,7 +7,7 @@ pub returns-in-Err-clause-read : goal.returns-in-Err-clause-read
 returns-in-Err-clause-read g c =
     part_failed (g.R.Read.remaining c.args.reader.now) (g.R.Read.remaining c.loop-taken.reader)
     (g.R.Read.remaining c.read_part.new.reader) c.loop-taken.taken c.min-room.result (place_of c.loop-taken.text)
-    (place_of c.read_part.new.text) c.in-Err.fault c.loop-taken.invariant.0 (omega arith) c.in-Err.ensures.taken
+    (place_of c.read_part.new.text) c.in-Err.fault c.loop-taken.invariant.0 (omega arith) c.loop-taken.invariant.1 c.in-Err.ensures.taken
 
 pub returns-then-count-eq0-clause-read : goal.returns-then-count-eq0-clause-read
 returns-then-count-eq0-clause-read g c =
