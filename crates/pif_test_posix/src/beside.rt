@@ -1,0 +1,345 @@
+//! The POSIX machine beside a core, on random events: calls in any interleaving, ends at any point, and time that goes
+//! on. After each event the machine may be in a state in which the answers are those of the core, and so are the
+//! effective priority of each thread and whether it rests. Where calls come one after the other, each answer is the
+//! only one that the machine allows.
+use super::asks::random_kind;
+use super::cloud::Cloud;
+use pif_core::{Core, Entry, Event, Seen};
+use pif_posix_model::HistoryLimits;
+use pif_search::Stop;
+use pif_types::{CondId, Limits, MutexId, Prio, Request, Tid};
+use rand_core::{Rng, SeedableRng};
+use rand_xoshiro::SplitMix64;
+use std::alloc::Global;
+use std::process::Abort;
+
+const THREADS: u32 = 4;
+
+const MUTEXES: u32 = 3;
+
+/// The limits of the core and of the machine.
+const LIMITS: HistoryLimits = HistoryLimits {
+    threads: THREADS,
+    mutexes: MUTEXES,
+    conds: 2,
+    signals: 6,
+};
+
+/// How events come.
+#[derive(Clone, Copy, PartialEq)]
+enum Mode {
+    /// Calls overlap, and go on step by step.
+    Overlapping,
+    /// Calls come one after the other. One that waits stays open.
+    Whole,
+}
+
+/// How much was seen.
+#[derive(Clone, Copy)]
+struct Seens {
+    answers: u32,
+    /// The most states in which the machine may have been.
+    states: usize,
+}
+
+/// A random list of events: a core, the machine, and what draws events.
+#[derive(Drop)]
+struct Scene {
+    core: Core,
+    cloud: Cloud,
+    rng: SplitMix64,
+    mode: Mode,
+}
+
+fn new_scene(alloc: Global, seed: u64, mode: Mode) -> Result<Scene, Stop> {
+    let cloud = Cloud::new(alloc, LIMITS)?;
+    let core = new_core(alloc)?;
+    Ok(Scene {
+        core,
+        cloud,
+        rng: SplitMix64::seed_from_u64(seed),
+        mode,
+    })
+}
+
+fn new_core(alloc: Global) -> Result<Core, Stop> {
+    let _event: Option<Event> = None;
+    match Limits::new(LIMITS.threads, LIMITS.mutexes, LIMITS.conds, LIMITS.signals) {
+        Some(limits) => match Core::new(alloc, limits) {
+            Ok(core) => Ok(core),
+            Err(_) => Err(Stop::NoMemory),
+        },
+        None => Err(Stop::Range),
+    }
+}
+
+/// Adds a mutex of a random kind to both.
+fn add_mutex(scene: &mut Scene) -> Result<(), Stop> {
+    let kind = random_kind(&mut scene.rng);
+    let robust = scene.rng.next_u32() % 2 == 0;
+    match scene.core.add_mutex(kind, robust) {
+        Ok(mutex) => scene.cloud.enter(&Entry::Mutex(mutex, kind, robust)),
+        Err(_) => Err(Stop::NoMemory),
+    }
+}
+
+/// Adds a thread of a random priority, of which many are equal, to both.
+fn add_thread(scene: &mut Scene) -> Result<(), Stop> {
+    let level = 1 + scene.rng.next_u32() % 4 * 15;
+    match (scene.core.add_thread(level), Prio::new(level)) {
+        (Ok(thread), Some(prio)) => scene.cloud.enter(&Entry::Thread(thread, prio)),
+        _ => Err(Stop::NoMemory),
+    }
+}
+
+/// Adds a variable that is bound to this mutex to both.
+fn add_cond(scene: &mut Scene, mutex: u32) -> Result<(), Stop> {
+    match MutexId::new(mutex) {
+        Some(mutex) => match scene.core.add_cond(mutex) {
+            Ok(cond) => scene.cloud.enter(&Entry::Cond(cond, mutex)),
+            Err(_) => Err(Stop::NoMemory),
+        },
+        None => Err(Stop::Range),
+    }
+}
+
+fn fill(scene: &mut Scene) -> Result<(), Stop> {
+    for _ in 0..MUTEXES {
+        add_mutex(scene)?;
+    }
+    add_cond(scene, 1)?;
+    add_cond(scene, 2)?;
+    for _ in 0..THREADS {
+        add_thread(scene)?;
+    }
+    Ok(())
+}
+
+/// A random request on these, or none if nobody has such a number.
+fn request(rng: &mut SplitMix64, mutex: MutexId, cond: CondId, time: u32) -> Option<Request> {
+    let deadline = time.saturating_add(rng.next_u32() % 3);
+    Some(match rng.next_u32() % 24 {
+        0..=6 => Request::Lock(mutex),
+        7 | 8 => Request::TryLock(mutex),
+        9 => Request::TimedLock(mutex, deadline),
+        10..=12 => Request::Unlock(mutex),
+        13 => Request::Consistent(mutex),
+        14..=17 => Request::Wait(cond, mutex),
+        18 => Request::TimedWait(cond, mutex, deadline),
+        19 | 20 => Request::Signal(cond),
+        21 | 22 => Request::Broadcast(cond),
+        _ => Request::SetPrio(
+            Tid::new(1 + rng.next_u32() % THREADS)?,
+            rng.next_u32() % 9 * 12,
+        ),
+    })
+}
+
+/// A random event of a thread.
+fn random_event(scene: &mut Scene, thread: Tid, mutex: MutexId, cond: CondId) -> Option<Event> {
+    let time = scene.core.time();
+    Some(match scene.rng.next_u32() % 48 {
+        0 => Event::End(thread),
+        1 | 2 => Event::Tick(time.saturating_add(1)),
+        3 => Event::Tick(time.saturating_sub(1)),
+        4..=20 => Event::Begin(thread, request(&mut scene.rng, mutex, cond, time)?),
+        _ => Event::Go(thread),
+    })
+}
+
+/// Whether the open call of a thread may wake others, which may then go on too.
+fn may_wake(core: &Core, thread: Tid) -> bool {
+    match core.open_call(thread) {
+        Some(Request::Signal(_)) | Some(Request::Broadcast(_)) => true,
+        _ => false,
+    }
+}
+
+/// A thread makes any moves, and so do those that it may wake.
+fn move_on(cloud: &mut Cloud, thread: Tid, wakes: bool) -> Result<(), Stop> {
+    if wakes {
+        cloud.close(&[1, 2, 3, 4])
+    } else {
+        cloud.close(&[thread.get()])
+    }
+}
+
+/// A thread goes on in both. What the core answered, the machine allows.
+fn go(rt: &impl Abort, scene: &mut Scene, thread: Tid, seens: &mut Seens) -> Result<Seen, Stop> {
+    let wakes = may_wake(&scene.core, thread);
+    let seen = scene.core.step(Event::Go(thread));
+    match seen {
+        Seen::Refused(refusal) => scene.cloud.keep_refused(&Event::Go(thread), refusal),
+        Seen::Answered(answer) => {
+            move_on(&mut scene.cloud, thread, wakes)?;
+            see_answer(rt, scene, thread, answer, seens)?;
+        }
+        _ => {
+            move_on(&mut scene.cloud, thread, wakes)?;
+            scene.cloud.keep_resting(thread.get(), seen == Seen::Waits);
+        }
+    }
+    Ok(seen)
+}
+
+/// The call of a thread was answered this, and is closed.
+fn see_answer(
+    rt: &impl Abort,
+    scene: &mut Scene,
+    thread: Tid,
+    answer: u32,
+    seens: &mut Seens,
+) -> Result<(), Stop> {
+    let others = scene.cloud.others(thread, answer)?;
+    assert!(rt;
+        others == 0 || scene.mode == Mode::Overlapping,
+        "{others} other answers"
+    );
+    seens.answers = seens.answers.saturating_add(1);
+    scene
+        .cloud
+        .enter(&Entry::Step(Event::Go(thread), Seen::Answered(answer)))
+}
+
+/// An event that is no go happens in both.
+fn happen(scene: &mut Scene, event: &Event) -> Result<Seen, Stop> {
+    let seen = scene.core.step(*event);
+    match seen {
+        Seen::Refused(refusal) => scene.cloud.keep_refused(event, refusal),
+        _ => scene.cloud.enter(&Entry::Step(*event, seen))?,
+    }
+    Ok(seen)
+}
+
+/// A thread goes on. If calls are whole, it does so until its call is answered or waits.
+fn go_on(rt: &impl Abort, scene: &mut Scene, thread: Tid, seens: &mut Seens) -> Result<(), Stop> {
+    for _ in 0..24 {
+        if go(rt, scene, thread, seens)? != Seen::Went || scene.mode == Mode::Overlapping {
+            return Ok(());
+        }
+    }
+    Err(Stop::Range)
+}
+
+/// An event happens in both. If calls are whole, one that begins goes on.
+fn see(rt: &impl Abort, scene: &mut Scene, event: &Event, seens: &mut Seens) -> Result<(), Stop> {
+    match *event {
+        Event::Go(thread) => go_on(rt, scene, thread, seens),
+        Event::Begin(thread, _) => {
+            if happen(scene, event)? == Seen::Begun && scene.mode == Mode::Whole {
+                go_on(rt, scene, thread, seens)?;
+            }
+            Ok(())
+        }
+        _ => {
+            happen(scene, event)?;
+            Ok(())
+        }
+    }
+}
+
+/// Whether the deadline of the open call of a thread is reached: then the core says that it may go on.
+fn is_late(core: &Core, thread: Tid) -> bool {
+    match core.open_call(thread) {
+        Some(Request::TimedLock(_, deadline)) => deadline <= core.time(),
+        Some(Request::TimedWait(_, _, deadline)) => deadline <= core.time(),
+        _ => false,
+    }
+}
+
+/// What the core says of a thread, the machine says too.
+fn compare(scene: &mut Scene, thread: Tid) {
+    let _event: Option<Event> = None;
+    if let Some(prio) = scene.core.effective(thread) {
+        scene.cloud.keep_effective(thread.get(), prio.get());
+    }
+    match scene.core.waiting(thread) {
+        Some(true) => scene.cloud.keep_resting(thread.get(), true),
+        Some(false) if !is_late(&scene.core, thread) => {
+            scene.cloud.keep_resting(thread.get(), false);
+        }
+        _ => {}
+    }
+}
+
+/// A random event happens, and both are compared.
+fn play_event(rt: &impl Abort, scene: &mut Scene, seens: &mut Seens) -> Result<(), Stop> {
+    let thread = Tid::new(1 + scene.rng.next_u32() % THREADS);
+    let mutex = MutexId::new(1 + scene.rng.next_u32() % MUTEXES);
+    let cond = CondId::new(1 + scene.rng.next_u32() % 2);
+    let event = match (thread, mutex, cond) {
+        (Some(thread), Some(mutex), Some(cond)) => random_event(scene, thread, mutex, cond),
+        _ => None,
+    };
+    match event {
+        Some(event) => see(rt, scene, &event, seens)?,
+        None => return Err(Stop::Range),
+    }
+    for number in 1..THREADS + 1 {
+        if let Some(thread) = Tid::new(number) {
+            compare(scene, thread);
+        }
+    }
+    seens.states = usize::max(seens.states, scene.cloud.len());
+    Ok(())
+}
+
+/// Plays a list of so many random events.
+fn play_list(
+    rt: &impl Abort,
+    alloc: Global,
+    seed: u64,
+    mode: Mode,
+    seens: &mut Seens,
+) -> Result<(), Stop> {
+    let mut scene = new_scene(alloc, seed, mode)?;
+    play_events(rt, &mut scene, seed, seens)
+}
+
+fn play_events(
+    rt: &impl Abort,
+    scene: &mut Scene,
+    seed: u64,
+    seens: &mut Seens,
+) -> Result<(), Stop> {
+    fill(scene)?;
+    for at in 0..50 {
+        play_event(rt, scene, seens)?;
+        assert!(rt;
+            scene.cloud.len() > 0,
+            "seed {seed}: not possible at event {at}"
+        );
+    }
+    Ok(())
+}
+
+#[test]
+fn answers_of_a_core_are_possible(rt: HostRuntime) -> Result<(), Stop> {
+    let mut seens = Seens {
+        answers: 0,
+        states: 0,
+    };
+    for seed in 0..20 {
+        play_list(&rt, rt.alloc(), seed, Mode::Overlapping, &mut seens)?;
+    }
+    assert!(rt;
+        seens.answers >= 40 && seens.states >= 4,
+        "{} {}",
+        seens.answers,
+        seens.states
+    );
+    Ok(())
+}
+
+#[test]
+fn answers_of_whole_calls_are_the_only_ones(rt: HostRuntime) -> Result<(), Stop> {
+    let mut seens = Seens {
+        answers: 0,
+        states: 0,
+    };
+    for seed in 0..10 {
+        play_list(&rt, rt.alloc(), seed, Mode::Whole, &mut seens)?;
+    }
+    assert!(rt; seens.answers >= 100, "{} {}", seens.answers, seens.states);
+    Ok(())
+}

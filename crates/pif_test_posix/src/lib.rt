@@ -1,0 +1,21 @@
+//! Tests of the POSIX machine as a program, and of histories that are judged by it. Beside tests there is nothing in it.
+//!
+//! | Module | What it has |
+//! |---|---|
+//! | `asks` | none: what tables are made of, by numbers |
+//! | `cloud` | none: all states in which the POSIX machine may be, after what was seen |
+//! | `beside` | the machine beside a core, on random events |
+//! | `examples` | worked examples: their answers are possible, and no others at the last call |
+//! | `replaced` | a history in which each answer is replaced by each other one |
+#![tactic(auto)]
+
+#[cfg(test)]
+mod asks;
+#[cfg(test)]
+mod beside;
+#[cfg(test)]
+mod cloud;
+#[cfg(test)]
+mod examples;
+#[cfg(test)]
+mod replaced;

@@ -1,0 +1,2 @@
+mod Darkness
+mod Searching
