@@ -29,18 +29,25 @@ static const char help[] =
     "  --fifo           SCHED_FIFO, priorities 10 to 25; without it SCHED_OTHER\n"
     "  --priorities P   with --fifo: of a hundred calls without a mutex P set the thread's priority; 5 without it\n"
     "  --plain          mutexes without PTHREAD_PRIO_INHERIT\n"
+    "  --std            the mutexes and condition variables of Rust's standard library; locks have no deadline there\n"
+    "  --parking_lot    those of Rust's parking_lot\n"
     "  --seconds N      SIGALRM ends it then; 20 without it\n"
     "  --help           prints this\n"
     "\n"
-    "It prints one line with how often each answer came. Status 0: all calls were made; 1: wrong words; 6: a thread\n"
-    "can't be started; 7: SCHED_FIFO isn't allowed. To record it:\n"
+    "It prints one line with how often each answer came. Status 0: all calls were made; 1: wrong words, or the\n"
+    "history can't be written; 6: a thread can't be started; 7: SCHED_FIFO isn't allowed, or Rust's can't be had. To\n"
+    "record it:\n"
     "\n"
-    "  RECORD_FILE=a.history LD_PRELOAD=host/record/librecord.so host/record/hammer --robust --ends 1\n";
+    "  RECORD_FILE=a.history LD_PRELOAD=host/record/librecord.so host/record/hammer --robust --ends 1\n"
+    "\n"
+    "Those of Rust are normal, and have neither robustness nor priorities, so that they take none of --kinds,\n"
+    "--robust, --ends, --fifo and --plain. They need no LD_PRELOAD: with RECORD_FILE the hammer writes the history.\n";
 
 Orders orders = {
     .threads = 4, .mutexes = 2, .variables = 1, .calls = 500, .seconds = 20, .seed = 1,
     .trylocks = 20, .timed = 20, .waits = 20, .priorities = 5,
 };
+const Calls *calls = &glibc_calls;
 Mutex mutexes[MOST_MUTEXES];
 pthread_cond_t variables[MOST_VARIABLES];
 _Atomic unsigned waiting[MOST_VARIABLES];
@@ -70,6 +77,8 @@ static const Option options[] = {
     {"robust", NULL, 0, 0, &orders.robust},
     {"fifo", NULL, 0, 0, &orders.fifo},
     {"plain", NULL, 0, 0, &orders.plain},
+    {"std", NULL, 0, 0, &orders.std},
+    {"parking_lot", NULL, 0, 0, &orders.parking_lot},
 };
 enum { OPTIONS = sizeof options / sizeof *options };
 
@@ -188,7 +197,7 @@ static int pace(void)
         nanosleep(&pause, NULL);
         for (unsigned i = 0; i < orders.variables; i++)
             if (atomic_load(&waiting[i]) > 0)
-                pthread_cond_broadcast(&variables[i]);
+                calls->broadcast(i);
         for (unsigned i = 0; i < orders.threads && status == STATUS_DONE; i++)
             status = follow(&slots[i]);
     }
@@ -216,16 +225,33 @@ static bool become_first(void)
     return !orders.fifo || pthread_setschedparam(pthread_self(), SCHED_FIFO, &parameters) == 0;
 }
 
+/* Mutexes of Rust have less to ask. */
+static bool are_together(void)
+{
+    bool is_rust = orders.std || orders.parking_lot;
+
+    return !(orders.std && orders.parking_lot) &&
+           !(is_rust && (orders.kinds || orders.robust || orders.ends > 0 || orders.fifo || orders.plain));
+}
+
+/* Whether all that is asked for can be asked here. */
+static bool prepare(char **words)
+{
+    if (!become_first()) {
+        fprintf(stderr, "hammer: SCHED_FIFO isn't allowed here\n");
+        return false;
+    }
+    return orders.std ? use_rust("std", words) : !orders.parking_lot || use_rust("parking_lot", words);
+}
+
 int main(int count, char **words)
 {
-    if (!take_words(count, words)) {
+    if (!take_words(count, words) || !are_together()) {
         fprintf(stderr, "hammer: wrong words; hammer --help has them all\n");
         return STATUS_WORDS;
     }
-    if (!become_first()) {
-        fprintf(stderr, "hammer: SCHED_FIFO isn't allowed here\n");
+    if (!prepare(words))
         return STATUS_CANNOT_ASK;
-    }
     alarm(orders.seconds);
     for (unsigned i = 0; i < orders.mutexes; i++)
         make_mutex(&mutexes[i], i);
@@ -234,6 +260,7 @@ int main(int count, char **words)
     int status = start_all();
     if (status == STATUS_DONE)
         status = pace();
+    alarm(0);
     print_answers();
-    return status;
+    return status == STATUS_DONE && !write_history() ? STATUS_WORDS : status;
 }

@@ -15,6 +15,7 @@ typedef struct {
     unsigned seed;
     unsigned trylocks, timed, waits, ends, priorities; /* per cent */
     bool fifo, kinds, robust, plain;
+    bool std, parking_lot;
 } Orders;
 
 typedef struct {
@@ -33,7 +34,22 @@ typedef struct {
     bool is_running;
 } Slot;
 
+/* Whose mutexes and variables are called: glibc's, or those of Rust. Places of both are counted from 0, and times are
+   microseconds from now. A timedlock may be missing. */
+typedef struct {
+    int (*lock)(unsigned mutex);
+    int (*trylock)(unsigned mutex);
+    int (*timedlock)(unsigned mutex, unsigned time);
+    int (*unlock)(unsigned mutex);
+    int (*wait)(unsigned variable, unsigned mutex);
+    int (*timedwait)(unsigned variable, unsigned mutex, unsigned time);
+    int (*signal)(unsigned variable);
+    int (*broadcast)(unsigned variable);
+} Calls;
+
 extern Orders orders;
+extern const Calls *calls;
+extern const Calls glibc_calls;
 extern Mutex mutexes[MOST_MUTEXES];
 extern pthread_cond_t variables[MOST_VARIABLES];
 extern _Atomic unsigned waiting[MOST_VARIABLES];
@@ -42,5 +58,10 @@ extern _Atomic unsigned long answers[MOST_ANSWERS];
 unsigned choose(Slot *, unsigned below);
 bool happens(Slot *, unsigned per_cent);
 void *work(void *slot);
+
+/* Mutexes of Rust are loaded, and their calls noted by pif_record.h; so each thread says its number. */
+bool use_rust(const char *name, char **words);
+void name_thread(unsigned number);
+bool write_history(void);
 
 #endif

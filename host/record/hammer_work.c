@@ -28,18 +28,7 @@ static int note(Slot *slot, int answer)
     return answer;
 }
 
-static struct timespec soon(Slot *slot)
-{
-    struct timespec time;
-
-    clock_gettime(CLOCK_REALTIME, &time);
-    time.tv_nsec += 1000L * choose(slot, MOST_MICROSECONDS);
-    if (time.tv_nsec >= 1000000000) {
-        time.tv_sec++;
-        time.tv_nsec -= 1000000000;
-    }
-    return time;
-}
+static unsigned soon(Slot *slot) { return choose(slot, MOST_MICROSECONDS); }
 
 /* The mutex is this thread's, but its last owner ended. Now and then that isn't mended, and the mutex is lost. */
 static void mend(Slot *slot, unsigned which)
@@ -50,15 +39,11 @@ static void mend(Slot *slot, unsigned which)
 
 static int ask(Slot *slot, unsigned which)
 {
-    pthread_mutex_t *mutex = &mutexes[which].mutex;
-    struct timespec deadline;
-
     if (happens(slot, orders.trylocks))
-        return pthread_mutex_trylock(mutex);
-    if (!happens(slot, orders.timed))
-        return pthread_mutex_lock(mutex);
-    deadline = soon(slot);
-    return pthread_mutex_timedlock(mutex, &deadline);
+        return calls->trylock(which);
+    if (!happens(slot, orders.timed) || calls->timedlock == NULL)
+        return calls->lock(which);
+    return calls->timedlock(which, soon(slot));
 }
 
 static void take(Slot *slot, unsigned which)
@@ -75,17 +60,14 @@ static void take(Slot *slot, unsigned which)
 static void give_up(Slot *slot, unsigned which)
 {
     slot->held[which]--;
-    note(slot, pthread_mutex_unlock(&mutexes[which].mutex));
+    note(slot, calls->unlock(which));
 }
 
-static int wait_on(Slot *slot, unsigned variable, pthread_mutex_t *mutex)
+static int wait_on(Slot *slot, unsigned variable, unsigned which)
 {
-    struct timespec deadline;
-
     if (!happens(slot, orders.timed))
-        return pthread_cond_wait(&variables[variable], mutex);
-    deadline = soon(slot);
-    return pthread_cond_timedwait(&variables[variable], mutex, &deadline);
+        return calls->wait(variable, which);
+    return calls->timedwait(variable, which, soon(slot));
 }
 
 /* Variable v is of mutex v, counted round. */
@@ -94,7 +76,7 @@ static void wait_with(Slot *slot, unsigned which)
     unsigned variable = which + orders.mutexes * choose(slot, (orders.variables - 1 - which) / orders.mutexes + 1);
 
     atomic_fetch_add(&waiting[variable], 1);
-    int answer = note(slot, wait_on(slot, variable, &mutexes[which].mutex));
+    int answer = note(slot, wait_on(slot, variable, which));
     atomic_fetch_sub(&waiting[variable], 1);
     if (answer == ENOTRECOVERABLE)
         slot->held[which] = 0;
@@ -104,9 +86,9 @@ static void wait_with(Slot *slot, unsigned which)
 
 static void use_variable(Slot *slot)
 {
-    pthread_cond_t *variable = &variables[choose(slot, orders.variables)];
+    unsigned variable = choose(slot, orders.variables);
 
-    note(slot, happens(slot, 70) ? pthread_cond_signal(variable) : pthread_cond_broadcast(variable));
+    note(slot, happens(slot, 70) ? calls->signal(variable) : calls->broadcast(variable));
 }
 
 static void set_priority(Slot *slot)
@@ -131,7 +113,7 @@ static bool knows_its_owner(const Mutex *mutex) { return mutex->is_robust || mut
 static void take_again(Slot *slot, unsigned which)
 {
     if (mutexes[which].type == PTHREAD_MUTEX_NORMAL)
-        note(slot, pthread_mutex_trylock(&mutexes[which].mutex));
+        note(slot, calls->trylock(which));
     else if (slot->held[which] < MOST_HELD)
         take(slot, which);
 }
@@ -143,7 +125,7 @@ static void do_with_none(Slot *slot)
     if (orders.variables > 0 && happens(slot, orders.waits))
         use_variable(slot);
     else if (knows_its_owner(&mutexes[which]) && happens(slot, 3))
-        note(slot, pthread_mutex_unlock(&mutexes[which].mutex));
+        note(slot, calls->unlock(which));
     else if (orders.fifo && happens(slot, orders.priorities))
         set_priority(slot);
     else
@@ -181,6 +163,7 @@ void *work(void *value)
     Slot *slot = value;
     bool ends = false;
 
+    name_thread(slot->number + 1);
     while (slot->left > 0 && !ends) {
         unsigned which = highest(slot);
         if (which == 0)

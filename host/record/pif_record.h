@@ -10,7 +10,12 @@
 
        #define PIF_RECORD_HERE
 
-   which puts the memory there. Then say
+   which puts the memory there. If calls have deadlines, say there too how to read the time:
+
+       #define PIF_CLOCK() my_microseconds()
+
+   It is read behind each stamp, and counts as the deadlines of `timedlock` and `timedwait` do, in whole units of which
+   none is begun: rounded up, where deadlines are rounded down. Then the dump has the ticks. Now say
 
        PIF_ADD("thread %u", priority);             what there is, from one thread at a time: threads, mutexes
        PIF_ADD("mutex normal robust");             and variables, each numbered from 1 in this order
@@ -39,6 +44,10 @@
 #endif
 
 #define PIF_RECORD_NUMBERS 4
+
+#ifndef PIF_CLOCK
+#define PIF_CLOCK() 0
+#endif
 
 #ifdef __cplusplus
 extern "C" {
@@ -70,6 +79,7 @@ typedef struct {
     volatile unsigned long place; /* 0: nothing stands here, or it is being written */
     const char *front;            /* and the thread behind it; or none */
     unsigned thread;
+    unsigned time; /* read behind the stamp */
     const char *format;
     unsigned numbers[PIF_RECORD_NUMBERS];
 } PifLine;
@@ -108,6 +118,7 @@ void pif_note(unsigned long place, const char *front, unsigned thread, const cha
     line->place = 0;
     line->front = front;
     line->thread = thread;
+    line->time = PIF_CLOCK();
     va_start(numbers, format);
     pif_keep(line, format, numbers);
     va_end(numbers);
@@ -159,6 +170,68 @@ static unsigned long pif_last(void)
     return last;
 }
 
+/* The deadline of a timed call that begins at this line; 0 if none does. It is the last number. */
+static unsigned pif_deadline(const PifLine *line)
+{
+    unsigned count = 0;
+
+    if (line->front == 0 || line->format[0] != 't' || line->format[1] != 'i')
+        return 0;
+    for (const char *at = line->format; *at != '\0'; at++)
+        count += at[0] == '%' && at[1] == 'u' && count < PIF_RECORD_NUMBERS;
+    return count == 0 ? 0 : line->numbers[count - 1];
+}
+
+/* What the dump knows of times at a line. No line before `open` has a deadline that is greater than the tick. */
+typedef struct {
+    unsigned greatest, tick, next;
+    unsigned long open;
+} PifTimes;
+
+/* The next deadline behind the tick, of those up to this line; the greatest number if there is none. */
+static void pif_find_next(PifTimes *times, unsigned long last)
+{
+    while (times->open <= last && pif_deadline(&pif_lines[times->open % PIF_RECORD_LINES]) <= times->tick)
+        times->open++;
+    times->next = -1u;
+    for (unsigned long place = times->open; place <= last; place++) {
+        unsigned deadline = pif_deadline(&pif_lines[place % PIF_RECORD_LINES]);
+        if (deadline > times->tick && deadline < times->next)
+            times->next = deadline;
+    }
+}
+
+/* A tick stands before the first line whose greatest time reaches a deadline: all before it was done by then. */
+static void pif_put_tick(void (*put)(char), PifTimes *times, unsigned long place)
+{
+    const PifLine *line = &pif_lines[place % PIF_RECORD_LINES];
+    unsigned deadline = pif_deadline(line);
+
+    if (line->time > times->greatest)
+        times->greatest = line->time;
+    if (deadline > times->tick && deadline < times->next)
+        times->next = deadline;
+    if (times->greatest <= times->tick || times->greatest < times->next)
+        return;
+    pif_put_text(put, "tick ");
+    pif_put_number(put, times->greatest);
+    put('\n');
+    times->tick = times->greatest;
+    pif_find_next(times, place);
+}
+
+static void pif_put_lines(void (*put)(char), unsigned long first, unsigned long last)
+{
+    PifTimes times = {0, 0, -1u, first};
+
+    for (unsigned long place = first; place <= last; place++) {
+        if (pif_lines[place % PIF_RECORD_LINES].place != place)
+            continue;
+        pif_put_tick(put, &times, place);
+        pif_put_line(put, &pif_lines[place % PIF_RECORD_LINES]);
+    }
+}
+
 static void pif_put_lost(void (*put)(char), unsigned long lost)
 {
     pif_put_text(put, "# lost before this line: ");
@@ -177,9 +250,7 @@ unsigned long pif_dump(void (*put)(char))
         lost = last - pif_first - PIF_RECORD_LINES + 1;
     if (lost > 0)
         pif_put_lost(put, lost);
-    for (unsigned long place = pif_first + lost; place <= last; place++)
-        if (pif_lines[place % PIF_RECORD_LINES].place == place)
-            pif_put_line(put, &pif_lines[place % PIF_RECORD_LINES]);
+    pif_put_lines(put, pif_first + lost, last);
     return lost;
 }
 

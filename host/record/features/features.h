@@ -15,7 +15,8 @@ typedef struct {
     void (*run)(void);
 } Feature;
 
-extern const Feature mutex_features[], variable_features[], thread_features[], left_out_features[], end_features[];
+extern const Feature mutex_features[], variable_features[], thread_features[], left_out_features[], end_features[],
+    difference_features[];
 
 /* Adds to CLOCK_MONOTONIC, as the recorder reads it. */
 extern time_t skipped_seconds;

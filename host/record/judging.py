@@ -1,0 +1,74 @@
+"""What the tools of this folder share: a program is recorded, and its history judged by `pif judge`."""
+
+import os
+import re
+import shutil
+import subprocess
+from pathlib import Path
+from typing import NamedTuple
+
+HERE = Path(__file__).resolve().parent
+TOP = HERE.parent.parent
+LIBRARY = HERE / "librecord.so"
+LEGAL, FAULT, UNREAD, ILLEGAL, UNDECIDED = 0, 2, 3, 5, 7
+VERDICTS = (LEGAL, FAULT, ILLEGAL, UNDECIDED)
+
+
+class Verdict(NamedTuple):
+    """What is told of a history, and where."""
+
+    status: int
+    text: str
+    line: int  # of an illegal or undecided one; else 0
+
+
+def make(*targets):
+    """Builds what stands in this folder."""
+    subprocess.run(["make", "-s", "-C", str(HERE), *targets], check=True)
+
+
+def environment(history, besides=None):
+    """The variables with which a program is recorded."""
+    return {**os.environ, "RECORD_FILE": str(history), "LD_PRELOAD": str(LIBRARY), **(besides or {})}
+
+
+def with_time(words, seconds, *options):
+    """The words with a SIGALRM behind so many seconds, and five seconds later the end; options as of timeout(1)."""
+    return ["timeout", *options, "-k", "5", "-s", "ALRM", str(seconds), *map(str, words)]
+
+
+def said_by_recorder(text):
+    """What the recorder said on standard error."""
+    return [line.removeprefix("librecord: ") for line in text.splitlines() if line.startswith("librecord: ")]
+
+
+def first_lines(history, count):
+    """Leaves the first lines of a history alone. They are one themselves: the calls that stay open may still do
+    anything."""
+    with history.open("rb") as file:
+        lines = [line for _, line in zip(range(count), file)]
+    history.write_bytes(b"".join(lines))
+
+
+def judge(history, pif=None, states=None, seconds=None):
+    """The verdict on a history. It is undecided if it isn't there behind so many seconds."""
+    words = [str(pif or TOP / "pif"), "judge", *(["--states", str(states)] if states else []), str(history)]
+    try:
+        done = subprocess.run(words, stdin=subprocess.DEVNULL, capture_output=True, text=True, timeout=seconds)
+    except subprocess.TimeoutExpired:
+        return Verdict(UNDECIDED, "undecided: it takes more than %d seconds\n" % seconds, 0)
+    found = re.match(r"(?:illegal|undecided) at (\d+)", done.stdout)
+    told = done.stdout if done.stdout else done.stderr
+    return Verdict(done.returncode, told, int(found[1]) if found else 0)
+
+
+def excerpt(history, line):
+    """The calls on that line's mutex and its variables since it was last free, up to that line; else nothing."""
+    done = subprocess.run([HERE / "excerpt", history, str(line)], capture_output=True, text=True)
+    return done.stdout
+
+
+def keep(history, place):
+    """Copies a history to where it is to stay."""
+    if place is not None:
+        shutil.copy(history, place)
