@@ -1,10 +1,12 @@
-/* Nanoseconds of an event through the library, and of an uncontended pair, lock and unlock, by whole calls. */
+/* Nanoseconds of an event through the library, and of an uncontended pair, lock and unlock, by whole calls: the median of
+   many short rounds, of which a busy machine spoils few. */
 #include <stdio.h>
+#include <stdlib.h>
 #include <time.h>
 
 #include "pif.h"
 
-enum { ROUNDS = 7, TIMES = 2000000 };
+enum { ROUNDS = 1001, TIMES = 2000 };
 
 static double now(void)
 {
@@ -29,6 +31,9 @@ static unsigned long pair_by_events(pif_core *core, uint32_t thread, uint32_t mu
     return events + 1;
 }
 
+/* One round: nanoseconds of one event, or of one pair. */
+typedef double round_of(pif_core *core, uint32_t thread, uint32_t mutex);
+
 static double event(pif_core *core, uint32_t thread, uint32_t mutex)
 {
     unsigned long events = 0;
@@ -50,27 +55,35 @@ static double pair(pif_core *core, uint32_t thread, uint32_t mutex)
     return (now() - began) / TIMES;
 }
 
-static double least(double one, double other)
+static int compare(const void *one, const void *other)
 {
-    return one < other ? one : other;
+    double first = *(const double *)one, second = *(const double *)other;
+
+    return (first > second) - (first < second);
+}
+
+static void print_median(const char *name, round_of *round, pif_core *core, uint32_t thread, uint32_t mutex)
+{
+    static double took[ROUNDS];
+
+    for (int i = 0; i < ROUNDS; i++)
+        took[i] = round(core, thread, mutex);
+    qsort(took, ROUNDS, sizeof took[0], compare);
+    printf("%s %.1f ns (%.1f to %.1f)\n", name, took[ROUNDS / 2], took[0], took[ROUNDS - 1]);
 }
 
 int main(void)
 {
     pif_core core = {0};
-    double of_event = 1e9, of_stalled = 1e9, of_robust = 1e9;
 
     if (pif_core_new(&core, 64, 64, 1, 1) != PIF_OK)
         return 1;
     uint32_t thread = pif_add_thread(&core, 10).number;
     uint32_t stalled = pif_add_mutex(&core, PIF_NORMAL, false).number;
     uint32_t robust = pif_add_mutex(&core, PIF_NORMAL, true).number;
-    for (int round = 0; round < ROUNDS; round++) {
-        of_event = least(of_event, event(&core, thread, stalled));
-        of_stalled = least(of_stalled, pair(&core, thread, stalled));
-        of_robust = least(of_robust, pair(&core, thread, robust));
-    }
-    printf("event %.1f ns\npair %.1f ns\nrobust pair %.1f ns\n", of_event, of_stalled, of_robust);
+    print_median("event", event, &core, thread, stalled);
+    print_median("pair", pair, &core, thread, stalled);
+    print_median("robust pair", pair, &core, thread, robust);
     pif_core_free(&core);
     return 0;
 }

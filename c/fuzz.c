@@ -1,6 +1,6 @@
 /* A harness for libFuzzer: the bytes say which functions of the library are called, with which numbers. What must hold
-   of the answers is tested; the sanitizers test the rest. The same bytes are given to pif_run, pif_replay and pif_check
-   as a text.
+   of the answers is tested; the sanitizers test the rest. The same bytes are given to pif_run, pif_replay, pif_check and
+   pif_judge as a text.
 
        make -C c fuzz */
 #include <stdint.h>
@@ -9,7 +9,7 @@
 
 #include "pif.h"
 
-enum { ROOM = 4096 };
+enum { ROOM = 4096, STATES = 64 };
 
 /* The bytes that are left. */
 typedef struct {
@@ -124,9 +124,11 @@ static void texts(const uint8_t *data, size_t length)
     static uint8_t room[ROOM];
     pif_text ran = pif_run(data, length, room, ROOM), replayed = pif_replay(data, length, room, ROOM);
     pif_text checked = pif_check((const uint8_t *)"-", 1, data, length, room, ROOM);
+    pif_text judged = pif_judge(data, length, STATES, true, room, ROOM);
 
     holds(ran.ended == PIF_WHOLE || ran.ended == PIF_FAULT);
     holds(replayed.ended <= PIF_DIFFERS && checked.ended <= PIF_DIFFERS);
+    holds(judged.ended <= PIF_DIFFERS || judged.ended == PIF_UNDECIDED);
 }
 
 int LLVMFuzzerTestOneInput(const uint8_t *data, size_t length)

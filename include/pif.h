@@ -17,7 +17,7 @@
    All else is answered. A handle with no core, numbers that name nothing, and limits out of range are told by the
    result, and nothing has changed then. No call ends the process, blocks, or writes anywhere but into the handle and
    into the room that you gave. Memory is taken by malloc, realloc and free of your program, which align a block to 16
-   bytes: by pif_core_new alone of the calls on a handle, and by pif_run, pif_replay and pif_check while they run.
+   bytes: by pif_core_new alone of the calls on a handle, and by those over texts while they run.
 
    The contracts in crates/pif_c say of each call what it answers and what the core is then. They are proved. That this
    header, your compiler and what you owe agree with them is not. */
@@ -292,12 +292,13 @@ pif_doing pif_status(pif_core *core, uint32_t thread);
 
 /* How a job ended. The text that is written says more. */
 enum pif_ended_by {
-    PIF_WHOLE = 0,         /* the text was read to its end */
+    PIF_WHOLE = 0,         /* the text was read to its end; a history is legal */
     PIF_FAULT = 1,         /* a line is no command, or is not allowed there */
-    PIF_DIFFERS = 2,       /* a line has another answer than the core gives */
+    PIF_DIFFERS = 2,       /* a line has another answer than the core gives; a history is illegal at a line */
     PIF_OUT_OF_MEMORY = 3, /* malloc refused a request */
     PIF_UNWRITTEN = 4,     /* malloc refused room for the text that is to be written, which is cut */
-    PIF_UNREAD = 5         /* does not happen */
+    PIF_UNREAD = 5,        /* does not happen */
+    PIF_UNDECIDED = 6      /* of pif_judge: more states were made for a line than may be, and nothing is claimed */
 };
 
 typedef struct pif_text {
@@ -315,7 +316,11 @@ pif_text pif_replay(const uint8_t *trace, size_t trace_length, uint8_t *room, si
 pif_text pif_check(const uint8_t *name, size_t name_length, const uint8_t *story, size_t story_length, uint8_t *room,
                    size_t room_length);
 
-/* Histories are not judged here: of the library there is no pif_judge yet. */
+/* Judges a history, and writes what `pif judge` prints: whether some run of the POSIX machine shows its lines. At most
+   `states` states are made for one line, as with --states; `pif judge` makes at most 200000 without it. If `witness` is
+   true, a run that shows a legal history is written behind, as with --witness. */
+pif_text pif_judge(const uint8_t *history, size_t history_length, uint32_t states, bool witness, uint8_t *room,
+                   size_t room_length);
 
 #ifdef __cplusplus
 }

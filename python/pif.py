@@ -37,6 +37,14 @@ Texts go in and come out:
     mine: differs 1: thread 10 = t2, but the core gives t1
     >>> print(replay("pif-trace 2\\nthread 10 = t1\\n"), end="")
     same 1
+    >>> print(judge("thread 10\\nmutex normal\\nbegin t1 lock m1\\nanswer t1 EBUSY\\n"), end="")
+    illegal at 4: answer t1 16
+    possible there: 0
+    its call began at 3: begin t1 lock m1
+    >>> print(judge("# seen\\nthread 10\\nprio t1 10\\n", witness=True), end="")
+    legal 3
+    thread 10
+    prio t1 10
 
 The exceptions are Refused and MemoryError. A core is freed when nobody has it any more.
 `python3 -m doctest pif.py` tries the lines above.
@@ -48,7 +56,7 @@ import os
 from collections import namedtuple
 from pathlib import Path
 
-__all__ = ["Core", "Refused", "Seen", "check", "replay", "run"]
+__all__ = ["Core", "Refused", "Seen", "check", "judge", "replay", "run"]
 
 WHAT = ("no core", "begun", "went", "waits", "answer", "ended", "ticked", "refused", "unnamed")
 REFUSALS = (None, "nosuch", "dead", "busy", "idle", "past")
@@ -132,6 +140,7 @@ SIGNATURES = {
     "pif_run": (Text, BYTES, SIZE, BYTES, SIZE),
     "pif_replay": (Text, BYTES, SIZE, BYTES, SIZE),
     "pif_check": (Text, BYTES, SIZE, BYTES, SIZE, BYTES, SIZE),
+    "pif_judge": (Text, BYTES, SIZE, U32, ctypes.c_bool, BYTES, SIZE),
 }
 
 
@@ -268,9 +277,14 @@ class Core:
         return None if told.result == NONE else (STATES[told.state], told.waits_for)
 
 
-def written(function, *texts):
+def sized(text):
+    """A text as a function takes it, with how many bytes it has."""
+    taken = text.encode()
+    return taken, len(taken)
+
+
+def written(function, *arguments):
     """What a job prints, in as much room as it wants."""
-    arguments = [part for text in texts for part in (text.encode(), len(text.encode()))]
     size = 4096
     while True:
         room = ctypes.create_string_buffer(max(size, 1))
@@ -284,15 +298,19 @@ def written(function, *texts):
 
 def run(script):
     """What `pif run` prints of a script."""
-    return written(LIBRARY.pif_run, script)
+    return written(LIBRARY.pif_run, *sized(script))
 
 
 def check(story, name="-"):
     """What `pif check` prints of a story of this name."""
-    return written(LIBRARY.pif_check, name, story)
+    return written(LIBRARY.pif_check, *sized(name), *sized(story))
 
 
 def replay(trace):
     """What `pif replay` prints of a trace."""
-    return written(LIBRARY.pif_replay, trace)
+    return written(LIBRARY.pif_replay, *sized(trace))
 
+
+def judge(history, states=200000, witness=False):
+    """What `pif judge` prints of a history, with at most so many states made for one line."""
+    return written(LIBRARY.pif_judge, *sized(history), states, witness)

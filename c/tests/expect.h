@@ -8,7 +8,7 @@
 
 static int failures;
 
-static void expect_number(int line, const char *what, pif_number is, uint32_t result, uint32_t number)
+static inline void expect_number(int line, const char *what, pif_number is, uint32_t result, uint32_t number)
 {
     if (is.result != result || is.number != number) {
         printf("line %d: %s: result %u, number %u, and not %u, %u\n", line, what, is.result, is.number, result, number);
@@ -16,7 +16,7 @@ static void expect_number(int line, const char *what, pif_number is, uint32_t re
     }
 }
 
-static void expect_seen(int line, const char *what, pif_seen is, uint32_t seen, uint32_t detail)
+static inline void expect_seen(int line, const char *what, pif_seen is, uint32_t seen, uint32_t detail)
 {
     if (is.what != seen || is.detail != detail) {
         printf("line %d: %s: what %u, detail %u, and not %u, %u\n", line, what, is.what, is.detail, seen, detail);
@@ -24,7 +24,7 @@ static void expect_seen(int line, const char *what, pif_seen is, uint32_t seen, 
     }
 }
 
-static void expect_true(int line, const char *what, bool is)
+static inline void expect_true(int line, const char *what, bool is)
 {
     if (!is) {
         printf("line %d: %s is not so\n", line, what);
@@ -37,7 +37,7 @@ static void expect_true(int line, const char *what, bool is)
 #define TRUE(condition) expect_true(__LINE__, #condition, condition)
 
 /* 0 where all was as expected. */
-static int outcome(void)
+static inline int outcome(void)
 {
     return failures == 0 ? 0 : 1;
 }

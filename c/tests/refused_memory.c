@@ -1,9 +1,9 @@
 /* A malloc that refuses the Nth request, for each N: a core that can't be made leaves an empty handle, and a text says
    that memory is wanting. The sanitizers see that nothing is lost or freed twice. */
 #include <stdlib.h>
-#include <string.h>
 
 #include "expect.h"
+#include "jobs.h"
 
 /* The linker puts these in the place of malloc and realloc (--wrap). */
 void *__real_malloc(size_t size);
@@ -51,31 +51,34 @@ static long requests_of_a_core(void)
     }
 }
 
-/* How many requests a script takes. */
-static long requests_of_a_run(void)
+/* How many requests a job takes that writes this of a text. */
+static long requests_of(job *does, const char *text, const char *out)
 {
-    static const char script[] = "thread 10\nmutex normal\ncall t1 lock m1\n", out[] = "t1\nm1\nanswer 0\n";
-    uint8_t room[64];
+    uint8_t room[256];
 
     for (long most = 0;; most++) {
         granted = most;
-        pif_text told = pif_run((const uint8_t *)script, sizeof script - 1, room, sizeof room);
+        pif_text told = does(text, room, sizeof room);
         granted = -1;
         if (told.ended == PIF_WHOLE) {
-            TRUE(told.wanted == sizeof out - 1 && memcmp(room, out, sizeof out - 1) == 0);
+            TRUE(told.wanted == strlen(out) && memcmp(room, out, strlen(out)) == 0);
             return most;
         }
         TRUE(told.ended == PIF_OUT_OF_MEMORY || told.ended == PIF_UNWRITTEN);
-        TRUE(told.wanted < sizeof out - 1);
+        TRUE(told.wanted < strlen(out));
     }
 }
 
 int main(void)
 {
-    long core = requests_of_a_core(), run = requests_of_a_run();
+    long core = requests_of_a_core();
+    long run = requests_of(runs, "thread 10\nmutex normal\ncall t1 lock m1\n", "t1\nm1\nanswer 0\n");
+    long replay = requests_of(replays, "pif-trace 2\nthread 10 = t1\n", "same 1\n");
+    long check = requests_of(checks, "thread 10 = t1\n", "ok mine 1\n");
+    long judge = requests_of(judges_with_witness, "thread 10\ntick 5\n", "legal 2\nthread 10\ntick 5\n");
 
-    TRUE(core > 1);
-    TRUE(run > 1);
-    printf("a core takes %ld requests, a run of a short script %ld\n", core, run);
+    TRUE(core > 1 && run > 1 && replay > 1 && check > 1 && judge > 1);
+    printf("requests: a core %ld, a script %ld, a trace %ld, a story %ld, a history %ld\n", core, run, replay, check,
+           judge);
     return outcome();
 }

@@ -1,5 +1,5 @@
 -- What a handle answers to what C asks: what its core answers, where it holds one and the numbers name something.
-use Rattle.std.specs.Prelude.{ℕ, ◌==◌, Bool, Option, Some, None, option_map, Result, if◌then◌else◌}
+use Rattle.std.specs.Prelude.{ℕ, ◌≡◌, ◌==◌, Bool, Option, Some, None, option_map, Result, if◌then◌else◌}
 use Rattle.pif_types.specs.declared.errors.AddFault.{AddFault}
 use Rattle.pif_types.specs.Bounds.{Bounds, IsWithin}
 use Rattle.pif_model.specs.declared.events.Event.TheVariants.{Begin, Go, End, Tick}
@@ -78,6 +78,11 @@ abbrev pub shown_told : Look → Option Table → PifNumber
 shown_told x None = record { result = no_core; number = 0 }
 shown_told x (Some s) = number_told (shown x s)
 
+-- a look at what a handle holds: the answer, and it holds the same afterwards
+pub record Looks (x : Look) (before after : Option Table) (told : PifNumber) : Type 0 where
+  pub answer : told ≡ shown_told x before
+  pub same : after ≡ before
+
 -- the owner of a mutex, and what a thread does, by what a handle holds
 abbrev pub owner_shown : ℕ → Option Table → PifOwned
 owner_shown m None = record { result = no_core; thread = 0; count = 0 }
@@ -110,6 +115,11 @@ abbrev pub add_after : Option Addition → Option Table → Option Table
 add_after x None = None
 add_after None (Some s) = Some s
 add_after (Some x) (Some s) = Some (added_after x s)
+
+-- an addition to what a handle holds: the answer, and what it holds then
+pub record Adds (x : Option Addition) (before after : Option Table) (told : PifNumber) : Type 0 where
+  pub answer : told ≡ add_told x before
+  pub next : after ≡ add_after x before
 
 -- the addition of a mutex of the kind that has this number
 abbrev pub mutex_of : ℕ → Bool → Option Addition

@@ -1,5 +1,5 @@
 -- What a turn keeps: a core that stands goes on standing, and its history stays legal, with one holder of each mutex.
-use Rattle.std.specs.Prelude.{◌∷◌, List, Option, Some}
+use Rattle.std.specs.Prelude.{◌≡◌, ◌∷◌, List, Option, Some}
 use Rattle.pif_model.specs.declared.events.Entry.{Entry}
 use Rattle.pif_model.specs.declared.events.Entry.TheVariants.{Step as Happened}
 use Rattle.pif_model.specs.Posix.{IsLegal}
@@ -10,6 +10,8 @@ use Rattle.pif_model.specs.Lines.{event_outcome}
 use Rattle.pif_model_simulation.specs.Calls.{StandsOn, after_call, after_finish}
 use Rattle.pif_c.specs.declared.asking.Turn.{Turn}
 use Rattle.pif_c.specs.declared.asking.Turn.TheVariants.{Event as OneEvent, Call, Finish}
+use Rattle.pif_c.specs.declared.numbers.PifSeen.{PifSeen}
+use Rattle.pif_c.specs.Asking.{turn_told, turn_after}
 
 -- a history with the entries more that a turn adds to it
 abbrev pub after_turn : Turn → Table → List Entry → List Entry
@@ -28,3 +30,9 @@ pub record Keeps (x : Turn) (s after : Table) : Type 0 where
 abbrev pub HeldKeeps : Option Turn → Option Table → Option Table → Type 0
 HeldKeeps (Some x) (Some s) (Some after) = Keeps x s after
 HeldKeeps x s after = Unit {0}
+
+-- a turn on what a handle holds: the answer, what it holds then, and what that keeps
+pub record Turns (x : Option Turn) (before after : Option Table) (told : PifSeen) : Type 0 where
+  pub answer : told ≡ turn_told x before
+  pub next : after ≡ turn_after x before
+  pub keeps : HeldKeeps x before after

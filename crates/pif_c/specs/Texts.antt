@@ -2,36 +2,51 @@
 use Rattle.std.specs.Prelude.{ℕ, ◌≡◌, ◌++◌, ◌≤◌, ◌<◌, List, [], length, drop, Option, Some, Result, Ok, Err}
 use Rattle.pif_script_model.specs.declared.faults.CliFault.{CliFault}
 use Rattle.pif_script_model.specs.declared.faults.CliFault.TheVariants.{Read, Write, NoMemory, Script, Differs}
+use Rattle.pif_job_judge.specs.Judging.{JudgesTo}
+use Rattle.pif_job_judge.specs.declared.faults.JudgeFault.{JudgeFault}
+use Rattle.pif_job_judge.specs.declared.faults.JudgeFault.TheVariants.{Cli, Undecided}
 use Rattle.pif_c.specs.declared.texts.PifText.{PifText}
 
--- how a job ended: `enum pif_ended`
-abbrev pub status_of : Result (Unit {0}) CliFault → ℕ
-status_of (Ok x) = 0
-status_of (Err (Script n c)) = 1
-status_of (Err (Differs n)) = 2
-status_of (Err NoMemory) = 3
-status_of (Err Write) = 4
-status_of (Err Read) = 5
+-- how a job ended: `enum pif_ended_by`
+abbrev pub fault_number : CliFault → ℕ
+fault_number (Script n c) = 1
+fault_number (Differs n) = 2
+fault_number NoMemory = 3
+fault_number Write = 4
+fault_number Read = 5
+
+abbrev pub ended_number : Result (Unit {0}) CliFault → ℕ
+ended_number (Ok x) = 0
+ended_number (Err fault) = fault_number fault
+
+abbrev pub judged_number : Result (Unit {0}) JudgeFault → ℕ
+judged_number (Ok x) = 0
+judged_number (Err (Cli fault)) = fault_number fault
+judged_number (Err (Undecided n)) = 6
 
 -- what a job says of a reader and a writer: what the reader had and has left, what the writer held and holds, and how
 -- the job ended
-abbrev pub Job : Type 1
-Job = Option (List ℕ) → Option (List ℕ) → Option (List ℕ) → Option (List ℕ) → Result (Unit {0}) CliFault → Type 0
+abbrev pub Job : Type 0 → Type 1
+Job E = Option (List ℕ) → Option (List ℕ) → Option (List ℕ) → Option (List ℕ) → Result (Unit {0}) E → Type 0
+
+-- judging a history with no name in front of what is told
+abbrev pub JudgesAlone : Job JudgeFault
+JudgesAlone before left held holds done = JudgesTo before left held holds [] done
 
 -- a job read from these bytes, and wrote this text into an empty writer
-abbrev pub Wholly : Job → List ℕ → List ℕ → Result (Unit {0}) CliFault → Type 0
+abbrev pub Wholly : {E : Type 0} → Job E → List ℕ → List ℕ → Result (Unit {0}) E → Type 0
 Wholly Does input text done = (left : Option (List ℕ)) × Does (Some input) left (Some []) (Some text) done
 
 -- a text is handed out into room for bytes: the room begins with it where it fits, and else is as it was
-pub record IsHandedOut (text : List ℕ) (done : Result (Unit {0}) CliFault) (before after : List ℕ) (told : PifText) : Type 0 where
-  pub is_ended : told.ended ≡ status_of done
+pub record IsHandedOut (text : List ℕ) (ended : ℕ) (before after : List ℕ) (told : PifText) : Type 0 where
+  pub is_ended : told.ended ≡ ended
   pub is_wanted : told.wanted ≡ length text
   pub fits : length text ≤ length before → after ≡ text ++ drop (length text) before
   pub too_long : length before < length text → after ≡ before
 
--- what a job prints of these bytes is handed out so
-pub record HandsOut (Does : Job) (input before after : List ℕ) (told : PifText) : Type 0 where
+-- what a job prints of these bytes is handed out so, with the number of how it ended
+pub record HandsOut {E : Type 0} (Does : Job E) (number_of : Result (Unit {0}) E → ℕ) (input before after : List ℕ) (told : PifText) : Type 0 where
   pub text : List ℕ
-  pub done : Result (Unit {0}) CliFault
+  pub done : Result (Unit {0}) E
   pub does : Wholly Does input text done
-  pub handed : IsHandedOut text done before after told
+  pub handed : IsHandedOut text (number_of done) before after told

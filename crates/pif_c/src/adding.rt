@@ -1,7 +1,7 @@
 ghost use Rattle.std.specs.Prelude.{◌≡◌, ℕ, Option, Some, None, Result};
 ghost use Rattle.pif_types.specs.declared.errors.AddFault.{AddFault};
 ghost use Rattle.pif_c.specs.Handles.{held};
-ghost use Rattle.pif_c.specs.Asking.{added, added_after, add_told, add_after, mutex_of};
+ghost use Rattle.pif_c.specs.Asking.{added, added_after, add_told, add_after, Adds, mutex_of};
 
 use crate::handles::PifCore;
 use crate::numbers::{PifNumber, added_told, kind_of};
@@ -71,8 +71,7 @@ fn add(core: &mut Core, asked: Option<Addition>) -> PifNumber
 
 /// An addition to the core that a handle holds.
 fn add_on(alloc: Global, handle: &mut PifCore, asked: Option<Addition>) -> PifNumber
-    ensures answer { result ≡ add_told asked (held handle.old) }
-    ensures after { held handle.new ≡ add_after asked (held handle.old) }
+    ensures { Adds asked (held handle.old) (held handle.new) result }
 {
     match handle.take(alloc) {
         Some(mut core) => {
@@ -98,8 +97,7 @@ fn mutex_of(kind: u32, robust: bool) -> Option<Addition>
 /// Adds a thread of this base priority: `Core::add_thread`.
 #[unsafe(no_mangle)]
 pub extern "C" fn pif_add_thread(alloc: Global, handle: &mut PifCore, prio: u32) -> PifNumber
-    ensures answer { result ≡ add_told (Some (Addition.Thread prio)) (held handle.old) }
-    ensures after { held handle.new ≡ add_after (Some (Addition.Thread prio)) (held handle.old) }
+    ensures { Adds (Some (Addition.Thread prio)) (held handle.old) (held handle.new) result }
 {
     add_on(alloc, handle, Some(Addition::Thread(prio)))
 }
@@ -112,8 +110,7 @@ pub extern "C" fn pif_add_mutex(
     kind: u32,
     robust: bool,
 ) -> PifNumber
-    ensures answer { result ≡ add_told (mutex_of kind robust) (held handle.old) }
-    ensures after { held handle.new ≡ add_after (mutex_of kind robust) (held handle.old) }
+    ensures { Adds (mutex_of kind robust) (held handle.old) (held handle.new) result }
 {
     add_on(alloc, handle, mutex_of(kind, robust))
 }
@@ -121,8 +118,7 @@ pub extern "C" fn pif_add_mutex(
 /// Adds a condition variable, and binds it to this mutex: `Core::add_cond`.
 #[unsafe(no_mangle)]
 pub extern "C" fn pif_add_cond(alloc: Global, handle: &mut PifCore, mutex: u32) -> PifNumber
-    ensures answer { result ≡ add_told (Some (Addition.Cond mutex)) (held handle.old) }
-    ensures after { held handle.new ≡ add_after (Some (Addition.Cond mutex)) (held handle.old) }
+    ensures { Adds (Some (Addition.Cond mutex)) (held handle.old) (held handle.new) result }
 {
     add_on(alloc, handle, Some(Addition::Cond(mutex)))
 }

@@ -1,7 +1,7 @@
 ghost use Rattle.std.specs.Prelude.{◌≡◌, Option, Some, None};
 ghost use Rattle.pif_c.specs.Handles.{held};
-ghost use Rattle.pif_c.specs.Asking.{outcome_of, turn_told, turn_after, shown, shown_told};
-ghost use Rattle.pif_c.specs.Standing.{HeldKeeps};
+ghost use Rattle.pif_c.specs.Asking.{outcome_of, turn_told, turn_after, shown, Looks};
+ghost use Rattle.pif_c.specs.Standing.{Turns};
 
 use crate::handles::PifCore;
 use crate::numbers::{PifNumber, PifSeen, health_number, number_told, seen_told};
@@ -52,9 +52,7 @@ fn take_turn(core: &mut Core, turn: Turn) -> Seen
 /// A turn of the core that a handle holds, where the numbers name one.
 #[tactic(auto, using(crate::proofs::Keeping::keeps_after))]
 pub(crate) fn turn_on(alloc: Global, handle: &mut PifCore, asked: Option<Turn>) -> PifSeen
-    ensures answer { result ≡ turn_told asked (held handle.old) }
-    ensures after { held handle.new ≡ turn_after asked (held handle.old) }
-    ensures keeps { HeldKeeps asked (held handle.old) (held handle.new) }
+    ensures { Turns asked (held handle.old) (held handle.new) result }
 {
     match handle.take(alloc) {
         Some(mut core) => {
@@ -124,8 +122,7 @@ fn pick(core: &Core) -> Option<u32>
 
 /// A number that the core of a handle shows. The handle holds the same core afterwards.
 pub(crate) fn look_on(alloc: Global, handle: &mut PifCore, asked: Look) -> PifNumber
-    ensures answer { result ≡ shown_told asked (held handle.old) }
-    ensures same { held handle.new ≡ held handle.old }
+    ensures { Looks asked (held handle.old) (held handle.new) result }
 {
     match handle.take(alloc) {
         Some(core) => {

@@ -1,7 +1,7 @@
 ghost use Rattle.std.specs.Prelude.{◌≡◌, Option, Some, None, option_map};
 ghost use Rattle.pif_c.specs.Handles.{held};
-ghost use Rattle.pif_c.specs.Asking.{begin_of, go_of, end_of, tick_of, call_of, finish_of, turn_told, turn_after};
-ghost use Rattle.pif_c.specs.Standing.{HeldKeeps};
+ghost use Rattle.pif_c.specs.Asking.{begin_of, go_of, end_of, tick_of, call_of, finish_of};
+ghost use Rattle.pif_c.specs.Standing.{Turns};
 
 use crate::asking::{Turn, turn_on};
 use crate::handles::PifCore;
@@ -52,9 +52,7 @@ pub extern "C" fn pif_begin(
     thread: u32,
     request: PifRequest,
 ) -> PifSeen
-    ensures answer { result ≡ turn_told (begin_of thread request) (held handle.old) }
-    ensures after { held handle.new ≡ turn_after (begin_of thread request) (held handle.old) }
-    ensures keeps { HeldKeeps (begin_of thread request) (held handle.old) (held handle.new) }
+    ensures { Turns (begin_of thread request) (held handle.old) (held handle.new) result }
 {
     turn_on(alloc, handle, begin_of(thread, request))
 }
@@ -62,9 +60,7 @@ pub extern "C" fn pif_begin(
 /// A thread takes one step of its open call: `Core::step` of `Event::Go`.
 #[unsafe(no_mangle)]
 pub extern "C" fn pif_go(alloc: Global, handle: &mut PifCore, thread: u32) -> PifSeen
-    ensures answer { result ≡ turn_told (go_of thread) (held handle.old) }
-    ensures after { held handle.new ≡ turn_after (go_of thread) (held handle.old) }
-    ensures keeps { HeldKeeps (go_of thread) (held handle.old) (held handle.new) }
+    ensures { Turns (go_of thread) (held handle.old) (held handle.new) result }
 {
     turn_on(alloc, handle, go_of(thread))
 }
@@ -77,9 +73,7 @@ pub extern "C" fn pif_call(
     thread: u32,
     request: PifRequest,
 ) -> PifSeen
-    ensures answer { result ≡ turn_told (call_of thread request) (held handle.old) }
-    ensures after { held handle.new ≡ turn_after (call_of thread request) (held handle.old) }
-    ensures keeps { HeldKeeps (call_of thread request) (held handle.old) (held handle.new) }
+    ensures { Turns (call_of thread request) (held handle.old) (held handle.new) result }
 {
     turn_on(alloc, handle, call_of(thread, request))
 }
@@ -87,9 +81,7 @@ pub extern "C" fn pif_call(
 /// A thread goes on with its open call until it is answered or waits: `Core::finish`.
 #[unsafe(no_mangle)]
 pub extern "C" fn pif_finish(alloc: Global, handle: &mut PifCore, thread: u32) -> PifSeen
-    ensures answer { result ≡ turn_told (finish_of thread) (held handle.old) }
-    ensures after { held handle.new ≡ turn_after (finish_of thread) (held handle.old) }
-    ensures keeps { HeldKeeps (finish_of thread) (held handle.old) (held handle.new) }
+    ensures { Turns (finish_of thread) (held handle.old) (held handle.new) result }
 {
     turn_on(alloc, handle, finish_of(thread))
 }
@@ -97,9 +89,7 @@ pub extern "C" fn pif_finish(alloc: Global, handle: &mut PifCore, thread: u32) -
 /// A thread ends, with a call open or not: `Core::step` of `Event::End`.
 #[unsafe(no_mangle)]
 pub extern "C" fn pif_end(alloc: Global, handle: &mut PifCore, thread: u32) -> PifSeen
-    ensures answer { result ≡ turn_told (end_of thread) (held handle.old) }
-    ensures after { held handle.new ≡ turn_after (end_of thread) (held handle.old) }
-    ensures keeps { HeldKeeps (end_of thread) (held handle.old) (held handle.new) }
+    ensures { Turns (end_of thread) (held handle.old) (held handle.new) result }
 {
     turn_on(alloc, handle, end_of(thread))
 }
@@ -107,9 +97,7 @@ pub extern "C" fn pif_end(alloc: Global, handle: &mut PifCore, thread: u32) -> P
 /// The time is this from now on: `Core::step` of `Event::Tick`.
 #[unsafe(no_mangle)]
 pub extern "C" fn pif_tick(alloc: Global, handle: &mut PifCore, time: u32) -> PifSeen
-    ensures answer { result ≡ turn_told (tick_of time) (held handle.old) }
-    ensures after { held handle.new ≡ turn_after (tick_of time) (held handle.old) }
-    ensures keeps { HeldKeeps (tick_of time) (held handle.old) (held handle.new) }
+    ensures { Turns (tick_of time) (held handle.old) (held handle.new) result }
 {
     turn_on(alloc, handle, Some(Turn::Event(Event::Tick(time))))
 }

@@ -2,8 +2,7 @@
 //!
 //! C owns a handle, which it begins as zeros: it holds no core then. `pif_core_new` has it hold one, `pif_core_free`
 //! gives that up. Each call takes a handle, and answers by numbers; on a handle with no core it says so, and changes
-//! nothing. No call requires more of its caller than what C owes of memory: a handle is handed back as the library wrote
-//! it, is not copied, and is in one call at a time.
+//! nothing. No call requires more of its caller than the head of `include/pif.h` says.
 //!
 //! | Module | What it has |
 //! |---|---|
@@ -16,7 +15,7 @@
 //! | `cores` | a core made, and given up |
 //! | `events` | events and whole calls |
 //! | `readers` | what a core shows |
-//! | `texts` | scripts, traces and stories: bytes in, bytes out |
+//! | `texts` | scripts, traces, stories and histories: bytes in, bytes out |
 #![tactic(auto)]
 
 mod adding;

@@ -2,7 +2,7 @@ ghost use Rattle.std.specs.Prelude.{◌≡◌, Option, Some, None};
 ghost use Rattle.pif_model.specs.Calls.{owner_answer, status_answer};
 ghost use Rattle.pif_c.specs.Handles.{held};
 ghost use Rattle.pif_c.specs.Numbers.{owner_told, status_told};
-ghost use Rattle.pif_c.specs.Asking.{shown_told, owner_shown, status_shown};
+ghost use Rattle.pif_c.specs.Asking.{Looks, owner_shown, status_shown};
 
 use crate::asking::{Look, look_on};
 use crate::handles::PifCore;
@@ -14,8 +14,7 @@ use std::alloc::Global;
 /// The effective priority of a thread: `Core::effective`.
 #[unsafe(no_mangle)]
 pub extern "C" fn pif_effective(alloc: Global, handle: &mut PifCore, thread: u32) -> PifNumber
-    ensures answer { result ≡ shown_told (Look.Effective thread) (held handle.old) }
-    ensures same { held handle.new ≡ held handle.old }
+    ensures { Looks (Look.Effective thread) (held handle.old) (held handle.new) result }
 {
     look_on(alloc, handle, Look::Effective(thread))
 }
@@ -23,8 +22,7 @@ pub extern "C" fn pif_effective(alloc: Global, handle: &mut PifCore, thread: u32
 /// Whether a thread rests, 1 or 0: `Core::waiting`.
 #[unsafe(no_mangle)]
 pub extern "C" fn pif_waiting(alloc: Global, handle: &mut PifCore, thread: u32) -> PifNumber
-    ensures answer { result ≡ shown_told (Look.Waiting thread) (held handle.old) }
-    ensures same { held handle.new ≡ held handle.old }
+    ensures { Looks (Look.Waiting thread) (held handle.old) (held handle.new) result }
 {
     look_on(alloc, handle, Look::Waiting(thread))
 }
@@ -32,8 +30,7 @@ pub extern "C" fn pif_waiting(alloc: Global, handle: &mut PifCore, thread: u32) 
 /// The word of a mutex: `Core::word`.
 #[unsafe(no_mangle)]
 pub extern "C" fn pif_word(alloc: Global, handle: &mut PifCore, mutex: u32) -> PifNumber
-    ensures answer { result ≡ shown_told (Look.Word mutex) (held handle.old) }
-    ensures same { held handle.new ≡ held handle.old }
+    ensures { Looks (Look.Word mutex) (held handle.old) (held handle.new) result }
 {
     look_on(alloc, handle, Look::Word(mutex))
 }
@@ -41,8 +38,7 @@ pub extern "C" fn pif_word(alloc: Global, handle: &mut PifCore, mutex: u32) -> P
 /// The health of a mutex: `Core::health`.
 #[unsafe(no_mangle)]
 pub extern "C" fn pif_health(alloc: Global, handle: &mut PifCore, mutex: u32) -> PifNumber
-    ensures answer { result ≡ shown_told (Look.Health mutex) (held handle.old) }
-    ensures same { held handle.new ≡ held handle.old }
+    ensures { Looks (Look.Health mutex) (held handle.old) (held handle.new) result }
 {
     look_on(alloc, handle, Look::Health(mutex))
 }
@@ -50,8 +46,7 @@ pub extern "C" fn pif_health(alloc: Global, handle: &mut PifCore, mutex: u32) ->
 /// The condition word of a variable: `Core::cond_word`.
 #[unsafe(no_mangle)]
 pub extern "C" fn pif_cond_word(alloc: Global, handle: &mut PifCore, cond: u32) -> PifNumber
-    ensures answer { result ≡ shown_told (Look.CondWord cond) (held handle.old) }
-    ensures same { held handle.new ≡ held handle.old }
+    ensures { Looks (Look.CondWord cond) (held handle.old) (held handle.new) result }
 {
     look_on(alloc, handle, Look::CondWord(cond))
 }
@@ -59,8 +54,7 @@ pub extern "C" fn pif_cond_word(alloc: Global, handle: &mut PifCore, cond: u32) 
 /// The thread that runs next: `Core::pick`.
 #[unsafe(no_mangle)]
 pub extern "C" fn pif_pick(alloc: Global, handle: &mut PifCore) -> PifNumber
-    ensures answer { result ≡ shown_told Look.Pick (held handle.old) }
-    ensures same { held handle.new ≡ held handle.old }
+    ensures { Looks Look.Pick (held handle.old) (held handle.new) result }
 {
     look_on(alloc, handle, Look::Pick)
 }

@@ -1,10 +1,12 @@
-ghost use Rattle.std.specs.Prelude.{◌≡◌, ℕ, List, Result};
+ghost use Rattle.std.specs.Prelude.{◌≡◌, ℕ, List, None, Result};
 ghost use Rattle.pif_script_model.specs.Running.{RunsTo};
 ghost use Rattle.pif_script_model.specs.Traces.{ReplaysTo};
 ghost use Rattle.pif_script_model.specs.declared.faults.CliFault.{CliFault};
 ghost use Rattle.pif_story_model.specs.Checks.{TellsTo, check_telling};
-ghost use Rattle.pif_c.specs.Texts.{status_of, Wholly, HandsOut, IsHandedOut};
+ghost use Rattle.pif_job_judge.specs.declared.faults.JudgeFault.{JudgeFault};
+ghost use Rattle.pif_c.specs.Texts.{fault_number, ended_number, judged_number, JudgesAlone, Wholly, HandsOut, IsHandedOut};
 
+use pif_job_judge::{JudgeFault, Judging, Unwatched};
 use pif_script_model::CliFault;
 use std::alloc::Global;
 
@@ -18,32 +20,49 @@ pub struct PifText {
     pub wanted: usize,
 }
 
+/// The number of a fault.
+fn fault_number(fault: CliFault) -> u32
+    ensures { result ≡ fault_number fault }
+{
+    match fault {
+        CliFault::Script(_, _) => 1,
+        CliFault::Differs(_) => 2,
+        CliFault::NoMemory => 3,
+        CliFault::Write => 4,
+        CliFault::Read => 5,
+    }
+}
+
 /// The number of how a job ended.
-fn ended(done: Result<(), CliFault>) -> u32
-    ensures { result ≡ status_of done }
+fn ended_number(done: Result<(), CliFault>) -> u32
+    ensures { result ≡ ended_number done }
 {
     match done {
         Ok(()) => 0,
-        Err(CliFault::Script(_, _)) => 1,
-        Err(CliFault::Differs(_)) => 2,
-        Err(CliFault::NoMemory) => 3,
-        Err(CliFault::Write) => 4,
-        Err(CliFault::Read) => 5,
+        Err(fault) => fault_number(fault),
+    }
+}
+
+/// The number of how judging a history ended.
+fn judged_number(done: Result<(), JudgeFault>) -> u32
+    ensures { result ≡ judged_number done }
+{
+    match done {
+        Ok(()) => 0,
+        Err(JudgeFault::Cli(fault)) => fault_number(fault),
+        Err(JudgeFault::Undecided(_)) => 6,
     }
 }
 
 /// Writes a text to the start of `out`, where there is room for all of it; else `out` stays as it is.
-fn hand_out(text: &Vec<u8>, done: Result<(), CliFault>, out: &mut [u8]) -> PifText
-    ensures { IsHandedOut text.now.items done out.old out.new result }
+fn hand_out(text: &Vec<u8>, ended: u32, out: &mut [u8]) -> PifText
+    ensures { IsHandedOut text.now.items ended out.old out.new result }
 {
     let wanted = text.len();
     if wanted <= out.len() {
         out[..wanted].copy_from_slice(text.as_slice());
     }
-    PifText {
-        ended: ended(done),
-        wanted,
-    }
+    PifText { ended, wanted }
 }
 
 /// Runs a script into memory of its own.
@@ -76,32 +95,69 @@ fn check_whole(alloc: Global, name: &[u8], story: &[u8]) -> (Vec<u8>, Result<(),
     (text, done)
 }
 
+/// Judges a history into memory of its own.
+fn judge_whole(
+    alloc: Global,
+    asked: &Judging<'_>,
+    history: &[u8],
+) -> (Vec<u8>, Result<(), JudgeFault>)
+    requires { asked.now.name ≡ None }
+    ensures { Wholly JudgesAlone history.now result.0.items result.1 }
+{
+    let mut reader = history;
+    let mut text = Vec::new(alloc);
+    let done = pif_job_judge::judge(alloc, asked, &mut reader, &mut text, &mut Unwatched);
+    (text, done)
+}
+
 /// Runs a script, and writes what `pif run` prints to the start of `out`, where there is room for all of it; else `out`
 /// stays as it is.
 #[unsafe(no_mangle)]
 pub extern "C" fn pif_run(alloc: Global, script: &[u8], out: &mut [u8]) -> PifText
-    ensures { HandsOut RunsTo script.now out.old out.new result }
+    ensures { HandsOut RunsTo ended_number script.now out.old out.new result }
 {
     let (text, done) = run_whole(alloc, script);
-    hand_out(&text, done, out)
+    hand_out(&text, ended_number(done), out)
 }
 
 /// Replays a trace, and writes what `pif replay` prints to the start of `out`, where there is room for all of it; else
 /// `out` stays as it is.
 #[unsafe(no_mangle)]
 pub extern "C" fn pif_replay(alloc: Global, trace: &[u8], out: &mut [u8]) -> PifText
-    ensures { HandsOut ReplaysTo trace.now out.old out.new result }
+    ensures { HandsOut ReplaysTo ended_number trace.now out.old out.new result }
 {
     let (text, done) = replay_whole(alloc, trace);
-    hand_out(&text, done, out)
+    hand_out(&text, ended_number(done), out)
 }
 
 /// Checks a story of this name, and writes what `pif check` prints to the start of `out`, where there is room for all of
 /// it; else `out` stays as it is.
 #[unsafe(no_mangle)]
 pub extern "C" fn pif_check(alloc: Global, name: &[u8], story: &[u8], out: &mut [u8]) -> PifText
-    ensures { HandsOut (TellsTo (check_telling name.now)) story.now out.old out.new result }
+    ensures { HandsOut (TellsTo (check_telling name.now)) ended_number story.now out.old out.new result }
 {
     let (text, done) = check_whole(alloc, name, story);
-    hand_out(&text, done, out)
+    hand_out(&text, ended_number(done), out)
+}
+
+/// Judges a history, with at most so many states made for a line, and writes what `pif judge` prints, with the witness
+/// of a legal one if that is asked for, to the start of `out`, where there is room for all of it; else `out` stays as it
+/// is.
+#[unsafe(no_mangle)]
+pub extern "C" fn pif_judge(
+    alloc: Global,
+    history: &[u8],
+    states: u32,
+    witness: bool,
+    out: &mut [u8],
+) -> PifText
+    ensures { HandsOut JudgesAlone judged_number history.now out.old out.new result }
+{
+    let asked = Judging {
+        name: None,
+        witness,
+        states,
+    };
+    let (text, done) = judge_whole(alloc, &asked, history);
+    hand_out(&text, judged_number(done), out)
 }
