@@ -18,7 +18,7 @@ use Rattle.pif_c.specs.declared.numbers.PifNumber.{PifNumber}
 use Rattle.pif_c.specs.declared.numbers.PifOwned.{PifOwned}
 use Rattle.pif_c.specs.declared.numbers.PifDoing.{PifDoing}
 use Rattle.pif_c.specs.declared.numbers.PifRequest.{PifRequest}
-use Rattle.pif_c.specs.Numbers.{where_named, request_of, kind_of, seen_told, nothing_seen, unnamed_seen, number_told, owner_told, status_told, added_told, health_number, no_core, invalid, full, no_memory}
+use Rattle.pif_c.specs.Numbers.{where_named, request_of, kind_of, seen_reported, nothing_seen, unnamed_seen, number_told, owner_told, status_told, added_told, health_number, no_core, invalid, full, no_memory}
 
 -- TURNS
 
@@ -32,7 +32,7 @@ outcome_of (Finish t) s = finish_outcome t s
 abbrev pub turn_told : Option Turn → Option Table → PifSeen
 turn_told x None = nothing_seen
 turn_told None (Some s) = unnamed_seen
-turn_told (Some x) (Some s) = seen_told (outcome_of x s).seen
+turn_told (Some x) (Some s) = seen_reported (outcome_of x s).seen
 
 abbrev pub turn_after : Option Turn → Option Table → Option Table
 turn_after x None = None
@@ -125,8 +125,8 @@ pub record Adds (x : Option Addition) (before after : Option Table) (told : PifN
 abbrev pub mutex_of : ℕ → Bool → Option Addition
 mutex_of kind robust = option_map (λ k. Mutex k robust) (kind_of kind)
 
--- a new core under these limits, on what a handle held: what it holds then, and the result. It is refused where there is
--- a core already, or a limit is outside its range; where the heap refuses a request there is no core
+-- a new core under these limits, on what a handle held: what it holds then, and the result. It is refused where there
+-- is a core already, or a limit is outside its range; where the heap refuses a request there is no core
 pub data IsMade (l : Bounds) : Option Table → Option Table → ℕ → Type 0 where
   made : IsWithin l → IsMade l None (Some (new_table l)) 0
   none_left : IsWithin l → IsMade l None None no_memory

@@ -98,14 +98,14 @@ refusal_number Idle = 4
 refusal_number Past = 5
 
 -- what was seen, and beside it the answer of a call, or the number of a refusal
-abbrev pub seen_told : Seen → PifSeen
-seen_told Begun = record { what = 1; detail = 0 }
-seen_told Went = record { what = 2; detail = 0 }
-seen_told Waits = record { what = 3; detail = 0 }
-seen_told (Answered a) = record { what = 4; detail = a }
-seen_told Ended = record { what = 5; detail = 0 }
-seen_told Ticked = record { what = 6; detail = 0 }
-seen_told (Refused r) = record { what = 7; detail = refusal_number r }
+abbrev pub seen_reported : Seen → PifSeen
+seen_reported Begun = record { what = 1; detail = 0 }
+seen_reported Went = record { what = 2; detail = 0 }
+seen_reported Waits = record { what = 3; detail = 0 }
+seen_reported (Answered a) = record { what = 4; detail = a }
+seen_reported Ended = record { what = 5; detail = 0 }
+seen_reported Ticked = record { what = 6; detail = 0 }
+seen_reported (Refused r) = record { what = 7; detail = refusal_number r }
 
 -- what is answered where the handle holds no core, and where a number names nothing
 abbrev pub nothing_seen : PifSeen

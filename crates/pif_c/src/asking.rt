@@ -4,7 +4,7 @@ ghost use Rattle.pif_c.specs.Asking.{outcome_of, turn_told, turn_after, shown, L
 ghost use Rattle.pif_c.specs.Standing.{Turns};
 
 use crate::handles::PifCore;
-use crate::numbers::{PifNumber, PifSeen, health_number, number_told, seen_told};
+use crate::numbers::{PifNumber, PifSeen, health_number, number_told, seen_reported};
 use pif_core::{Core, Event, Seen};
 use pif_types::{CondId, MutexId, Request, Tid};
 use std::alloc::Global;
@@ -70,7 +70,7 @@ fn told_turn(core: &mut Core, asked: Option<Turn>) -> PifSeen
     ensures after { Some core.new ≡ turn_after asked (Some core.old) }
 {
     match asked {
-        Some(asked) => seen_told(take_turn(core, asked)),
+        Some(asked) => seen_reported(take_turn(core, asked)),
         None => PifSeen { what: 8, detail: 0 },
     }
 }

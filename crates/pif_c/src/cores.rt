@@ -16,8 +16,8 @@ fn boxed(alloc: Global, limits: Limits) -> Option<Box<Core>>
     Box::new(alloc, core).ok()
 }
 
-/// Has a handle hold a new core under these limits, to which nothing was added: 0, or why not, and then it holds what it
-/// held. It is refused where the handle holds a core already (`Full`), or where a limit is outside its range
+/// Has a handle hold a new core under these limits, to which nothing was added: 0, or why not, and then it holds what
+/// it held. It is refused where the handle holds a core already (`Full`), or where a limit is outside its range
 /// (`Invalid`), and fails where the heap refuses a request (`NoMemory`).
 #[unsafe(no_mangle)]
 pub extern "C" fn pif_core_new(

@@ -1,5 +1,5 @@
 ghost use Rattle.std.specs.Prelude.{◌≡◌, ℕ, Option, Result};
-ghost use Rattle.pif_c.specs.Numbers.{refusal_number, add_number, added_told, number_told, seen_told, kind_of, health_number, request_of, doing_told};
+ghost use Rattle.pif_c.specs.Numbers.{refusal_number, add_number, added_told, number_told, seen_reported, kind_of, health_number, request_of, doing_told};
 
 use pif_core::{Seen, Status};
 use pif_types::{AddFault, CondId, Health, Kind, MutexId, Refusal, Request, Tid};
@@ -80,8 +80,8 @@ fn refusal_number(refusal: Refusal) -> u32
 }
 
 /// What was seen, in numbers.
-pub(crate) fn seen_told(seen: Seen) -> PifSeen
-    ensures { result ≡ seen_told seen }
+pub(crate) fn seen_reported(seen: Seen) -> PifSeen
+    ensures { result ≡ seen_reported seen }
 {
     let (what, detail) = match seen {
         Seen::Begun => (1, 0),

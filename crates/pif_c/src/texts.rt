@@ -130,8 +130,8 @@ pub extern "C" fn pif_replay(alloc: Global, trace: &[u8], out: &mut [u8]) -> Pif
     hand_out(&text, ended_number(done), out)
 }
 
-/// Checks a story of this name, and writes what `pif check` prints to the start of `out`, where there is room for all of
-/// it; else `out` stays as it is.
+/// Checks a story of this name, and writes what `pif check` prints to the start of `out`, where there is room for all
+/// of it; else `out` stays as it is.
 #[unsafe(no_mangle)]
 pub extern "C" fn pif_check(alloc: Global, name: &[u8], story: &[u8], out: &mut [u8]) -> PifText
     ensures { HandsOut (TellsTo (check_telling name.now)) ended_number story.now out.old out.new result }
@@ -141,8 +141,8 @@ pub extern "C" fn pif_check(alloc: Global, name: &[u8], story: &[u8], out: &mut 
 }
 
 /// Judges a history, with at most so many states made for a line, and writes what `pif judge` prints, with the witness
-/// of a legal one if that is asked for, to the start of `out`, where there is room for all of it; else `out` stays as it
-/// is.
+/// of a legal one if that is asked for, to the start of `out`, where there is room for all of it; else `out` stays as
+/// it is.
 #[unsafe(no_mangle)]
 pub extern "C" fn pif_judge(
     alloc: Global,

@@ -3,7 +3,7 @@ use crate::statuses::JobFault;
 use pif_cli_words::{Job, STANDARD_NAME};
 use pif_script::{CliFault, Notice};
 use pif_text::{Cause, Command, errno_name, errno_of, split_answer};
-use pif_text_errors::{Slip, Wrong, call_form, read_command};
+use pif_text_errors::{SyntaxError, Wrong, call_form, read_command};
 use pif_types::Errno;
 use std::fmt::Write;
 use std::str::from_utf8;
@@ -198,30 +198,35 @@ fn plain_cause(cause: Cause) -> &'static str {
     }
 }
 
-/// Says what is wrong with the line of this number, behind the front of the message: its column, the slip, the nearest
-/// word, or else what is allowed, and the form of the command, if there are such, and the text of the line.
-fn say_slip(number: u64, slip: Slip, line: &[u8], message: &mut Message) {
+/// Says what is wrong with the line of this number, behind the front of the message: its column, the syntax error, the
+/// nearest word, or else what is allowed, and the form of the command, if there are such, and the text of the line.
+fn say_syntax_error(number: u64, syntax_error: SyntaxError, line: &[u8], message: &mut Message) {
     let _ = write!(message, "line {number}");
-    if slip.wrong != Wrong::Empty {
-        let column = slip.column;
+    if syntax_error.wrong != Wrong::Empty {
+        let column = syntax_error.column;
         let _ = write!(message, ", column {column}");
     }
     message.say(": ");
-    message.say(slip.wrong.words());
-    if slip.near.is_none() {
-        say_allowed(slip, message);
+    message.say(syntax_error.wrong.words());
+    if syntax_error.near.is_none() {
+        say_allowed(syntax_error, message);
     }
-    say_hint(", perhaps '", slip.near, message);
-    say_hint(", in '", slip.form, message);
+    say_hint(", perhaps '", syntax_error.near, message);
+    say_hint(", in '", syntax_error.form, message);
     show_line(line, message);
 }
 
-/// Says which calls or kinds of mutexes there are, in place of a wrong one, or how a call is written that begins a line.
-fn say_allowed(slip: Slip, message: &mut Message) {
-    if slip.wrong == Wrong::NoCommand {
-        say_hint("; calls are written '", call_form(slip.word), message);
+/// Says which calls or kinds of mutexes there are, in place of a wrong one, or how a call is written that begins a
+/// line.
+fn say_allowed(syntax_error: SyntaxError, message: &mut Message) {
+    if syntax_error.wrong == Wrong::NoCommand {
+        say_hint(
+            "; calls are written '",
+            call_form(syntax_error.word),
+            message,
+        );
     }
-    if let Some(words) = slip.wrong.allowed() {
+    if let Some(words) = syntax_error.wrong.allowed() {
         message.say(" (");
         message.say(words);
         message.say(")");
@@ -277,7 +282,7 @@ fn no_command(number: u64, line: &[u8], message: &mut Message) {
             let words = "limits may stand on the first line only";
             say_line(number, words, line, message)
         }
-        Err(slip) => say_slip(number, slip, line, message),
+        Err(syntax_error) => say_syntax_error(number, syntax_error, line, message),
     }
 }
 
@@ -316,7 +321,7 @@ fn no_traced(number: u64, notice: &Notice, message: &mut Message) {
     };
     match read_command(command) {
         Ok(command) => say_line(number, not_traced(command), line, message),
-        Err(slip) => say_slip(number, slip, line, message),
+        Err(syntax_error) => say_syntax_error(number, syntax_error, line, message),
     }
 }
 

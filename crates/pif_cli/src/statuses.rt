@@ -31,8 +31,8 @@ pub fn job_fault_status(fault: JobFault) -> u8
     }
 }
 
-/// The status of the program after this fault: 2 for a fault of the script, trace or history, 3 for a read or a write that
-/// failed, 4 for out of memory, and 5 for a difference, or a history that is illegal.
+/// The status of the program after this fault: 2 for a fault of the script, trace or history, 3 for a read or a write
+/// that failed, 4 for out of memory, and 5 for a difference, or a history that is illegal.
 pub fn fault_status(fault: CliFault) -> u8
     ensures { result ≡ fault_status fault }
 {

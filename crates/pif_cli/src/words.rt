@@ -206,22 +206,22 @@ pub fn refuse<W: Write, E: Write>(
 /// writes to `output` each command, its answer and what it has changed, as `show_story` does; with `--all` the state
 /// behind it; with `--json` or `--dot` it writes a picture of it, as `pif draw` does. `pif check` reads a story from
 /// `input`, and writes to `output` a line that says whether it is ok, as `check` does; with `--print` it writes it with
-/// its answers, as `fill` does. `pif judge` reads a history from `input`, and writes to `output` whether it is legal, as
-/// `judge` does. `pif shell` reads the lines of a person from `input`, and answers each to `output`, as
-/// `shell` does without a prompt; it saves no story, since no file is opened here. `pif replay` reads a trace from
-/// `input`, and writes to `output` what it comes to, as `replay` does. `pif trace` reads a story or a script from
-/// `input`, and writes its trace to `output`, as `trace_story` does, without the line of a fault. `pif migrate` reads a
-/// trace from `input`, and writes it to `output` as one of version 2, or the line of its fault, as `migrate` does. `pif
-/// random` reads nothing, and writes to `output` the random script that its options ask for. `pif drive N` lets N
-/// clients, 1 to 64, make their calls in threads of their own, as `rt` starts them. It reads nothing, and writes to
-/// `output` how many were answered, as `drive` does. A word behind all but `random` and `drive` names a file: no file
-/// is opened here, and `input` stands for the first.
+/// its answers, as `fill` does. `pif judge` reads a history from `input`, and writes to `output` whether it is legal,
+/// as `judge` does. `pif shell` reads the lines of a person from `input`, and answers each to `output`, as `shell` does
+/// without a prompt; it saves no story, since no file is opened here. `pif replay` reads a trace from `input`, and
+/// writes to `output` what it comes to, as `replay` does. `pif trace` reads a story or a script from `input`, and
+/// writes its trace to `output`, as `trace_story` does, without the line of a fault. `pif migrate` reads a trace from
+/// `input`, and writes it to `output` as one of version 2, or the line of its fault, as `migrate` does. `pif random`
+/// reads nothing, and writes to `output` the random script that its options ask for. `pif drive N` lets N clients, 1 to
+/// 64, make their calls in threads of their own, as `rt` starts them. It reads nothing, and writes to `output` how many
+/// were answered, as `drive` does. A word behind all but `random` and `drive` names a file: no file is opened here, and
+/// `input` stands for the first.
 ///
 /// The status is 0 if the job was done, or help or the version was asked for, whose text goes to `output`; 1 if the
-/// words are refused, and the reason goes to `errors`; 2 for a fault of the script, story, history or trace; 3 if a read
-/// or a write fails; 4 if it ran out of memory; 5 if a story or a trace differs, or a history is illegal; 6 if a thread
-/// can't be started, or the desk of the clients doesn't settle; and 7 if a history stayed undecided. Nothing is read if
-/// no job is asked for.
+/// words are refused, and the reason goes to `errors`; 2 for a fault of the script, story, history or trace; 3 if a
+/// read or a write fails; 4 if it ran out of memory; 5 if a story or a trace differs, or a history is illegal; 6 if a
+/// thread can't be started, or the desk of the clients doesn't settle; and 7 if a history stayed undecided. Nothing is
+/// read if no job is asked for.
 ///
 /// At status 0 nothing goes to `errors`, and at 2 to 7 one line of printable ASCII, which says what went wrong; where
 /// that line cannot be written, the status stays. At 3 it is a part of the reason why the words are refused, where that

@@ -85,7 +85,8 @@ with_runs pif =
 abbrev pub with_traces : App → App
 with_traces pif = with_job (with_job (with_job pif (codes "replay")) (codes "trace")) (codes "migrate")
 
--- the program's commands: `run`, `show`, `draw`, `shell`, `check`, `judge`, `replay`, `trace`, `migrate`, `random` and `drive`
+-- the program's commands: `run`, `show`, `draw`, `shell`, `check`, `judge`, `replay`, `trace`, `migrate`, `random` and
+-- `drive`
 abbrev pub program : App
 program = with_subcommand (with_subcommand (with_traces (with_runs bare_program)) random_app.top) drive_app.top
 

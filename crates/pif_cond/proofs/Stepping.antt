@@ -15,15 +15,15 @@ use Rattle.pif_model.specs.declared.lines.Place.TheVariants.{Load, Exchange, Giv
 use Rattle.pif_model.specs.declared.lines.Status.{Status}
 use Rattle.pif_model.specs.declared.lines.Status.TheVariants.{Parked}
 use Rattle.pif_model.specs.declared.lines.WakeStep.TheVariants.{CountUse}
-use Rattle.pif_model.specs.Deadlines.{is_reached, ran_out, told_result, told_seen}
+use Rattle.pif_model.specs.Deadlines.{is_reached, ran_out, reported_result, reported_seen}
 use Rattle.pif_model.specs.PiKernel.{is_living, is_ready, is_parked, is_woken_again, wait_requeue_answer, kernel_after_wait_requeue}
 use Rattle.pif_model.specs.Table.{Table, line_at, status_at, timer_at, with_kernel, with_timer}
-use Rattle.pif_model.specs.Lines.{Outcome, goes_to, own_exchange, lock_queued, wait_load, wait_uses, wait_by, wait_park, wait_parked, line_of, counts_at, is_line_due, expired_in, expires_at, told_outcome, go_outcome}
+use Rattle.pif_model.specs.Lines.{Outcome, goes_to, own_exchange, lock_queued, wait_load, wait_uses, wait_by, wait_park, wait_parked, line_of, counts_at, is_line_due, expired_in, expires_at, reported_outcome, go_outcome}
 use Rattle.pif_model.specs.Soundness.{belongs, CallIsSound, LineIsSound, IsSound}
 use Rattle.pif_model_lemmas.proofs.Waiting.{by_test}
 use Rattle.pif_model_lemmas.proofs.kernel.LineCases.{wait_load_cases, wait_uses_cases}
 use Rattle.pif_model_simulation.proofs.Facts.{call_limited}
-use Rattle.pif_model_simulation.proofs.Hole.{each_thread}
+use Rattle.pif_model_simulation.proofs.WeakenedInvariant.{each_thread}
 use Rattle.pif_model_simulation.proofs.Undue.{goes_by_line, undue}
 use Rattle.pif_mutex.specs.Mutexes.{is_on_mutex}
 
@@ -70,16 +70,16 @@ never true = refl
 never false = refl
 
 -- a wait that isn't answered 0 is told as it is
-told_number : (c m : ℕ) (expired : Bool) (a : ℕ) → a ≢ 0 → told_result (Wait c m) expired a ≡ a
+told_number : (c m : ℕ) (expired : Bool) (a : ℕ) → a ≢ 0 → reported_result (Wait c m) expired a ≡ a
 told_number c m true a n =
     by_test (λ b. (if b then ETIMEDOUT else a) ≡ a) (a == 0) (λ e. absurd (n (eqb-true a 0 e))) (λ e. refl)
 told_number c m false a n = refl
 
-told_same : (c m : ℕ) (expired : Bool) (x : Seen) → x ≢ Answered 0 → told_seen (Wait c m) expired x ≡ x
+told_same : (c m : ℕ) (expired : Bool) (x : Seen) → x ≢ Answered 0 → reported_seen (Wait c m) expired x ≡ x
 told_same c m expired (Answered a) n = ap Answered (told_number c m expired a (λ e. n (ap Answered e)))
 told_same c m expired x n = refl
 
-told_as_is : (c m : ℕ) (expired : Bool) (x : Outcome) → x.seen ≢ Answered 0 → told_outcome (Wait c m) expired x ≡ x
+told_as_is : (c m : ℕ) (expired : Bool) (x : Outcome) → x.seen ≢ Answered 0 → reported_outcome (Wait c m) expired x ≡ x
 told_as_is c m expired x n = ap (λ (y : Seen). record x { seen = y }) (told_same c m expired x.seen n)
 
 -- so a step of a wait whose deadline doesn't count there, and which isn't answered 0, is its line
@@ -153,18 +153,18 @@ pub due_goes : (q : Request) (m t : ℕ) (s : Table) → (c : ℕ) × (q ≡ Wai
 unfolding go_outcome expires_at
 due_goes q m t s (c, e) h =
     ap (λ (b : Bool). if b then expires_at q StayParked t s
-    else told_outcome q (timer_at s t).expired (line_of q StayParked t s)) h
+    else reported_outcome q (timer_at s t).expired (line_of q StayParked t s)) h
     ∙ subst (λ (x : Request). expires_at x StayParked t s
     ≡ goes_to t x Exchange (with_timer t (ran_out (timer_at s t)) (expired_in t s))) (sym e) refl
 
 -- one that isn't due goes on as it was parked
 pub undue_goes : (q : Request) (m t : ℕ) (s : Table) → (c : ℕ) × (q ≡ Wait c m)
     → is_line_due (At q StayParked) t s ≡ false
-    → go_outcome (At q StayParked) t s ≡ told_outcome q (timer_at s t).expired
+    → go_outcome (At q StayParked) t s ≡ reported_outcome q (timer_at s t).expired
     (if is_woken_again (status_at s t) then own_exchange q t m s else lock_queued q t m s)
 unfolding line_of wait_parked
 undue_goes q m t s (c, e) h =
     undue q StayParked t s h
-    ∙ subst (λ (x : Request). told_outcome x (timer_at s t).expired (line_of x StayParked t s)
-    ≡ told_outcome x (timer_at s t).expired
+    ∙ subst (λ (x : Request). reported_outcome x (timer_at s t).expired (line_of x StayParked t s)
+    ≡ reported_outcome x (timer_at s t).expired
     (if is_woken_again (status_at s t) then own_exchange x t m s else lock_queued x t m s)) (sym e) refl

@@ -7,7 +7,7 @@ ghost use Rattle.pif_mutex.specs.Outcomes.{outcome_of};
 
 use pif_kernel_calls::{PiKernel, Status, Woken};
 use pif_model::{GiveStep, Line, Place, Purpose, Timer};
-use pif_mutex::{Progress, State, told};
+use pif_mutex::{Progress, State, reported};
 use pif_types::{CondId, Errno, MutexId, Request, Tid};
 use pif_word::number;
 
@@ -109,7 +109,7 @@ pub(crate) fn wait_stay_parked<K: PiKernel + Drop>(
     } else {
         let expired = state.timer(t).expired;
         let progress = wait_parked(state, request, m, t);
-        told(&request, expired, progress)
+        reported(&request, expired, progress)
     }
 }
 

@@ -26,23 +26,23 @@ if_some P (Some x) f = f x refl
 module _ (s : Table) (h : List Entry) (r : List World) (w : World) (st : Stands s h r w) where
   -- as many mutexes as the library knows
   pub mutexes_are : length w.mutexes ≡ length s.mutexes
-  mutexes_are = ap (λ (u : World). length u.mutexes) st.shows ∙ mutexes_shown st.sound.all.shape st.shadow
+  mutexes_are = ap (λ (u : World). length u.mutexes) st.shows ∙ mutexes_shown st.sound.all.shape st.history_variables
 
   -- and as many variables
   pub variables_are : length w.variables ≡ length s.conds
-  variables_are = ap (λ (u : World). length u.variables) st.shows ∙ variables_shown st.sound.all.shape st.shadow
+  variables_are = ap (λ (u : World). length u.variables) st.shows ∙ variables_shown st.sound.all.shape st.history_variables
 
   -- the base priority is the thread's
   pub base_answered : (t : ℕ) (o : Option ℕ) → o ≡ base_answer t s → IfSome o (λ p. p ≡ (thread_at w t).base)
   base_answered t o e =
       said_by (λ p. p ≡ (thread_at w t).base) (is_living s.kernel t) (seat_at s.kernel t).base o e
-      (λ _. sym (ap (λ (u : World). (thread_at u t).base) st.shows ∙ base_seen st.sound.all.shape st.shadow t))
+      (λ _. sym (ap (λ (u : World). (thread_at u t).base) st.shows ∙ base_seen st.sound.all.shape st.history_variables t))
 
   -- a thread does what its status says
   pub status_answered : (t : ℕ) (o : Option Status) → o ≡ status_answer t s → IfSome o (λ x. IsDoing w t x)
   status_answered t o e =
       said_by (λ x. IsDoing w t x) (has_thread s t) (status_at s t) o e
-      (λ known. subst (λ u. IsDoing u t (status_at s t)) (sym st.shows) (doing_seen st.sound st.shadow t known))
+      (λ known. subst (λ u. IsDoing u t (status_at s t)) (sym st.shows) (doing_seen st.sound st.history_variables t known))
 
   -- the time is the machine's
   pub time_answered : (n : ℕ) → n ≡ s.time → n ≡ w.time
@@ -50,11 +50,11 @@ module _ (s : Table) (h : List Entry) (r : List World) (w : World) (st : Stands 
 
   -- the open call is the thread's
   pub open_answered : (t : ℕ) (o : Option Request) → o ≡ open_call_answer t s → o ≡ call_of w t
-  open_answered t o e = e ∙ open_seen st.sound st.shadow t ∙ ap (λ u. call_of u t) (sym st.shows)
+  open_answered t o e = e ∙ open_seen st.sound st.history_variables t ∙ ap (λ u. call_of u t) (sym st.shows)
 
   -- the owner is the mutex's
   pub owner_answered : (m : ℕ) (o : Option (ℕ × ℕ)) → o ≡ owner_answer m s → o ≡ owner_of w m
-  owner_answered m o e = e ∙ owner_seen st.sound st.shadow m ∙ ap (λ u. owner_of u m) (sym st.shows)
+  owner_answered m o e = e ∙ owner_seen st.sound st.history_variables m ∙ ap (λ u. owner_of u m) (sym st.shows)
 
   -- so are its kind and its robustness
   pub kind_answered : (m : ℕ) (o : Option (Kind × Bool)) → o ≡ kind_answer m s
@@ -63,19 +63,19 @@ module _ (s : Table) (h : List Entry) (r : List World) (w : World) (st : Stands 
       said_by (λ x. x ≡ ((mutex_at w m).kind, (mutex_at w m).robust)) (has_mutex s m)
       ((cell_at s m).kind, (cell_at s m).robust) o e
       (λ _. ap (λ (x : Mutex). (x.kind, x.robust))
-      (sym (ap (λ (u : World). mutex_at u m) st.shows ∙ mutex_seen st.sound.all.shape st.shadow m)))
+      (sym (ap (λ (u : World). mutex_at u m) st.shows ∙ mutex_seen st.sound.all.shape st.history_variables m)))
 
   -- the mutex to which a variable is bound is the variable's
   pub bound_answered : (c : ℕ) (o : Option ℕ) → o ≡ bound_answer c s → IfSome o (λ m. m ≡ (variable_at w c).mutex)
   bound_answered c o e =
       said_by (λ m. m ≡ (variable_at w c).mutex) (has_cond s c) (bound_to s c) o e
       (λ _. ap (λ (x : Variable). x.mutex)
-      (sym (ap (λ (u : World). variable_at u c) st.shows ∙ variable_seen st.sound.all.shape st.shadow c)))
+      (sym (ap (λ (u : World). variable_at u c) st.shows ∙ variable_seen st.sound.all.shape st.history_variables c)))
 
   -- the waiters of a mutex stand in their order
   pub waiter_answered : (m n : ℕ) (o : Option ℕ) → o ≡ waiter_answer m n s → o ≡ slice_get (waiters_of w m) n
   waiter_answered m n o e =
-      e ∙ ap (λ us. slice_get us n) (waiters_seen st.sound st.shadow m)
+      e ∙ ap (λ us. slice_get us n) (waiters_seen st.sound st.history_variables m)
       ∙ ap (λ u. slice_get (waiters_of u m) n) (sym st.shows)
 
   -- who is parked on a variable is blocked on it
@@ -83,18 +83,18 @@ module _ (s : Table) (h : List Entry) (r : List World) (w : World) (st : Stands 
       → IfSome o (λ t. is_blocked_on w c t ≡ true)
   parked_answered c n o e = if_some (λ t. is_blocked_on w c t ≡ true) o
       (λ t q. subst (λ u. is_blocked_on u c t ≡ true) (sym st.shows)
-      (parked_seen st.sound st.shadow c n t (sym e ∙ q)))
+      (parked_seen st.sound st.history_variables c n t (sym e ∙ q)))
 
   -- who is ready lives, and doesn't rest
   pub ready_answered : (n : ℕ) (o : Option ℕ) → o ≡ ready_answer n s
       → IfSome o (λ t. (lives w t ≡ true) × (rests w t ≡ false))
   ready_answered n o e = if_some (λ t. (lives w t ≡ true) × (rests w t ≡ false)) o
       (λ t q. subst (λ u. (lives u t ≡ true) × (rests u t ≡ false)) (sym st.shows)
-      (ready_seen st.sound st.shadow n t (sym e ∙ q)))
+      (ready_seen st.sound st.history_variables n t (sym e ∙ q)))
 
   -- the path of a thread is its own
   pub path_answered : (t : ℕ) (us : List ℕ) → IsPathAnswer t s us → IsPathFrom w t us
-  path_answered t us p = subst (λ u. IsPathFrom u t us) (sym st.shows) (path_seen st.sound st.shadow t us p)
+  path_answered t us p = subst (λ u. IsPathFrom u t us) (sym st.shows) (path_seen st.sound st.history_variables t us p)
 
   -- no thread stands on level 0, since an effective priority is 1 at least
   level_zero : level_at s.kernel.levels 0 ≡ []

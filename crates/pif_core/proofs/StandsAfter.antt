@@ -74,41 +74,41 @@ module _ (s : Table) (h : List Entry) (r : List World) (w : World) (st : Stands 
 
   -- as many threads as lines
   pub threads_are : length w.threads ≡ length s.lines
-  threads_are = ap (λ (u : World). length u.threads) st.shows ∙ threads_shown st.sound.all.shape st.shadow
+  threads_are = ap (λ (u : World). length u.threads) st.shows ∙ threads_shown st.sound.all.shape st.history_variables
 
   -- the effective priority in the kernel is that of the subject
   effective_stands : (t : ℕ) → is_living s.kernel t ≡ true → HasEffective w t (effective_in s.kernel t)
   effective_stands t living =
-      let known = ap (λ (u : World). is_thread u t) st.shows ∙ is_thread_seen st.sound.all.shape st.shadow t
+      let known = ap (λ (u : World). is_thread u t) st.shows ∙ is_thread_seen st.sound.all.shape st.history_variables t
       ∙ living-added s.kernel t living in
-      let same = ap (λ (f : ℕ → ℕ). f t) (effective_seen st.sound st.shadow)
+      let same = ap (λ (f : ℕ → ℕ). f t) (effective_seen st.sound st.history_variables)
       ∙ ap (λ (u : World). effective_of u t) (sym st.shows) in
       subst (λ (p : ℕ). HasEffective w t p) (sym same) (effective_is_greatest s.limits h r w st.run t known)
 
   -- the kernel's pick is that of the subject
   pub pick_stands : IsPick w (pick_in s.kernel)
-  pick_stands = subst (λ u. IsPick u (pick_in s.kernel)) (sym st.shows) (pick_runs st.sound st.shadow)
+  pick_stands = subst (λ u. IsPick u (pick_in s.kernel)) (sym st.shows) (pick_runs st.sound st.history_variables)
 
   -- a mutex's health word is possible, and OWNER_DIED where it doesn't say that the mutex is inconsistent
   health_stands : (m : ℕ) → has_mutex s m ≡ true → IsPossibleHealth w m (cell_at s m).health
   health_stands m known =
       subst (λ u. IsPossibleHealth u m (cell_at s m).health) (sym st.shows)
-      (health_is_possible st.sound st.shadow m known)
+      (health_is_possible st.sound st.history_variables m known)
 
   died_stands : (m : ℕ) → has_mutex s m ≡ true → (mutex_at w m).health ≡ WasInconsistent → (cell_at s m).health ≢ 1
       → (cell_at s m).word.died ≡ true
   died_stands m known e n =
-      died_behind_inconsistent st.sound st.shadow m known
+      died_behind_inconsistent st.sound st.history_variables m known
       (ap (λ (u : World). (mutex_at u m).health) (sym st.shows) ∙ e) n
 
   -- a mutex's word is possible
   word_stands : (m : ℕ) → has_mutex s m ≡ true → IsPossible w m (cell_at s m).word
   word_stands m known =
-      subst (λ u. IsPossible u m (cell_at s m).word) (sym st.shows) (word_is_possible st.sound st.shadow m known)
+      subst (λ u. IsPossible u m (cell_at s m).word) (sym st.shows) (word_is_possible st.sound st.history_variables m known)
 
   -- a condition word is how often its variable was used
   uses_stand : (c : ℕ) → IsPossibleUses w c (uses_of s c)
-  uses_stand c = subst (λ u. IsPossibleUses u c (uses_of s c)) (sym st.shows) (uses_are_possible st.sound st.shadow c)
+  uses_stand c = subst (λ u. IsPossibleUses u c (uses_of s c)) (sym st.shows) (uses_are_possible st.sound st.history_variables c)
 
 -- WHAT AN OPTION HOLDS
 
@@ -137,22 +137,22 @@ module _ {A : Type 0} (s : Table) (x : A) (o : Option A) (h : List Entry) (r : L
   -- a reader answers for the threads that were added
   pub thread_is_some : (t : ℕ) → o ≡ (if has_thread s t then Some x else None) → is_some o ≡ is_thread w t
   thread_is_some t e = ap is_some e ∙ there_by (has_thread s t) x
-      ∙ sym (ap (λ (u : World). is_thread u t) st.shows ∙ is_thread_seen st.sound.all.shape st.shadow t)
+      ∙ sym (ap (λ (u : World). is_thread u t) st.shows ∙ is_thread_seen st.sound.all.shape st.history_variables t)
 
   -- or for the living ones
   pub living_is_some : (t : ℕ) → o ≡ (if is_living s.kernel t then Some x else None) → is_some o ≡ lives w t
   living_is_some t e = ap is_some e ∙ there_by (is_living s.kernel t) x
-      ∙ sym (ap (λ (u : World). lives u t) st.shows ∙ living_seen s st.shadow t st.sound.all.shape)
+      ∙ sym (ap (λ (u : World). lives u t) st.shows ∙ living_seen s st.history_variables t st.sound.all.shape)
 
   -- or for the mutexes that were added
   pub mutex_is_some : (m : ℕ) → o ≡ (if has_mutex s m then Some x else None) → is_some o ≡ is_mutex w m
   mutex_is_some m e = ap is_some e ∙ there_by (has_mutex s m) x
-      ∙ sym (ap (λ (u : World). is_mutex u m) st.shows ∙ is_mutex_seen st.sound.all.shape st.shadow m)
+      ∙ sym (ap (λ (u : World). is_mutex u m) st.shows ∙ is_mutex_seen st.sound.all.shape st.history_variables m)
 
   -- or for the variables
   pub variable_is_some : (c : ℕ) → o ≡ (if has_cond s c then Some x else None) → is_some o ≡ is_variable w c
   variable_is_some c e = ap is_some e ∙ there_by (has_cond s c) x
-      ∙ sym (ap (λ (u : World). is_variable u c) st.shows ∙ is_variable_seen st.sound.all.shape st.shadow c)
+      ∙ sym (ap (λ (u : World). is_variable u c) st.shows ∙ is_variable_seen st.sound.all.shape st.history_variables c)
 
 -- the answer of the reader of effective priorities
 pub effective_answered : (s : Table) (t : ℕ) (o : Option ℕ) (h : List Entry) (r : List World) (w : World)
@@ -241,8 +241,8 @@ rests_said : (s : Table) (t : ℕ) (h : List Entry) (r : List World) (w : World)
     → is_living s.kernel t ≡ true → (if is_ready (status_at s t) then false else true) ≡ rests w t
 rests_said s t h r w st k =
     by_test (λ b. (if b then false else true) ≡ rests w t) (is_ready (status_at s t))
-    (λ e. sym (ap (λ (u : World). rests u t) st.shows ∙ rests_ready st.sound st.shadow t k e))
-    (λ e. sym (ap (λ (u : World). rests u t) st.shows ∙ rests_not_ready st.sound st.shadow t k e))
+    (λ e. sym (ap (λ (u : World). rests u t) st.shows ∙ rests_ready st.sound st.history_variables t k e))
+    (λ e. sym (ap (λ (u : World). rests u t) st.shows ∙ rests_not_ready st.sound st.history_variables t k e))
 
 -- whether a thread rests on at its next step: it rests, and its call is not due
 abbrev rests_on : World → ℕ → Bool
@@ -254,7 +254,7 @@ rests_on_said : (s : Table) (t : ℕ) (h : List Entry) (r : List World) (w : Wor
     → (if is_ready (status_at s t) then false else (if is_due_in s t then false else true)) ≡ rests_on w t
 rests_on_said s t h r w st k =
     both (is_ready (status_at s t)) (is_due_in s t) (rests w t) (is_due w t) (rests_said s t h r w st k)
-    (ap (λ (u : World). is_due u t) st.shows ∙ due_seen st.sound st.shadow t k)
+    (ap (λ (u : World). is_due u t) st.shows ∙ due_seen st.sound st.history_variables t k)
   where
     both : (ready due resting now : Bool) → (if ready then false else true) ≡ resting → now ≡ due
         → (if ready then false else (if due then false else true))
@@ -297,7 +297,7 @@ waiting_is_some s t o h r w st e =
     there false called said = refl
 
     living : lives w t ≡ is_living s.kernel t
-    living = ap (λ (u : World). lives u t) st.shows ∙ living_seen s st.shadow t st.sound.all.shape
+    living = ap (λ (u : World). lives u t) st.shows ∙ living_seen s st.history_variables t st.sound.all.shape
 
     busy : is_some (thread_at w t).call ≡ is_open (line_at s t)
-    busy = ap (λ (u : World). is_some (thread_at u t).call) st.shows ∙ busy_seen st.sound.all.shape st.shadow t
+    busy = ap (λ (u : World). is_some (thread_at u t).call) st.shows ∙ busy_seen st.sound.all.shape st.history_variables t

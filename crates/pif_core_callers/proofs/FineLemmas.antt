@@ -152,7 +152,7 @@ call_fine s t m k e =
 pub shown_fine : (v : Table) (m : ℕ) → health_at v m ≡ Fine → IsFineIn m v
 shown_fine v m is = λ h r w st.
     ap (λ (x : World). (mutex_at x m).health) st.shows
-    ∙ ap (λ (x : Mutex). x.health) (mutex_seen st.sound.all.shape st.shadow m) ∙ is
+    ∙ ap (λ (x : Mutex). x.health) (mutex_seen st.sound.all.shape st.history_variables m) ∙ is
 
 -- so it is of a mutex that was made consistent
 pub consistent_fine : (s v : Table) (t m : ℕ) → IsSound s → (call_outcome t (Consistent m) s).seen ≡ Answered 0

@@ -276,6 +276,6 @@ pub lock_fine : (s v : Table) (t m : ℕ) (h : List Entry) (r : List World) (w :
     → v ≡ (call_outcome t (Lock m) s).after → IsFineIn m v
 lock_fine s v t m h r w st apart e after =
     let owner = ap (λ (x : World). (mutex_at x m).owner) st.shows
-    ∙ ap (λ (x : Mutex). x.owner) (mutex_seen st.sound.all.shape st.shadow m) in
+    ∙ ap (λ (x : Mutex). x.owner) (mutex_seen st.sound.all.shape st.history_variables m) in
     shown_fine v m (subst (λ u. health_at u m ≡ Fine) (sym after)
     (call_orderly s t m st.sound (λ own. apart (owner ∙ own)) e))

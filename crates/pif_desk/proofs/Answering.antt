@@ -13,7 +13,7 @@ use Rattle.pif_model.specs.declared.events.Event.TheVariants.{Begin, Go, End, Ti
 use Rattle.pif_model.specs.declared.events.Seen.TheVariants.{Begun, Answered, Ended, Refused}
 use Rattle.pif_model.specs.declared.events.Entry.{Entry}
 use Rattle.pif_model.specs.declared.events.Entry.TheVariants.{Thread as AddThread, Mutex as AddMutex, Cond as AddCond, Step as Happened}
-use Rattle.pif_model.specs.Deadlines.{plain, told_result}
+use Rattle.pif_model.specs.Deadlines.{plain, reported_result}
 use Rattle.pif_model.specs.Refusals.{go_refused}
 use Rattle.pif_model.specs.History.{open_call, open_after}
 use Rattle.pif_model.specs.Posix.{Call as MachineCall, World, is_thread, is_living, thread_at, refusal_of, Step, IsRun}
@@ -207,7 +207,7 @@ answer_or_not l w e v (begun t q is may after) = inl (ap is_answer is)
 answer_or_not l w e v (went t is goes awake) = inl (ap is_answer is)
 answer_or_not l w e v (waits t u is goes after rests) = inl (ap is_answer is)
 answer_or_not l w e v (step_answered t a q u is goes has after awake) =
-    inr (t, told_result q (thread_at w t).timer.expired a, is, goes.allowed)
+    inr (t, reported_result q (thread_at w t).timer.expired a, is, goes.allowed)
 answer_or_not l w e v (ended t is ends) = inl (ap is_answer is)
 answer_or_not l w e v (ticked n is may after) = inl (ap is_answer is)
 

@@ -10,7 +10,7 @@ use Rattle.pif_model.specs.declared.events.Entry.TheVariants.{Thread as AddThrea
 use Rattle.pif_model.specs.Posix.{World, is_thread, with_call_by, after_unblocking, after_use, all_unblocked, Passes, LocksAgain, Locks, TriesToLock, Unlocks, MakesConsistent, SetsPriority, ChecksWait, GivesUp, Uses, Chooses, Effect, Effects, Expires, Moves, Releases, Step, IsRun}
 use Rattle.pif_model.specs.Posix.Passes.{to_nobody, to_next}
 use Rattle.pif_model.specs.Posix.LocksAgain.{rises, at_limit}
-use Rattle.pif_model.specs.Posix.Locks.{own_normal, own_errorcheck, own_recursive as lock_own_recursive, free as lock_free, lost, cycle, joins}
+use Rattle.pif_model.specs.Posix.Locks.{own_normal, own_errorcheck, own_recursive as lock_own_recursive, free as lock_free, orphaned, cycle, joins}
 use Rattle.pif_model.specs.Posix.TriesToLock.{own_recursive as try_own_recursive, busy, free as try_free}
 use Rattle.pif_model.specs.Posix.Unlocks.{not_owner, falls, becomes_unusable, released}
 use Rattle.pif_model.specs.Posix.MakesConsistent.{not_robust, not_owner as consistent_not_owner, not_inconsistent, made_fine}
@@ -52,7 +52,7 @@ same_Locks {w = w} (own_normal own kind e) = by e (length-set w.threads _ _)
 same_Locks {w = w} (own_errorcheck own kind e) = by e (length-set w.threads _ _)
 same_Locks (lock_own_recursive own kind again) = same_LocksAgain again
 same_Locks {w = w} (lock_free other free e) = by e (length-set w.threads _ _)
-same_Locks {w = w} (lost by_another e) = by e (length-set w.threads _ _)
+same_Locks {w = w} (orphaned by_another e) = by e (length-set w.threads _ _)
 same_Locks {w = w} (cycle owned leads e) = by e (length-set w.threads _ _)
 same_Locks {w = w} (joins owned leads e) = by e (length-set w.threads _ _)
 

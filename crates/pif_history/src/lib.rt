@@ -7,8 +7,8 @@
 //! | `refusal` | why no run has a line, whatever was answered |
 //! | `possible_answers`, `possible_priorities` | with which answers, or priorities, a line would be shown |
 //!
-//! The searches are `find` and `judge` of `pif_search`, over the state of `pif_posix`: the first is guided by what later
-//! lines say, and finds witnesses alone; the second is exact. A verdict is a theorem: `IsVerdictOf`.
+//! The searches are `find` and `judge` of `pif_search`, over the state of `pif_posix`: the first is guided by what
+//! later lines say, and finds witnesses alone; the second is exact. A verdict is a theorem: `IsVerdictOf`.
 #![tactic(auto)]
 
 mod dying;

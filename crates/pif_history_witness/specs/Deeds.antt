@@ -3,7 +3,7 @@
 use Rattle.std.specs.Prelude.{ℕ, Bool, true, false, List, [], ◌++◌, Option, Some, None, codes, decimal}
 use Rattle.pif_types.specs.declared.requests.Request.{Request}
 use Rattle.pif_model.specs.Posix.{Progress, Call, named_by, variable_of}
-use Rattle.pif_model.specs.World.Progress.{Waiting, Stuck, Leaving, Has, Checked, Enlisted, Blocked, Owing, Used}
+use Rattle.pif_model.specs.World.Progress.{Waiting, Stuck, Leaving, Has, Checked, Enlisted, Blocked, Reacquiring, Used}
 use Rattle.pif_text_model.specs.Replies.{thread_name, mutex_name, cond_name}
 use Rattle.pif_history_witness.specs.declared.deeds.Deed.{Deed}
 use Rattle.pif_history_witness.specs.declared.deeds.Deed.TheVariants.{Takes, IsHanded, WaitsFor, WaitsForGood, Frees, SpoilsIt, Checks, IsBlocked, GoesOnWaiting, IsUnblocked, TimesOut, Uses, Comes}
@@ -17,7 +17,7 @@ result_deed p false true a = Takes
 result_deed p true false a = Frees
 result_deed p owned owns a = Comes a
 
--- A wait that owes the lock now gave its mutex up, or else ran out of time.
+-- A wait that must reacquire its mutex now gave its mutex up, or else ran out of time.
 abbrev pub owing_deed : Progress → Deed
 owing_deed (Enlisted still) = Frees
 owing_deed p = TimesOut
@@ -37,7 +37,7 @@ own_deed p owned owns (Has a) = result_deed p owned owns a
 own_deed p owned owns Checked = Checks
 own_deed Checked owned owns (Enlisted still) = IsBlocked
 own_deed p owned owns (Blocked noted) = blocked_deed noted
-own_deed p owned owns Owing = owing_deed p
+own_deed p owned owns Reacquiring = owing_deed p
 own_deed p owned owns Used = Uses
 own_deed p owned owns now = SpoilsIt
 
@@ -46,7 +46,7 @@ abbrev pub other_deed : Progress → (now : Progress) → Option Deed
 other_deed Waiting Waiting = None
 other_deed Waiting now = Some IsHanded
 other_deed (Enlisted true) (Enlisted false) = Some IsUnblocked
-other_deed (Blocked noted) Owing = Some IsUnblocked
+other_deed (Blocked noted) Reacquiring = Some IsUnblocked
 other_deed p now = None
 
 -- A deed of a thread whose open call is this one.

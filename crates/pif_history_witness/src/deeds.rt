@@ -52,7 +52,7 @@ fn result_deed(before: Progress, owned: bool, owns: bool, answer: u32) -> Deed
     }
 }
 
-/// What a thread does whose wait owes the lock now.
+/// What a thread does whose wait must reacquire its mutex now.
 fn owing_deed(before: Progress) -> Deed
     ensures { result ≡ owing_deed (progress_of before) }
 {
@@ -86,7 +86,7 @@ pub fn own_deed(before: Progress, owned: bool, owns: bool, after: Progress) -> D
         (_, Progress::Checked) => Deed::Checks,
         (Progress::Checked, Progress::Enlisted(_)) => Deed::IsBlocked,
         (_, Progress::Blocked(noted)) => blocked_deed(noted),
-        (_, Progress::Owing) => owing_deed(before),
+        (_, Progress::Reacquiring) => owing_deed(before),
         (_, Progress::Used) => Deed::Uses,
         _ => Deed::SpoilsIt,
     }
@@ -100,7 +100,7 @@ pub fn other_deed(before: Progress, after: Progress) -> Option<Deed>
         (Progress::Waiting, Progress::Waiting) => None,
         (Progress::Waiting, _) => Some(Deed::IsHanded),
         (Progress::Enlisted(true), Progress::Enlisted(false)) => Some(Deed::IsUnblocked),
-        (Progress::Blocked(_), Progress::Owing) => Some(Deed::IsUnblocked),
+        (Progress::Blocked(_), Progress::Reacquiring) => Some(Deed::IsUnblocked),
         _ => None,
     }
 }

@@ -162,10 +162,10 @@ fn write_telling<W: Write>(telling: Telling, writer: &mut W) -> Result<(), CliFa
 }
 
 /// Checks a story: reads its bytes to the end, runs the script that is left when comments, empty lines and answers are
-/// taken out, and asks of each answer that is written whether it says what `run` prints for its command. One line is written:
-/// `ok` with `name` and the number of commands; or `name` with the first flaw. That is a fault, or a command with the
-/// answer that is written and the one that the core gives. Lines are counted in the story, from 1. It is kept in
-/// memory, and so is what `run` prints.
+/// taken out, and asks of each answer that is written whether it says what `run` prints for its command. One line is
+/// written: `ok` with `name` and the number of commands; or `name` with the first flaw. That is a fault, or a command
+/// with the answer that is written and the one that the core gives. Lines are counted in the story, from 1. It is kept
+/// in memory, and so is what `run` prints.
 ///
 /// # Errors
 ///

@@ -77,8 +77,8 @@ fn run_script(
     Ok(fault_at_end(scanner, &mut output))
 }
 
-/// Runs the script of a story, of which nothing but its words is given, and appends each of its commands with what it is
-/// answered. Answers its first fault, if it has one.
+/// Runs the script of a story, of which nothing but its words is given, and appends each of its commands with what it
+/// is answered. Answers its first fault, if it has one.
 ///
 /// # Errors
 ///

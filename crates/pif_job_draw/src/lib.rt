@@ -3,7 +3,7 @@
 //!
 //! A story is read to its end, and its script is run, which gives each command with its answer. So a picture is made
 //! only of a story without a fault, and a story with one ends as filling it in ends. Then `pif_story_drawing` plays
-//! the commands again, of which it reads none anew, and writes down what it sees. Each picture is kept in memory, and
+//! the commands again, of which it reads none again, and writes down what it sees. Each picture is kept in memory, and
 //! is written whole.
 #![tactic(auto)]
 

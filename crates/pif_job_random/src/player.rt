@@ -107,7 +107,7 @@ impl Player {
     fn lost_mutexes(&self) -> u32 {
         let mut lost = 0u32;
         for number in 1..=self.core.mutexes() {
-            if self.is_lost(MutexId::new(number)) {
+            if self.is_orphaned(MutexId::new(number)) {
                 lost = lost.saturating_add(1);
             }
         }
@@ -118,7 +118,7 @@ impl Player {
     fn lost_conds(&self) -> u32 {
         let mut lost = 0u32;
         for number in 1..=self.core.conds() {
-            if self.is_lost(self.mutex_of(number)) {
+            if self.is_orphaned(self.mutex_of(number)) {
                 lost = lost.saturating_add(1);
             }
         }
@@ -131,7 +131,7 @@ impl Player {
     }
 
     // Whether a mutex is of no use any more: it is unusable, or the chain from it leads to a thread that never goes on.
-    fn is_lost(&self, mutex: Option<MutexId>) -> bool {
+    fn is_orphaned(&self, mutex: Option<MutexId>) -> bool {
         let mut next = mutex;
         for _hop in 0..MOST_HOPS {
             match next {
@@ -377,7 +377,7 @@ impl Player {
         }
         let place = self.below(mutexes);
         let number = place.saturating_add(1);
-        if !self.is_lost(MutexId::new(number)) {
+        if !self.is_orphaned(MutexId::new(number)) {
             return MutexId::new(number);
         }
         self.count_lost();
@@ -393,7 +393,7 @@ impl Player {
         let mutexes = self.core.mutexes();
         for i in 0..mutexes {
             let number = turned(start, i, mutexes);
-            if !self.is_lost(MutexId::new(number)) {
+            if !self.is_orphaned(MutexId::new(number)) {
                 return MutexId::new(number);
             }
         }

@@ -1,7 +1,7 @@
 -- A session: the commands that were accepted, and the core behind them.
 use Rattle.std.specs.Prelude.{ℕ, ◌≡◌, ◌≤◌, ◌<◌, List, [], ◌∷◌, ◌++◌, All, length, Option, Some, None, Result, Ok, Err}
 use Rattle.pif_model.specs.Table.{Table}
-use Rattle.pif_text_errors.specs.Slips.{IsIn}
+use Rattle.pif_text_errors.specs.SyntaxErrors.{IsIn}
 use Rattle.pif_text_model.specs.declared.commands.Command.{Command}
 use Rattle.pif_text_model.specs.declared.replies.Cause.{Cause}
 use Rattle.pif_text_model.specs.declared.replies.Reply.{Reply}
@@ -76,7 +76,7 @@ Plays c old new result = PlaysParts c old.commands old.core new.commands new.cor
 abbrev pub TakesLine : List ℕ → (old new : Kept) → Result Reply Refusal → Type 0
 TakesLine line old new (Ok reply) = (c : Command) × (command_in line ≡ Some c) × Plays c old new (Ok reply)
 TakesLine line old new (Err (refusal.Unplayed why)) = (c : Command) × (command_in line ≡ Some c) × Plays c old new (Err why)
-TakesLine line old new (Err (refusal.Slip slip)) = (command_in line ≡ None) × IsIn line slip × (new ≡ old)
+TakesLine line old new (Err (refusal.SyntaxError syntax_error)) = (command_in line ≡ None) × IsIn line syntax_error × (new ≡ old)
 
 -- the last of these commands is taken away, and the core is that behind the others; or nothing changes
 abbrev pub TakesBack : (old : List Command) → (was : Option Table) → (new : List Command) → (is : Option Table)

@@ -6,7 +6,7 @@
 //! | `sessions` | a script while it is written, one command after the other, and the core behind it |
 //! | `lines` | the lines of an input, one after the other |
 //! | `wishes` | what a line asks of a shell |
-//! | `remarks` | what a shell says: slips, and why a command is not accepted or not taken back |
+//! | `remarks` | what a shell says: syntax errors, and why a command is not accepted or not taken back |
 //! | `helps` | the help on each word |
 //! | `replies` | the answer to a command, with what it changed |
 //! | `stories`, `shelves` | the session as a story, and where it is saved |

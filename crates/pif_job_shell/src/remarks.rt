@@ -2,7 +2,7 @@ use crate::sessions::{NotUndone, Refusal, Unplayed};
 use arrayvec::ArrayVec;
 use itoa::Buffer;
 use pif_text::Cause;
-use pif_text_errors::{Slip, Wrong, nearest_name};
+use pif_text_errors::{SyntaxError, Wrong, nearest_name};
 
 /// The most bytes of a remark.
 const REMARK_ROOM: usize = 512;
@@ -77,24 +77,26 @@ const OWN_WORDS: [&str; 4] = ["help", "state", "undo", "save"];
 
 /// The right word that is nearest to what is wrong, if one is near. A word that no command begins with may be meant as
 /// one of the shell's own.
-fn near_of(slip: &Slip<'_>) -> Option<&'static str> {
-    match slip.near {
-        None if slip.wrong == Wrong::NoCommand => { nearest_name(slip.word, OWN_WORDS.as_slice()) }
+fn near_of(syntax_error: &SyntaxError<'_>) -> Option<&'static str> {
+    match syntax_error.near {
+        None if syntax_error.wrong == Wrong::NoCommand => {
+            nearest_name(syntax_error.word, OWN_WORDS.as_slice())
+        }
         near => near,
     }
 }
 
 /// Says why a line is no command: the column, what is wrong, the nearest word and the form of the command, if there are
 /// such.
-fn say_slip(slip: &Slip<'_>, remark: &mut Remark) {
+fn say_syntax_error(syntax_error: &SyntaxError<'_>, remark: &mut Remark) {
     remark.say("column ");
-    remark.number(slip.column as u64);
+    remark.number(syntax_error.column as u64);
     remark.say(": ");
-    remark.say(wrong_words(slip.wrong));
-    let near = near_of(slip);
+    remark.say(wrong_words(syntax_error.wrong));
+    let near = near_of(syntax_error);
     say_hint(", perhaps '", near, remark);
-    say_hint(", in '", slip.form, remark);
-    if slip.wrong == Wrong::NoCommand && near.is_none() {
+    say_hint(", in '", syntax_error.form, remark);
+    if syntax_error.wrong == Wrong::NoCommand && near.is_none() {
         remark.say("; 'help' names them all");
     }
 }
@@ -115,7 +117,7 @@ fn unplayed_words(why: Unplayed) -> &'static str {
 /// Says why a line is not accepted.
 pub fn say_refusal(refusal: &Refusal<'_>, remark: &mut Remark) {
     match refusal {
-        Refusal::Slip(slip) => say_slip(slip, remark),
+        Refusal::SyntaxError(syntax_error) => say_syntax_error(syntax_error, remark),
         Refusal::Unplayed(why) => remark.say(unplayed_words(*why)),
     }
 }

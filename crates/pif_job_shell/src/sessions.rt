@@ -9,7 +9,7 @@ use pif_script::{Ending, OpenFault, obey, open_core};
 use pif_text::{
     Addition, Cause, Command, Question, Reply, Text, command_text, commands_of_lines_are_written,
 };
-use pif_text_errors::{Slip, read_command};
+use pif_text_errors::{SyntaxError, read_command};
 use pif_types::{Request, push_within};
 use std::alloc::{AllocError, Global};
 use std::marker::Model;
@@ -32,7 +32,7 @@ pub enum Unplayed {
 #[derive(Clone, Copy, PartialEq, Eq)]
 pub enum Refusal<'a> {
     /// It is no command.
-    Slip(Slip<'a>),
+    SyntaxError(SyntaxError<'a>),
     /// Its command was not accepted.
     Unplayed(Unplayed),
 }
@@ -207,7 +207,7 @@ impl Session {
                 Ok(reply) => Ok(reply),
                 Err(why) => Err(Refusal::Unplayed(why)),
             },
-            Err(slip) => Err(Refusal::Slip(slip)),
+            Err(syntax_error) => Err(Refusal::SyntaxError(syntax_error)),
         }
     }
 

@@ -51,7 +51,7 @@ impl<C: Chains + Drop> KernelOn<C> {
     }
 
     /// The next ticket, from 1 on: a number that rises with each waiter. Where it is 2^64 - 1, the next waiter has the
-    /// tickets that are held numbered anew from 1 first, in their order, and gets the one behind them.
+    /// tickets that are held renumbered from 1 first, in their order, and gets the one behind them.
     pub fn next_ticket(&self) -> u64
         ensures { result ≡ next_ticket self.now }
     {

@@ -8,7 +8,7 @@ use crate::chains::Chains;
 use pif_model::Status;
 use pif_types::Tid;
 
-/// Numbers the tickets of all waiters among these threads anew from 1, in their order. Answers the ticket after the
+/// Renumbers the tickets of all waiters among these threads from 1, in their order. Answers the ticket after the
 /// last.
 pub fn number_anew<C: Chains>(chains: &mut C, statuses: &[Status]) -> u64
     requires waiters { IsRenumberable (C.seen chains.old).owners (arrivals_in statuses.now (C.seen chains.old).owners) }

@@ -7,7 +7,7 @@ use crate::parts::Parts;
 use crate::renumbering::number_anew;
 
 impl<C: Chains + Drop> Parts<C> {
-    /// Takes the next ticket. At the last one the tickets that are held are numbered anew from 1, in their order.
+    /// Takes the next ticket. At the last one the tickets that are held are renumbered from 1, in their order.
     pub fn take_ticket(&mut self) -> u64
         requires sound { IsSoundInside self.old }
         ensures frame { self.new ≡ record self.old { owners = self.new.owners; table = self.new.table; next = self.new.next } }
@@ -25,7 +25,7 @@ impl<C: Chains + Drop> Parts<C> {
         ticket
     }
 
-    /// Numbers the tickets that are held anew from 1, in their order.
+    /// Renumbers the tickets that are held from 1, in their order.
     fn renumber(&mut self)
         requires sound { IsSoundInside self.old }
         ensures frame { self.new ≡ record self.old { owners = self.new.owners; table = self.new.table; next = self.new.next } }

@@ -15,7 +15,7 @@
 //!
 //! A parked thread stands in the list of its variable by its effective priority, and then by its ticket. Those tickets
 //! have a counter of their own, which begins where that of the waiters does. At its last number the tickets of the
-//! parked threads are numbered anew, in their order.
+//! parked threads are renumbered, in their order.
 //! A walk can give one parked thread another priority, the last thread of its chain: that one is moved in its list.
 #![tactic(auto)]
 

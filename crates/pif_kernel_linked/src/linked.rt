@@ -208,7 +208,7 @@ impl Chains for LinkedChains {
 }
 
 /// Takes the next ticket of a parked thread, which goes up by one. At the last one the tickets of the parked threads
-/// are numbered anew from 1 first, in their order.
+/// are renumbered from 1 first, in their order.
 fn take_ticket(buckets: &mut Buckets, table: &mut NodeTable, next: &mut u64) -> u64
     requires holds { HoldsBuckets buckets.old table.old }
     requires few { buckets.old.parked.threads ≤ 1024 }
@@ -230,7 +230,7 @@ fn take_ticket(buckets: &mut Buckets, table: &mut NodeTable, next: &mut u64) -> 
 }
 
 /// A ticket above those of all parked threads and below the last one: `next`, which is above them. If that is the last
-/// one, the tickets of the parked threads are numbered anew from 1 first, in their order.
+/// one, the tickets of the parked threads are renumbered from 1 first, in their order.
 fn free_ticket(buckets: &mut Buckets, table: &mut NodeTable, next: u64) -> u64
     requires holds { HoldsBuckets buckets.old table.old }
     requires few { buckets.old.parked.threads ≤ 1024 }

@@ -1,4 +1,4 @@
--- Tickets that are numbered anew in their order.
+-- Tickets that are renumbered in their order.
 use Rattle.std.specs.Prelude.{◌≡◌, ◌≢◌, ℕ, zero, suc, ◌+◌, ◌<◌, ◌≤◌, ◌==◌, eqb, nat_lt, Bool, true, false, if◌then◌else◌, List, [], ◌∷◌, length, map, get_or, Option, Some, None, IsSome, option_map}
 use Rattle.std.specs.List.{list_any, IsDistinct}
 use Rattle.pif_kernel_model.specs.Owners.{Owners, Task, Wait, task_at, waits_on, KeepsOrder}
@@ -29,7 +29,7 @@ pub record IsRenumbered (old now : Owners) (ws : List (ℕ × ℕ)) (count : ℕ
 abbrev pub is_named : ℕ → List (ℕ × ℕ) → Bool
 is_named t ws = list_any (λ (w : ℕ × ℕ). w.0 == t) ws
 
--- the tickets of these threads may be numbered anew one by one: each waits, and with its new ticket stands where it did
+-- the tickets of these threads may be renumbered one by one: each waits, and with its new ticket stands where it did
 pub record IsRenumberable (v : Owners) (ws : List (ℕ × ℕ)) : Type 0 where
   pub few : length ws ≤ 1024
   pub rows : (t : ℕ) → is_named t ws ≡ true → t < length v.seats

@@ -14,7 +14,7 @@ use Rattle.pif_model.specs.declared.events.Entry.TheVariants.{Thread as AddThrea
 use Rattle.pif_model.specs.Graph.{reaches_within, greatest_where, effective_among, first_greatest, waited_by, next_waiter}
 use Rattle.pif_model.specs.Posix.{Progress, Call, Memory, World, nobody, no_mutex, no_variable, no_memory, is_blocked_on, is_still_blocked, blocked_below, all_unblocked, Step, IsLegal}
 use Rattle.pif_model.specs.World.Health.{Fine}
-use Rattle.pif_model.specs.World.Progress.{Fresh, Waiting, Has, Checked, Enlisted, Blocked, Owing, Used}
+use Rattle.pif_model.specs.World.Progress.{Fresh, Waiting, Has, Checked, Enlisted, Blocked, Reacquiring, Used}
 use Rattle.pif_model.specs.Posix.Locks.{free, joins}
 use Rattle.pif_model.specs.Posix.Passes.{to_nobody, to_next}
 use Rattle.pif_model.specs.Posix.Unlocks.{released as unlock_released}
@@ -28,7 +28,7 @@ use Rattle.pif_model.specs.Deadlines.{no_timer}
 use Rattle.pif_model.specs.Posix.Effects.{none as no_effect, then as effect_then, owed}
 use Rattle.pif_model.specs.Posix.Step.{thread_added, mutex_added, cond_added, begun, waits, answered}
 use Rattle.pif_model.specs.Posix.IsRun.{start, next}
-use Rattle.pif_model.specs.Projection.{Shadow, world_of, places}
+use Rattle.pif_model.specs.Projection.{HistoryVariables, world_of, places}
 use Rattle.pif_model.specs.Table.{Table, new_table, thread_added as with_thread_added, mutex_added as with_mutex_added, cond_added as with_cond_added}
 use Rattle.pif_model.specs.Lines.{goes_on}
 use Rattle.pif_model.proofs.Asked.{next as table_after, finished}
@@ -98,7 +98,7 @@ used_then = both (at (Broadcast 1) Used) found (waiting (Blocked true)) (waiting
 abbrev queued : World
 queued = both None found (waiting Waiting) (waiting Waiting) (scene 1 1 ((3, 1) ∷ (2, 1) ∷ []))
 
--- the broadcast uses the variable, wakes both, and each does the lock that it owes
+-- the broadcast uses the variable, wakes both, and each does the lock that it must do again
 broadcasts : Step small broadcasting (Happened (Go 1) (Answered 0)) queued
 unfolding reaches_within greatest_where effective_among first_greatest waited_by next_waiter all_unblocked
 broadcasts = answered 1 0 (Broadcast 1)
@@ -109,9 +109,9 @@ broadcasts = answered 1 0 (Broadcast 1)
       moves =
           acts refl (effect_then {u = used_then}
           (use_variable (Broadcast 1) refl refl (counts (λ e. omega arith) refl))
-          (effect_then {u = both (at (Broadcast 1) (Has 0)) found (waiting Owing) (waiting Owing) (scene 1 1 [])}
+          (effect_then {u = both (at (Broadcast 1) (Has 0)) found (waiting Reacquiring) (waiting Reacquiring) (scene 1 1 [])}
           (choose (Broadcast 1) refl (wakes_all 1 (3 ∷ 2 ∷ []) refl blocked_ones still_ones refl))
-          (owed {u = both (at (Broadcast 1) (Has 0)) found (waiting Owing) (waiting Waiting) (scene 1 1 ((3, 1) ∷ []))}
+          (owed {u = both (at (Broadcast 1) (Has 0)) found (waiting Reacquiring) (waiting Waiting) (scene 1 1 ((3, 1) ∷ []))}
           3 1 1 refl refl (joins ((λ e. omega arith), (λ e. omega arith), refl) refl refl)
           (owed 2 1 1 refl refl (joins ((λ e. omega arith), (λ e. omega arith), refl) refl refl) (no_effect refl)))));
     })
@@ -276,7 +276,7 @@ t1_holds =
     (table_after (Calls 2 (Wait 1 1)) (table_after (Calls 2 (Lock 1)) core))))
 
 -- what is remembered of the threads then, where t1's broadcast has found these
-abbrev memories : List (ℕ × ℕ) → Shadow
+abbrev memories : List (ℕ × ℕ) → HistoryVariables
 memories fs = record { memories = no_memory ∷ record { waits = 0; found = fs } ∷ waited 1 ∷ waited 1 ∷ [] }
 
 blocked_shown : world_of t1_holds (memories []) ≡ blocked

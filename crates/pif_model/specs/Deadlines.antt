@@ -58,11 +58,11 @@ is_reached (Some d) now = if nat_lt now d then false else true
 -- TELLING A RESULT
 
 -- what a call with this result is answered: a wait that has expired ETIMEDOUT in place of 0; else the result
-abbrev pub told_result : Request → Bool → ℕ → ℕ
-told_result (Wait c m) true a = if a == 0 then ETIMEDOUT else a
-told_result q expired a = a
+abbrev pub reported_result : Request → Bool → ℕ → ℕ
+reported_result (Wait c m) true a = if a == 0 then ETIMEDOUT else a
+reported_result q expired a = a
 
 -- what a step shows, where it would show this of a call with no deadline
-abbrev pub told_seen : Request → Bool → Seen → Seen
-told_seen q expired (Answered a) = Answered (told_result q expired a)
-told_seen q expired seen = seen
+abbrev pub reported_seen : Request → Bool → Seen → Seen
+reported_seen q expired (Answered a) = Answered (reported_result q expired a)
+reported_seen q expired seen = seen

@@ -5,7 +5,7 @@ use Rattle.pif_types.specs.declared.errors.Errno.{Errno}
 use Rattle.pif_types.specs.declared.errors.Errno.TheVariants.{NoSuchThread, Again, Deadlock}
 use Rattle.pif_types.specs.declared.errors.Refusal.{Refusal}
 use Rattle.pif_types.specs.declared.requests.Kind.TheVariants.{Normal}
-use Rattle.pif_model.specs.declared.lines.Relock.TheVariants.{Stops, Answers, Counts}
+use Rattle.pif_model.specs.declared.lines.Relock.TheVariants.{Deadlocks, Answers, Counts}
 use Rattle.pif_model.specs.Kinds.{relock_of}
 use Rattle.pif_types.specs.declared.requests.Request.{Request}
 use Rattle.pif_types.specs.declared.requests.Request.TheVariants.{Lock, TryLock, Unlock, Consistent, Wait, Signal, Broadcast, SetPrio}
@@ -36,7 +36,7 @@ use Rattle.pif_model.specs.declared.lines.Took.TheVariants.{Owns as TookOwns, Qu
 use Rattle.pif_model.specs.declared.lines.Status.{Status}
 use Rattle.pif_model.specs.Posix.{names_known}
 use Rattle.pif_model.specs.Refusals.{begin_refused, go_refused, end_refused, tick_refused}
-use Rattle.pif_model.specs.Deadlines.{plain, timer_of, ran_out, is_reached, told_seen}
+use Rattle.pif_model.specs.Deadlines.{plain, timer_of, ran_out, is_reached, reported_seen}
 use Rattle.pif_model.specs.Word.{Word, Words, word_at, take_word, release_word}
 use Rattle.pif_model.specs.PiKernel.{is_ready, is_parked, is_woken_again, is_living, lock_answer, words_after_lock, kernel_after_lock, try_lock_answer, words_after_try_lock, unlock_answer, words_after_unlock, kernel_after_unlock, set_prio_answer, kernel_after_set_prio, kernel_after_stop, wait_requeue_answer, kernel_after_wait_requeue, requeue_answer, after_requeue, after_exit, kernel_after_expire}
 use Rattle.pif_model.specs.RobustList.{robust_at, walk_of, with_pending, without_pending, with_half_linked, with_listed, without_listed, without_robust}
@@ -102,7 +102,7 @@ unfoldable pub lock_load : Request → ℕ → ℕ → Table → Outcome
 lock_load q t m s =
     if (cell_at s m).word.number == t
     then elim (relock_of (cell_at s m).kind)
-    [ Stops ↦ goes_to t q Stop s | Answers ↦ answers t EDEADLK s | Counts ↦ relocks t m s ]
+    [ Deadlocks ↦ goes_to t q Stop s | Answers ↦ answers t EDEADLK s | Counts ↦ relocks t m s ]
     else goes_by t q m NamePending Exchange s
 
 -- a request that locks, by what its kernel call answered. ESRCH: the owner has ended, and the thread goes on to stop
@@ -435,15 +435,15 @@ expires_at (Wait c m) p t s =
 expires_at q p t s = answers t EINVAL s
 
 -- what a call that has run out of time, or has not, shows of a step
-abbrev pub told_outcome : Request → Bool → Outcome → Outcome
-told_outcome q expired x = record x { seen = told_seen q expired x.seen }
+abbrev pub reported_outcome : Request → Bool → Outcome → Outcome
+reported_outcome q expired x = record x { seen = reported_seen q expired x.seen }
 
 -- one step of the open call: one that is due expires, and does nothing else
 unfoldable pub go_outcome : Line → ℕ → Table → Outcome
 go_outcome Idle t s = record { seen = Waits; after = s }
 go_outcome (At q p) t s =
     if is_line_due (At q p) t s then expires_at q p t s
-    else told_outcome q (timer_at s t).expired (line_of q p t s)
+    else reported_outcome q (timer_at s t).expired (line_of q p t s)
 
 -- where a call begins
 abbrev pub first_place : Request → Place

@@ -1,7 +1,8 @@
 -- The POSIX machine of mutexes and condition variables: what the calls on them, pthread_setschedprio and the end of a
 -- thread do, by POSIX.1-2017 (the pages pthread_mutex_lock, pthread_mutex_trylock, pthread_mutex_timedlock,
--- pthread_mutex_consistent, pthread_cond_wait, pthread_cond_timedwait, pthread_cond_signal, pthread_mutexattr_settype,
--- pthread_mutexattr_setprotocol, pthread_mutexattr_setrobust and pthread_setschedprio).
+-- pthread_mutex_unlock, pthread_mutex_consistent, pthread_cond_wait, pthread_cond_timedwait, pthread_cond_signal,
+-- pthread_cond_broadcast, pthread_mutexattr_settype, pthread_mutexattr_setprotocol, pthread_mutexattr_setrobust and
+-- pthread_setschedprio).
 -- It knows no words, no kernel and no chain walks. A call has effects, each of which happens at one moment between its
 -- beginning and its answer. Threads, mutexes and variables are numbered from 1; place 0 of each list stands for nobody.
 -- What its state is made of stands in World.antt, and is passed on here.
@@ -12,7 +13,7 @@ use Rattle.pif_types.specs.Bounds.{Bounds}
 use Rattle.pif_types.specs.declared.errors.Refusal.{Refusal}
 use Rattle.pif_types.specs.declared.requests.Kind.{Kind}
 use Rattle.pif_model.specs.declared.lines.Relock.{Relock}
-use Rattle.pif_model.specs.declared.lines.Relock.TheVariants.{Stops, Answers, Counts}
+use Rattle.pif_model.specs.declared.lines.Relock.TheVariants.{Deadlocks, Answers, Counts}
 use Rattle.pif_model.specs.Kinds.{relock_of}
 use Rattle.pif_types.specs.declared.requests.Request.{Request}
 use Rattle.pif_types.specs.declared.requests.Request.TheVariants.{Lock, TryLock, Unlock, Consistent, Wait, Signal, Broadcast, SetPrio, TimedLock, TimedWait}
@@ -24,10 +25,10 @@ use Rattle.pif_model.specs.declared.events.Entry.{Entry}
 use Rattle.pif_model.specs.declared.events.Entry.TheVariants.{Thread as AddThread, Mutex as AddMutex, Cond as AddCond, Step as Happened}
 use Rattle.pif_model.specs.Graph.{is_priority, without}
 use Rattle.pif_model.specs.Refusals.{begin_refused, go_refused, end_refused, tick_refused}
-use Rattle.pif_model.specs.Deadlines.{plain, no_timer, timer_of, ran_out, is_reached, told_result}
-pub use Rattle.pif_model.specs.World.{Health, Progress, Call, Memory, Thread, Mutex, Variable, World, no_memory, nobody, no_mutex, no_variable, empty_world, thread_at, mutex_at, variable_at, is_thread, is_living, is_mutex, is_variable, with_thread, with_mutex, with_call_by, at_progress, with_progress, WaitsFor, waits_for, effective_of, next_of, leads_to, is_lost, is_idle, sleeps, rests, is_blocked, variable_of, is_call_blocked, is_blocked_on, is_found, is_still_blocked}
+use Rattle.pif_model.specs.Deadlines.{plain, no_timer, timer_of, ran_out, is_reached, reported_result}
+pub use Rattle.pif_model.specs.World.{Health, Progress, Call, Memory, Thread, Mutex, Variable, World, no_memory, nobody, no_mutex, no_variable, empty_world, thread_at, mutex_at, variable_at, is_thread, is_living, is_mutex, is_variable, with_thread, with_mutex, with_call_by, at_progress, with_progress, WaitsFor, waits_for, effective_of, next_of, leads_to, is_orphaned, is_idle, sleeps, rests, is_blocked, variable_of, is_call_blocked, is_blocked_on, is_found, is_still_blocked}
 use Rattle.pif_model.specs.World.Health.{Fine, Inconsistent, Unusable}
-use Rattle.pif_model.specs.World.Progress.{Fresh, Waiting, Stuck, Leaving, Has, Checked, Enlisted, Blocked, Owing, Used}
+use Rattle.pif_model.specs.World.Progress.{Fresh, Waiting, Stuck, Leaving, Has, Checked, Enlisted, Blocked, Reacquiring, Used}
 
 -- THE PREMISES AND RESULTS OF RULES
 
@@ -53,12 +54,12 @@ IsFree w m = (mutex_at w m).owner ≡ 0
 abbrev pub IsOwned : World → ℕ → Type 0
 IsOwned w m = (mutex_at w m).owner ≢ 0
 
--- another thread than t owns m, and m is lost; or another thread owns it, and it isn't lost
-abbrev pub IsLostByAnother : World → ℕ → ℕ → Type 0
-IsLostByAnother w t m = IsNotOwner w t m × IsOwned w m × (is_lost w m ≡ true)
+-- another thread than t owns m, and m is orphaned; or another thread owns it, and it isn't orphaned
+abbrev pub IsOrphanedByAnother : World → ℕ → ℕ → Type 0
+IsOrphanedByAnother w t m = IsNotOwner w t m × IsOwned w m × (is_orphaned w m ≡ true)
 
 abbrev pub IsHeldByAnother : World → ℕ → ℕ → Type 0
-IsHeldByAnother w t m = IsNotOwner w t m × IsOwned w m × (is_lost w m ≡ false)
+IsHeldByAnother w t m = IsNotOwner w t m × IsOwned w m × (is_orphaned w m ≡ false)
 
 -- to wait for m would close a cycle: m's owner waits for t through some chain; or it would close none
 abbrev pub ClosesCycle : World → ℕ → ℕ → Type 0
@@ -239,18 +240,18 @@ is_use (Signal c) = true
 is_use (Broadcast c) = true
 is_use _ = false
 
--- pthread_mutex_lock by t on m, where no effect has happened yet; or the lock that a wait of t owes
+-- pthread_mutex_lock by t on m, where no effect has happened yet; or the lock by which a wait of t reacquires m
 pub data Locks (t m : ℕ) (w v : World) : Type 0 where
   -- the owner locks it again, and stops (NORMAL): it waits for good (pthread_mutex_lock, table of relocking: deadlock)
-  own_normal : IsOwner w t m → Relocks w m Stops → Comes t Stuck w v → Locks t m w v
+  own_normal : IsOwner w t m → Relocks w m Deadlocks → Comes t Stuck w v → Locks t m w v
   -- the owner locks it again, and is answered (ERRORCHECK): EDEADLK (the same table: an error is returned)
   own_errorcheck : IsOwner w t m → Relocks w m Answers → HasResult t EDEADLK w v → Locks t m w v
   -- the owner locks it again, and that counts (RECURSIVE; the same table: recursive)
   own_recursive : IsOwner w t m → Relocks w m Counts → LocksAgain t m w v → Locks t m w v
   -- nobody owns it: t takes it (pthread_mutex_lock: it returns with the mutex locked and the caller as its owner)
   free : IsNotOwner w t m → IsFree w m → v ≡ taken t m w → Locks t m w v
-  -- it is lost: t waits for good (pthread_mutexattr_setrobust, PTHREAD_MUTEX_STALLED: this can lead to deadlocks)
-  lost : IsLostByAnother w t m → Comes t Stuck w v → Locks t m w v
+  -- it is orphaned: t waits for good (pthread_mutexattr_setrobust, PTHREAD_MUTEX_STALLED: this can lead to deadlocks)
+  orphaned : IsOrphanedByAnother w t m → Comes t Stuck w v → Locks t m w v
   -- its owner waits for t through some chain: EDEADLK (pthread_mutex_lock may report that a deadlock was detected; that
   -- it always does, for every kind, is this project's choice)
   cycle : IsHeldByAnother w t m → ClosesCycle w t m → HasResult t EDEADLK w v → Locks t m w v
@@ -261,7 +262,7 @@ pub data Locks (t m : ℕ) (w v : World) : Type 0 where
 pub data TriesToLock (t m : ℕ) (w v : World) : Type 0 where
   -- the owner locks it again, and that counts (pthread_mutex_trylock: the lock count is incremented, and it succeeds)
   own_recursive : IsOwner w t m → Relocks w m Counts → LocksAgain t m w v → TriesToLock t m w v
-  -- it is owned otherwise, or lost: EBUSY (pthread_mutex_trylock: it was already locked, by any thread)
+  -- it is owned otherwise, or orphaned: EBUSY (pthread_mutex_trylock: it was already locked, by any thread)
   busy : IsOwned w m → MayNotRelock w t m → HasResult t EBUSY w v → TriesToLock t m w v
   -- nobody owns it: t takes it (pthread_mutex_trylock: as pthread_mutex_lock, but for a mutex that is locked)
   free : IsFree w m → v ≡ taken t m w → TriesToLock t m w v
@@ -331,7 +332,7 @@ pub data ChecksWait (t c m : ℕ) (w v : World) : Type 0 where
 
 -- how far a wait has come once it has given the mutex up, where it is blocked still, or is not
 abbrev pub on_release : Bool → Progress
-on_release still = if still then Blocked false else Owing
+on_release still = if still then Blocked false else Reacquiring
 
 -- a wait of t, which has joined the blocked threads, gives m up (pthread_cond_wait: it releases the mutex and blocks,
 -- atomically with respect to another thread that takes the mutex and then uses the variable)
@@ -346,7 +347,7 @@ pub data GivesUp (t m : ℕ) (still : Bool) (w v : World) : Type 0 where
 -- how far a blocked call has come once it is unblocked
 abbrev pub on_unblocking : Progress → Progress
 on_unblocking (Enlisted still) = Enlisted false
-on_unblocking (Blocked noted) = Owing
+on_unblocking (Blocked noted) = Reacquiring
 on_unblocking p = p
 
 -- an open call once it is unblocked
@@ -413,7 +414,7 @@ pub data Effect (t : ℕ) (w v : World) : Type 0 where
   enlist : (c m : ℕ) → HasCome w t (Wait c m) Checked → Comes t (Enlisted true) w v → Effect t w v
   give_up : (c m : ℕ) (still : Bool) → HasCome w t (Wait c m) (Enlisted still) → GivesUp t m still w v → Effect t w v
   -- a wait that was unblocked locks its mutex (pthread_cond_wait: on return the calling thread has locked it)
-  lock_again : (c m : ℕ) → HasCome w t (Wait c m) Owing → Locks t m w v → Effect t w v
+  lock_again : (c m : ℕ) → HasCome w t (Wait c m) Reacquiring → Locks t m w v → Effect t w v
   -- a signal or a broadcast uses its variable, and then chooses whom it wakes
   use_variable : (q : Request) → IsCalling w t q → is_use q ≡ true → Uses t (variable_of q) w v → Effect t w v
   choose : (q : Request) → HasCome w t q Used → Chooses t q w v → Effect t w v
@@ -423,14 +424,14 @@ pub data Effect (t : ℕ) (w v : World) : Type 0 where
       → Passes (named_by q) (with_progress t (Has ENOTRECOVERABLE) w) v → Effect t w v
 
 -- some effects of t's open call in order, or none, from the state `first` on. A thread that one of them unblocks may
--- also do the lock that it owes
+-- also do the lock that it must do again
 pub data Effects (t : ℕ) (first : World) : World → World → Type 0 where
   none : {w v : World} → v ≡ w → Effects t first w v
   then : {w u v : World} → Effect t w u → Effects t first u v → Effects t first w v
-  -- b, which was blocked in the first state and owes its lock now, locks its mutex (pthread_cond_signal: an unblocked
-  -- thread contends for the mutex as if it had called pthread_mutex_lock; that it may do so at the Go that unblocks it
-  -- is this project's choice)
-  owed : {w u v : World} (b c m : ℕ) → IsBlocked first c b → HasCome w b (Wait c m) Owing → Locks b m w u
+  -- b, which was blocked in the first state and must reacquire its mutex now, locks it (pthread_cond_signal: an
+  -- unblocked thread contends for the mutex as if it had called pthread_mutex_lock; that it may do so at the Go that
+  -- unblocks it is this project's choice)
+  owed : {w u v : World} (b c m : ℕ) → IsBlocked first c b → HasCome w b (Wait c m) Reacquiring → Locks b m w u
       → Effects t first u v → Effects t first w v
 
 -- DEADLINES
@@ -463,8 +464,8 @@ after_timeout t w = with_thread t (record (thread_at w t) { timer = ran_out (thr
 pub data Expires (t : ℕ) (w v : World) : Type 0 where
   -- a lock leaves the waiters, or waits for good no more, and its result is ETIMEDOUT (pthread_mutex_timedlock)
   lock : (m : ℕ) (p : Progress) → HasCome w t (Lock m) p → HasResult t ETIMEDOUT (without_waiter t w) v → Expires t w v
-  -- a wait is blocked no more, and owes the lock; it has run out of time (pthread_cond_timedwait)
-  wait : (c m : ℕ) (p : Progress) → HasCome w t (Wait c m) p → Comes t Owing (after_timeout t w) v → Expires t w v
+  -- a wait is blocked no more, and must reacquire its mutex; it has run out of time (pthread_cond_timedwait)
+  wait : (c m : ℕ) (p : Progress) → HasCome w t (Wait c m) p → Comes t Reacquiring (after_timeout t w) v → Expires t w v
 
 -- what t's open call does at a Go, from w to u: one that is due expires, and does nothing else; another has some
 -- effects in order, or none (POSIX gives a call no steps: that an expiry comes at the next Go of its own thread, and
@@ -608,7 +609,7 @@ pub data Step (l : Bounds) (w : World) (e : Entry) (v : World) : Type 0 where
   -- A wait that ran out of time is answered ETIMEDOUT in place of 0 (pthread_cond_timedwait: an error is returned if
   -- the time passes; that other errors come before it is this project's choice)
   answered : (t a : ℕ) (q : Request) (u : World)
-      → e ≡ Happened (Go t) (Answered (told_result q (thread_at w t).timer.expired a)) → Goes t w u → HasCome u t q (Has a)
+      → e ≡ Happened (Go t) (Answered (reported_result q (thread_at w t).timer.expired a)) → Goes t w u → HasCome u t q (Has a)
       → v ≡ with_call_by t without_call u → IsNotResting v t → Step l w e v
   -- its thread has ended
   ended : (t : ℕ) → e ≡ Happened (End t) Ended → Ends t w v → Step l w e v

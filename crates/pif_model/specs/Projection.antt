@@ -1,4 +1,5 @@
--- What a table shows of the POSIX machine: the state that it stands for, with a shadow of what no table can tell.
+-- What a table shows of the POSIX machine: the state that it stands for, with history variables for what no table can
+-- tell.
 use Rattle.std.specs.Prelude.{ℕ, zero, suc, ◌≡◌, ◌≢◌, ◌≤◌, Bool, true, false, ◌==◌, List, [], ◌∷◌, ◌++◌, length, get_or, map, Option, Some, None, if◌then◌else◌}
 use Rattle.std.specs.List.{list_any}
 use Rattle.pif_types.specs.declared.requests.Request.{Request}
@@ -21,37 +22,37 @@ use Rattle.pif_model.specs.Word.{word_at, health_word_at}
 use Rattle.pif_model.specs.PiKernel.{seat_at, is_parked, is_living}
 use Rattle.pif_model.specs.Posix.{Health, Progress, Call, Memory, Thread, Mutex, Variable, World, no_memory, named_by, variable_of, is_call_blocked, on_taking, on_release}
 use Rattle.pif_model.specs.World.Health.{Fine, Inconsistent, Unusable}
-use Rattle.pif_model.specs.World.Progress.{Fresh, Waiting, Stuck, Leaving, Has, Checked, Enlisted, Blocked, Owing, Used}
+use Rattle.pif_model.specs.World.Progress.{Fresh, Waiting, Stuck, Leaving, Has, Checked, Enlisted, Blocked, Reacquiring, Used}
 use Rattle.pif_model.specs.Table.{Table, bound_to, uses_of, status_at, line_at, timer_at, library_at}
 
 -- THE PROJECTION: the state of the POSIX machine that a table shows
 
 -- what the POSIX machine knows and the table doesn't: what it remembers of each thread
-pub record Shadow : Type 0 where
+pub record HistoryVariables : Type 0 where
   pub memories : List Memory
 
--- the shadow of a table to which nothing was added
-abbrev pub no_shadow : Shadow
-no_shadow = record { memories = no_memory ∷ [] }
+-- the history variables of a table to which nothing was added
+abbrev pub no_history_variables : HistoryVariables
+no_history_variables = record { memories = no_memory ∷ [] }
 
 -- what is remembered of t
-abbrev pub memory_at : Shadow → ℕ → Memory
+abbrev pub memory_at : HistoryVariables → ℕ → Memory
 memory_at x t = get_or x.memories t no_memory
 
 -- the health that a health word and OWNER_DIED show
 abbrev pub health_of : ℕ → Bool → Health
 health_of h died = if h == 2 then Unusable else (if h == 1 then Inconsistent else (if died then Inconsistent else Fine))
 
--- how far a call of a request has come before it has locked: a wait owes the lock
+-- how far a call of a request has come before it has locked: a wait must reacquire its mutex
 abbrev pub before_lock : Request → Progress
-before_lock (Wait c m) = Owing
+before_lock (Wait c m) = Reacquiring
 before_lock _ = Fresh
 
 -- how far a wait that is parked, or was, has come, by its thread's status and by the health of its mutex
 abbrev pub progress_parked : Status → Health → Progress
 progress_parked (Parked c) h = Blocked true
 progress_parked (Queued m) h = Waiting
-progress_parked (Ready WokenAgain) h = Owing
+progress_parked (Ready WokenAgain) h = Reacquiring
 progress_parked (Ready w) h = on_taking h
 progress_parked _ h = Stuck
 
@@ -111,7 +112,7 @@ abbrev pub call_shown : Table → ℕ → Option Call
 call_shown s t = call_at (health_at s) (uses_of s) (line_at s t) (status_at s t)
 
 -- the thread t
-abbrev pub thread_shown : Table → Shadow → ℕ → Thread
+abbrev pub thread_shown : Table → HistoryVariables → ℕ → Thread
 thread_shown s x t = record {
   base = (seat_at s.kernel t).base;
   living = is_living s.kernel t;
@@ -139,8 +140,8 @@ unfoldable pub places : ℕ → List ℕ
 places zero = []
 places (suc n) = places n ++ n ∷ []
 
--- the state of the POSIX machine that a table shows with its shadow
-abbrev pub world_of : Table → Shadow → World
+-- the state of the POSIX machine that a table shows with its history variables
+abbrev pub world_of : Table → HistoryVariables → World
 world_of s x = record {
   threads = map (thread_shown s x) (places (length s.lines));
   mutexes = map (mutex_shown s) (places (length s.mutexes));
@@ -153,7 +154,7 @@ world_of s x = record {
 -- WHAT JOINS A SHADOW TO ITS TABLE
 
 -- whether the signal or broadcast of t found u blocked when it began, by the wait that is u's last
-abbrev pub is_remembered : Shadow → ℕ → ℕ → Bool
+abbrev pub is_remembered : HistoryVariables → ℕ → ℕ → Bool
 is_remembered x t u =
     list_any (λ p. if p.0 == u then p.1 == (memory_at x u).waits else false) (memory_at x t).found
 
@@ -174,8 +175,8 @@ chooses_on (At q (Wake (Requeue v))) = variable_of q
 chooses_on (At q (Wake ReadAgain)) = variable_of q
 chooses_on _ = 0
 
--- a shadow fits its table
-pub record Agrees (s : Table) (x : Shadow) : Type 0 where
+-- history variables fit their table
+pub record Agrees (s : Table) (x : HistoryVariables) : Type 0 where
   -- something is remembered of each thread
   pub all : length x.memories ≡ length s.lines
   -- no wait was found that has not begun yet

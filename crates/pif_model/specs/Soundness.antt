@@ -5,7 +5,7 @@ use Rattle.std.specs.List.{list_any}
 use Rattle.pif_types.specs.Bounds.{IsWithin}
 use Rattle.pif_types.specs.declared.requests.Kind.{Kind}
 use Rattle.pif_types.specs.declared.requests.Kind.TheVariants.{Normal}
-use Rattle.pif_model.specs.declared.lines.Relock.TheVariants.{Stops, Counts}
+use Rattle.pif_model.specs.declared.lines.Relock.TheVariants.{Deadlocks, Counts}
 use Rattle.pif_model.specs.Kinds.{relock_of}
 use Rattle.pif_types.specs.declared.requests.Request.{Request}
 use Rattle.pif_types.specs.declared.requests.Request.TheVariants.{Lock, TryLock, Unlock, Consistent, Wait, Signal, Broadcast, SetPrio}
@@ -41,9 +41,9 @@ use Rattle.pif_model.specs.Table.{Table, Cell, new_mutex, has_thread, has_mutex,
 -- why t may stop for good in a lock of a mutex
 pub data MayStopFor (living : ℕ → Bool) (t : ℕ) (c : Cell) : Type 0 where
   -- t locks a mutex of its own that stops it, a NORMAL one
-  own_normal : c.word.number ≡ t → relock_of c.kind ≡ Stops → MayStopFor living t c
-  -- the mutex is lost: it is stalled, and its owner has ended
-  lost : c.robust ≡ false → c.word.number ≢ 0 → living c.word.number ≡ false → MayStopFor living t c
+  own_normal : c.word.number ≡ t → relock_of c.kind ≡ Deadlocks → MayStopFor living t c
+  -- the mutex is orphaned: it is stalled, and its owner has ended
+  orphaned : c.robust ≡ false → c.word.number ≢ 0 → living c.word.number ≡ false → MayStopFor living t c
 
 -- what a call has of the variable that it names
 pub record Use : Type 0 where
@@ -425,8 +425,8 @@ pub record IsShaped (s : Table) : Type 0 where
   pub no_cond_word : uses_of s 0 ≡ 0
   pub unmade_conds : (c : ℕ) → length s.conds ≤ c → uses_of s c ≡ 0
 
--- the invariant of the table, save for what holds of excused threads and for what its kernel keeps
-pub record SoundBut (Excused : ℕ → Type 0) (s : Table) : Type 0 where
+-- the invariant of the table, save for what holds of exempt threads and for what its kernel keeps
+pub record SoundExcept (Exempt : ℕ → Type 0) (s : Table) : Type 0 where
   pub shape : IsShaped s
   pub mutexes : (m : ℕ) → has_mutex s m ≡ true → CellIsSound (has_thread s) (has_waiter s.kernel.waiters m) (cell_at s m)
   pub conds : (c : ℕ) → has_cond s c ≡ true → CondIsSound s c
@@ -436,11 +436,11 @@ pub record SoundBut (Excused : ℕ → Type 0) (s : Table) : Type 0 where
       → bound_to s c ≡ m
   -- who owns a robust mutex lives
   pub alive : (m : ℕ) → has_mutex s m ≡ true → (library_at s m).robust ≡ true → (word_at s.words m).number ≢ 0
-      → (Excused (word_at s.words m).number → ⊥) → is_living s.kernel (word_at s.words m).number ≡ true
-  pub threads : (t : ℕ) → is_living s.kernel t ≡ true → (Excused t → ⊥) → ThreadIsSound s t
-  pub absent : (t : ℕ) → is_living s.kernel t ≡ false → (Excused t → ⊥) → AbsentIsSound s t
+      → (Exempt (word_at s.words m).number → ⊥) → is_living s.kernel (word_at s.words m).number ≡ true
+  pub threads : (t : ℕ) → is_living s.kernel t ≡ true → (Exempt t → ⊥) → ThreadIsSound s t
+  pub absent : (t : ℕ) → is_living s.kernel t ≡ false → (Exempt t → ⊥) → AbsentIsSound s t
 
--- the invariant of the table: nobody is excused, and its kernel is one
+-- the invariant of the table: nobody is exempt, and its kernel is one
 pub record IsSound (s : Table) : Type 0 where
-  pub all : SoundBut (λ t. ⊥) s
+  pub all : SoundExcept (λ t. ⊥) s
   pub kernel : IsKernel s.kernel

@@ -13,16 +13,16 @@ use Rattle.pif_model.specs.World.Health.{Fine, Inconsistent, Unusable}
 use Rattle.pif_model.specs.World.Progress.{Stuck}
 use Rattle.pif_model.specs.Deadlines.{with_deadline_if_any}
 use Rattle.pif_model.specs.Table.{Table}
-use Rattle.pif_model.specs.Projection.{Shadow, world_of, Agrees}
+use Rattle.pif_model.specs.Projection.{HistoryVariables, world_of, Agrees}
 use Rattle.pif_model.specs.Soundness.{IsSound}
 
 -- A core with this table stands after the history h (newest entry first) in the state w by a run through the states r
--- (newest first): the run gives h entry by entry and ends in w, w is what the table shows with some shadow that agrees
--- with it, and the table is sound.
+-- (newest first): the run gives h entry by entry and ends in w, w is what the table shows with some history variables
+-- that agree with it, and the table is sound.
 pub record Stands (s : Table) (h : List Entry) (r : List World) (w : World) : Type 0 where
-  pub shadow : Shadow
-  pub agrees : Agrees s shadow
-  pub shows : w ≡ world_of s shadow
+  pub history_variables : HistoryVariables
+  pub agrees : Agrees s history_variables
+  pub shows : w ≡ world_of s history_variables
   pub run : IsRun s.limits h r w
   pub sound : IsSound s
 

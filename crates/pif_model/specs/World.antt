@@ -33,7 +33,7 @@ pub data Progress : Type 0 where
   -- a wait that has given the mutex up and is blocked. Was it answered Waits?
   Blocked : Bool → Progress
   -- a wait that has given the mutex up and is unblocked: it has to lock the mutex
-  Owing : Progress
+  Reacquiring : Progress
   -- a signal or broadcast that has used the variable, and has to choose whom it wakes
   Used : Progress
 
@@ -191,10 +191,10 @@ next_of w m = next_waiter (effective_of w) w.waiters m
 abbrev pub leads_to : World → ℕ → ℕ → Bool
 leads_to w u t = reaches_within (length w.threads) (waits_for w) u t
 
--- whether m is lost: stalled, and its owner has ended (pthread_mutexattr_setrobust, PTHREAD_MUTEX_STALLED: no special
--- action is taken if the owner ends)
-abbrev pub is_lost : World → ℕ → Bool
-is_lost w m =
+-- whether m is orphaned: stalled, and its owner has ended (pthread_mutexattr_setrobust, PTHREAD_MUTEX_STALLED: no
+-- special action is taken if the owner ends)
+abbrev pub is_orphaned : World → ℕ → Bool
+is_orphaned w m =
     if (mutex_at w m).robust then false
     else (if (mutex_at w m).owner == 0 then false
     else (if is_living w (mutex_at w m).owner then false else true))

@@ -130,7 +130,7 @@ pub enum Place {
 #[derive(Clone, Copy, Debug, PartialEq, Eq)]
 pub enum Relock {
     /// The owner stops for good.
-    Stops,
+    Deadlocks,
     /// The owner is answered EDEADLK, and by trylock EBUSY.
     Answers,
     /// The owner holds the mutex once more.
@@ -146,7 +146,7 @@ pub enum Line {
     At(Request, Place),
 }
 
-/// What an open call has of its deadline. It is set anew at each begin.
+/// What an open call has of its deadline. It is set again at each begin.
 #[derive(Clone, Copy, Debug, PartialEq, Eq)]
 pub struct Timer {
     /// The time from which on the call waits no longer; `None` for a call that was begun without a deadline.

@@ -7,7 +7,7 @@ use Rattle.pif_model.specs.Posix.{Health, Progress, is_blocked, is_call_blocked,
 use Rattle.pif_model.specs.World.Health.{Fine, Inconsistent, Unusable}
 use Rattle.pif_model.specs.PiKernel.{is_parked}
 use Rattle.pif_model.specs.Table.{Table, status_at, line_at}
-use Rattle.pif_model.specs.Projection.{Shadow, Agrees, call_shown, may_enlist, chooses_on, is_remembered}
+use Rattle.pif_model.specs.Projection.{HistoryVariables, Agrees, call_shown, may_enlist, chooses_on, is_remembered}
 use Rattle.pif_model_lemmas.proofs.Waiting.{by_test}
 
 -- a call that is blocked on c after a step, and not parked, was so before
@@ -33,7 +33,7 @@ pub record Frames (s v : Table) : Type 0 where
   pub blocked : (u : ℕ) → may_enlist (line_at s u) ≡ false → WasBlockedIn s v u
 
 -- then what fits s fits v
-pub framed : {s v : Table} → Frames s v → (x : Shadow) → Agrees s x → Agrees v x
+pub framed : {s v : Table} → Frames s v → (x : HistoryVariables) → Agrees s x → Agrees v x
 framed {s} {v} f x a = record {
   all = a.all ∙ sym f.lines;
   past = a.past;

@@ -20,10 +20,10 @@ use Rattle.pif_model.specs.Posix.Step.{begun}
 use Rattle.pif_model.specs.PiKernel.{is_ready, is_parked, is_living}
 use Rattle.pif_model.specs.Table.{Table, has_thread, has_mutex, has_cond, bound_to, uses_of, status_at, line_at, with_line}
 use Rattle.pif_model.specs.Lines.{is_open, first_place, begun_table, table_refusal}
-use Rattle.pif_model.specs.Projection.{Shadow, Agrees, memory_at, is_remembered, may_enlist, chooses_on, call_at, call_shown, health_at, thread_shown, world_of}
+use Rattle.pif_model.specs.Projection.{HistoryVariables, Agrees, memory_at, is_remembered, may_enlist, chooses_on, call_at, call_shown, health_at, thread_shown, world_of}
 use Rattle.pif_model.specs.Soundness.{mutex_by, is_unsettled, LineIsSound, ListIsSound, IsSound}
 use Rattle.pif_model_lemmas.proofs.Waiting.{by_test}
-use Rattle.pif_model_simulation.proofs.Hole.{each_thread}
+use Rattle.pif_model_simulation.proofs.WeakenedInvariant.{each_thread}
 use Rattle.pif_model_simulation.proofs.Shown.{threads_shown, thread_seen, call_seen_of, same_world, begin_allowed, refusal_seen, thread_changed, thread_changed_twice}
 use Rattle.pif_model_simulation.proofs.Written.{no_call}
 use Rattle.pif_model_simulation.proofs.Steps.{Keeps}
@@ -197,7 +197,7 @@ module _ (s : Table) (t : ℕ) (q : Request) (h : IsSound s) (known : is_living 
   line_there : (u : ℕ) → u ≢ t → line_at v u ≡ line_at s u
   line_there u d = get_or-set_other s.lines t u (At (plain q) (first_place q)) Idle d
 
-  module _ (x : Shadow) (fits : Agrees s x) where
+  module _ (x : HistoryVariables) (fits : Agrees s x) where
     abbrev w : World
     w = world_of s x
 
@@ -205,7 +205,7 @@ module _ (s : Table) (t : ℕ) (q : Request) (h : IsSound s) (known : is_living 
     abbrev new : Memory
     new = begun_memory w (plain q) (thread_at w t).memory
 
-    abbrev y : Shadow
+    abbrev y : HistoryVariables
     y = record { memories = set x.memories t new }
 
     facts : Remembers w q (thread_at w t).memory

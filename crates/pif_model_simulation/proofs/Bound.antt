@@ -35,8 +35,8 @@ use Rattle.pif_model.specs.Word.{free_word, held_by, word_at, has_word, has_cond
 use Rattle.pif_model.specs.Posix.{variable_of}
 use Rattle.pif_model.specs.PiKernel.{Kernel, Seat, seat_at, has_seat, has_ended, state_at, next_in, is_living, lock_answer, words_after_lock, kernel_after_lock, try_lock_answer, words_after_try_lock, unlock_answer, words_after_unlock, kernel_after_unlock, kernel_after_hand_over, set_prio_answer, has_parked, parked_count, has_other_target, fits_state, wait_requeue_answer, kernel_after_wait_requeue, requeue_answer, after_requeue}
 use Rattle.pif_model.specs.Table.{Table, cell_at, line_at, has_thread, bound_to, uses_of, with_line, with_word, with_cond_word, with_count, with_kernel, status_at, timer_at, with_timer}
-use Rattle.pif_model.specs.Lines.{Outcome, goes_to, answers, ends_by, relocks, own_exchange, lock_load, lock_by, lock_kernel, lock_queued, lock_stop, take_load, take_health, take_line, link_line, clears, given_up, give_health, give_exchange, given_up_by, gives_up, give_line, try_load, try_by, try_kernel, unlock_load, consistent_load, consistent_health, repair_line, answered_by, set_priority, wait_load, wait_uses, wait_by, wait_park, wait_parked, use_read, use_exchange, more_in, use_by, use_requeue, giving_line, shared_line, locking_line, use_line, line_of, go_outcome, is_open, table_refusal, accepted_outcome, by_refusal, event_outcome, goes_on, ClosesOrWaits, counts_at, expired_in, expires_at, told_outcome}
-use Rattle.pif_model.specs.Deadlines.{ran_out, is_reached, told_result, told_seen}
+use Rattle.pif_model.specs.Lines.{Outcome, goes_to, answers, ends_by, relocks, own_exchange, lock_load, lock_by, lock_kernel, lock_queued, lock_stop, take_load, take_health, take_line, link_line, clears, given_up, give_health, give_exchange, given_up_by, gives_up, give_line, try_load, try_by, try_kernel, unlock_load, consistent_load, consistent_health, repair_line, answered_by, set_priority, wait_load, wait_uses, wait_by, wait_park, wait_parked, use_read, use_exchange, more_in, use_by, use_requeue, giving_line, shared_line, locking_line, use_line, line_of, go_outcome, is_open, table_refusal, accepted_outcome, by_refusal, event_outcome, goes_on, ClosesOrWaits, counts_at, expired_in, expires_at, reported_outcome}
+use Rattle.pif_model.specs.Deadlines.{ran_out, is_reached, reported_result, reported_seen}
 use Rattle.pif_model_lemmas.proofs.kernel.Facts.{living-added}
 use Rattle.pif_model_lemmas.proofs.kernel.Places.{handed_has, handed_seat_same, handed_seat_other}
 use Rattle.pif_model_lemmas.proofs.kernel.LineCases.{ends_by_cases, locked_again_cases, own_exchange_cases, lock_load_cases, lock_queued_cases, take_health_cases, give_health_cases, give_exchange_cases, try_load_cases, unlock_load_cases, consistent_load_cases, consistent_health_cases, wait_load_cases, wait_uses_cases, wait_parked_cases, use_read_cases, answered_by_cases}
@@ -553,10 +553,10 @@ expires-turns (Wait c m) _ t s k l e = absurd (true≢false (sym e))
 expires-turns q p t s k l e = answers-turns (rank_in s q p) t 22 s
 
 -- a step turns as it is told
-told-turns : (q : Request) (x : Bool) (t n : ℕ) (o : Outcome) → Turns t n o → Turns t n (told_outcome q x o)
-told-turns q x t n o (ends (inl e)) = ends (inl (ap (told_seen q x) e))
-told-turns q x t n o (ends (inr e)) = ends (inr (told_result q x e.0, ap (told_seen q x) e.1))
-told-turns q x t n o (goes e known busy less) = goes (ap (told_seen q x) e) known busy less
+told-turns : (q : Request) (x : Bool) (t n : ℕ) (o : Outcome) → Turns t n o → Turns t n (reported_outcome q x o)
+told-turns q x t n o (ends (inl e)) = ends (inl (ap (reported_seen q x) e))
+told-turns q x t n o (ends (inr e)) = ends (inr (reported_result q x e.0, ap (reported_seen q x) e.1))
+told-turns q x t n o (goes e known busy less) = goes (ap (reported_seen q x) e) known busy less
 
 -- a step of t is not refused where its call is open
 open_step : (s : Table) (t : ℕ) → is_living s.kernel t ≡ true → is_open (line_at s t) ≡ true
@@ -571,12 +571,12 @@ unfolding go_outcome
 go_outcome-turns s t Idle known b e = absurd cc
 go_outcome-turns s t (At q p) known b e = by_due (is_reached (timer_at s t).deadline s.time) (counts_at q p (status_at s t)) refl
   where
-    undue : Turns t (rank_in s q p) (told_outcome q (timer_at s t).expired (line_of q p t s))
+    undue : Turns t (rank_in s q p) (reported_outcome q (timer_at s t).expired (line_of q p t s))
     undue = told-turns q (timer_at s t).expired t (rank_in s q p) (line_of q p t s) (line-turns q p t s known b)
 
     by_due : (x y : Bool) → counts_at q p (status_at s t) ≡ y
         → Turns t (rank_in s q p) (if (if x then y else false) then expires_at q p t s
-        else told_outcome q (timer_at s t).expired (line_of q p t s))
+        else reported_outcome q (timer_at s t).expired (line_of q p t s))
     by_due true true e = expires-turns q p t s known b e
     by_due true false e = undue
     by_due false y e = undue

@@ -12,12 +12,12 @@ use Rattle.pif_model.specs.Posix.{Progress, is_blocked, is_call_blocked, no_mute
 use Rattle.pif_model.specs.PiKernel.{Kernel, IsKernel, no_seat, seat_at, is_parked, is_living, kernel_after_queueing, kernel_after_stop}
 use Rattle.pif_model.specs.RobustList.{robust_at}
 use Rattle.pif_model.specs.Table.{Table, Cell, has_thread, has_mutex, bound_to, uses_of, library_at, status_at, line_at, cell_at}
-use Rattle.pif_model.specs.Projection.{Shadow, may_enlist, call_shown as shown_call, progress_at, call_at, health_of, health_at, world_of}
+use Rattle.pif_model.specs.Projection.{HistoryVariables, may_enlist, call_shown as shown_call, progress_at, call_at, health_of, health_at, world_of}
 use Rattle.pif_model.specs.Soundness.{use_at, IsParkedLine, MeetsAll, needs, belongs, IsQueuedLine, LineIsSound, ListIsSound, CellIsSound, IsSound, mutex_by, is_unsettled}
 use Rattle.pif_model_lemmas.proofs.Numbers.{above_0, below}
 use Rattle.pif_model_lemmas.proofs.Waiting.{by_test, has_waiter-push, or_false}
 use Rattle.pif_model_simulation.proofs.Kept.{Spares}
-use Rattle.pif_model_simulation.proofs.Hole.{Changes, change_kept, excuse_one, admit_last, each_thread, each_absent}
+use Rattle.pif_model_simulation.proofs.WeakenedInvariant.{Changes, change_kept, exempt_one, admit_last, each_thread, each_absent}
 use Rattle.pif_model_simulation.proofs.Shown.{mutex_seen}
 use Rattle.pif_model_simulation.proofs.Written.{written, cell_written, mutex_of, IsCallOn, changes, cell_here, line_here, list_here, health_m, call_there, call_here, world_shown, frames_written}
 use Rattle.pif_model_simulation.proofs.Agreement.{Frames, Follows, WasBlockedIn}
@@ -167,7 +167,7 @@ module _ {s : Table} {t : ℕ} {q : Request} {p : Place} (g : Going s t q p) (na
   -- the table is sound
   pub called_sound : IsSound called
   called_sound = record {
-    all = admit_last (change_kept (excuse_one g.sound t) change) (c.call.living t ∙ g.known) (record {
+    all = admit_last (change_kept (exempt_one g.sound t) change) (c.call.living t ∙ g.known) (record {
       line = subst (LineIsSound called t) (sym here) (record {
         named = known_still change.mutexes (λ i. refl) q (going_named g);
         belongs = c.belongs;
@@ -247,7 +247,7 @@ module _ {s : Table} {t : ℕ} {q : Request} {p : Place} (g : Going s t q p) (na
       (subst (λ l. Follows l (At q b)) (sym g.line) c.follows) was
 
   -- the world shows the call at that place, the mutex with its owner, and the kernel's waiters
-  pub called_world : (y : Shadow) (o : Progress) → progress_then ≡ o
+  pub called_world : (y : HistoryVariables) (o : Progress) → progress_then ≡ o
       → world_of called y ≡ record (with_progress t o (with_mutex m (mutex_of cell) (world_of s y)))
       { waiters = k.waiters }
   called_world y o e =
@@ -262,7 +262,7 @@ module _ {s : Table} {t : ℕ} {q : Request} {p : Place} (g : Going s t q p) (na
       })
 
   -- where the word keeps its number, no mutex changes
-  pub called_shown : (y : Shadow) (o : Progress) → x.number ≡ (word_at s.words m).number → progress_then ≡ o
+  pub called_shown : (y : HistoryVariables) (o : Progress) → x.number ≡ (word_at s.words m).number → progress_then ≡ o
       → world_of called y ≡ record (with_progress t o (world_of s y)) { waiters = k.waiters }
   called_shown y o same_number e = called_world y o e
       ∙ (λ i. record (with_progress t o (world_of s y)) { mutexes = mutexes i; waiters = k.waiters })
@@ -280,7 +280,7 @@ module _ {s : Table} {t : ℕ} {q : Request} {p : Place} (g : Going s t q p) (na
       mutexes = ap (set (world_of s y).mutexes m) same ∙ set-get_or (world_of s y).mutexes m no_mutex
 
   -- where t has taken it, t owns it
-  pub called_taken : (y : Shadow) (o : Progress) → x.number ≡ t → n ≡ 1 → progress_then ≡ o
+  pub called_taken : (y : HistoryVariables) (o : Progress) → x.number ≡ t → n ≡ 1 → progress_then ≡ o
       → world_of called y ≡ record (with_progress t o (with_mutex m
       (record (mutex_at (world_of s y) m) { owner = t; count = 1 }) (world_of s y))) { waiters = k.waiters }
   called_taken y o mine once e = called_world y o e

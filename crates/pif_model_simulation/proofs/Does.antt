@@ -27,7 +27,7 @@ pub data IsLocking (m : ℕ) (q : Request) : Type 0 where
   by_try_lock : q ≡ TryLock m → IsLocking m q
   by_wait : (c : ℕ) → q ≡ Wait c m → IsLocking m q
 
--- q waits for m where another owns it: a lock, or a wait that owes the lock
+-- q waits for m where another owns it: a lock, or a wait that must reacquire its mutex
 pub data MayQueue (m : ℕ) (q : Request) : Type 0 where
   in_lock : q ≡ Lock m → MayQueue m q
   in_wait : (c : ℕ) → q ≡ Wait c m → MayQueue m q

@@ -7,15 +7,15 @@ use Rattle.pif_model.specs.Posix.{Mutex, waits_for, effective_of, next_of, leads
 use Rattle.pif_model.specs.PiKernel.{IsKernel, state_at, effective_in, next_in, waits_for as kernel_waits_for}
 use Rattle.pif_model.specs.Word.{Word, word_at}
 use Rattle.pif_model.specs.Table.{Table}
-use Rattle.pif_model.specs.Projection.{Shadow, world_of}
-use Rattle.pif_model.specs.Soundness.{SoundBut, IsSound}
+use Rattle.pif_model.specs.Projection.{HistoryVariables, world_of}
+use Rattle.pif_model.specs.Soundness.{SoundExcept, IsSound}
 use Rattle.pif_model_lemmas.proofs.Waiting.{paired-from_waited, has_waiter-from_pair}
 use Rattle.pif_model_lemmas.proofs.Numbers.{from_within}
 use Rattle.pif_model_lemmas.proofs.Greatest.{effective_same}
 use Rattle.pif_model_lemmas.proofs.kernel.Facts.{waited-status}
 use Rattle.pif_model_simulation.proofs.Shown.{threads_shown, base_seen, mutex_seen}
 
-module _ {Excused : ℕ → Type 0} {s : Table} (h : SoundBut Excused s) (kernel : IsKernel s.kernel) where
+module _ {Exempt : ℕ → Type 0} {s : Table} (h : SoundExcept Exempt s) (kernel : IsKernel s.kernel) where
   -- where threads wait, the kernel's owner state names the owner in the word
   pub state_is_number_but : (m : ℕ) → m ≢ 0 → has_waiter s.kernel.waiters m ≡ true
       → state_at s.kernel m ≡ (word_at s.words m).number
@@ -35,29 +35,29 @@ module _ {Excused : ℕ → Type 0} {s : Table} (h : SoundBut Excused s) (kernel
       (paired-from_waited s.kernel.waiters u m n e))
 
   -- a thread waits in the kernel for whom it waits in the POSIX machine
-  pub waits_seen_but : (y : Shadow) → kernel_waits_for s.kernel ≡ waits_for (world_of s y)
+  pub waits_seen_but : (y : HistoryVariables) → kernel_waits_for s.kernel ≡ waits_for (world_of s y)
   waits_seen_but y = fun_ext (λ u.
       ap (state_at s.kernel) (sym (waited-status s.kernel kernel u))
       ∙ owner_waited u (waited_by s.kernel.waiters u) refl (cases_eq (waited_by s.kernel.waiters u) 0)
       ∙ sym (ap (λ (m : Mutex). m.owner) (mutex_seen h.shape y (waited_by s.kernel.waiters u))))
 
   -- both machines have the same effective priorities
-  pub effective_seen_but : (y : Shadow) → effective_in s.kernel ≡ effective_of (world_of s y)
+  pub effective_seen_but : (y : HistoryVariables) → effective_in s.kernel ≡ effective_of (world_of s y)
   effective_seen_but y = fun_ext (λ t. effective_same _ _ _ _ _ _ t (sym (threads_shown h.shape y ∙ h.shape.lines))
       (λ u. ap (λ f. f u) (waits_seen_but y))
       (λ u. sym (base_seen h.shape y u)))
 
   -- both machines have the same next waiter
-  pub next_seen_but : (y : Shadow) (m : ℕ) → next_of (world_of s y) m ≡ next_in s.kernel m
+  pub next_seen_but : (y : HistoryVariables) (m : ℕ) → next_of (world_of s y) m ≡ next_in s.kernel m
   next_seen_but y m = ap (λ f. next_waiter f s.kernel.waiters m) (sym (effective_seen_but y))
 
   -- both machines have the same chains
-  pub leads_seen_but : (y : Shadow) (u t : ℕ) → leads_to (world_of s y) u t ≡ reaches_within (length s.kernel.seats)
+  pub leads_seen_but : (y : HistoryVariables) (u t : ℕ) → leads_to (world_of s y) u t ≡ reaches_within (length s.kernel.seats)
       (kernel_waits_for s.kernel) u t
   leads_seen_but y u t = λ i. reaches_within ((threads_shown h.shape y ∙ h.shape.lines) i)
       (sym (waits_seen_but y) i) u t
 
-module _ {s : Table} (h : IsSound s) (y : Shadow) where
+module _ {s : Table} (h : IsSound s) (y : HistoryVariables) where
   -- and so they have in a sound table
   pub effective_seen : effective_in s.kernel ≡ effective_of (world_of s y)
   effective_seen = effective_seen_but h.all h.kernel y

@@ -16,7 +16,7 @@ use Rattle.pif_model.specs.PiKernel.{is_ready, is_living}
 use Rattle.pif_model.specs.Table.{Table, Cell, has_mutex, has_cond, bound_to, uses_of, status_at, cell_at}
 use Rattle.pif_model.specs.Soundness.{Need, Use, Meets, MeetsAll, needs, belongs, is_using, use_at, CallIsSound, LineIsSound, CountIsSound}
 use Rattle.pif_model.specs.Soundness.Need.{MayRun, HasStopped, NotStopped, Owns, OwnsNot, OwnsOnceReady, OwnsOnceHanded, HoldsOnce, MayStop, OfRobust, HealthIs, HealthIsNot, DiedIs, DiedBehindDisorder, IsBound, UsedAtLeast, BelowLimit}
-use Rattle.pif_model.specs.Soundness.MayStopFor.{own_normal, lost}
+use Rattle.pif_model.specs.Soundness.MayStopFor.{own_normal, orphaned}
 
 -- what a change of a mutex from c to d, and of who lives, leaves to u, who doesn't make it
 pub record Spares (living living' : ℕ → Bool) (u : ℕ) (c d : Cell) : Type 0 where
@@ -69,9 +69,9 @@ meets_outlives l l' u x c d z z' OwnsOnceReady k o h = λ e. k.owner (h e)
 meets_outlives l l' u x c d z z' OwnsOnceHanded k o h = ((λ e. k.owner (h.0 e)), λ e. k.other (h.1 e))
 meets_outlives l l' u x c d z z' HoldsOnce k o h = owner_knows (λ n b a. n ≡ 1) l l' u c d k h
 meets_outlives l l' u x c d z z' MayStop k o (own_normal e n) = own_normal (k.owner e) (ap relock_of k.kind ∙ n)
-meets_outlives l l' u x c d z z' MayStop k o (lost r n e) =
+meets_outlives l l' u x c d z z' MayStop k o (orphaned r n e) =
     let s = k.ended r n e in
-    lost (k.robust ∙ r) (λ z. n (sym s.0 ∙ z)) (ap l' s.0 ∙ s.1)
+    orphaned (k.robust ∙ r) (λ z. n (sym s.0 ∙ z)) (ap l' s.0 ∙ s.1)
 meets_outlives l l' u x c d z z' OfRobust k o h = k.robust ∙ h
 meets_outlives l l' u x c d z z' (HealthIs a) k o h = owner_knows (λ n b j. j ≡ a) l l' u c d k h
 meets_outlives l l' u x c d z z' (HealthIsNot a) k o h = owner_knows (λ n b j. j ≢ a) l l' u c d k h

@@ -1,6 +1,6 @@
 pub mod Shown
 pub mod Kept
-pub mod Hole
+pub mod WeakenedInvariant
 pub mod Agreement
 pub mod deadlines
 pub mod Undue

@@ -10,12 +10,12 @@ use Rattle.pif_model.specs.Posix.{Call, no_mutex, thread_at, with_thread, with_m
 use Rattle.pif_model.specs.PiKernel.{Kernel, IsKernel, state_at, seat_at, is_ready, is_living}
 use Rattle.pif_model.specs.RobustList.{robust_at}
 use Rattle.pif_model.specs.Table.{Table, has_thread, has_mutex, bound_to, uses_of, status_at, line_at, library_at, cell_at, with_line, with_kernel}
-use Rattle.pif_model.specs.Projection.{Shadow, call_shown as shown_call, may_enlist, call_at, health_at, world_of}
-use Rattle.pif_model.specs.Soundness.{mutex_by, is_unsettled, LineIsSound, ListIsSound, IsShaped, SoundBut, IsSound}
+use Rattle.pif_model.specs.Projection.{HistoryVariables, call_shown as shown_call, may_enlist, call_at, health_at, world_of}
+use Rattle.pif_model.specs.Soundness.{mutex_by, is_unsettled, LineIsSound, ListIsSound, IsShaped, SoundExcept, IsSound}
 use Rattle.pif_model_lemmas.proofs.kernel.Facts.{living-added}
 use Rattle.pif_model_lemmas.proofs.Numbers.{above_0, below}
 use Rattle.pif_model_simulation.proofs.Kept.{Spares, unwritten, unused, line_spared}
-use Rattle.pif_model_simulation.proofs.Hole.{Changes, change_kept, excuse_one, admit_last}
+use Rattle.pif_model_simulation.proofs.WeakenedInvariant.{Changes, change_kept, exempt_one, admit_last}
 use Rattle.pif_model_simulation.proofs.Shown.{mutex_seen}
 use Rattle.pif_model_simulation.proofs.Written.{IsCallOn, written, mutex_of, changes, world_shown, written_is, same_word, same_health, same_library, same_list}
 use Rattle.pif_model_simulation.proofs.Local.{ready-not_queued, ready-not_parked}
@@ -100,8 +100,8 @@ module _ (s : Table) (t : ℕ) (l : Line) (h : IsSound s) (known : is_living s.k
               ended = λ r n e. (refl, e);
             })
 
-        rest : SoundBut (λ u. u ≡ t) lined
-        rest = subst (SoundBut (λ u. u ≡ t)) lined_same (change_kept (excuse_one h t) change)
+        rest : SoundExcept (λ u. u ≡ t) lined
+        rest = subst (SoundExcept (λ u. u ≡ t)) lined_same (change_kept (exempt_one h t) change)
 
         here : line_at lined t ≡ l
         here = get_or-set_same s.lines t l Idle tl
@@ -131,7 +131,7 @@ module _ (s : Table) (t : ℕ) (l : Line) (h : IsSound s) (known : is_living s.k
     lined_call = ap (λ b. call_at (health_at s) (uses_of s) b (seat_at k t).status) (get_or-set_same s.lines t l Idle tl)
 
   -- over the same kernel it shows the world with the call that is at that line
-  pub lined_shown : (y : Shadow) → IsSound (with_line t l s) → (c : Option Call)
+  pub lined_shown : (y : HistoryVariables) → IsSound (with_line t l s) → (c : Option Call)
       → call_at (health_at s) (uses_of s) l (status_at s t) ≡ c
       → world_of (with_line t l s) y ≡ with_thread t (record (thread_at (world_of s y) t) { call = c }) (world_of s y)
   lined_shown y sound c e =

@@ -18,13 +18,13 @@ use Rattle.pif_model.specs.World.Progress.{Has}
 use Rattle.pif_model.specs.PiKernel.{is_ready, is_living}
 use Rattle.pif_model.specs.RobustList.{RobustRow, has_entry, robust_at, is_listed}
 use Rattle.pif_model.specs.Table.{Table, Cell, has_thread, has_mutex, bound_to, uses_of, status_at, line_at, library_at, cell_at}
-use Rattle.pif_model.specs.Projection.{Shadow, may_enlist, call_shown as shown_call, call_at, progress_at, health_of, health_at, world_of}
+use Rattle.pif_model.specs.Projection.{HistoryVariables, may_enlist, call_shown as shown_call, call_at, progress_at, health_of, health_at, world_of}
 use Rattle.pif_model.specs.Soundness.{use_at, MeetsAll, needs, belongs, LineIsSound, CellIsSound, ListIsSound, ThreadIsSound, IsSound, mutex_by, robust_by, is_pending, is_half_linked, is_unlinked, is_unsettled, holds_robust}
 use Rattle.pif_model_lemmas.proofs.Numbers.{above_0, below}
 use Rattle.pif_model_lemmas.proofs.kernel.Facts.{living-added}
 use Rattle.pif_model_lemmas.proofs.Waiting.{by_test}
 use Rattle.pif_model_simulation.proofs.Kept.{Spares}
-use Rattle.pif_model_simulation.proofs.Hole.{Changes, change_kept, excuse_one, admit_last, each_thread, each_absent}
+use Rattle.pif_model_simulation.proofs.WeakenedInvariant.{Changes, change_kept, exempt_one, admit_last, each_thread, each_absent}
 use Rattle.pif_model_simulation.proofs.Shown.{mutex_seen, closed_progressed, call_progressed}
 use Rattle.pif_model_simulation.proofs.Written.{written, cell_written, mutex_of, no_call, changes, cell_here, line_here, list_here, call_there, world_shown, frames_written}
 use Rattle.pif_model_simulation.proofs.Agreement.{Frames, Follows, WasBlockedIn}
@@ -284,7 +284,7 @@ module _ {s : Table} {t : ℕ} {q : Request} {p : Place} (g : Going s t q p)
     -- the table is sound after the move
     pub move_sound : IsSound v
     move_sound = record {
-      all = admit_last (change_kept (excuse_one g.sound t) change) g.known (record {
+      all = admit_last (change_kept (exempt_one g.sound t) change) g.known (record {
         line = subst (LineIsSound v t) (sym here) (after o.line l.knows);
         queue = λ n e. absurd (ready-not_queued (status_at s t) n l.ready e);
         parked = λ n e. absurd (ready-not_parked (status_at s t) n l.ready e);
@@ -304,7 +304,7 @@ module _ {s : Table} {t : ℕ} {q : Request} {p : Place} (g : Going s t q p)
     }
 
     -- the world with the mutex that the move leaves
-    abbrev left : Shadow → World
+    abbrev left : HistoryVariables → World
     left y = with_mutex m (mutex_of (cell_left m o s)) (world_of s y)
 
     -- another thread's call has come as far as before
@@ -323,7 +323,7 @@ module _ {s : Table} {t : ℕ} {q : Request} {p : Place} (g : Going s t q p)
         why (inr e) = inr (λ x. d (sym x ∙ e))
 
     -- the world that the move shows, with this call of t
-    shown : (y : Shadow) (c : Option Call) → call_at (health_at v) (uses_of s) o.line (status_at s t) ≡ c
+    shown : (y : HistoryVariables) (c : Option Call) → call_at (health_at v) (uses_of s) o.line (status_at s t) ≡ c
         → world_of v y ≡ with_thread t (record (thread_at (left y) t) { call = c }) (left y)
     shown y c e = world_shown s t m o.line o.row o.word o.health o.count s.kernel t0
         (going_lined g) going_row ml g.sound.all.shape (λ u d. refl) calls y c move_sound.all.shape (λ u. refl) refl e
@@ -372,7 +372,7 @@ module _ {s : Table} {t : ℕ} {q : Request} {p : Place} (g : Going s t q p)
 
     -- the move is an entry of the POSIX machine, by its answer
     by_answer : (seen : Seen) → Shows s t m (health_of o.health o.word.died) q a seen o.line
-        → ((y : Shadow) → Effects t (world_of s y) (world_of s y) (with_progress t a (left y)))
+        → ((y : HistoryVariables) → Effects t (world_of s y) (world_of s y) (with_progress t a (left y)))
         → KeepsGo s t seen v
     by_answer Went e effects = goes_with g v move_sound refl g.known l.ready frames
         (λ y. subst (Effects t (world_of s y) (world_of s y))
@@ -391,7 +391,7 @@ module _ {s : Table} {t : ℕ} {q : Request} {p : Place} (g : Going s t q p)
     by_answer (Refused r) e effects = absurd e
 
     -- a local move with such effects is an entry of the POSIX machine, and keeps the invariant
-    pub local_by : ((y : Shadow) → Effects t (world_of s y) (world_of s y) (with_progress t a (left y)))
+    pub local_by : ((y : HistoryVariables) → Effects t (world_of s y) (world_of s y) (with_progress t a (left y)))
         → KeepsGo s t o.seen v
     local_by effects = by_answer o.seen l.shows effects
 

@@ -17,7 +17,7 @@ use Rattle.pif_model.specs.PiKernel.{is_ready, is_living}
 use Rattle.pif_model.specs.RobustList.{RobustRow, has_entry, robust_at, is_listed, with_robust}
 use Rattle.pif_model.specs.Table.{Table, Cell, has_mutex, status_at, library_at, cell_at}
 use Rattle.pif_model.specs.Lines.{goes_to, answers, with_pending_field, clears}
-use Rattle.pif_model.specs.Projection.{Shadow, world_of, may_enlist}
+use Rattle.pif_model.specs.Projection.{HistoryVariables, world_of, may_enlist}
 use Rattle.pif_model.specs.Soundness.{use_at, MeetsAll, needs, belongs, CellIsSound, mutex_by, robust_by, is_pending, is_half_linked, is_unlinked, is_unsettled}
 use Rattle.pif_model_lemmas.proofs.Numbers.{above_0}
 use Rattle.pif_model_lemmas.proofs.Waiting.{by_test}
@@ -329,14 +329,14 @@ module _ {s : Table} {t : ℕ} {q : Request} {p : Place} (g : Going s t q p)
       (answer_is_local n (robust_at s.lists t) ready (lists_by tt refl (going_cell g named) row)) does)
 
   -- a mutex is put where it stays
-  pub mutex_stays : (y : Shadow) → with_mutex m (mutex_of (cell_at s m)) (world_of s y) ≡ world_of s y
+  pub mutex_stays : (y : HistoryVariables) → with_mutex m (mutex_of (cell_at s m)) (world_of s y) ≡ world_of s y
   mutex_stays y =
       ap (λ z. with_mutex m z (world_of s y)) (sym (mutex_seen g.sound.all.shape y m))
       ∙ (λ i. record (world_of s y) { mutexes = set-get_or (world_of s y).mutexes m no_mutex i })
 
   -- to answer with an effect of another kind on the call alone
   pub answers_alone : (n : ℕ) → is_ready (status_at s t) ≡ true
-      → ((y : Shadow) → Effect t (world_of s y) (with_progress t (Has n) (world_of s y)))
+      → ((y : HistoryVariables) → Effect t (world_of s y) (with_progress t (Has n) (world_of s y)))
       → ((library_at s m).robust ≡ true → RowAfter s t m (cell_at s m) Idle (robust_at s.lists t))
       → GoKeeps s t (answers t n s)
   answers_alone n ready effect row = subst (KeepsGo s t (Answered n)) (still_line (Answered n) Idle)
@@ -350,7 +350,7 @@ module _ {s : Table} {t : ℕ} {q : Request} {p : Place} (g : Going s t q p)
       → (may_enlist (At q p) ≡ false → is_blocked a ≡ true → is_blocked (progress_of s t q p) ≡ true)
       → is_ready (status_at s t) ≡ true → belongs q b ≡ true → progress_of s t q b ≡ a
       → MeetsAll (is_living s.kernel) t (status_at s t) (cell_at s m) (use_at s q) (needs b)
-      → ((y : Shadow) → Effect t (world_of s y) (with_progress t a (world_of s y)))
+      → ((y : HistoryVariables) → Effect t (world_of s y) (with_progress t a (world_of s y)))
       → ((library_at s m).robust ≡ true → RowAfter s t m (cell_at s m) (At q b) (robust_at s.lists t))
       → GoKeeps s t (goes_to t q b s)
   goes_alone a b follows blocked ready ours has met effect row = subst (KeepsGo s t Went)

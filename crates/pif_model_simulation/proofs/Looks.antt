@@ -20,7 +20,7 @@ use Rattle.pif_model.specs.Calls.{request_at, owner_by, open_call_answer, owner_
 use Rattle.pif_model.specs.Posix.{Health, Call, Mutex, thread_at, variable_of, named_by, is_call_blocked, is_blocked_on, rests, waits_for}
 use Rattle.pif_model.specs.Posix.{is_living as lives}
 use Rattle.pif_model.specs.World.Progress.{Stuck}
-use Rattle.pif_model.specs.Projection.{Shadow, health_at, progress_at, call_at, world_of}
+use Rattle.pif_model.specs.Projection.{HistoryVariables, health_at, progress_at, call_at, world_of}
 use Rattle.pif_model.specs.Soundness.{Use, use_at, needs, MeetsAll, LineIsSound, IsSound}
 use Rattle.pif_model.specs.Standing.{IsDoing, call_of, owner_of, waiters_of, IsPathFrom}
 use Rattle.pif_model.specs.Deadlines.{with_deadline_if_any}
@@ -28,7 +28,7 @@ use Rattle.pif_model_lemmas.proofs.Numbers.{from_within}
 use Rattle.pif_model_lemmas.proofs.Waiting.{by_test, pairs}
 use Rattle.pif_model_lemmas.proofs.kernel.Facts.{living-from_added, ready-not_ended, seat-unadded}
 use Rattle.pif_model_lemmas.proofs.kernel.Orders.{ordered-is_waiter}
-use Rattle.pif_model_simulation.proofs.Hole.{each_thread, each_absent}
+use Rattle.pif_model_simulation.proofs.WeakenedInvariant.{each_thread, each_absent}
 use Rattle.pif_model_simulation.proofs.Shown.{is_thread_seen, mutex_seen, timer_seen, call_seen, call_seen_of, living_seen}
 use Rattle.pif_model_simulation.proofs.Steps.{rests_ready}
 use Rattle.pif_model_simulation.proofs.Effective.{waits_seen_but, effective_seen}
@@ -87,7 +87,7 @@ line_stuck s t (At q p) e h =
     (subst (λ (x : Status). MeetsAll (is_living s.kernel) t x (cell_at s (named_by q)) (use_at s q) (needs p)) e
     h.needs))
 
-module _ {s : Table} (h : IsSound s) (y : Shadow) where
+module _ {s : Table} (h : IsSound s) (y : HistoryVariables) where
   -- WHAT A THREAD DOES
 
   -- who was added and may run lives, and doesn't rest

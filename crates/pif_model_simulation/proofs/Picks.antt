@@ -8,7 +8,7 @@ use Rattle.pif_model.specs.Posix.{Mutex, Variable, mutex_at, rests, effective_of
 use Rattle.pif_model.specs.World.Health.{Fine, Inconsistent}
 use Rattle.pif_model.specs.PiKernel.{is_ready, is_living, pick_in}
 use Rattle.pif_model.specs.Table.{Table, cell_at, has_thread, has_mutex, uses_of, status_at}
-use Rattle.pif_model.specs.Projection.{Shadow, mutex_shown, world_of, health_of}
+use Rattle.pif_model.specs.Projection.{HistoryVariables, mutex_shown, world_of, health_of}
 use Rattle.pif_model.specs.Soundness.{CellIsSound, IsSound}
 use Rattle.pif_model.specs.Standing.{IsPick, IsPossible, IsPossibleHealth, IsPossibleUses}
 use Rattle.pif_model_lemmas.proofs.Waiting.{by_test}
@@ -28,7 +28,7 @@ living-from_ready s t k e = λ i. if k i then (if ready-not_ended (status_at s t
 died_not_fine : (h : ℕ) → health_of h true ≢ Fine
 died_not_fine h e = true≢false (fine-undied h true e)
 
-module _ {s : Table} (h : IsSound s) (y : Shadow) where
+module _ {s : Table} (h : IsSound s) (y : HistoryVariables) where
   -- a living thread that doesn't rest may run
   ready-from_awake : (t : ℕ) → is_living s.kernel t ≡ true → rests (world_of s y) t ≡ false
       → is_ready (status_at s t) ≡ true

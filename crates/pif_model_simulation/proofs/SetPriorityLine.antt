@@ -18,13 +18,13 @@ use Rattle.pif_model.specs.Posix.SetsPriority.{no_priority, not_living, changed}
 use Rattle.pif_model.specs.PiKernel.{Kernel, IsKernel, Seat, no_seat, seat_at, has_ended, is_ready, is_living, set_prio_answer, kernel_after_set_prio}
 use Rattle.pif_model.specs.Table.{Table, has_mutex, bound_to, uses_of, status_at, line_at, library_at, with_line, with_kernel, timer_at}
 use Rattle.pif_model.specs.Lines.{Outcome, answers, answered_by, set_priority}
-use Rattle.pif_model.specs.Projection.{Shadow, memory_at, call_at, health_at, thread_shown, world_of}
+use Rattle.pif_model.specs.Projection.{HistoryVariables, memory_at, call_at, health_at, thread_shown, world_of}
 use Rattle.pif_model.specs.Soundness.{mutex_by, is_unsettled, ListIsSound, IsShaped, IsSound}
 use Rattle.pif_model_lemmas.proofs.Waiting.{by_test}
 use Rattle.pif_model_lemmas.proofs.Numbers.{below}
 use Rattle.pif_model_lemmas.proofs.kernel.Facts.{living-added}
 use Rattle.pif_model_lemmas.proofs.kernel.Kept.{set_prio_kept}
-use Rattle.pif_model_simulation.proofs.Hole.{each_thread}
+use Rattle.pif_model_simulation.proofs.WeakenedInvariant.{each_thread}
 use Rattle.pif_model_simulation.proofs.Shown.{threads_shown, mutexes_shown, thread_seen, mutex_seen, living_seen, closed_progressed, call_progressed}
 use Rattle.pif_model_simulation.proofs.Agreement.{Frames, quiet, was_not}
 use Rattle.pif_model_simulation.proofs.Written.{IsCallOn, no_call, thread_here, thread_there, shows}
@@ -65,7 +65,7 @@ module _ (s : Table) (t u p : ℕ) (g : Going s t (SetPrio u p) SetPriority) whe
   by_call r = answered_by r t (with_kernel s.words (kernel_after_set_prio u p r s.kernel) s)
 
   -- to answer n and leave the kernel, where that is an effect
-  refuses : (n : ℕ) → ((y : Shadow) → SetsPriority t u p (world_of s y) (with_progress t (Has n) (world_of s y)))
+  refuses : (n : ℕ) → ((y : HistoryVariables) → SetsPriority t u p (world_of s y) (with_progress t (Has n) (world_of s y)))
       → GoKeeps s t (answers t n s)
   refuses n rule =
       let sound = closed_sound s.kernel g.sound.kernel (no_call (λ j. j ≡ t) (bound_to s) s.kernel 0) refl in
@@ -125,7 +125,7 @@ module _ (s : Table) (t u p : ℕ) (g : Going s t (SetPrio u p) SetPriority) whe
   unfolding kernel_after_set_prio
   waiters_same = refl
 
-  module _ (l : is_living s.kernel u ≡ true) (y : Shadow) where
+  module _ (l : is_living s.kernel u ≡ true) (y : HistoryVariables) where
     abbrev w : World
     w = world_of s y
 
@@ -211,7 +211,7 @@ module _ (s : Table) (t u p : ℕ) (g : Going s t (SetPrio u p) SetPriority) whe
       ∙ going_called g y))
       (λ y. rebased_shown l y sound ∙ sym (closed_progressed (with_base u p (world_of s y)) t (Has 0) (tw y))))
     where
-      tw : (y : Shadow) → t < length (with_base u p (world_of s y)).threads
+      tw : (y : HistoryVariables) → t < length (with_base u p (world_of s y)).threads
       tw y = subst (λ j. t < j) (sym (length-set (world_of s y).threads u
           (record (thread_at (world_of s y) u) { base = p }))) (going_below g y)
 

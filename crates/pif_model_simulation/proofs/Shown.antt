@@ -14,7 +14,7 @@ use Rattle.pif_model.specs.Posix.{Progress, Call, Thread, World, nobody, no_mute
 use Rattle.pif_model.specs.PiKernel.{seat_at, is_living, has_ended}
 use Rattle.pif_model.specs.Table.{Table, has_thread, has_mutex, has_cond, uses_of, status_at, line_at, timer_at}
 use Rattle.pif_model.specs.Lines.{is_open, table_refusal}
-use Rattle.pif_model.specs.Projection.{Shadow, call_at, call_shown, health_at, thread_shown, mutex_shown, variable_shown, places, world_of}
+use Rattle.pif_model.specs.Projection.{HistoryVariables, call_at, call_shown, health_at, thread_shown, mutex_shown, variable_shown, places, world_of}
 use Rattle.pif_model.specs.Soundness.{IsShaped}
 
 -- PLACES
@@ -64,15 +64,15 @@ either false = refl
 
 module _ {s : Table} (shape : IsShaped s) where
   -- a table shows as many threads as it has lines
-  pub threads_shown : (x : Shadow) → length (world_of s x).threads ≡ length s.lines
+  pub threads_shown : (x : HistoryVariables) → length (world_of s x).threads ≡ length s.lines
   threads_shown x = length-map (places (length s.lines)) (thread_shown s x) ∙ length-places (length s.lines)
 
   -- and as many mutexes as the library knows
-  pub mutexes_shown : (x : Shadow) → length (world_of s x).mutexes ≡ length s.mutexes
+  pub mutexes_shown : (x : HistoryVariables) → length (world_of s x).mutexes ≡ length s.mutexes
   mutexes_shown x = length-map (places (length s.mutexes)) (mutex_shown s) ∙ length-places (length s.mutexes)
 
   -- and as many variables
-  pub variables_shown : (x : Shadow) → length (world_of s x).variables ≡ length s.conds
+  pub variables_shown : (x : HistoryVariables) → length (world_of s x).variables ≡ length s.conds
   variables_shown x = length-map (places (length s.conds)) (variable_shown s) ∙ length-places (length s.conds)
 
   -- behind the last thread nobody lives, has a priority or a call
@@ -91,11 +91,11 @@ module _ {s : Table} (shape : IsShaped s) where
       gone = ap (λ b. if t == 0 then false else b) (le-ltb t (length s.kernel.seats) far) ∙ either (t == 0)
 
   -- the POSIX machine sees the thread that the table shows
-  pub thread_seen : (x : Shadow) (t : ℕ) → t < length s.lines → thread_at (world_of s x) t ≡ thread_shown s x t
+  pub thread_seen : (x : HistoryVariables) (t : ℕ) → t < length s.lines → thread_at (world_of s x) t ≡ thread_shown s x t
   thread_seen x t l = place_at (thread_shown s x) (length s.lines) t nobody l
 
   -- what the POSIX machine sees of a thread beside what it remembers, also behind the last one
-  part_seen : {A : Type 0} (part : Thread → A) (x : Shadow) (t : ℕ)
+  part_seen : {A : Type 0} (part : Thread → A) (x : HistoryVariables) (t : ℕ)
       → (length s.lines ≤ t → part nobody ≡ part (thread_shown s x t))
       → part (thread_at (world_of s x) t) ≡ part (thread_shown s x t)
   part_seen part x t past = go (cases_lt t (length s.lines))
@@ -106,7 +106,7 @@ module _ {s : Table} (shape : IsShaped s) where
       go (inr m) = ap part (get_or_past (world_of s x).threads t nobody (omega (arith, threads_shown x))) ∙ past m
 
   -- its base priority
-  pub base_seen : (x : Shadow) (t : ℕ) → (thread_at (world_of s x) t).base ≡ (seat_at s.kernel t).base
+  pub base_seen : (x : HistoryVariables) (t : ℕ) → (thread_at (world_of s x) t).base ≡ (seat_at s.kernel t).base
   base_seen x t = part_seen (λ y. y.base) x t (λ l. sym (past_threads t l).0)
 
   -- behind the last mutex there is none
@@ -114,7 +114,7 @@ module _ {s : Table} (shape : IsShaped s) where
   past_mutexes m h = rw (get_or_past s.mutexes m _ h, (shape.unmade m h).0, (shape.unmade m h).1) refl
 
   -- the POSIX machine sees the mutex that the table shows
-  pub mutex_seen : (x : Shadow) (m : ℕ) → mutex_at (world_of s x) m ≡ mutex_shown s m
+  pub mutex_seen : (x : HistoryVariables) (m : ℕ) → mutex_at (world_of s x) m ≡ mutex_shown s m
   mutex_seen x m = go (cases_lt m (length s.mutexes))
     where
       go : (m < length s.mutexes) ⊎ (length s.mutexes ≤ m) → mutex_at (world_of s x) m ≡ mutex_shown s m
@@ -127,7 +127,7 @@ module _ {s : Table} (shape : IsShaped s) where
   past_variables c h = λ i. record { mutex = get_or_past s.conds c 0 h i; uses = shape.unmade_conds c h i }
 
   -- the POSIX machine sees the variable that the table shows
-  pub variable_seen : (x : Shadow) (c : ℕ) → variable_at (world_of s x) c ≡ variable_shown s c
+  pub variable_seen : (x : HistoryVariables) (c : ℕ) → variable_at (world_of s x) c ≡ variable_shown s c
   variable_seen x c = go (cases_lt c (length s.conds))
     where
       go : (c < length s.conds) ⊎ (length s.conds ≤ c) → variable_at (world_of s x) c ≡ variable_shown s c
@@ -136,39 +136,39 @@ module _ {s : Table} (shape : IsShaped s) where
           ∙ sym (past_variables c k)
 
   -- both machines have the same threads
-  pub is_thread_seen : (x : Shadow) (t : ℕ) → is_thread (world_of s x) t ≡ has_thread s t
+  pub is_thread_seen : (x : HistoryVariables) (t : ℕ) → is_thread (world_of s x) t ≡ has_thread s t
   is_thread_seen x t = ap (λ n. if t == 0 then false else nat_lt t n) (threads_shown x ∙ shape.lines)
 
   -- both machines have the same living threads
-  pub lives_seen : (x : Shadow) (t : ℕ) → lives (world_of s x) t ≡ is_living s.kernel t
+  pub lives_seen : (x : HistoryVariables) (t : ℕ) → lives (world_of s x) t ≡ is_living s.kernel t
   lives_seen x t = part_seen (λ y. y.living) x t (λ l. sym (past_threads t l).1)
 
   -- both machines have the same mutexes
-  pub is_mutex_seen : (x : Shadow) (m : ℕ) → is_mutex (world_of s x) m ≡ has_mutex s m
+  pub is_mutex_seen : (x : HistoryVariables) (m : ℕ) → is_mutex (world_of s x) m ≡ has_mutex s m
   is_mutex_seen x m = ap (λ n. if m == 0 then false else nat_lt m n) (mutexes_shown x)
 
   -- both machines have the same variables
-  pub is_variable_seen : (x : Shadow) (c : ℕ) → is_variable (world_of s x) c ≡ has_cond s c
+  pub is_variable_seen : (x : HistoryVariables) (c : ℕ) → is_variable (world_of s x) c ≡ has_cond s c
   is_variable_seen x c = ap (λ n. if c == 0 then false else nat_lt c n) (variables_shown x)
 
   -- the call that the POSIX machine sees is the table's
-  pub call_seen_of : (x : Shadow) (t : ℕ) → (thread_at (world_of s x) t).call ≡ call_shown s t
+  pub call_seen_of : (x : HistoryVariables) (t : ℕ) → (thread_at (world_of s x) t).call ≡ call_shown s t
   call_seen_of x t = part_seen (λ y. y.call) x t (λ l. sym (past_threads t l).2)
 
   -- and so the line's
-  pub call_seen : (x : Shadow) (t : ℕ) (l : Line) → line_at s t ≡ l
+  pub call_seen : (x : HistoryVariables) (t : ℕ) (l : Line) → line_at s t ≡ l
       → (thread_at (world_of s x) t).call ≡ call_at (health_at s) (uses_of s) l (status_at s t)
   call_seen x t l e = call_seen_of x t ∙ ap (λ k. call_at (health_at s) (uses_of s) k (status_at s t)) e
 
   -- what the POSIX machine sees of its deadline is what the table has
-  pub timer_seen : (x : Shadow) (t : ℕ) → (thread_at (world_of s x) t).timer ≡ timer_at s t
+  pub timer_seen : (x : HistoryVariables) (t : ℕ) → (thread_at (world_of s x) t).timer ≡ timer_at s t
   timer_seen x t = part_seen (λ y. y.timer) x t
       (λ l. sym (get_or_past s.timers t no_timer (subst (λ n. n ≤ t) (sym shape.timers) l)))
 
   -- REFUSALS
 
   -- both machines have t's call open, or neither
-  pub busy_seen : (x : Shadow) (t : ℕ) → is_some (thread_at (world_of s x) t).call ≡ is_open (line_at s t)
+  pub busy_seen : (x : HistoryVariables) (t : ℕ) → is_some (thread_at (world_of s x) t).call ≡ is_open (line_at s t)
   busy_seen x t = ap is_some (call_seen x t (line_at s t) refl) ∙ at_line (line_at s t)
     where
       at_line : (l : Line) → is_some (call_at (health_at s) (uses_of s) l (status_at s t)) ≡ is_open l
@@ -176,7 +176,7 @@ module _ {s : Table} (shape : IsShaped s) where
       at_line (At q p) = refl
 
   -- both machines know the mutex and the variable that a request names, or neither
-  named_seen : (x : Shadow) (q : Request)
+  named_seen : (x : HistoryVariables) (q : Request)
       → names_known (is_mutex (world_of s x)) (is_variable (world_of s x)) q ≡ names_known (has_mutex s) (has_cond s) q
   named_seen x (Lock m) = is_mutex_seen x m
   named_seen x (TryLock m) = is_mutex_seen x m
@@ -190,7 +190,7 @@ module _ {s : Table} (shape : IsShaped s) where
   named_seen x (TimedWait c m d) = λ i. if is_variable_seen x c i then is_mutex_seen x m i else false
 
   -- both machines refuse the same events
-  pub refusal_seen : (x : Shadow) (e : Event) → refusal_of (world_of s x) e ≡ table_refusal s e
+  pub refusal_seen : (x : HistoryVariables) (e : Event) → refusal_of (world_of s x) e ≡ table_refusal s e
   refusal_seen x (Begin t q) = λ i. begin_refused (is_thread_seen x t i) (lives_seen x t i) (busy_seen x t i)
       (named_seen x q i)
   refusal_seen x (Go t) = λ i. go_refused (is_thread_seen x t i) (lives_seen x t i) (busy_seen x t i)
@@ -198,7 +198,7 @@ module _ {s : Table} (shape : IsShaped s) where
   refusal_seen x (Tick n) = refl
 
 -- both machines have the same living threads
-pub living_seen : (s : Table) (y : Shadow) (n : ℕ) → IsShaped s → lives (world_of s y) n ≡ is_living s.kernel n
+pub living_seen : (s : Table) (y : HistoryVariables) (n : ℕ) → IsShaped s → lives (world_of s y) n ≡ is_living s.kernel n
 living_seen s y n shape = lives_seen shape y n
 
 -- a Go that is not refused: the thread lives, with a call open

@@ -19,9 +19,9 @@ use Rattle.pif_model.specs.Posix.{named_by, variable_of, is_use}
 use Rattle.pif_model.specs.Posix.Step.{refused, ticked}
 use Rattle.pif_model.specs.PiKernel.{is_living}
 use Rattle.pif_model.specs.Table.{Table, has_thread, has_mutex, has_cond, line_at, status_at, timer_at}
-use Rattle.pif_model.specs.Lines.{is_open, table_refusal, repair_line, giving_line, shared_line, locking_line, use_line, line_of, go_outcome, accepted_outcome, by_refusal, event_outcome, Outcome, counts_at, is_line_due, is_due_in, expires_at, told_outcome}
+use Rattle.pif_model.specs.Lines.{is_open, table_refusal, repair_line, giving_line, shared_line, locking_line, use_line, line_of, go_outcome, accepted_outcome, by_refusal, event_outcome, Outcome, counts_at, is_line_due, is_due_in, expires_at, reported_outcome}
 use Rattle.pif_model.specs.Soundness.{belongs, is_shared, is_locking, IsSound}
-use Rattle.pif_model.specs.Deadlines.{is_reached, told_seen}
+use Rattle.pif_model.specs.Deadlines.{is_reached, reported_seen}
 use Rattle.pif_model_simulation.proofs.Kept.{second}
 use Rattle.pif_model_simulation.proofs.Shown.{go_allowed, end_allowed, refusal_seen}
 use Rattle.pif_model_simulation.proofs.Steps.{Keeps, GoKeeps, Going, going_knows, going_named, asked_at}
@@ -119,7 +119,7 @@ go_kept s t (At q p) h k e o = by_test
     (if b then expires_at q p t s else told).after)
     (is_line_due (At q p) t s)
     (λ d _. due_kept q p g (at_line ∙ d) (counted d))
-    (λ d _. subst (λ l. Keeps s (Happened (Go t) (told_seen (asked_at l) (timer_at s t).expired (line_of q p t s).seen))
+    (λ d _. subst (λ l. Keeps s (Happened (Go t) (reported_seen (asked_at l) (timer_at s t).expired (line_of q p t s).seen))
     (line_of q p t s).after) e (call_kept s t q p g (going_knows g).belongs (at_line ∙ d)))
     refl
   where
@@ -127,7 +127,7 @@ go_kept s t (At q p) h k e o = by_test
     g = record { sound = h; known = k; line = e }
 
     told : Outcome
-    told = told_outcome q (timer_at s t).expired (line_of q p t s)
+    told = reported_outcome q (timer_at s t).expired (line_of q p t s)
 
     -- the line is t's
     at_line : is_due_in s t ≡ is_line_due (At q p) t s

@@ -12,7 +12,7 @@ use Rattle.pif_model.specs.Posix.{World, Step, IsRun, empty_world}
 use Rattle.pif_model.specs.Posix.IsRun.{start, next}
 use Rattle.pif_model.specs.Table.{Table, new_table, has_thread_room, has_mutex_room, has_cond_room, has_mutex, thread_added, mutex_added, cond_added}
 use Rattle.pif_model.specs.Lines.{event_outcome}
-use Rattle.pif_model.specs.Projection.{Agrees, no_shadow, memory_at, world_of}
+use Rattle.pif_model.specs.Projection.{Agrees, no_history_variables, memory_at, world_of}
 use Rattle.pif_model.specs.Standing.{Stands}
 use Rattle.pif_model_simulation.proofs.additions.Additions.{new_sound, new_seen}
 use Rattle.pif_model_simulation.proofs.additions.ThreadAdded.{thread_added_kept}
@@ -22,15 +22,15 @@ use Rattle.pif_model_simulation.proofs.Simulation.{event_kept}
 use Rattle.pif_model_simulation.proofs.Steps.{Keeps}
 
 -- nothing is remembered then, and nothing is to be
-new_agrees : (l : Bounds) → Agrees (new_table l) no_shadow
+new_agrees : (l : Bounds) → Agrees (new_table l) no_history_variables
 new_agrees l = record {
   all = refl;
   past = λ t u n e. absurd (true≢false (sym e ∙ nothing t u n));
-  joined = λ t u e. absurd (true≢false (sym e ∙ nothing t u (memory_at no_shadow u).waits));
-  parked = λ t u c chosen z e. absurd (true≢false (sym e ∙ nothing t u (memory_at no_shadow u).waits));
+  joined = λ t u e. absurd (true≢false (sym e ∙ nothing t u (memory_at no_history_variables u).waits));
+  parked = λ t u c chosen z e. absurd (true≢false (sym e ∙ nothing t u (memory_at no_history_variables u).waits));
 }
   where
-    nothing : (t u n : ℕ) → list_any (λ (p : ℕ × ℕ). if p.0 == u then p.1 == n else false) (memory_at no_shadow t).found
+    nothing : (t u n : ℕ) → list_any (λ (p : ℕ × ℕ). if p.0 == u then p.1 == n else false) (memory_at no_history_variables t).found
         ≡ false
     nothing zero u n = refl
     nothing (suc t) u n = refl
@@ -38,7 +38,7 @@ new_agrees l = record {
 -- a core to which nothing was added stands after the empty history
 pub new_stands : (l : Bounds) → IsWithin l → Stands (new_table l) [] [] (empty_world l.signals)
 new_stands l within = record {
-  shadow = no_shadow;
+  history_variables = no_history_variables;
   agrees = new_agrees l;
   shows = sym (new_seen l within);
   run = start refl;
@@ -49,10 +49,10 @@ new_stands l within = record {
 after_entry : {s v : Table} {e : Entry} {h : List Entry} {r : List World} {w : World} → Stands s h r w → Keeps s e v
     → (u : World) × Stands v (e ∷ h) (w ∷ r) u
 after_entry {s} {v} {e} {h} {r} {w} k p =
-    let y = p.shows k.shadow k.agrees in (
+    let y = p.shows k.history_variables k.agrees in (
       world_of v y.0,
       record {
-        shadow = y.0;
+        history_variables = y.0;
         agrees = y.1;
         shows = refl;
         run = subst (λ l. IsRun l (e ∷ h) (w ∷ r) (world_of v y.0)) (sym p.limits)

@@ -21,7 +21,7 @@ use Rattle.pif_model.specs.declared.lines.Status.{Status}
 use Rattle.pif_model.specs.declared.lines.Status.TheVariants.{Ready, Queued, Parked, Stopped, Ended}
 use Rattle.pif_model.specs.declared.lines.Woken.TheVariants.{Fresh as WokenFresh, Owns as WokenOwns, Again as WokenAgain, Expired as WokenExpired}
 use Rattle.pif_model.specs.Refusals.{go_refused}
-use Rattle.pif_model.specs.Deadlines.{told_result, told_seen}
+use Rattle.pif_model.specs.Deadlines.{reported_result, reported_seen}
 use Rattle.pif_model.specs.Posix.{Health, Progress, World, Step, Effects, is_due, thread_at, refusal_of, named_by, variable_of, names_known, with_call_by, without_call, after_waits, on_taking, on_release, rests, sleeps, is_idle}
 use Rattle.pif_model.specs.World.Progress.{Has}
 use Rattle.pif_model.specs.Posix.Moves.{acts}
@@ -29,23 +29,23 @@ use Rattle.pif_model.specs.Posix.Step.{went, waits, answered}
 use Rattle.pif_model.specs.PiKernel.{is_ready, is_living}
 use Rattle.pif_model.specs.Table.{Table, Cell, cell_at, has_mutex, has_cond, uses_of, status_at, line_at, timer_at}
 use Rattle.pif_model.specs.Lines.{Outcome, is_open, is_due_in}
-use Rattle.pif_model.specs.Projection.{Shadow, Agrees, before_lock, progress_taking, progress_giving, progress_waking, call_at, call_shown, progress_at, health_at, world_of}
+use Rattle.pif_model.specs.Projection.{HistoryVariables, Agrees, before_lock, progress_taking, progress_giving, progress_waking, call_at, call_shown, progress_at, health_at, world_of}
 use Rattle.pif_model.specs.Soundness.{Need, Use, use_at, MeetsAll, needs, CallIsSound, LineIsSound, IsSound}
 use Rattle.pif_model_lemmas.proofs.Waiting.{by_test, names, named-from_pair}
 use Rattle.pif_model_lemmas.proofs.kernel.Facts.{unnamed-from_ready, living-added}
 use Rattle.pif_model_lemmas.proofs.Numbers.{below}
 use Rattle.pif_model_simulation.proofs.Facts.{Known, is_ready_need, is_stopped_need, is_unstopped_need, is_own_need, is_other_need, is_own_ready_need, is_own_handed_need, is_once_need, is_stop_need, is_robust_need, is_health_need, is_died_need, is_behind_need, is_bound_need, is_used_need, is_below_need, call_ready, call_stopped, call_unstopped, call_own, call_other, call_own_ready, call_own_handed, call_once, call_stop, call_robust, call_health, call_died, call_behind, call_bound, call_used, call_limited}
-use Rattle.pif_model_simulation.proofs.Hole.{each_thread}
+use Rattle.pif_model_simulation.proofs.WeakenedInvariant.{each_thread}
 use Rattle.pif_model_simulation.proofs.Shown.{threads_shown, call_seen, call_seen_of, timer_seen, refusal_seen, recalled_same}
 use Rattle.pif_model_simulation.proofs.deadlines.Due.{due_seen}
 use Rattle.pif_model_simulation.proofs.Agreement.{Frames, framed}
 
--- v follows s by this entry: it is sound, both have the same limits, and what they show, with a shadow that agrees with
--- s and a next one that agrees with v, is a step of the POSIX machine
+-- v follows s by this entry: it is sound, both have the same limits, and what they show, with history variables that
+-- agree with s and a next one that agrees with v, is a step of the POSIX machine
 pub record Keeps (s : Table) (e : Entry) (v : Table) : Type 0 where
   pub sound : IsSound v
   pub limits : v.limits ≡ s.limits
-  pub shows : (x : Shadow) → Agrees s x → (y : Shadow) × Agrees v y × Step s.limits (world_of s x) e (world_of v y)
+  pub shows : (x : HistoryVariables) → Agrees s x → (y : HistoryVariables) × Agrees v y × Step s.limits (world_of s x) e (world_of v y)
 
 -- the request of the call at a line; a lock where none is open, which never comes
 abbrev pub asked_at : Line → Request
@@ -55,7 +55,7 @@ asked_at (At q p) = q
 -- a step of t whose call is not due, and which shows this by its line, follows s with v: what is seen of it is told
 abbrev pub KeepsGo : Table → ℕ → Seen → Table → Type 0
 KeepsGo s t seen v = is_due_in s t ≡ false
-    → Keeps s (Happened (Go t) (told_seen (asked_at (line_at s t)) (timer_at s t).expired seen)) v
+    → Keeps s (Happened (Go t) (reported_seen (asked_at (line_at s t)) (timer_at s t).expired seen)) v
 
 -- what such a step answers and leaves follows s
 abbrev pub GoKeeps : Table → ℕ → Outcome → Type 0
@@ -182,21 +182,21 @@ line_noted s t (At q p) h e = place_noted (is_living s.kernel) t q (status_at s 
     p (health_at s (named_by q)) (uses_of s (variable_of q)) h.needs e
 
 -- whether t rests, by its line and its status
-rests_seen : {s : Table} (h : IsSound s) (x : Shadow) (t : ℕ)
+rests_seen : {s : Table} (h : IsSound s) (x : HistoryVariables) (t : ℕ)
     → rests (world_of s x) t ≡ (if sleeps (call_shown s t) then true else names
     t s.kernel.waiters)
 rests_seen {s} h x t = ap (λ c. if sleeps c then true else names t s.kernel.waiters)
     (call_seen h.all.shape x t (line_at s t) refl)
 
 -- a thread that may run doesn't rest
-pub rests_ready : {s : Table} (h : IsSound s) (x : Shadow) (t : ℕ) → is_living s.kernel t ≡ true
+pub rests_ready : {s : Table} (h : IsSound s) (x : HistoryVariables) (t : ℕ) → is_living s.kernel t ≡ true
     → is_ready (status_at s t) ≡ true → rests (world_of s x) t ≡ false
 rests_ready {s} h x t k e = rests_seen h x t ∙ ap₂ (λ a b. if a then true else b)
     (line_sleeps s t (line_at s t) (each_thread h t k).line ∙ ready_not_still (status_at s t) e)
     (unnamed-from_ready s.kernel h.kernel t e)
 
 -- a thread that may not run rests
-pub rests_not_ready : {s : Table} (h : IsSound s) (x : Shadow) (t : ℕ) → is_living s.kernel t ≡ true
+pub rests_not_ready : {s : Table} (h : IsSound s) (x : HistoryVariables) (t : ℕ) → is_living s.kernel t ≡ true
     → is_ready (status_at s t) ≡ false → rests (world_of s x) t ≡ true
 rests_not_ready {s} h x t k e = rests_seen h x t ∙ go (status_at s t) refl
   where
@@ -303,12 +303,12 @@ module _ {s : Table} {t : ℕ} {q : Request} {p : Place} (g : Going s t q p) whe
   going_limited = call_limited going_knows
 
   -- the step is not refused
-  pub going_allowed : (x : Shadow) → refusal_of (world_of s x) (Go t) ≡ None
+  pub going_allowed : (x : HistoryVariables) → refusal_of (world_of s x) (Go t) ≡ None
   going_allowed x = refusal_seen g.sound.all.shape x (Go t)
       ∙ (λ i. go_refused (living-added s.kernel t g.known i) (g.known i) (ap is_open g.line i))
 
   -- the world has t's call open
-  pub going_called : (x : Shadow) → (thread_at (world_of s x) t).call ≡ Some
+  pub going_called : (x : HistoryVariables) → (thread_at (world_of s x) t).call ≡ Some
       (record { request = q; progress = progress_of s t q p })
   going_called x = call_seen g.sound.all.shape x t (At q p) g.line
 
@@ -318,22 +318,22 @@ module _ {s : Table} {t : ℕ} {q : Request} {p : Place} (g : Going s t q p) whe
       (below t (length s.kernel.seats) (living-added s.kernel t g.known))
 
   -- the world has a thread t
-  pub going_below : (x : Shadow) → t < length (world_of s x).threads
+  pub going_below : (x : HistoryVariables) → t < length (world_of s x).threads
   going_below x = subst (λ n. t < n) (sym (threads_shown g.sound.all.shape x)) going_lined
 
   -- a call that is not due at its line is not due in the world
-  pub going_undue : is_due_in s t ≡ false → (x : Shadow) → is_due (world_of s x) t ≡ false
+  pub going_undue : is_due_in s t ≡ false → (x : HistoryVariables) → is_due (world_of s x) t ≡ false
   going_undue e x = due_seen g.sound x t g.known ∙ e
 
   -- what a result is told as
-  pub going_told : (x : Shadow) (a : ℕ)
-      → told_result (asked_at (line_at s t)) (timer_at s t).expired a ≡ told_result q (thread_at (world_of s x) t).timer.expired a
-  going_told x a = λ i. told_result (asked_at (g.line i)) (sym (timer_seen g.sound.all.shape x t) i).expired a
+  pub going_told : (x : HistoryVariables) (a : ℕ)
+      → reported_result (asked_at (line_at s t)) (timer_at s t).expired a ≡ reported_result q (thread_at (world_of s x) t).timer.expired a
+  going_told x a = λ i. reported_result (asked_at (g.line i)) (sym (timer_seen g.sound.all.shape x t) i).expired a
 
   -- the step follows with these effects, after which t may run
   pub goes_with : (v : Table) → IsSound v → v.limits ≡ s.limits → is_living v.kernel t ≡ true
       → is_ready (status_at v t) ≡ true → Frames s v
-      → ((x : Shadow) → Effects t (world_of s x) (world_of s x) (world_of v x)) → KeepsGo s t Went v
+      → ((x : HistoryVariables) → Effects t (world_of s x) (world_of s x) (world_of v x)) → KeepsGo s t Went v
   goes_with v sound limits known ready frames effects undue = record {
     sound = sound;
     limits = limits;
@@ -346,10 +346,10 @@ module _ {s : Table} {t : ℕ} {q : Request} {p : Place} (g : Going s t q p) whe
   }
 
   -- the step follows with these effects, after which t rests, and is noted where it is blocked
-  pub waits_noted : (v : Table) (u : Shadow → World) → IsSound v → v.limits ≡ s.limits → is_living v.kernel t ≡ true
+  pub waits_noted : (v : Table) (u : HistoryVariables → World) → IsSound v → v.limits ≡ s.limits → is_living v.kernel t ≡ true
       → is_ready (status_at v t) ≡ false → Frames s v
-      → ((x : Shadow) → Effects t (world_of s x) (world_of s x) (u x))
-      → ((x : Shadow) → world_of v x ≡ with_call_by t after_waits (u x)) → KeepsGo s t Waits v
+      → ((x : HistoryVariables) → Effects t (world_of s x) (world_of s x) (u x))
+      → ((x : HistoryVariables) → world_of v x ≡ with_call_by t after_waits (u x)) → KeepsGo s t Waits v
   waits_noted v u sound limits known ready frames effects shown undue = record {
     sound = sound;
     limits = limits;
@@ -364,18 +364,18 @@ module _ {s : Table} {t : ℕ} {q : Request} {p : Place} (g : Going s t q p) whe
   -- the step follows with these effects, after which t rests
   pub waits_with : (v : Table) → IsSound v → v.limits ≡ s.limits → is_living v.kernel t ≡ true
       → is_ready (status_at v t) ≡ false → Frames s v
-      → ((x : Shadow) → Effects t (world_of s x) (world_of s x) (world_of v x)) → KeepsGo s t Waits v
+      → ((x : HistoryVariables) → Effects t (world_of s x) (world_of s x) (world_of v x)) → KeepsGo s t Waits v
   waits_with v sound limits known ready frames effects =
       waits_noted v (world_of v) sound limits known ready frames effects (λ x.
       recalled_same (world_of v x) t after_waits (ap after_waits (call_seen_of sound.all.shape x t)
       ∙ line_noted v t (line_at v t) (each_thread sound t known).line ready ∙ sym (call_seen_of sound.all.shape x t)))
 
   -- the step follows with these effects, after which the call has this result and closes
-  pub answers_with : (v : Table) (a : ℕ) (u : Shadow → World) → IsSound v → v.limits ≡ s.limits
+  pub answers_with : (v : Table) (a : ℕ) (u : HistoryVariables → World) → IsSound v → v.limits ≡ s.limits
       → is_living v.kernel t ≡ true → is_ready (status_at v t) ≡ true → Frames s v
-      → ((x : Shadow) → Effects t (world_of s x) (world_of s x) (u x))
-      → ((x : Shadow) → (thread_at (u x) t).call ≡ Some (record { request = q; progress = Has a }))
-      → ((x : Shadow) → world_of v x ≡ with_call_by t without_call (u x)) → KeepsGo s t (Answered a) v
+      → ((x : HistoryVariables) → Effects t (world_of s x) (world_of s x) (u x))
+      → ((x : HistoryVariables) → (thread_at (u x) t).call ≡ Some (record { request = q; progress = Has a }))
+      → ((x : HistoryVariables) → world_of v x ≡ with_call_by t without_call (u x)) → KeepsGo s t (Answered a) v
   answers_with v a u sound limits known ready frames effects call shown undue = record {
     sound = sound;
     limits = limits;

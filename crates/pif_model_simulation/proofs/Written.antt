@@ -18,10 +18,10 @@ use Rattle.pif_model.specs.Posix.{named_by, variable_of, Health, Thread, Mutex, 
 use Rattle.pif_model.specs.PiKernel.{Kernel, Seat, seat_at, state_at, is_living}
 use Rattle.pif_model.specs.RobustList.{RobustRow, no_robust_row, robust_at, with_robust}
 use Rattle.pif_model.specs.Table.{Table, Cell, LibraryMutex, new_mutex, has_thread, has_mutex, bound_to, uses_of, status_at, line_at, timer_at, library_at, cell_at}
-use Rattle.pif_model.specs.Projection.{Shadow, progress_at, call_at, call_shown, memory_at, may_enlist, health_of, health_at, thread_shown, mutex_shown, world_of}
+use Rattle.pif_model.specs.Projection.{HistoryVariables, progress_at, call_at, call_shown, memory_at, may_enlist, health_of, health_at, thread_shown, mutex_shown, world_of}
 use Rattle.pif_model.specs.Soundness.{Use, use_at, MeetsAll, LineIsSound, ThreadIsSound, needs, CellIsSound, IsShaped}
 use Rattle.pif_model_simulation.proofs.Kept.{Spares, unused}
-use Rattle.pif_model_simulation.proofs.Hole.{Changes, aims}
+use Rattle.pif_model_simulation.proofs.WeakenedInvariant.{Changes, aims}
 use Rattle.pif_model_simulation.proofs.Shown.{threads_shown, mutexes_shown, thread_seen, mutex_seen, same_world}
 use Rattle.pif_model_simulation.proofs.Agreement.{Frames, Follows, WasBlockedIn, frames_by, was_same}
 
@@ -83,11 +83,11 @@ written_is t m l r x a n k s e f g h = λ i. record s {
   mutexes = h i;
 }
 
--- what a kernel call on m leaves, but for excused threads, where variables are bound so
-pub record IsCallOn (Excused : ℕ → Type 0) (bound : ℕ → ℕ) (k k' : Kernel) (m : ℕ) : Type 0 where
+-- what a kernel call on m leaves, but for exempt threads, where variables are bound so
+pub record IsCallOn (Exempt : ℕ → Type 0) (bound : ℕ → ℕ) (k k' : Kernel) (m : ℕ) : Type 0 where
   pub limits : k'.limits ≡ k.limits
   pub seats : length k'.seats ≡ length k.seats
-  pub status : (u : ℕ) → (Excused u → ⊥) → (seat_at k' u).status ≡ (seat_at k u).status
+  pub status : (u : ℕ) → (Exempt u → ⊥) → (seat_at k' u).status ≡ (seat_at k u).status
   pub living : (u : ℕ) → is_living k' u ≡ is_living k u
   pub states : (n : ℕ) → n ≢ m → state_at k' n ≡ state_at k n
   pub waited : (n : ℕ) → n ≢ m → has_waiter k'.waiters n ≡ has_waiter k.waiters n
@@ -99,8 +99,8 @@ pub same_targets : (bound : ℕ → ℕ) (k k' : Kernel) → k'.parked ≡ k.par
 same_targets bound k k' e c n a = inl (sym (ap (λ ps. aims (record k { parked = ps }) c n) e) ∙ a)
 
 -- no kernel call
-pub no_call : (Excused : ℕ → Type 0) (bound : ℕ → ℕ) (k : Kernel) (m : ℕ) → IsCallOn Excused bound k k m
-no_call Excused bound k m = record {
+pub no_call : (Exempt : ℕ → Type 0) (bound : ℕ → ℕ) (k : Kernel) (m : ℕ) → IsCallOn Exempt bound k k m
+no_call Exempt bound k m = record {
   limits = refl;
   seats = refl;
   status = λ u n. refl;
@@ -192,7 +192,7 @@ module _ (s : Table) (t m : ℕ) (l : Line) (r : RobustRow) (x : Word) (a n : �
       (get_or-set_other s.mutexes m j (record (library_at s m) { count = n }) (new_mutex Normal false) d)
 
   -- the parts still fit together
-  pub shape_written : {Excused : ℕ → Type 0} → IsCallOn Excused (bound_to s) s.kernel k m
+  pub shape_written : {Exempt : ℕ → Type 0} → IsCallOn Exempt (bound_to s) s.kernel k m
       → (m ≡ 0 → (x ≡ free_word) × (a ≡ 0) × (n ≡ (library_at s m).count)) → IsShaped v
   shape_written c zero = record {
     limits = c.limits ∙ shape.limits;
@@ -246,14 +246,14 @@ module _ (s : Table) (t m : ℕ) (l : Line) (r : RobustRow) (x : Word) (a n : �
       first_health (inr d) = get_or-set_other s.words.healths m 0 a 0 d
 
   -- the change that is written
-  pub changes : {Excused : ℕ → Type 0} → Excused t → IsCallOn Excused (bound_to s) s.kernel k m
+  pub changes : {Exempt : ℕ → Type 0} → Exempt t → IsCallOn Exempt (bound_to s) s.kernel k m
       → (m ≡ 0 → (x ≡ free_word) × (a ≡ 0) × (n ≡ (library_at s m).count))
       → (has_mutex s m ≡ true → CellIsSound (has_thread s) (has_waiter k.waiters m) (cell_written m x a n k s))
-      → (has_mutex s m ≡ true → (library_at s m).robust ≡ true → x.number ≢ 0 → (Excused x.number → ⊥)
+      → (has_mutex s m ≡ true → (library_at s m).robust ≡ true → x.number ≢ 0 → (Exempt x.number → ⊥)
       → is_living s.kernel x.number ≡ true)
-      → ((u : ℕ) → u ≢ 0 → (Excused u → ⊥) → Spares (is_living s.kernel) (is_living s.kernel) u (cell_at s m)
-      (cell_written m x a n k s)) → Changes Excused s v m
-  changes {Excused} out c zero cell alive spares = record {
+      → ((u : ℕ) → u ≢ 0 → (Exempt u → ⊥) → Spares (is_living s.kernel) (is_living s.kernel) u (cell_at s m)
+      (cell_written m x a n k s)) → Changes Exempt s v m
+  changes {Exempt} out c zero cell alive spares = record {
     shape = shape_written c zero;
     threads = λ u. ap (λ j. if u == 0 then false else nat_lt u j) c.seats;
     mutexes = λ j. ap (λ i. if j == 0 then false else nat_lt j i)
@@ -262,12 +262,12 @@ module _ (s : Table) (t m : ℕ) (l : Line) (r : RobustRow) (x : Word) (a n : �
     cells = λ j d. cell_there j d (c.states j d);
     waited = c.waited;
     cell = λ e. subst (CellIsSound (has_thread s) (has_waiter k.waiters m)) (sym cell_here) (cell e);
-    alive = λ e. subst (λ (d : Cell). d.robust ≡ true → d.word.number ≢ 0 → (Excused d.word.number → ⊥)
+    alive = λ e. subst (λ (d : Cell). d.robust ≡ true → d.word.number ≢ 0 → (Exempt d.word.number → ⊥)
         → is_living s.kernel d.word.number ≡ true) (sym cell_here) (alive e);
     living = λ u b. c.living u;
     status = λ u b. c.status u b;
-    line = λ u b. line_there u (λ e. b (subst Excused (sym e) out));
-    list = λ u b. list_there u (λ e. b (subst Excused (sym e) out));
+    line = λ u b. line_there u (λ e. b (subst Exempt (sym e) out));
+    list = λ u b. list_there u (λ e. b (subst Exempt (sym e) out));
     spares = λ u z b. (
         let living : is_living k ≡ is_living s.kernel = (λ i j. c.living j i) in
         subst (λ f. Spares (is_living s.kernel) f u (cell_at s m) (cell_at v m)) (sym living)
@@ -323,7 +323,7 @@ module _ (s : Table) (t m : ℕ) (l : Line) (r : RobustRow) (x : Word) (a n : �
           (by_mutex q p e.needs (cases_eq (named_by q) m))
 
   -- t then
-  pub thread_here : (y : Shadow) → thread_shown v y t ≡ record {
+  pub thread_here : (y : HistoryVariables) → thread_shown v y t ≡ record {
     base = (seat_at k t).base;
     living = is_living k t;
     call = call_at (health_at v) (uses_of s) l (seat_at k t).status;
@@ -339,7 +339,7 @@ module _ (s : Table) (t m : ℕ) (l : Line) (r : RobustRow) (x : Word) (a n : �
   }
 
   -- another thread
-  pub thread_there : (y : Shadow) (u : ℕ) → u ≢ t → thread_shown v y u ≡ record {
+  pub thread_there : (y : HistoryVariables) (u : ℕ) → u ≢ t → thread_shown v y u ≡ record {
     base = (seat_at k u).base;
     living = is_living k u;
     call = call_at (health_at v) (uses_of s) (line_at s u) (seat_at k u).status;
@@ -372,7 +372,7 @@ module _ (s : Table) (t m : ℕ) (l : Line) (r : RobustRow) (x : Word) (a n : �
       })
 
   -- what is shown is w, where w has these threads, mutexes and waiters, and the variables and the time that there were
-  pub shows : (y : Shadow) (w : World) → IsShaped v → length w.threads ≡ length s.lines
+  pub shows : (y : HistoryVariables) (w : World) → IsShaped v → length w.threads ≡ length s.lines
       → length w.mutexes ≡ length s.mutexes → k.waiters ≡ w.waiters
       → (thread_shown v y t ≡ thread_at w t)
       → ((u : ℕ) → u < length s.lines → u ≢ t → thread_shown v y u ≡ thread_at w u)
@@ -395,14 +395,14 @@ module _ (s : Table) (t m : ℕ) (l : Line) (r : RobustRow) (x : Word) (a n : �
       all j (inr d) = mutex_there j d ∙ others j d
 
   -- the world in which m is as it was written and the kernel's waiters wait
-  abbrev pub rewritten : Shadow → World
+  abbrev pub rewritten : HistoryVariables → World
   rewritten y = record (with_mutex m (mutex_of (cell_written m x a n k s)) (world_of s y)) { waiters = k.waiters }
 
   -- the kernel knows the same of all other threads, and their calls have come as far
   module _ (others : (u : ℕ) → u ≢ t → seat_at k u ≡ seat_at s.kernel u)
       (calls : (u : ℕ) → u ≢ t → call_at (health_at v) (uses_of s) (line_at s u) (status_at s u) ≡ call_shown s u) where
     -- where t's base priority and life stay, that world is shown with another call of t
-    pub world_shown : (y : Shadow) (c : Option Call) → IsShaped v → ((u : ℕ) → is_living k u ≡ is_living s.kernel u)
+    pub world_shown : (y : HistoryVariables) (c : Option Call) → IsShaped v → ((u : ℕ) → is_living k u ≡ is_living s.kernel u)
         → (seat_at k t).base ≡ (seat_at s.kernel t).base
         → call_at (health_at v) (uses_of s) l (seat_at k t).status ≡ c
         → world_of v y ≡ with_thread t (record (thread_at (rewritten y) t) { call = c }) (rewritten y)

@@ -7,7 +7,7 @@ use Rattle.pif_model.specs.declared.events.Seen.TheVariants.{Begun}
 use Rattle.pif_model.specs.declared.events.Entry.{Entry}
 use Rattle.pif_model.specs.declared.events.Entry.TheVariants.{Step as Happened}
 use Rattle.pif_model.specs.Posix.{Progress, Call, World, thread_at, is_due}
-use Rattle.pif_model.specs.World.Progress.{Waiting, Stuck, Leaving, Has, Enlisted, Owing}
+use Rattle.pif_model.specs.World.Progress.{Waiting, Stuck, Leaving, Has, Enlisted, Reacquiring}
 
 -- what has become of a call so far
 pub data Fate : Type 0 where
@@ -31,7 +31,7 @@ is_past q Stuck = is_wait q
 is_past q Leaving = true
 is_past q (Has a) = true
 is_past q (Enlisted still) = if still then false else true
-is_past q Owing = true
+is_past q Reacquiring = true
 is_past q _ = false
 
 -- whether an open call is so

@@ -10,9 +10,9 @@ use Rattle.pif_model.specs.declared.lines.Line.TheVariants.{At}
 use Rattle.pif_model.specs.declared.lines.Status.{Status}
 use Rattle.pif_model.specs.declared.lines.Place.{Place}
 use Rattle.pif_model.specs.declared.lines.Place.TheVariants.{Load, NamePending, StayQueued, StayStopped, LoadUses, Park, StayParked}
-use Rattle.pif_model.specs.Deadlines.{is_reached, told_seen}
+use Rattle.pif_model.specs.Deadlines.{is_reached, reported_seen}
 use Rattle.pif_model.specs.Table.{Table, status_at, timer_at}
-use Rattle.pif_model.specs.Lines.{lock_queued, locking_line, line_of, counts_at, is_line_due, answers, ends_by, expired_in, expired_place, expires_at, told_outcome, go_outcome}
+use Rattle.pif_model.specs.Lines.{lock_queued, locking_line, line_of, counts_at, is_line_due, answers, ends_by, expired_in, expired_place, expires_at, reported_outcome, go_outcome}
 use Rattle.pif_model_simulation.specs.Steppable.{may_wait_at}
 use Rattle.pif_model_simulation.proofs.Undue.{goes_by_line, undue}
 use Rattle.pif_mutex.specs.Mutexes.{is_on_mutex}
@@ -29,12 +29,12 @@ wait_locks c m p t s h = refl
 
 -- a wait there is not due
 pub wait_goes : (q : Request) (p : Place) (t m : ℕ) (s : Table) → (c : ℕ) × (q ≡ Wait c m) → is_on_mutex p ≡ true
-    → go_outcome (At q p) t s ≡ told_outcome q (timer_at s t).expired (locking_line q p t m s)
+    → go_outcome (At q p) t s ≡ reported_outcome q (timer_at s t).expired (locking_line q p t m s)
 wait_goes q p t m s (c, e) h =
     subst (λ (x : Request). go_outcome (At x p) t s
-    ≡ told_outcome x (timer_at s t).expired (locking_line x p t m s)) (sym e)
+    ≡ reported_outcome x (timer_at s t).expired (locking_line x p t m s)) (sym e)
     (undue (Wait c m) p t s (never (is_reached (timer_at s t).deadline s.time) p (status_at s t) h)
-    ∙ ap (told_outcome (Wait c m) (timer_at s t).expired) (sym (wait_locks c m p t s h)))
+    ∙ ap (reported_outcome (Wait c m) (timer_at s t).expired) (sym (wait_locks c m p t s h)))
   where
     never : (reached : Bool) (p : Place) (x : Status) → is_on_mutex p ≡ true
         → (if reached then counts_at (Wait c m) p x else false) ≡ false
@@ -76,18 +76,18 @@ pub due_lock_goes : (m : ℕ) (p : Place) (t : ℕ) (s : Table) → is_line_due 
 unfolding go_outcome expires_at
 due_lock_goes m p t s h =
     ap (λ (b : Bool). if b then expires_at (Lock m) p t s
-    else told_outcome (Lock m) (timer_at s t).expired (line_of (Lock m) p t s)) h
+    else reported_outcome (Lock m) (timer_at s t).expired (line_of (Lock m) p t s)) h
 
 undue_lock_goes : (m : ℕ) (p : Place) (t : ℕ) (s : Table) → is_line_due (At (Lock m) p) t s ≡ false
     → go_outcome (At (Lock m) p) t s ≡ line_of (Lock m) p t s
 undue_lock_goes m p t s h =
     undue (Lock m) p t s h
     ∙ ap (λ (x : Seen). record (line_of (Lock m) p t s) { seen = x })
-    (told (timer_at s t).expired (line_of (Lock m) p t s).seen)
+    (reported (timer_at s t).expired (line_of (Lock m) p t s).seen)
   where
-    told : (expired : Bool) (x : Seen) → told_seen (Lock m) expired x ≡ x
-    told expired (Answered a) = refl
-    told expired x = refl
+    reported : (expired : Bool) (x : Seen) → reported_seen (Lock m) expired x ≡ x
+    reported expired (Answered a) = refl
+    reported expired x = refl
 
 pub queued_goes : (m t : ℕ) (s : Table) → is_line_due (At (Lock m) StayQueued) t s ≡ false
     → go_outcome (At (Lock m) StayQueued) t s ≡ lock_queued (Lock m) t m s

@@ -10,7 +10,7 @@ pub(crate) fn relock_of(kind: Kind) -> Relock
     ensures { result ≡ relock_of kind }
 {
     match kind {
-        Kind::Normal => Relock::Stops,
+        Kind::Normal => Relock::Deadlocks,
         Kind::ErrorCheck => Relock::Answers,
         Kind::Recursive => Relock::Counts,
     }

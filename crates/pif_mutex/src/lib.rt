@@ -80,7 +80,7 @@ mod taking;
 mod try_lock;
 mod unlock;
 
-pub use deadlines::told;
+pub use deadlines::reported;
 pub use lines::{Lines, MutexLines};
 pub use parts::{Parts, advance, advance_at};
 pub use progress::Progress;

@@ -27,7 +27,7 @@ impl<K: PiKernel + Drop> State<K> {
             return self.go_by(request, m, Place::NamePending, Place::Exchange, t);
         }
         match relock_of(self.kind(m)) {
-            Relock::Stops => self.go_on(request, Place::Stop, t),
+            Relock::Deadlocks => self.go_on(request, Place::Stop, t),
             Relock::Answers => self.answer(t, Errno::Deadlock.number()),
             Relock::Counts => self.lock_again(t, m),
         }

@@ -8,7 +8,7 @@ ghost use Rattle.pif_mutex.specs.Outcomes.{outcome_of};
 ghost use Rattle.pif_model_simulation.specs.Steppable.{CallMayStep, may_wait_at, is_link_next, is_unlink_step, is_unlink};
 ghost use Rattle.pif_mutex.specs.Mutexes.{is_of_mutexes, is_on_mutex};
 
-use crate::deadlines::told;
+use crate::deadlines::reported;
 use crate::progress::Progress;
 use crate::state::State;
 use pif_kernel_calls::PiKernel;
@@ -72,7 +72,7 @@ impl<K: PiKernel + Drop> State<K> {
     {
         let expired = self.timer(t).expired;
         let progress = self.locking_step(request, place, t, m);
-        told(&request, expired, progress)
+        reported(&request, expired, progress)
     }
 
     /// One step of a request that may queue for `m`: of a lock from the exchange on, or of a wait.

@@ -27,7 +27,7 @@ impl<K: PiKernel + Drop> State<K> {
         }
         match relock_of(self.kind(m)) {
             Relock::Counts => self.lock_again(t, m),
-            Relock::Stops | Relock::Answers => self.answer(t, Errno::Busy.number()),
+            Relock::Deadlocks | Relock::Answers => self.answer(t, Errno::Busy.number()),
         }
     }
 

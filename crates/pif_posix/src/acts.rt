@@ -70,7 +70,7 @@ impl State {
                 Ok(true)
             }
             Progress::Enlisted(still) => self.give_up(thread, mutex, still),
-            Progress::Owing => self.lock(thread, mutex),
+            Progress::Reacquiring => self.lock(thread, mutex),
             _ => Ok(false),
         }
     }
@@ -127,7 +127,7 @@ impl State {
             }
             Progress::Checked => self.act_later(thread, call.request, call.progress),
             Progress::Enlisted(_) => self.act_later(thread, call.request, call.progress),
-            Progress::Owing => self.act_later(thread, call.request, call.progress),
+            Progress::Reacquiring => self.act_later(thread, call.request, call.progress),
             Progress::Waiting => Ok(self.act_on_time(thread, call.request)),
             Progress::Stuck => Ok(self.act_on_time(thread, call.request)),
             Progress::Blocked(noted) => {

@@ -6,7 +6,7 @@ ghost use Rattle.pif_posix_model.specs.Doing.{begun, answered, is_answered, Does
 
 use crate::parts::Task;
 use crate::progress::{Call, Progress};
-use crate::requests::{deadline_of, plain, told_result};
+use crate::requests::{deadline_of, plain, reported_result};
 use crate::state::State;
 use pif_search::Stop;
 use pif_types::{Answer, Request};
@@ -46,7 +46,7 @@ impl Task {
             None => false,
             Some(call) => match call.progress {
                 Progress::Has(result_of) => {
-                    answer == told_result(&call.request, self.timer.expired, result_of)
+                    answer == reported_result(&call.request, self.timer.expired, result_of)
                 }
                 _ => false,
             },

@@ -64,7 +64,7 @@ impl State {
             }
         } else if owner == 0 {
             self.take(thread, at);
-        } else if self.is_lost(at) {
+        } else if self.is_orphaned(at) {
             self.set_progress(thread as usize, Progress::Stuck);
         } else if self.leads_to(owner as usize, thread as usize) {
             self.fail(thread as usize, Errno::Deadlock);

@@ -21,12 +21,13 @@ pub enum Progress {
     Has(u32),
     /// A wait whose thread owns the mutex and holds it once.
     Checked,
-    /// A wait that has joined the variable's blocked threads, whose thread owns the mutex yet; true while it is blocked.
+    /// A wait that has joined the variable's blocked threads, whose thread owns the mutex yet; true while it is
+    /// blocked.
     Enlisted(bool),
     /// A wait that has given the mutex up and is blocked; true once it is noted that its thread was told to wait.
     Blocked(bool),
     /// A wait that has given the mutex up and is unblocked: it has to lock the mutex again.
-    Owing,
+    Reacquiring,
     /// A signal or broadcast that has used the variable, and has to choose whom it wakes.
     Used,
 }
@@ -38,7 +39,7 @@ impl Progress {
     {
         match self {
             Progress::Enlisted(_) => Progress::Enlisted(false),
-            Progress::Blocked(_) => Progress::Owing,
+            Progress::Blocked(_) => Progress::Reacquiring,
             _ => self,
         }
     }
@@ -50,7 +51,7 @@ impl Progress {
         if still {
             Progress::Blocked(false)
         } else {
-            Progress::Owing
+            Progress::Reacquiring
         }
     }
 
@@ -67,7 +68,7 @@ impl Progress {
             (Progress::Checked, Progress::Checked) => true,
             (Progress::Enlisted(a), Progress::Enlisted(b)) => a == b,
             (Progress::Blocked(a), Progress::Blocked(b)) => a == b,
-            (Progress::Owing, Progress::Owing) => true,
+            (Progress::Reacquiring, Progress::Reacquiring) => true,
             (Progress::Used, Progress::Used) => true,
             _ => false,
         }

@@ -1,7 +1,7 @@
 ghost use Rattle.std.specs.Prelude.{◌≡◌};
 ghost use Rattle.pif_model.specs.World.{variable_of};
 ghost use Rattle.pif_model.specs.Posix.{named_by};
-ghost use Rattle.pif_model.specs.Deadlines.{plain, deadline_of, is_reached, told_result};
+ghost use Rattle.pif_model.specs.Deadlines.{plain, deadline_of, is_reached, reported_result};
 
 use pif_types::{Answer, Errno, Request};
 
@@ -65,10 +65,10 @@ pub(crate) fn is_reached(deadline: Option<u32>, now: u32) -> bool
     }
 }
 
-/// What a call with this result is answered: a wait that has run out of time is answered ETIMEDOUT in place of 0 (POSIX,
-/// pthread_cond_timedwait).
-pub(crate) fn told_result(request: &Request, expired: bool, result_of: Answer) -> Answer
-    ensures { result ≡ told_result request.now expired result_of }
+/// What a call with this result is answered: a wait that has run out of time is answered ETIMEDOUT in place of 0
+/// (POSIX, pthread_cond_timedwait).
+pub(crate) fn reported_result(request: &Request, expired: bool, result_of: Answer) -> Answer
+    ensures { result ≡ reported_result request.now expired result_of }
 {
     match request {
         Request::Wait(_, _) if expired && result_of == 0 => Errno::TimedOut.number(),

@@ -1,6 +1,6 @@
 ghost use Rattle.std.specs.Prelude.{◌≡◌, ◌<◌, ◌==◌, ℕ, length, IfOk};
 ghost use Rattle.std.specs.List.{list_any};
-ghost use Rattle.pif_model.specs.World.{thread_at, mutex_at, variable_at, is_living, is_lost, is_blocked_on, sleeps, rests};
+ghost use Rattle.pif_model.specs.World.{thread_at, mutex_at, variable_at, is_living, is_orphaned, is_blocked_on, sleeps, rests};
 ghost use Rattle.pif_model.specs.Posix.{is_due};
 ghost use Rattle.pif_posix.specs.Shapes.{health_of, call_of};
 
@@ -109,10 +109,10 @@ impl State {
         it.count
     }
 
-    /// Whether a mutex is lost.
-    pub(crate) fn is_lost(&self, mutex: usize) -> bool
+    /// Whether a mutex is orphaned.
+    pub(crate) fn is_orphaned(&self, mutex: usize) -> bool
         requires { mutex < length self.now.mutexes }
-        ensures { result ≡ is_lost self.now mutex }
+        ensures { result ≡ is_orphaned self.now mutex }
     {
         let it = &self.mutexes[mutex];
         !it.robust && it.owner != 0 && !self.is_living(it.owner as usize)

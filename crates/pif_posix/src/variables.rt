@@ -81,7 +81,7 @@ impl State {
             }
             Request::Wait(_, _) => {
                 self.run_out(thread as usize);
-                self.set_progress(thread as usize, Progress::Owing);
+                self.set_progress(thread as usize, Progress::Reacquiring);
                 true
             }
             Request::TryLock(_) => false,

@@ -8,7 +8,7 @@ use Rattle.pif_types.specs.declared.requests.Request.TheVariants.{Wait}
 use Rattle.pif_model.specs.declared.events.Entry.{Entry}
 use Rattle.pif_model.specs.Deadlines.{ran_out}
 use Rattle.pif_model.specs.Posix.{World, Thread, Call, Progress, Health, nobody, HasCome, Effect, Effects, Expires, Moves, Locks, LocksAgain, TriesToLock, Passes, Unlocks, MakesConsistent, SetsPriority, ChecksWait, GivesUp, Uses, Chooses, Releases, Step, IsRun, with_call_by, with_thread, with_progress, at_progress, after_waits, without_call, after_unblocking, on_unblocking, on_taking, taken, used, after_use, is_newly_blocked, all_unblocked, after_timeout, with_base, new_thread, begun_thread, mutex_at, without_waiter, thread_at}
-use Rattle.pif_model.specs.Posix.Locks.{own_normal, own_errorcheck, own_recursive as lock_own_recursive, free as lock_free, lost as lock_lost, cycle, joins}
+use Rattle.pif_model.specs.Posix.Locks.{own_normal, own_errorcheck, own_recursive as lock_own_recursive, free as lock_free, orphaned as lock_orphaned, cycle, joins}
 use Rattle.pif_model.specs.Posix.LocksAgain.{rises, at_limit}
 use Rattle.pif_model.specs.Posix.TriesToLock.{own_recursive as try_own_recursive, busy as try_busy, free as try_free}
 use Rattle.pif_model.specs.Posix.Passes.{to_nobody, to_next}
@@ -26,7 +26,7 @@ use Rattle.pif_model.specs.Posix.Moves.{expires, acts}
 use Rattle.pif_model.specs.Posix.Releases.{none_left, one_more}
 use Rattle.pif_model.specs.Posix.Step.{ticked, thread_added, mutex_added, cond_added, refused, begun, went, waits, answered, ended}
 use Rattle.pif_model.specs.Posix.IsRun.{start, next}
-use Rattle.pif_model.specs.World.Progress.{Fresh, Waiting, Stuck, Has, Checked, Enlisted, Blocked, Owing, Used}
+use Rattle.pif_model.specs.World.Progress.{Fresh, Waiting, Stuck, Has, Checked, Enlisted, Blocked, Reacquiring, Used}
 use Rattle.pif_model_lemmas.proofs.Places.{kept_at}
 use Rattle.pif_model_lemmas.proofs.Waiting.{by_test}
 use Rattle.pif_model_simulation.proofs.runs.Worlds.{call_of, push_same}
@@ -119,7 +119,7 @@ module _ {w : World} (h : OnlyWaitsBlock w) {t : ℕ} where
   after_Locks (own_errorcheck own kind e) = rw e (comes w t (Has 35) h refl)
   after_Locks (lock_own_recursive own kind e) = after_LocksAgain e
   after_Locks {m} (lock_free other free e) = rw e (taking w t m h)
-  after_Locks (lock_lost lost e) = rw e (comes w t Stuck h refl)
+  after_Locks (lock_orphaned orphaned e) = rw e (comes w t Stuck h refl)
   after_Locks (cycle owned leads e) = rw e (comes w t (Has 35) h refl)
   after_Locks (joins owned leads e) = rw e (comes w t Waiting h refl)
 
@@ -167,7 +167,7 @@ module _ {w : World} (h : OnlyWaitsBlock w) {t : ℕ} where
   after_GivesUp still before (wait_unusable own health e) = rw e h
   after_GivesUp {c} {m} true before (wait_released own health passes) =
       after_Passes (wait_comes w t c m (Enlisted true) (Blocked false) h before refl) passes
-  after_GivesUp false before (wait_released own health passes) = after_Passes (comes w t Owing h refl) passes
+  after_GivesUp false before (wait_released own health passes) = after_Passes (comes w t Reacquiring h refl) passes
 
   after_Uses : {c : ℕ} {v : World} → Uses t c w v → OnlyWaitsBlock v
   after_Uses (use_at_limit full e) = rw e (comes w t (Has 75) h refl)
@@ -219,7 +219,7 @@ after_Effects h (effect_owed b c m blocked before e more) = after_Effects (after
 
 after_Expires : {t : ℕ} {w v : World} → OnlyWaitsBlock w → Expires t w v → OnlyWaitsBlock v
 after_Expires {t} {w} h (lock_expires m p before e) = rw e (comes w t (Has 110) h refl)
-after_Expires {t} {w} h (wait_expires c m p before e) = rw e (comes (after_timeout t w) t Owing late refl)
+after_Expires {t} {w} h (wait_expires c m p before e) = rw e (comes (after_timeout t w) t Reacquiring late refl)
   where
     late : OnlyWaitsBlock (after_timeout t w)
     late x =

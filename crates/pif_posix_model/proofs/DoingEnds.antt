@@ -112,8 +112,8 @@ module _ (t m : ℕ) (w v : World) (y z : Mutex) (e : v.mutexes ≡ set (set w.m
       ∙ get_or-set_other w.mutexes m i y no_mutex n in
       ap (λ (x : Mutex). if x.robust then x.owner == t else false) (sym same)
 
-  lost_it : m < length w.mutexes → z.owner ≢ t → owns_robust v t m ≡ false
-  lost_it l n =
+  orphaned_it : m < length w.mutexes → z.owner ≢ t → owns_robust v t m ≡ false
+  orphaned_it l n =
       let long : m < length (set w.mutexes m y) = subst (λ (k : ℕ). m < k) (sym (length-set w.mutexes m y)) l in
       let this : mutex_at v m ≡ z =
       ap (λ (ms : List Mutex). get_or ms m no_mutex) e ∙ get_or-set_same (set w.mutexes m y) m z no_mutex long in
@@ -134,7 +134,7 @@ loses_one t m w n h r o =
         let y : Mutex = record (mutex_at w m) { health = on_death (mutex_at w m).health } in
         let z : Mutex = record (mutex_at (after_owner_death m w) m) { owner = x; count = 1 } in
         passing-one_less (owns_robust w t) (owns_robust (passed_on_by_death m w) t) (length w.mutexes) m (robust_is_added w t m r)
-        (owns_robust_from w t m r o) (lost_it t m w (passed_on_by_death m w) y z e (robust_is_added w t m r) k)
+        (owns_robust_from w t m r o) (orphaned_it t m w (passed_on_by_death m w) y z e (robust_is_added w t m r) k)
         (others_same t m w (passed_on_by_death m w) y z e)
         ∙ ap (λ (n : ℕ). suc (length (passing (owns_robust (passed_on_by_death m w) t) n))) (sym (as_many t m w (passed_on_by_death m w) y z e))
 

@@ -11,8 +11,8 @@ use Rattle.pif_model.specs.declared.events.Seen.TheVariants.{Begun, Answered, En
 use Rattle.pif_model.specs.declared.events.Entry.{Entry}
 use Rattle.pif_model.specs.declared.events.Entry.TheVariants.{Thread as AddThread, Mutex as AddMutex, Cond as AddCond, Step as Happened}
 use Rattle.pif_model.specs.Graph.{is_priority}
-use Rattle.pif_model.specs.Deadlines.{told_result}
-use Rattle.pif_model.specs.World.Progress.{Fresh, Waiting, Stuck, Leaving, Has, Checked, Enlisted, Blocked, Owing, Used}
+use Rattle.pif_model.specs.Deadlines.{reported_result}
+use Rattle.pif_model.specs.World.Progress.{Fresh, Waiting, Stuck, Leaving, Has, Checked, Enlisted, Blocked, Reacquiring, Used}
 use Rattle.pif_model.specs.Posix.{World, Call, Progress, thread_at, is_mutex, rests, with_thread, begun_thread, new_thread, new_mutex, new_variable, IsAllowed, Step}
 use Rattle.pif_model.specs.Posix.Step.{thread_added as adds_thread, mutex_added as adds_mutex, cond_added as adds_variable, refused, begun as begins, went, waits, answered as answers, ended as ends, ticked as ticks}
 use Rattle.pif_posix_model.specs.Once.{Answers as IsAnswer, Enters, is_go, is_refused}
@@ -113,7 +113,7 @@ module _ (t a : ℕ) (w : World) where
   answered_from v x =
       let told : is_answered (thread_at w t).call (thread_at w t).timer.expired a ≡ true =
       ap (λ (o : Option Call). is_answered o (thread_at w t).timer.expired a) x.call
-      ∙ eq-eqb a (told_result x.request (thread_at w t).timer.expired x.result) x.told in
+      ∙ eq-eqb a (reported_result x.request (thread_at w t).timer.expired x.result) x.told in
       let goes_on : rests (closed t w) t ≡ false = ap (λ (u : World). rests u t) (sym x.closes) ∙ x.goes_on in
       then_this (is_answered (thread_at w t).call (thread_at w t).timer.expired a) _ v told
       (then_this (is_allowed w (Go t)) _ v (allowed_from w (Go t) x.allowed)
@@ -121,8 +121,8 @@ module _ (t a : ℕ) (w : World) where
 
   -- a call that is answered a has a result that comes to it
   result_to : (p : Progress) (q : Request) (expired : Bool) → has_answer p q expired a ≡ true
-      → (r : ℕ) × (p ≡ Has r) × (a ≡ told_result q expired r)
-  result_to (Has r) q expired e = (r, refl, eqb-true a (told_result q expired r) e)
+      → (r : ℕ) × (p ≡ Has r) × (a ≡ reported_result q expired r)
+  result_to (Has r) q expired e = (r, refl, eqb-true a (reported_result q expired r) e)
   result_to Fresh q expired e = absurd (both_ways false refl e)
   result_to Waiting q expired e = absurd (both_ways false refl e)
   result_to Stuck q expired e = absurd (both_ways false refl e)
@@ -130,7 +130,7 @@ module _ (t a : ℕ) (w : World) where
   result_to Checked q expired e = absurd (both_ways false refl e)
   result_to (Enlisted still) q expired e = absurd (both_ways false refl e)
   result_to (Blocked noted) q expired e = absurd (both_ways false refl e)
-  result_to Owing q expired e = absurd (both_ways false refl e)
+  result_to Reacquiring q expired e = absurd (both_ways false refl e)
   result_to Used q expired e = absurd (both_ways false refl e)
 
   pub answered_to : (v : World) → answered t a w ≡ Some v → IsAnswer t a w v

@@ -2,12 +2,12 @@
 use Rattle.std.proofs.Common.{ℕ, ◌≡◌, ◌≢◌, ◌≤◌, ◌<◌, ◌⊎◌, ◌∙◌, true, false, Some, None, refl, sym, ap, inl, inr, arith, if◌then◌else◌, ◌==◌}
 use Rattle.std.proofs.lemmas.Bool.{ne_eqb, eq-eqb, le-ltb, lt-ltb, cases_eq, cases_Bool, cases_order}
 use Rattle.pif_model.specs.declared.lines.Relock.{Relock}
-use Rattle.pif_model.specs.declared.lines.Relock.TheVariants.{Stops, Answers, Counts}
+use Rattle.pif_model.specs.declared.lines.Relock.TheVariants.{Deadlocks, Answers, Counts}
 use Rattle.pif_model.specs.Kinds.{relock_of}
 use Rattle.pif_model.specs.NamedNumbers.{EDEADLK, EAGAIN, EBUSY, most_holds}
 use Rattle.pif_model.specs.World.Progress.{Waiting, Stuck, Has}
-use Rattle.pif_model.specs.Posix.{World, mutex_at, is_lost, leads_to, with_progress, with_waiter, taken, with_one_hold_more, Locks, LocksAgain, TriesToLock}
-use Rattle.pif_model.specs.Posix.Locks.{own_normal, own_errorcheck, own_recursive, free, lost, cycle, joins}
+use Rattle.pif_model.specs.Posix.{World, mutex_at, is_orphaned, leads_to, with_progress, with_waiter, taken, with_one_hold_more, Locks, LocksAgain, TriesToLock}
+use Rattle.pif_model.specs.Posix.Locks.{own_normal, own_errorcheck, own_recursive, free, orphaned, cycle, joins}
 use Rattle.pif_model.specs.Posix.LocksAgain.{rises, at_limit}
 use Rattle.pif_model.specs.Posix.TriesToLock.{own_recursive as again, busy, free as not_owned}
 use Rattle.pif_posix_model.specs.Doing.{locked, locked_more, relocked, tried, retried}
@@ -38,26 +38,26 @@ module _ (t m : ℕ) (w : World) where
 
   -- another owns it
   owned_by_another : (mutex_at w m).owner ≢ t → (mutex_at w m).owner ≢ 0
-      → locked t m w ≡ (if is_lost w m then Some (with_progress t Stuck w)
+      → locked t m w ≡ (if is_orphaned w m then Some (with_progress t Stuck w)
       else (if leads_to w (mutex_at w m).owner t then Some (with_progress t (Has EDEADLK) w)
       else Some (with_progress t Waiting (with_waiter t m w))))
   owned_by_another n k =
       choose_else ((mutex_at w m).owner == t) _ _ (ne_eqb (mutex_at w m).owner t n)
       ∙ choose_else ((mutex_at w m).owner == 0) _ _ (ne_eqb (mutex_at w m).owner 0 k)
 
-  pub locked-lost : (mutex_at w m).owner ≢ t → (mutex_at w m).owner ≢ 0 → is_lost w m ≡ true
+  pub locked-orphaned : (mutex_at w m).owner ≢ t → (mutex_at w m).owner ≢ 0 → is_orphaned w m ≡ true
       → locked t m w ≡ Some (with_progress t Stuck w)
-  locked-lost n k l = owned_by_another n k ∙ choose_then (is_lost w m) _ _ l
+  locked-orphaned n k l = owned_by_another n k ∙ choose_then (is_orphaned w m) _ _ l
 
-  pub locked-cycle : (mutex_at w m).owner ≢ t → (mutex_at w m).owner ≢ 0 → is_lost w m ≡ false
+  pub locked-cycle : (mutex_at w m).owner ≢ t → (mutex_at w m).owner ≢ 0 → is_orphaned w m ≡ false
       → leads_to w (mutex_at w m).owner t ≡ true → locked t m w ≡ Some (with_progress t (Has EDEADLK) w)
   locked-cycle n k l c =
-      owned_by_another n k ∙ choose_else (is_lost w m) _ _ l ∙ choose_then (leads_to w (mutex_at w m).owner t) _ _ c
+      owned_by_another n k ∙ choose_else (is_orphaned w m) _ _ l ∙ choose_then (leads_to w (mutex_at w m).owner t) _ _ c
 
-  pub locked-joins : (mutex_at w m).owner ≢ t → (mutex_at w m).owner ≢ 0 → is_lost w m ≡ false
+  pub locked-joins : (mutex_at w m).owner ≢ t → (mutex_at w m).owner ≢ 0 → is_orphaned w m ≡ false
       → leads_to w (mutex_at w m).owner t ≡ false → locked t m w ≡ Some (with_progress t Waiting (with_waiter t m w))
   locked-joins n k l c =
-      owned_by_another n k ∙ choose_else (is_lost w m) _ _ l ∙ choose_else (leads_to w (mutex_at w m).owner t) _ _ c
+      owned_by_another n k ∙ choose_else (is_orphaned w m) _ _ l ∙ choose_else (leads_to w (mutex_at w m).owner t) _ _ c
 
   pub tried-free : (mutex_at w m).owner ≡ 0 → tried t m w ≡ Some (taken t m w)
   tried-free e = choose_then ((mutex_at w m).owner == 0) _ _ (eq-eqb (mutex_at w m).owner 0 e)
@@ -92,36 +92,36 @@ module _ (t m : ℕ) (w : World) where
   -- LOCKING
 
   pub locked_from : (v : World) → Locks t m w v → locked t m w ≡ Some v
-  locked_from v (own_normal o r e) = locked-relock Stops o r ∙ ap Some (sym e)
+  locked_from v (own_normal o r e) = locked-relock Deadlocks o r ∙ ap Some (sym e)
   locked_from v (own_errorcheck o r e) = locked-relock Answers o r ∙ ap Some (sym e)
   locked_from v (own_recursive o r e) = locked-relock Counts o r ∙ locked_more_from v e
   locked_from v (free n o e) = locked-free n o ∙ ap Some (sym e)
-  locked_from v (lost x e) = locked-lost x.0 x.1 x.2 ∙ ap Some (sym e)
+  locked_from v (orphaned x e) = locked-orphaned x.0 x.1 x.2 ∙ ap Some (sym e)
   locked_from v (cycle x c e) = locked-cycle x.0 x.1 x.2 c ∙ ap Some (sym e)
   locked_from v (joins x c e) = locked-joins x.0 x.1 x.2 c ∙ ap Some (sym e)
 
   relock_to : (r : Relock) (v : World) → (mutex_at w m).owner ≡ t → relock_of (mutex_at w m).kind ≡ r → locked t m w ≡ Some v
       → Locks t m w v
-  relock_to Stops v o r e = own_normal o r (some_is (locked-relock Stops o r) e)
+  relock_to Deadlocks v o r e = own_normal o r (some_is (locked-relock Deadlocks o r) e)
   relock_to Answers v o r e = own_errorcheck o r (some_is (locked-relock Answers o r) e)
   relock_to Counts v o r e = own_recursive o r (locked_more_to v (sym (locked-relock Counts o r) ∙ e))
 
   pub locked_to : (v : World) → locked t m w ≡ Some v → Locks t m w v
   locked_to v e = by_owner (cases_eq (mutex_at w m).owner t)
     where
-      by_chain : (mutex_at w m).owner ≢ t → (mutex_at w m).owner ≢ 0 → is_lost w m ≡ false
+      by_chain : (mutex_at w m).owner ≢ t → (mutex_at w m).owner ≢ 0 → is_orphaned w m ≡ false
           → (leads_to w (mutex_at w m).owner t ≡ true) ⊎ (leads_to w (mutex_at w m).owner t ≡ false) → Locks t m w v
       by_chain n k l (inl c) = cycle (n, k, l) c (some_is (locked-cycle n k l c) e)
       by_chain n k l (inr c) = joins (n, k, l) c (some_is (locked-joins n k l c) e)
 
-      by_loss : (mutex_at w m).owner ≢ t → (mutex_at w m).owner ≢ 0 → (is_lost w m ≡ true) ⊎ (is_lost w m ≡ false)
+      by_loss : (mutex_at w m).owner ≢ t → (mutex_at w m).owner ≢ 0 → (is_orphaned w m ≡ true) ⊎ (is_orphaned w m ≡ false)
           → Locks t m w v
-      by_loss n k (inl l) = lost (n, k, l) (some_is (locked-lost n k l) e)
+      by_loss n k (inl l) = orphaned (n, k, l) (some_is (locked-orphaned n k l) e)
       by_loss n k (inr l) = by_chain n k l (cases_Bool (leads_to w (mutex_at w m).owner t))
 
       by_freedom : (mutex_at w m).owner ≢ t → ((mutex_at w m).owner ≡ 0) ⊎ ((mutex_at w m).owner ≡ 0 → ⊥) → Locks t m w v
       by_freedom n (inl z) = free n z (some_is (locked-free n z) e)
-      by_freedom n (inr k) = by_loss n k (cases_Bool (is_lost w m))
+      by_freedom n (inr k) = by_loss n k (cases_Bool (is_orphaned w m))
 
       by_owner : ((mutex_at w m).owner ≡ t) ⊎ ((mutex_at w m).owner ≡ t → ⊥) → Locks t m w v
       by_owner (inl o) = relock_to (relock_of (mutex_at w m).kind) v o refl e
@@ -132,7 +132,7 @@ module _ (t m : ℕ) (w : World) where
   -- the owner may not lock it again
   busy_from : (r : Relock) → (mutex_at w m).owner ≢ 0 → (mutex_at w m).owner ≡ t → relock_of (mutex_at w m).kind ≡ r
       → r ≢ Counts → tried t m w ≡ Some (with_progress t (Has EBUSY) w)
-  busy_from Stops k o r n = tried-own Stops k o r
+  busy_from Deadlocks k o r n = tried-own Deadlocks k o r
   busy_from Answers k o r n = tried-own Answers k o r
   busy_from Counts k o r n = absurd (n refl)
 
@@ -147,7 +147,7 @@ module _ (t m : ℕ) (w : World) where
 
   retry_to : (r : Relock) (v : World) → (mutex_at w m).owner ≢ 0 → (mutex_at w m).owner ≡ t → relock_of (mutex_at w m).kind ≡ r
       → tried t m w ≡ Some v → TriesToLock t m w v
-  retry_to Stops v k o r e = busy k (λ x z. let y : Stops ≡ Counts = sym r ∙ z in cc) (some_is (tried-own Stops k o r) e)
+  retry_to Deadlocks v k o r e = busy k (λ x z. let y : Deadlocks ≡ Counts = sym r ∙ z in cc) (some_is (tried-own Deadlocks k o r) e)
   retry_to Answers v k o r e = busy k (λ x z. let y : Answers ≡ Counts = sym r ∙ z in cc) (some_is (tried-own Answers k o r) e)
   retry_to Counts v k o r e = again o r (locked_more_to v (sym (tried-own Counts k o r) ∙ e))
 

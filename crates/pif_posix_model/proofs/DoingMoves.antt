@@ -8,7 +8,7 @@ use Rattle.pif_types.specs.declared.requests.Request.TheVariants.{Lock, TryLock,
 use Rattle.pif_model.specs.declared.events.Event.{Event}
 use Rattle.pif_model.specs.declared.events.Event.TheVariants.{Go, End}
 use Rattle.pif_model.specs.NamedNumbers.{ENOTRECOVERABLE}
-use Rattle.pif_model.specs.World.Progress.{Fresh, Waiting, Stuck, Leaving, Has, Checked, Enlisted, Blocked, Owing, Used}
+use Rattle.pif_model.specs.World.Progress.{Fresh, Waiting, Stuck, Leaving, Has, Checked, Enlisted, Blocked, Reacquiring, Used}
 use Rattle.pif_model.specs.Posix.{World, Call, Progress, thread_at, with_progress, named_by, is_use, variable_of, is_due, refusal_of, IsAllowed, HasCome, Effect}
 use Rattle.pif_model.specs.Posix.Effect.{lock, try_lock, unlock, consistent, set_prio, check_wait, enlist, give_up, lock_again, use_variable, choose, leave}
 use Rattle.pif_posix_model.specs.Once.{Acts, MovesOnce}
@@ -56,7 +56,7 @@ module _ (t : ℕ) (w : World) where
   effects_from v n (enlist c m h x) = in_next (Wait c m) Checked v h (in_one_from (enlisted t w) v x)
   effects_from v n (give_up c m still h x) =
       in_next (Wait c m) (Enlisted still) v h (in_option_from (given_up t m still w) v (given_up_from t m w still v x))
-  effects_from v n (lock_again c m h x) = in_next (Wait c m) Owing v h (in_option_from (locked t m w) v (locked_from t m w v x))
+  effects_from v n (lock_again c m h x) = in_next (Wait c m) Reacquiring v h (in_option_from (locked t m w) v (locked_from t m w v x))
   effects_from v n (use_variable q h e x) = in_next q Fresh v h (use_is_first q v e (variable_used_from t (variable_of q) w v x))
   effects_from v n (choose q h x) = in_next q Used v h (chosen_from t w q v x)
   effects_from v n (leave q h x) =
@@ -83,7 +83,7 @@ module _ (t : ℕ) (w : World) where
   wait_to c m Checked v h k = enlist c m h (sym (in_one (enlisted t w) v k))
   wait_to c m (Enlisted still) v h k = give_up c m still h (given_up_to t m w still v (in_option (given_up t m still w) v k))
   wait_to c m (Blocked noted) v h k = absurd (not_in_none v k)
-  wait_to c m Owing v h k = lock_again c m h (locked_to t m w v (in_option (locked t m w) v k))
+  wait_to c m Reacquiring v h k = lock_again c m h (locked_to t m w v (in_option (locked t m w) v k))
   wait_to c m Used v h k = absurd (not_in_none v k)
 
   later_to : (q : Request) (p : Progress) (v : World) → HasCome w t q p → Contains (later_effects q p t w) v → Effect t w v
@@ -109,7 +109,7 @@ module _ (t : ℕ) (w : World) where
   next_to Checked q v h k = later_to q Checked v h k
   next_to (Enlisted still) q v h k = later_to q (Enlisted still) v h k
   next_to (Blocked noted) q v h k = later_to q (Blocked noted) v h k
-  next_to Owing q v h k = later_to q Owing v h k
+  next_to Reacquiring q v h k = later_to q Reacquiring v h k
 
   pub effects_to : (v : World) → Contains (effects t w) v → Effect t w v
   effects_to v k = by_call (thread_at w t).call refl k
@@ -131,7 +131,7 @@ module _ (t : ℕ) (w : World) where
   noting_to c m (Has a) v h e x = absurd (both_ways false refl e)
   noting_to c m Checked v h e x = absurd (both_ways false refl e)
   noting_to c m (Enlisted still) v h e x = absurd (both_ways false refl e)
-  noting_to c m Owing v h e x = absurd (both_ways false refl e)
+  noting_to c m Reacquiring v h e x = absurd (both_ways false refl e)
   noting_to c m Used v h e x = absurd (both_ways false refl e)
 
   unnoted_to : (q : Request) (p : Progress) (v : World) → HasCome w t q p → may_be_noted q p ≡ true → v ≡ noted t w → Acts t w v

@@ -3,7 +3,7 @@ use Rattle.std.proofs.Common.{ℕ, zero, suc, ◌≡◌, ◌⊎◌, ◌∙◌, �
 use Rattle.std.specs.List.{list_any}
 use Rattle.std.proofs.lemmas.Bool.{ne_eqb, eq-eqb, cases_Bool}
 use Rattle.pif_model.specs.Posix.{World, Thread, Call, Progress, nobody, with_call_by, after_unblocking, on_unblocking, all_unblocked}
-use Rattle.pif_model.specs.World.Progress.{Fresh, Waiting, Stuck, Leaving, Has, Checked, Enlisted, Blocked, Owing, Used}
+use Rattle.pif_model.specs.World.Progress.{Fresh, Waiting, Stuck, Leaving, Has, Checked, Enlisted, Blocked, Reacquiring, Used}
 use Rattle.pif_posix_model.specs.Doing.{after_waking, woken_from, woken_where}
 
 -- twice is once
@@ -16,7 +16,7 @@ on_unblocking-twice (Has a) = refl
 on_unblocking-twice Checked = refl
 on_unblocking-twice (Enlisted b) = refl
 on_unblocking-twice (Blocked b) = refl
-on_unblocking-twice Owing = refl
+on_unblocking-twice Reacquiring = refl
 on_unblocking-twice Used = refl
 
 after_unblocking-twice : (o : Option Call) → after_unblocking (after_unblocking o) ≡ after_unblocking o

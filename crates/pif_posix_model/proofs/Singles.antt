@@ -17,7 +17,7 @@ use Rattle.pif_model.specs.Posix.Effects.{none as no_effect, then as effect_then
 use Rattle.pif_model.specs.Posix.Moves.{expires as move_expires, acts as move_acts}
 use Rattle.pif_model.specs.Posix.Step.{went as step_went, waits as step_waits, answered as step_answered}
 use Rattle.pif_model.specs.Posix.IsRun.{next}
-use Rattle.pif_model.specs.World.Progress.{Fresh, Leaving, Has, Checked, Enlisted, Blocked, Owing, Used}
+use Rattle.pif_model.specs.World.Progress.{Fresh, Leaving, Has, Checked, Enlisted, Blocked, Reacquiring, Used}
 use Rattle.pif_model_lemmas.proofs.Among.{is_among, is_among_here, is_among_there}
 use Rattle.pif_model_simulation.proofs.runs.Worlds.{call_of}
 use Rattle.pif_model_simulation.proofs.runs.Timing.{call-recalled}
@@ -81,7 +81,7 @@ uncounted-from_effect (enlist x m c e) = record { request = Wait x m; progress =
 uncounted-from_effect (give_up x m still c e) =
     record { request = Wait x m; progress = Enlisted still; call = c; counts_not = refl }
 uncounted-from_effect (lock_again x m c e) =
-    record { request = Wait x m; progress = Owing; call = c; counts_not = refl }
+    record { request = Wait x m; progress = Reacquiring; call = c; counts_not = refl }
 uncounted-from_effect (use_variable q c i e) =
     record { request = q; progress = Fresh; call = c; counts_not = fresh_counts_not q }
 uncounted-from_effect (choose q c e) = record { request = q; progress = Used; call = c; counts_not = used_counts_not q }

@@ -10,7 +10,7 @@ use Rattle.pif_model.specs.declared.events.Event.TheVariants.{Go}
 use Rattle.pif_model.specs.declared.events.Seen.TheVariants.{Went, Waits, Refused}
 use Rattle.pif_model.specs.declared.events.Entry.{Entry}
 use Rattle.pif_model.specs.declared.events.Entry.TheVariants.{Step as Happened}
-use Rattle.pif_model.specs.Deadlines.{ran_out, told_result}
+use Rattle.pif_model.specs.Deadlines.{ran_out, reported_result}
 use Rattle.pif_model.specs.Posix.{World, Thread, Call, nobody, IsAllowed, IsBlocked, HasCome, Effect, Effects, Goes, Moves, is_thread, is_living, with_thread, with_progress, at_progress, after_waits, after_timeout, thread_at, Step, IsRun}
 use Rattle.pif_model.specs.Posix.Effect.{lock_again}
 use Rattle.pif_model.specs.Posix.Effects.{none as no_effect, then as effect_then, owed as effect_owed}
@@ -18,7 +18,7 @@ use Rattle.pif_model.specs.Posix.Expires.{lock as lock_expires, wait as wait_exp
 use Rattle.pif_model.specs.Posix.Moves.{expires as move_expires, acts as move_acts}
 use Rattle.pif_model.specs.Posix.Step.{thread_added, mutex_added, cond_added, refused, begun, went, waits, answered as step_answered, ended, ticked}
 use Rattle.pif_model.specs.Posix.IsRun.{next}
-use Rattle.pif_model.specs.World.Progress.{Has, Blocked, Owing}
+use Rattle.pif_model.specs.World.Progress.{Has, Blocked, Reacquiring}
 use Rattle.pif_model_lemmas.proofs.Places.{kept_at}
 use Rattle.pif_model_simulation.proofs.runs.Worlds.{call_of, call-with_progress}
 use Rattle.pif_model_simulation.proofs.runs.Holding.{same_progress}
@@ -120,16 +120,16 @@ module _ (l : Bounds) where
           ∙ kept_at (λ (y : Thread). y.timer) w.threads t
           (record (thread_at w t) { call = at_progress (Has 110) (call_of w t) }) nobody refl t
       go (move_expires due (wait_expires c m p k e)) =
-          absurd (let other : Owing ≡ Has a = same_progress owing before in cc)
+          absurd (let other : Reacquiring ≡ Has a = same_progress owing before in cc)
         where
           late : Thread
           late = record (thread_at w t) { timer = ran_out (thread_at w t).timer }
 
-          owing : HasCome u t (Wait c m) Owing
+          owing : HasCome u t (Wait c m) Reacquiring
           owing =
               ap (λ (x : World). call_of x t) e
-              ∙ call-with_progress (after_timeout t w) t Owing
-              ∙ ap (at_progress Owing) (kept_at (λ (y : Thread). y.call) w.threads t late nobody refl t ∙ k)
+              ∙ call-with_progress (after_timeout t w) t Reacquiring
+              ∙ ap (at_progress Reacquiring) (kept_at (λ (y : Thread). y.call) w.threads t late nobody refl t ∙ k)
 
 -- a step that no line shows is made up of moves
 pub moves-from_hidden : (l : Bounds) (h : List Entry) (r : List World) (w : World) → IsRun l h r w → (e : Entry)
@@ -187,11 +187,11 @@ moves-from_shown l h r w run e v (step_answered t a q u same goes c after awake)
       threads = x.threads;
       before = u;
       moves = x.moves;
-      enters = answered t (told_result q (thread_at w t).timer.expired a) same (record {
+      enters = answered t (reported_result q (thread_at w t).timer.expired a) same (record {
         request = q;
         result = a;
         call = c;
-        told = ap (λ i. told_result q i a) (ap (λ i. i.expired) (sym (same_timer l goes q a c)));
+        told = ap (λ i. reported_result q i a) (ap (λ i. i.expired) (sym (same_timer l goes q a c)));
         allowed = allowed l x.reached t _ c;
         goes_on = awake;
         closes = after;

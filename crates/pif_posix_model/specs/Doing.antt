@@ -9,7 +9,7 @@ use Rattle.pif_types.specs.declared.requests.Kind.{Kind}
 use Rattle.pif_types.specs.declared.requests.Request.{Request}
 use Rattle.pif_types.specs.declared.requests.Request.TheVariants.{Lock, TryLock, Unlock, Consistent, Wait, Signal, Broadcast, SetPrio, TimedLock, TimedWait}
 use Rattle.pif_model.specs.declared.lines.Relock.{Relock}
-use Rattle.pif_model.specs.declared.lines.Relock.TheVariants.{Stops, Answers, Counts}
+use Rattle.pif_model.specs.declared.lines.Relock.TheVariants.{Deadlocks, Answers, Counts}
 use Rattle.pif_model.specs.declared.events.Event.{Event}
 use Rattle.pif_model.specs.declared.events.Event.TheVariants.{Begin, Go, End, Tick}
 use Rattle.pif_model.specs.declared.events.Seen.{Seen}
@@ -18,11 +18,11 @@ use Rattle.pif_model.specs.declared.events.Entry.{Entry}
 use Rattle.pif_model.specs.declared.events.Entry.TheVariants.{Thread as AddThread, Mutex as AddMutex, Cond as AddCond, Step as Happened}
 use Rattle.pif_model.specs.Kinds.{relock_of}
 use Rattle.pif_model.specs.Graph.{is_priority}
-use Rattle.pif_model.specs.Deadlines.{told_result}
+use Rattle.pif_model.specs.Deadlines.{reported_result}
 use Rattle.pif_model.specs.NamedNumbers.{EPERM, ESRCH, EAGAIN, EBUSY, EINVAL, EDEADLK, EOVERFLOW, ETIMEDOUT, ENOTRECOVERABLE, most_holds}
 use Rattle.pif_model.specs.World.Health.{Fine, Inconsistent, Unusable}
-use Rattle.pif_model.specs.World.Progress.{Fresh, Waiting, Stuck, Leaving, Has, Checked, Enlisted, Blocked, Owing, Used}
-use Rattle.pif_model.specs.Posix.{World, Call, Health, Progress, Thread, thread_at, mutex_at, variable_at, is_living, is_mutex, is_lost, leads_to, next_of, rests, effective_of, is_blocked_on, is_still_blocked, with_thread, with_call_by, with_progress, with_waiter, without_waiter, with_no_owner, with_health, with_one_hold_more, with_one_hold_less, with_base, taken, named_by, on_release, used, after_unblocking, all_unblocked, is_due, after_timeout, begun_thread, without_call, after_end, after_owner_death, refusal_of, new_thread, new_mutex, new_variable}
+use Rattle.pif_model.specs.World.Progress.{Fresh, Waiting, Stuck, Leaving, Has, Checked, Enlisted, Blocked, Reacquiring, Used}
+use Rattle.pif_model.specs.Posix.{World, Call, Health, Progress, Thread, thread_at, mutex_at, variable_at, is_living, is_mutex, is_orphaned, leads_to, next_of, rests, effective_of, is_blocked_on, is_still_blocked, with_thread, with_call_by, with_progress, with_waiter, without_waiter, with_no_owner, with_health, with_one_hold_more, with_one_hold_less, with_base, taken, named_by, on_release, used, after_unblocking, all_unblocked, is_due, after_timeout, begun_thread, without_call, after_end, after_owner_death, refusal_of, new_thread, new_mutex, new_variable}
 
 -- what a function that does this effect leaves: the state, where a rule fits; else the state before
 pub data Does (old : World) (after : Option World) : Bool → World → Type 0 where
@@ -44,7 +44,7 @@ locked_more t m w =
 
 -- the owner locks again, where that does this
 abbrev pub relocked : Relock → ℕ → ℕ → World → Option World
-relocked Stops t m w = Some (with_progress t Stuck w)
+relocked Deadlocks t m w = Some (with_progress t Stuck w)
 relocked Answers t m w = Some (with_progress t (Has EDEADLK) w)
 relocked Counts t m w = locked_more t m w
 
@@ -53,13 +53,13 @@ abbrev pub locked : ℕ → ℕ → World → Option World
 locked t m w =
     if (mutex_at w m).owner == t then relocked (relock_of (mutex_at w m).kind) t m w
     else (if (mutex_at w m).owner == 0 then Some (taken t m w)
-    else (if is_lost w m then Some (with_progress t Stuck w)
+    else (if is_orphaned w m then Some (with_progress t Stuck w)
     else (if leads_to w (mutex_at w m).owner t then Some (with_progress t (Has EDEADLK) w)
     else Some (with_progress t Waiting (with_waiter t m w)))))
 
 -- the owner tries to lock again, where a lock by it does this
 abbrev pub retried : Relock → ℕ → ℕ → World → Option World
-retried Stops t m w = Some (with_progress t (Has EBUSY) w)
+retried Deadlocks t m w = Some (with_progress t (Has EBUSY) w)
 retried Answers t m w = Some (with_progress t (Has EBUSY) w)
 retried Counts t m w = locked_more t m w
 
@@ -211,7 +211,7 @@ woken_where test w = record w { threads = woken_from test 0 w.threads }
 -- t's call of this request, which is due, expires
 abbrev pub expired_by : Request → ℕ → World → Option World
 expired_by (Lock m) t w = Some (with_progress t (Has ETIMEDOUT) (without_waiter t w))
-expired_by (Wait c m) t w = Some (with_progress t Owing (after_timeout t w))
+expired_by (Wait c m) t w = Some (with_progress t Reacquiring (after_timeout t w))
 expired_by q t w = None
 
 -- t's open call, which is due, expires
@@ -241,7 +241,7 @@ first_effects (TimedWait c m d) t w = []
 abbrev pub wait_effects : Progress → ℕ → ℕ → World → List World
 wait_effects Checked t m w = enlisted t w ∷ []
 wait_effects (Enlisted still) t m w = option_to_list (given_up t m still w)
-wait_effects Owing t m w = option_to_list (locked t m w)
+wait_effects Reacquiring t m w = option_to_list (locked t m w)
 wait_effects p t m w = []
 
 -- the next effect of t's call of this request, which has come so far: all results
@@ -323,7 +323,7 @@ ticked n w = if is_allowed w (Tick n) then Some (record w { time = n }) else Non
 
 -- whether a call of this request, which has come so far and has run out of time or not, is answered a
 abbrev pub has_answer : Progress → Request → Bool → ℕ → Bool
-has_answer (Has r) q expired a = a == told_result q expired r
+has_answer (Has r) q expired a = a == reported_result q expired r
 has_answer p q expired a = false
 
 -- whether an open call, which has run out of time or not, is answered a

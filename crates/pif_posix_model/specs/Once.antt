@@ -1,6 +1,6 @@
--- The POSIX machine with one effect at a time. A Go of Posix.antt may have several effects, and locks that others owe.
--- Here a move is one of these, of one thread. A history's hidden entries are moves, and the others need none but before
--- an answer.
+-- The POSIX machine with one effect at a time. A Go of Posix.antt may have several effects, and locks by which others
+-- reacquire their mutexes. Here a move is one of these, of one thread. A history's hidden entries are moves, and the
+-- others need none but before an answer.
 use Rattle.std.specs.Prelude.{ℕ, ◌≡◌, ◌⊎◌, Bool, true, false, ◌==◌, List, [], ◌∷◌}
 use Rattle.std.specs.List.{list_any}
 use Rattle.pif_types.specs.Bounds.{Bounds}
@@ -13,7 +13,7 @@ use Rattle.pif_model.specs.declared.events.Entry.{Entry}
 use Rattle.pif_model.specs.declared.events.Entry.TheVariants.{Step as Happened}
 use Rattle.pif_model.specs.Posix.{World, IsAllowed, IsNotResting, IsBlocked, HasCome, Comes, Effect, Expires, Step, is_due, with_call_by, without_call, thread_at}
 use Rattle.pif_model.specs.World.Progress.{Has, Blocked}
-use Rattle.pif_model.specs.Deadlines.{told_result}
+use Rattle.pif_model.specs.Deadlines.{reported_result}
 
 -- MOVES
 
@@ -36,7 +36,7 @@ pub data AreMoves (w : World) : List ℕ → World → Type 0 where
   no_move : {v : World} → v ≡ w → AreMoves w [] v
   one_more : {ts : List ℕ} {t : ℕ} {u v : World} → AreMoves w ts u → MovesOnce t u v → AreMoves w (t ∷ ts) v
 
--- each of these threads is t, or was blocked on a variable in w: it may owe a lock later
+-- each of these threads is t, or was blocked on a variable in w: it may have to reacquire a mutex later
 abbrev pub AreOfOrBlocked : ℕ → World → List ℕ → Type 0
 AreOfOrBlocked t w ts = (u : ℕ) → list_any (λ x. x == u) ts ≡ true → (u ≡ t) ⊎ ((c : ℕ) × IsBlocked w c u)
 
@@ -47,7 +47,7 @@ pub record Answers (t a : ℕ) (w v : World) : Type 0 where
   pub request : Request
   pub result : ℕ
   pub call : HasCome w t request (Has result)
-  pub told : a ≡ told_result request (thread_at w t).timer.expired result
+  pub told : a ≡ reported_result request (thread_at w t).timer.expired result
   pub allowed : IsAllowed w (Go t)
   pub goes_on : IsNotResting v t
   pub closes : v ≡ with_call_by t without_call w

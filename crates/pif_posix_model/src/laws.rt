@@ -10,8 +10,8 @@ pub fn hidden_steps_are_moves()
     ensures { (limits : Bounds) (history : List Entry) (states : List World) (before : World) → IsRun limits history states before → (entry : Entry) (after : World) → Step limits before entry after → is_hidden entry ≡ true → IsByMoves before entry after }
 {}
 
-/// A law: from a state of a run, a step that a line of a history shows, and that is not refused, is made up of moves and
-/// then of the entry alone. Only an answer needs moves before it.
+/// A law: from a state of a run, a step that a line of a history shows, and that is not refused, is made up of moves
+/// and then of the entry alone. Only an answer needs moves before it.
 pub fn shown_steps_are_moves_and_an_entry()
     ensures { (limits : Bounds) (history : List Entry) (states : List World) (before : World) → IsRun limits history states before → (entry : Entry) (after : World) → Step limits before entry after → is_hidden entry ≡ false → is_refused entry ≡ false → IsByMovesAndEntry limits before entry after }
 {}

@@ -2,8 +2,8 @@
 //! moves; and each of them as a function. They are in `specs/`, and `proofs/` has lemmas on them.
 //!
 //! The functions here do nothing, and state laws in their contracts: a step of the POSIX machine is made up of moves
-//! and entries, each of those is a step, and the end of a thread leads to one state. Moves and entries lead to the states
-//! that are listed, and to no others.
+//! and entries, each of those is a step, and the end of a thread leads to one state. Moves and entries lead to the
+//! states that are listed, and to no others.
 #![tactic(auto)]
 
 mod laws;

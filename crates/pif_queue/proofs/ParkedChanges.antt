@@ -200,7 +200,7 @@ stand-recounted p t c n h =
       sorted = h.sorted;
     }
 
--- once the differences of a variable are counted anew, and right for all others, the parked threads stand in the table
+-- once the differences of a variable are counted again, and right for all others, the parked threads stand in the table
 pub recounted : (p : ParkedLists) (t : NodeLists) (c n : ℕ) → StandParked p t → IsCond p c
     → n ≡ differences (target_of p) (list_at t (variable_list p c))
     → ((d : ℕ) → IsCond p d → d ≢ c → IsCounted p t d) → HoldsParked (with_differing c n p) t

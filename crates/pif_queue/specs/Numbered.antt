@@ -1,4 +1,4 @@
--- Parked threads whose tickets are numbered anew, in the order in which they were.
+-- Parked threads whose tickets are renumbered, in the order in which they were.
 use Rattle.std.specs.Prelude.{◌≡◌, ℕ, ◌<◌, ◌≤◌, nat_lt, Bool, true, false, if◌then◌else◌, Option, Some, None}
 use Rattle.pif_kernel_model.specs.Parked.{Parked, parked_with_ticket}
 

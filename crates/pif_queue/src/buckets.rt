@@ -212,7 +212,7 @@ impl Buckets {
         self.parked.set_ticket(table, t, ticket);
     }
 
-    /// Numbers the tickets of all parked threads, of which no two may have the same, anew from 1, in their order.
+    /// Numbers the tickets of all parked threads, of which no two may have the same, from 1, in their order.
     /// Answers the ticket behind the last. All else stays as it was.
     pub fn renumber(&mut self, table: &mut NodeTable) -> u64
         requires holds { HoldsBuckets self.old table.old }

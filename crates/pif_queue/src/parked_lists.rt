@@ -198,7 +198,7 @@ impl ParkedLists {
         }
     }
 
-    /// Numbers the tickets of all parked threads anew from 1, in their order. Answers the ticket behind the last. All
+    /// Renumbers the tickets of all parked threads from 1, in their order. Answers the ticket behind the last. All
     /// else stays as it was.
     pub fn renumber(&mut self, table: &mut NodeTable) -> u64
         requires holds { HoldsParked self.old table.old }

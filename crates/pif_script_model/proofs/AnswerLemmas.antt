@@ -6,7 +6,7 @@ use Rattle.pif_types.specs.declared.errors.Errno.{Errno}
 use Rattle.pif_types.specs.declared.errors.Errno.TheVariants.{NotPermitted, NoSuchThread, Again, Fault, Busy, Invalid, Deadlock, Overflow, TimedOut, OwnerDead, NotRecoverable}
 use Rattle.pif_types.specs.declared.errors.Refusal.{Refusal}
 use Rattle.pif_model.specs.declared.lines.Relock.{Relock}
-use Rattle.pif_model.specs.declared.lines.Relock.TheVariants.{Stops, Answers, Counts}
+use Rattle.pif_model.specs.declared.lines.Relock.TheVariants.{Deadlocks, Answers, Counts}
 use Rattle.pif_model.specs.Kinds.{relock_of}
 use Rattle.pif_types.specs.declared.requests.Request.{Request}
 use Rattle.pif_types.specs.declared.requests.Request.TheVariants.{Lock, TryLock, Unlock, Consistent, Wait, Signal, Broadcast, SetPrio, TimedLock, TimedWait}
@@ -35,8 +35,8 @@ use Rattle.pif_model.specs.declared.lines.Took.TheVariants.{Owns as TookOwns, Qu
 use Rattle.pif_model.specs.PiKernel.{is_ready, is_woken_again, lock_answer, try_lock_answer, unlock_answer, set_prio_answer, wait_requeue_answer, requeue_answer}
 use Rattle.pif_model.specs.Word.{Word, take_word, release_word}
 use Rattle.pif_model.specs.Table.{Table, cell_at, status_at, bound_to, uses_of, with_word, line_at, timer_at}
-use Rattle.pif_model.specs.Lines.{Outcome, goes_to, waits_at, answers, is_robust, ends_by, relocks, after_exchange, own_exchange, lock_load, lock_by, lock_kernel, take_load, lock_queued, lock_stop, take_health, take_line, link_line, clears, given_up, give_health, give_exchange, given_up_by, gives_up, give_line, try_load, try_by, try_kernel, unlock_load, consistent_load, consistent_health, repair_line, answered_by, set_priority, wait_load, wait_uses, wait_by, wait_park, wait_parked, use_read, use_exchange, more_in, use_by, use_requeue, ended_table, giving_line, shared_line, locking_line, use_line, line_of, is_line_due, expired_place, expired_in, expires_at, told_outcome, go_outcome, first_place, table_refusal, accepted_outcome, by_refusal, event_outcome}
-use Rattle.pif_model.specs.Deadlines.{plain, told_result, told_seen}
+use Rattle.pif_model.specs.Lines.{Outcome, goes_to, waits_at, answers, is_robust, ends_by, relocks, after_exchange, own_exchange, lock_load, lock_by, lock_kernel, take_load, lock_queued, lock_stop, take_health, take_line, link_line, clears, given_up, give_health, give_exchange, given_up_by, gives_up, give_line, try_load, try_by, try_kernel, unlock_load, consistent_load, consistent_health, repair_line, answered_by, set_priority, wait_load, wait_uses, wait_by, wait_park, wait_parked, use_read, use_exchange, more_in, use_by, use_requeue, ended_table, giving_line, shared_line, locking_line, use_line, line_of, is_line_due, expired_place, expired_in, expires_at, reported_outcome, go_outcome, first_place, table_refusal, accepted_outcome, by_refusal, event_outcome}
+use Rattle.pif_model.specs.Deadlines.{plain, reported_result, reported_seen}
 use Rattle.pif_text_model.specs.Numbers.{IsNumber}
 use Rattle.pif_text_model.specs.Traces.{IsSeenTraced}
 
@@ -153,8 +153,8 @@ module _ (s : Table) (h : AreSmall s.lines) (t m : ℕ) where
       (either (is_robust m s) _ _ (goes s h t q NamePending tt) (goes s h t q Exchange tt))
     where
       by_relock : (x : Relock) → Fits (elim x as (λ _. Outcome)
-          [ Stops ↦ goes_to t q Stop s | Answers ↦ answers t 35 s | Counts ↦ relocks t m s ])
-      by_relock Stops = goes s h t q Stop tt
+          [ Deadlocks ↦ goes_to t q Stop s | Answers ↦ answers t 35 s | Counts ↦ relocks t m s ])
+      by_relock Deadlocks = goes s h t q Stop tt
       by_relock Answers = closes s h t 35 (omega arith)
       by_relock Counts = locked_again-fits
 
@@ -202,7 +202,7 @@ module _ (s : Table) (h : AreSmall s.lines) (t m : ℕ) where
       (either (is_robust m s) _ _ (goes s h t (TryLock m) NamePending tt) (goes s h t (TryLock m) Exchange tt))
     where
       by_relock : (x : Relock) → Fits (elim x as (λ _. Outcome) [ Counts ↦ relocks t m s | _ ↦ answers t 16 s ])
-      by_relock Stops = closes s h t 16 (omega arith)
+      by_relock Deadlocks = closes s h t 16 (omega arith)
       by_relock Answers = closes s h t 16 (omega arith)
       by_relock Counts = locked_again-fits
 
@@ -420,16 +420,16 @@ either-small : (b : Bool) (m n : ℕ) → IsNumber m → IsNumber n → IsNumber
 either-small true m n h k = h
 either-small false m n h k = k
 
-told-small : (q : Request) (expired : Bool) (a : ℕ) → IsNumber a → IsNumber (told_result q expired a)
+told-small : (q : Request) (expired : Bool) (a : ℕ) → IsNumber a → IsNumber (reported_result q expired a)
 told-small (Wait c m) true a n = either-small (a == 0) 110 a (omega arith) n
 told-small q expired a n = n
 
-told_seen-fits : (q : Request) (expired : Bool) (x : Seen) → IsSeenTraced x → IsSeenTraced (told_seen q expired x)
-told_seen-fits q expired (seen.Answered a) n = told-small q expired a n
-told_seen-fits q expired x n = n
+reported_seen-fits : (q : Request) (expired : Bool) (x : Seen) → IsSeenTraced x → IsSeenTraced (reported_seen q expired x)
+reported_seen-fits q expired (seen.Answered a) n = told-small q expired a n
+reported_seen-fits q expired x n = n
 
-told-fits : (q : Request) (expired : Bool) (o : Outcome) → Fits o → Fits (told_outcome q expired o)
-told-fits q expired o f = record { seen = told_seen-fits q expired o.seen f.seen; lines = f.lines }
+told-fits : (q : Request) (expired : Bool) (o : Outcome) → Fits o → Fits (reported_outcome q expired o)
+told-fits q expired o f = record { seen = reported_seen-fits q expired o.seen f.seen; lines = f.lines }
 
 -- a step of what is open
 go-fits : (l : Line) (t : ℕ) (s : Table) → IsSmallLine l → AreSmall s.lines → Fits (go_outcome l t s)

@@ -49,8 +49,9 @@ fn compare_row<'a>(
     }
 }
 
-/// Compares the commands of a story, of which nothing but its words is given, with the lines that are printed for its script, which has this first fault or none;
-/// if no text is given, nothing is compared. Answers how many commands there are.
+/// Compares the commands of a story, of which nothing but its words is given, with the lines that are printed for its
+/// script, which has this first fault or none; if no text is given, nothing is compared. Answers how many commands
+/// there are.
 ///
 /// # Errors
 ///

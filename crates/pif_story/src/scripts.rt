@@ -5,8 +5,8 @@ ghost use Rattle.pif_story_model.specs.Stories.{rows_from, script_by};
 use crate::lines::{row_of, split_line};
 use std::alloc::{AllocError, Global};
 
-/// The script that is left of a story, of which nothing but its words is given, when its empty lines and its answers are
-/// taken out: a line for each of its commands.
+/// The script that is left of a story, of which nothing but its words is given, when its empty lines and its answers
+/// are taken out: a line for each of its commands.
 ///
 /// # Errors
 ///

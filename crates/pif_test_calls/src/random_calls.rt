@@ -123,7 +123,7 @@ fn wish(rng: &mut SplitMix64, m: u32, time: u32) -> Wish {
 }
 
 /// Plays a random list of events on new parts, and counts those that could happen. The first ticket is so late that
-/// tickets are numbered anew.
+/// tickets are renumbered.
 fn play_list(
     rt: &impl Abort,
     alloc: Global,

@@ -1,4 +1,5 @@
-//! Tests of the POSIX machine as a program, and of histories that are judged by it. Beside tests there is nothing in it.
+//! Tests of the POSIX machine as a program, and of histories that are judged by it. Beside tests there is nothing in
+//! it.
 //!
 //! | Module | What it has |
 //! |---|---|

@@ -81,8 +81,9 @@ type Exception = (usize, u32, Found);
 /// there are no deadlines, nobody ends, no mutex is recursive, and no priorities are set.
 ///
 /// A lock by a thread that doesn't own the mutex is answered 0 alone: nobody waits for a thread that waits for the
-/// owner. One by the owner is answered EDEADLK alone. An unlock by the owner is answered 0 alone, and by the other EPERM
-/// alone. So at lines 7, 10, 12, 13, 17, 19 and 27 nothing else is possible: who owns the mutex is the same in all runs.
+/// owner. One by the owner is answered EDEADLK alone. An unlock by the owner is answered 0 alone, and by the other
+/// EPERM alone. So at lines 7, 10, 12, 13, 17, 19 and 27 nothing else is possible: who owns the mutex is the same in
+/// all runs.
 ///
 /// A trylock is answered 0 if nobody owns the mutex when it tries, else EBUSY.
 /// - Line 6: t2 may have tried before t1 took the mutex. With 0 t2 owns it from then on, and has no unlock open up to

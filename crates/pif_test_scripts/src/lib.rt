@@ -4,7 +4,7 @@
 //! | Module | Tests of |
 //! |---|---|
 //! | `lines` | `pif_text`: the commands of lines, and the texts of commands, replies and faults |
-//! | `slips` | `pif_text_errors`: why a line is no command |
+//! | `syntax_errors` | `pif_text_errors`: why a line is no command |
 //! | `scripts` | scripts and traces: tables of ends in the middle of calls, long chains, reads and writes that fail |
 //! | `jobs` | none: what the others have done between two streams |
 //!
@@ -19,4 +19,4 @@ mod lines;
 #[cfg(test)]
 mod scripts;
 #[cfg(test)]
-mod slips;
+mod syntax_errors;

@@ -1,1 +1,1 @@
-pub mod Slips
+pub mod SyntaxErrors

@@ -5,11 +5,11 @@ mod calls;
 mod forms;
 mod near;
 mod parts;
-mod slips;
+mod syntax_errors;
 mod walk;
 mod wrongs;
 
 pub use near::nearest_name;
-pub use slips::Slip;
+pub use syntax_errors::SyntaxError;
 pub use walk::{call_form, read_command};
 pub use wrongs::Wrong;

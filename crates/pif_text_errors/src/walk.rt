@@ -1,14 +1,14 @@
 ghost use Rattle.std.specs.Prelude.{◌≡◌, ◌+◌, ◌≤◌, length, IfOk, IfErr, IfSome};
 ghost use Rattle.std.specs.Result.{result_ok};
 ghost use Rattle.pif_text_model.specs.Commands.{command_in};
-ghost use Rattle.pif_text_errors.specs.Slips.{IsIn};
+ghost use Rattle.pif_text_errors.specs.SyntaxErrors.{IsIn};
 
 use crate::calls::{BEGINS, CALLS};
 use crate::forms::{COMMANDS, Form, KINDS, Part, ROBUST, Rest, form_of};
 use crate::near::nearest;
 use crate::parts::{wrong_with_part, wrong_with_word};
-use crate::slips::{end_of_word, slip_at};
-use crate::{Slip, Wrong};
+use crate::syntax_errors::{end_of_word, syntax_error_at};
+use crate::{SyntaxError, Wrong};
 use pif_text::{Command, command_of};
 
 /// The place of the first blank at an end of the line or behind another blank, or of the first tab.
@@ -38,101 +38,108 @@ fn comment(line: &[u8]) -> Option<usize>
     None
 }
 
-/// The slip of the bytes of a line, whatever its words are.
-fn slip_of_bytes(line: &[u8]) -> Option<Slip>
+/// The syntax error of the bytes of a line, whatever its words are.
+fn syntax_error_of_bytes(line: &[u8]) -> Option<SyntaxError>
     ensures { IfSome result (IsIn line.now) }
 {
     if line.is_empty() {
-        return Some(slip_at(line, 0, Wrong::Empty, None, None));
+        return Some(syntax_error_at(line, 0, Wrong::Empty, None, None));
     }
     if let Some(place) = comment(line) {
-        return Some(slip_at(line, place, Wrong::Comment, None, None));
+        return Some(syntax_error_at(line, place, Wrong::Comment, None, None));
     }
     if line.ends_with(b"\r") {
-        return Some(slip_at(line, line.len() - 1, Wrong::CarriageReturn, None, None));
+        return Some(syntax_error_at(line, line.len() - 1, Wrong::CarriageReturn, None, None));
     }
     let place = wrong_blank(line)?;
-    Some(slip_at(line, place, Wrong::Spaces, None, None))
+    Some(syntax_error_at(line, place, Wrong::Spaces, None, None))
 }
 
-/// The slip of a word that is no name of a table, where one is wanted.
-fn slip_of_name<'a>(
+/// The syntax error of a word that is no name of a table, where one is wanted.
+fn syntax_error_of_name<'a>(
     line: &'a [u8],
     place: usize,
     form: Option<&'static str>,
     forms: &'static [Form],
     other: Wrong,
-) -> Slip<'a>
+) -> SyntaxError<'a>
     requires { place ≤ length line.now }
     ensures { IsIn line.now result }
 {
     let word = &line[place..end_of_word(line, place)];
     let wrong = wrong_with_word(word, forms, other);
-    slip_at(line, place, wrong, form, nearest(word, forms))
+    syntax_error_at(line, place, wrong, form, nearest(word, forms))
 }
 
-/// The slip of a word that is wrong where this part is wanted.
-fn slip_of_part<'a>(line: &'a [u8], place: usize, form: Form, part: Part, wrong: Wrong) -> Slip<'a>
+/// The syntax error of a word that is wrong where this part is wanted.
+fn syntax_error_of_part<'a>(
+    line: &'a [u8],
+    place: usize,
+    form: Form,
+    part: Part,
+    wrong: Wrong,
+) -> SyntaxError<'a>
     requires { place ≤ length line.now }
     ensures { IsIn line.now result }
 {
     match part {
-        Part::Robust => slip_of_name(line, place, Some(form.text), &ROBUST, wrong),
-        _ => slip_at(line, place, wrong, Some(form.text), None),
+        Part::Robust => syntax_error_of_name(line, place, Some(form.text), &ROBUST, wrong),
+        _ => syntax_error_at(line, place, wrong, Some(form.text), None),
     }
 }
 
-/// The end of the parts of a form that stand behind the word that ends at `end`, or their first slip.
-fn end_of_parts<'a>(line: &'a [u8], end: usize, form: Form) -> Result<usize, Slip<'a>>
+/// The end of the parts of a form that stand behind the word that ends at `end`, or their first syntax error.
+fn end_of_parts<'a>(line: &'a [u8], end: usize, form: Form) -> Result<usize, SyntaxError<'a>>
     requires { end ≤ length line.now }
     ensures end { IfOk result (λ place. place ≤ length line.now) }
-    ensures slip { IfErr result (IsIn line.now) }
+    ensures syntax_error { IfErr result (IsIn line.now) }
 {
     let mut end = end;
     for part in form.parts {
         if end == line.len() {
-            return Err(slip_at(line, end, Wrong::Missing, Some(form.text), None));
+            return Err(syntax_error_at(line, end, Wrong::Missing, Some(form.text), None));
         }
         let place = end + 1;
         end = end_of_word(line, place);
         if let Some(wrong) = wrong_with_part(&line[place..end], *part) {
-            return Err(slip_of_part(line, place, form, *part, wrong));
+            return Err(syntax_error_of_part(line, place, form, *part, wrong));
         }
     }
     Ok(end)
 }
 
-/// The slip of a line whose words are right up to `end`, where the form ends: what stands behind that.
-fn slip_behind<'a>(line: &'a [u8], end: usize, form: Form) -> Slip<'a>
+/// The syntax error of a line whose words are right up to `end`, where the form ends: what stands behind that.
+fn syntax_error_behind<'a>(line: &'a [u8], end: usize, form: Form) -> SyntaxError<'a>
     requires { end ≤ length line.now }
     ensures { IsIn line.now result }
 {
     let place = if end < line.len() { end + 1 } else { end };
-    slip_at(line, place, Wrong::TooMany, Some(form.text), None)
+    syntax_error_at(line, place, Wrong::TooMany, Some(form.text), None)
 }
 
-/// The slip behind the word that ends at `end`, where a word of a table is wanted, and then the parts of its form.
-fn slip_of_rest<'a>(
+/// The syntax error behind the word that ends at `end`, where a word of a table is wanted, and then the parts of its
+/// form.
+fn syntax_error_of_rest<'a>(
     line: &'a [u8],
     end: usize,
     form: Form,
     forms: &'static [Form],
     other: Wrong,
-) -> Slip<'a>
+) -> SyntaxError<'a>
     requires { end ≤ length line.now }
     ensures { IsIn line.now result }
 {
     if end == line.len() {
-        return slip_at(line, end, Wrong::Missing, Some(form.text), None);
+        return syntax_error_at(line, end, Wrong::Missing, Some(form.text), None);
     }
     let place = end + 1;
     let end = end_of_word(line, place);
     let Some(form) = form_of(&line[place..end], forms) else {
-        return slip_of_name(line, place, Some(form.text), forms, other);
+        return syntax_error_of_name(line, place, Some(form.text), forms, other);
     };
     match end_of_parts(line, end, form) {
-        Ok(end) => slip_behind(line, end, form),
-        Err(slip) => slip,
+        Ok(end) => syntax_error_behind(line, end, form),
+        Err(syntax_error) => syntax_error,
     }
 }
 
@@ -144,39 +151,39 @@ pub fn call_form(word: &[u8]) -> Option<&'static str> {
     }
 }
 
-/// The slip of the words of a line that is no command.
-fn slip_of_words(line: &[u8]) -> Slip
+/// The syntax error of the words of a line that is no command.
+fn syntax_error_of_words(line: &[u8]) -> SyntaxError
     ensures { IsIn line.now result }
 {
     let end = end_of_word(line, 0);
     let Some(form) = form_of(&line[..end], &COMMANDS) else {
-        return slip_of_name(line, 0, None, &COMMANDS, Wrong::NoCommand);
+        return syntax_error_of_name(line, 0, None, &COMMANDS, Wrong::NoCommand);
     };
     let end = match end_of_parts(line, end, form) {
         Ok(end) => end,
-        Err(slip) => return slip,
+        Err(syntax_error) => return syntax_error,
     };
     match form.rest {
-        Rest::End => slip_behind(line, end, form),
-        Rest::Call => slip_of_rest(line, end, form, &CALLS, Wrong::NoCall),
-        Rest::Begin => slip_of_rest(line, end, form, &BEGINS, Wrong::NoCall),
-        Rest::Kind => slip_of_rest(line, end, form, &KINDS, Wrong::NoKind),
+        Rest::End => syntax_error_behind(line, end, form),
+        Rest::Call => syntax_error_of_rest(line, end, form, &CALLS, Wrong::NoCall),
+        Rest::Begin => syntax_error_of_rest(line, end, form, &BEGINS, Wrong::NoCall),
+        Rest::Kind => syntax_error_of_rest(line, end, form, &KINDS, Wrong::NoKind),
     }
 }
 
 /// The command of a line, given as its bytes without the line feed, or why the line is none. Any bytes and any length
 /// may be given, and nothing is changed. A line is a command here exactly if `pif_text` has one for it, and it is that
-/// one. Of a line with several slips the first of these is told: a `#`, a CR at the end, a wrong blank or a tab, and
-/// then the words, from the left.
-pub fn read_command(line: &[u8]) -> Result<Command, Slip>
+/// one. Of a line with several syntax errors the first of these is told: a `#`, a CR at the end, a wrong blank or a
+/// tab, and then the words, from the left.
+pub fn read_command(line: &[u8]) -> Result<Command, SyntaxError>
     ensures command { result_ok result ≡ command_in line.now }
-    ensures slip { IfErr result (IsIn line.now) }
+    ensures syntax_error { IfErr result (IsIn line.now) }
 {
     if let Some(command) = command_of(line) {
         return Ok(command);
     }
-    match slip_of_bytes(line) {
-        Some(slip) => Err(slip),
-        None => Err(slip_of_words(line)),
+    match syntax_error_of_bytes(line) {
+        Some(syntax_error) => Err(syntax_error),
+        None => Err(syntax_error_of_words(line)),
     }
 }

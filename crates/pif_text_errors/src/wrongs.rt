@@ -36,8 +36,8 @@ pub enum Wrong {
 }
 
 impl Wrong {
-    /// The words that are allowed in the place of the wrong one, if they are calls or kinds of mutexes: printable ASCII,
-    /// and at most 100 bytes.
+    /// The words that are allowed in the place of the wrong one, if they are calls or kinds of mutexes: printable
+    /// ASCII, and at most 100 bytes.
     pub fn allowed(self) -> Option<&'static str> {
         match self {
             Wrong::NoCall => Some(

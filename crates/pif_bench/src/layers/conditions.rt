@@ -29,7 +29,7 @@ fn wait(core: &mut Core, number: u32) -> Option<()> {
 }
 
 /// Of so many threads that are parked, at most 1,000, again and again one is woken by a signal of another thread,
-/// answers its wait, as it finds its mutex free, and waits anew. Answers how many waits that were.
+/// answers its wait, as it finds its mutex free, and waits again. Answers how many waits that were.
 pub fn wait_and_signal(core: &mut Core, parked: u32) -> Option<u32> {
     let mutex = MutexId::new(1)?;
     let variable = CondId::new(1)?;
@@ -41,7 +41,7 @@ pub fn wait_and_signal(core: &mut Core, parked: u32) -> Option<u32> {
     Some(WAITS)
 }
 
-/// A caller signals, and the thread that is woken answers its wait, and waits anew.
+/// A caller signals, and the thread that is woken answers its wait, and waits again.
 fn signal_one(core: &mut Core, caller: Tid, woken: Tid, mutex: MutexId, variable: CondId) {
     call(core, caller, Request::Signal(variable));
     step(core, Event::Go(woken));

@@ -5,7 +5,7 @@ use Rattle.std.proofs.lemmas.Bool.{true≢false, eqb-false}
 use Rattle.pif_types.specs.Numbers.{number_of}
 use Rattle.pif_types.specs.declared.errors.Errno.{Errno}
 use Rattle.pif_model.specs.declared.lines.Relock.{Relock}
-use Rattle.pif_model.specs.declared.lines.Relock.TheVariants.{Stops, Answers, Counts}
+use Rattle.pif_model.specs.declared.lines.Relock.TheVariants.{Deadlocks, Answers, Counts}
 use Rattle.pif_model.specs.Kinds.{relock_of}
 use Rattle.pif_types.specs.declared.requests.Request.{Request}
 use Rattle.pif_types.specs.declared.requests.Request.TheVariants.{TryLock, Unlock, Consistent, Wait}
@@ -89,7 +89,7 @@ own_exchange_cases P q t m s robust stalled fails =
 
 -- load the word
 pub lock_load_cases : (P : Outcome → Type 0) (q : Request) (t m : ℕ) (s : Table)
-    → ((cell_at s m).word.number ≡ t → relock_of (cell_at s m).kind ≡ Stops → P (goes_to t q Stop s))
+    → ((cell_at s m).word.number ≡ t → relock_of (cell_at s m).kind ≡ Deadlocks → P (goes_to t q Stop s))
     → ((cell_at s m).word.number ≡ t → relock_of (cell_at s m).kind ≡ Answers → P (answers t 35 s))
     → ((cell_at s m).word.number ≡ t → relock_of (cell_at s m).kind ≡ Counts → P (relocks t m s))
     → ((cell_at s m).word.number ≢ t → (cell_at s m).robust ≡ true → P (goes_to t q NamePending s))
@@ -98,7 +98,7 @@ pub lock_load_cases : (P : Outcome → Type 0) (q : Request) (t m : ℕ) (s : Ta
 unfolding lock_load
 lock_load_cases P q t m s normal errorcheck recursive robust stalled =
     by_test (λ b. P (if b then elim (relock_of (cell_at s m).kind)
-    [ Stops ↦ goes_to t q Stop s | Answers ↦ answers t 35 s | Counts ↦ relocks t m s ] else goes_by
+    [ Deadlocks ↦ goes_to t q Stop s | Answers ↦ answers t 35 s | Counts ↦ relocks t m s ] else goes_by
     t q m NamePending Exchange s))
     ((cell_at s m).word.number == t)
     (λ e. by_relock (relock_of (cell_at s m).kind) (normal (eqb-true (cell_at s m).word.number t e))
@@ -106,10 +106,10 @@ lock_load_cases P q t m s normal errorcheck recursive robust stalled =
     (λ e. goes_by_cases P q NamePending Exchange t m s (robust (eqb-false (cell_at s m).word.number t e))
     (stalled (eqb-false (cell_at s m).word.number t e)))
   where
-    by_relock : (x : Relock) → (x ≡ Stops → P (goes_to t q Stop s)) → (x ≡ Answers → P (answers t 35 s))
+    by_relock : (x : Relock) → (x ≡ Deadlocks → P (goes_to t q Stop s)) → (x ≡ Answers → P (answers t 35 s))
         → (x ≡ Counts → P (relocks t m s))
-        → P (elim x [ Stops ↦ goes_to t q Stop s | Answers ↦ answers t 35 s | Counts ↦ relocks t m s ])
-    by_relock Stops a b c = a refl
+        → P (elim x [ Deadlocks ↦ goes_to t q Stop s | Answers ↦ answers t 35 s | Counts ↦ relocks t m s ])
+    by_relock Deadlocks a b c = a refl
     by_relock Answers a b c = b refl
     by_relock Counts a b c = c refl
 
@@ -190,7 +190,7 @@ try_load_cases P t m s recursive busy robust stalled =
   where
     by_relock : (x : Relock) → (x ≡ Counts → P (relocks t m s)) → (x ≢ Counts → P (answers t 16 s))
         → P (elim x [ Counts ↦ relocks t m s | _ ↦ answers t 16 s ])
-    by_relock Stops a b = b (λ e. cc)
+    by_relock Deadlocks a b = b (λ e. cc)
     by_relock Answers a b = b (λ e. cc)
     by_relock Counts a b = a refl
 

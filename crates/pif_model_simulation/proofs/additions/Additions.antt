@@ -11,7 +11,7 @@ use Rattle.pif_model.specs.PiKernel.{new_kernel}
 use Rattle.pif_model.specs.declared.lines.Line.TheVariants.{Idle}
 use Rattle.pif_model.specs.Posix.{empty_world, nobody, no_mutex, no_variable, thread_at}
 use Rattle.pif_model.specs.Table.{new_table}
-use Rattle.pif_model.specs.Projection.{no_shadow, health_of, places, mutex_shown, world_of}
+use Rattle.pif_model.specs.Projection.{no_history_variables, health_of, places, mutex_shown, world_of}
 use Rattle.pif_model.specs.Soundness.{IsShaped, IsSound}
 use Rattle.pif_model_lemmas.proofs.Numbers.{above_0, below}
 use Rattle.pif_model_lemmas.proofs.kernel.Facts.{living-added}
@@ -74,21 +74,21 @@ new_sound l within = record {
 }
 
 -- it shows the state in which nothing was added
-pub new_seen : (l : Bounds) → IsWithin l → world_of (new_table l) no_shadow ≡ empty_world l.signals
+pub new_seen : (l : Bounds) → IsWithin l → world_of (new_table l) no_history_variables ≡ empty_world l.signals
 unfolding places
-new_seen l within = same_world (world_of (new_table l) no_shadow) (empty_world l.signals)
-    (threads_shown shape no_shadow) (λ t i. first_thread t i)
-    (mutexes_shown shape no_shadow) (λ m. mutex_seen shape no_shadow m ∙ first_mutex m) first_variable refl refl refl
+new_seen l within = same_world (world_of (new_table l) no_history_variables) (empty_world l.signals)
+    (threads_shown shape no_history_variables) (λ t i. first_thread t i)
+    (mutexes_shown shape no_history_variables) (λ m. mutex_seen shape no_history_variables m ∙ first_mutex m) first_variable refl refl refl
   where
     shape : IsShaped (new_table l)
     shape = (new_sound l within).all.shape
 
-    first_thread : (t : ℕ) → t < length (world_of (new_table l) no_shadow).threads
-        → thread_at (world_of (new_table l) no_shadow) t ≡ get_or (nobody ∷ []) t nobody
+    first_thread : (t : ℕ) → t < length (world_of (new_table l) no_history_variables).threads
+        → thread_at (world_of (new_table l) no_history_variables) t ≡ get_or (nobody ∷ []) t nobody
     first_thread zero e = refl
-    first_thread (suc t) e = absurd (omega (arith, e, threads_shown shape no_shadow))
+    first_thread (suc t) e = absurd (omega (arith, e, threads_shown shape no_history_variables))
 
-    first_variable : (world_of (new_table l) no_shadow).variables ≡ no_variable ∷ []
+    first_variable : (world_of (new_table l) no_history_variables).variables ≡ no_variable ∷ []
     first_variable = λ i. record { mutex = 0; uses = all_same (l.conds + 1) 0 0 i } ∷ []
 
     at_first : (m : ℕ) → record {

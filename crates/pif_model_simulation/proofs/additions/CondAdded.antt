@@ -7,11 +7,11 @@ use Rattle.pif_model.specs.Posix.{Variable, no_variable}
 use Rattle.pif_model.specs.Posix.Step.{cond_added as cond_rule}
 use Rattle.pif_model.specs.PiKernel.{is_living}
 use Rattle.pif_model.specs.Table.{Table, has_mutex, has_cond, bound_to, uses_of, has_cond_room, cond_added, line_at, cell_at}
-use Rattle.pif_model.specs.Projection.{Shadow, variable_shown, world_of}
+use Rattle.pif_model.specs.Projection.{HistoryVariables, variable_shown, world_of}
 use Rattle.pif_model.specs.Soundness.{CondIsSound, IsShaped, IsSound}
 use Rattle.pif_model_lemmas.proofs.Numbers.{below}
 use Rattle.pif_model_simulation.proofs.Kept.{Uses, unwritten, line_spared}
-use Rattle.pif_model_simulation.proofs.Hole.{aims, each_thread, each_absent}
+use Rattle.pif_model_simulation.proofs.WeakenedInvariant.{aims, each_thread, each_absent}
 use Rattle.pif_model_simulation.proofs.Shown.{variables_shown, variable_seen, is_mutex_seen}
 use Rattle.pif_model_simulation.proofs.Steps.{Keeps}
 use Rattle.pif_model_simulation.proofs.Agreement.{frames_alike, framed}
@@ -134,7 +134,7 @@ module _ (s : Table) (m : ℕ) (h : IsSound s) (named : has_mutex s m ≡ true) 
   abbrev new_one : Variable
   new_one = record { mutex = m; uses = 0 }
 
-  pub cond_added_seen : (y : Shadow) → world_of v y ≡ record (world_of s y)
+  pub cond_added_seen : (y : HistoryVariables) → world_of v y ≡ record (world_of s y)
       { variables = (world_of s y).variables ++ new_one ∷ [] }
   cond_added_seen y = λ i. record (world_of s y) { variables = all i }
     where

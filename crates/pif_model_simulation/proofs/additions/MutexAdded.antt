@@ -17,13 +17,13 @@ use Rattle.pif_model.specs.World.Health.{Fine}
 use Rattle.pif_model.specs.Posix.Step.{mutex_added as mutex_rule}
 use Rattle.pif_model.specs.PiKernel.{state_at, is_living}
 use Rattle.pif_model.specs.Table.{Table, LibraryMutex, new_mutex, has_thread, has_mutex, has_cond, bound_to, line_at, library_at, cell_at, has_mutex_room, mutex_added}
-use Rattle.pif_model.specs.Projection.{Shadow, mutex_shown, world_of}
+use Rattle.pif_model.specs.Projection.{HistoryVariables, mutex_shown, world_of}
 use Rattle.pif_model.specs.Soundness.{CellIsSound, LineIsSound, ThreadIsSound, IsShaped, IsSound, mutex_by, is_pending, is_half_linked, is_unlinked, is_unsettled, holds_robust}
 use Rattle.pif_model_lemmas.proofs.Numbers.{above_0, below}
 use Rattle.pif_model_lemmas.proofs.kernel.Facts.{living-added}
 use Rattle.pif_model_lemmas.proofs.Waiting.{by_test}
 use Rattle.pif_model_simulation.proofs.Kept.{Spares, unwritten, unused, second, line_spared, held_once}
-use Rattle.pif_model_simulation.proofs.Hole.{cell_spared, each_thread, each_absent}
+use Rattle.pif_model_simulation.proofs.WeakenedInvariant.{cell_spared, each_thread, each_absent}
 use Rattle.pif_model_simulation.proofs.Shown.{mutexes_shown, mutex_seen, same_world}
 use Rattle.pif_model_simulation.proofs.Written.{mutex_of}
 use Rattle.pif_model_simulation.proofs.Steps.{Keeps}
@@ -231,7 +231,7 @@ module _ (s : Table) (kind : Kind) (r : Bool) (h : IsSound s) (free : has_mutex_
   abbrev new_one : Mutex
   new_one = record { kind = kind; robust = r; owner = 0; count = 1; health = Fine }
 
-  pub mutex_added_seen : (y : Shadow) → world_of v y ≡ record (world_of s y)
+  pub mutex_added_seen : (y : HistoryVariables) → world_of v y ≡ record (world_of s y)
       { mutexes = (world_of s y).mutexes ++ new_one ∷ [] }
   mutex_added_seen y = same_world (world_of v y) (record
       (world_of s y) { mutexes = (world_of s y).mutexes ++ new_one ∷ [] }) refl (λ u i. refl)

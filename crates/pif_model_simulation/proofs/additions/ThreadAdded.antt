@@ -16,7 +16,7 @@ use Rattle.pif_model.specs.PiKernel.{IsKernel, Seat, no_seat, seat_at, has_ended
 use Rattle.pif_model.specs.RobustList.{RobustRow, has_entry}
 use Rattle.pif_model.specs.Word.{word_at}
 use Rattle.pif_model.specs.Table.{Table, has_thread, has_mutex, uses_of, status_at, line_at, library_at, cell_at, has_thread_room, thread_added, timer_at}
-use Rattle.pif_model.specs.Projection.{Shadow, Agrees, is_remembered, may_enlist, chooses_on, memory_at, call_shown, call_at, health_at, thread_shown, world_of}
+use Rattle.pif_model.specs.Projection.{HistoryVariables, Agrees, is_remembered, may_enlist, chooses_on, memory_at, call_shown, call_at, health_at, thread_shown, world_of}
 use Rattle.pif_model.specs.Soundness.{LineIsSound, ListIsSound, mutex_by, is_unsettled, IsQueuedLine, IsParkedLine, ThreadIsSound, AbsentIsSound, IsShaped, IsSound}
 use Rattle.pif_model.specs.Deadlines.{no_timer}
 use Rattle.pif_model_lemmas.proofs.Numbers.{below, from_within}
@@ -24,7 +24,7 @@ use Rattle.pif_model_lemmas.proofs.Waiting.{by_test}
 use Rattle.pif_model_lemmas.proofs.kernel.Settled.{priority-range}
 use Rattle.pif_model_lemmas.proofs.kernel.Kept.{add_kept}
 use Rattle.pif_model_simulation.proofs.Kept.{Spares, unused, line_spared}
-use Rattle.pif_model_simulation.proofs.Hole.{cell_spared, each_thread, each_absent}
+use Rattle.pif_model_simulation.proofs.WeakenedInvariant.{cell_spared, each_thread, each_absent}
 use Rattle.pif_model_simulation.proofs.Shown.{threads_shown, thread_seen, same_world}
 use Rattle.pif_model_simulation.proofs.Steps.{Keeps}
 use Rattle.pif_model_simulation.proofs.additions.Additions.{pushed_else, more-else, room}
@@ -241,9 +241,9 @@ module _ (s : Table) (p : ℕ) (h : IsSound s) (free : has_thread_room s ≡ tru
   call_same : (u : ℕ) → call_shown v u ≡ call_shown s u
   call_same u = λ i. call_at (health_at s) (uses_of s) (line_same u i) (status_same u i)
 
-  module _ (y : Shadow) (fits : Agrees s y) where
+  module _ (y : HistoryVariables) (fits : Agrees s y) where
     -- nothing is remembered of the new one
-    abbrev more : Shadow
+    abbrev more : HistoryVariables
     more = record { memories = y.memories ++ no_memory ∷ [] }
 
     memory_same : (u : ℕ) → memory_at more u ≡ memory_at y u

@@ -10,13 +10,13 @@ use Rattle.pif_model.specs.Graph.{IsNextWaiter}
 use Rattle.pif_model.specs.Posix.{Thread, thread_at, no_memory, nobody, is_blocked_on, is_found, is_still_blocked, is_call_blocked, effective_of}
 use Rattle.pif_model.specs.PiKernel.{effective_in, is_parked, has_ended, has_parked, top_parked, parked_pairs}
 use Rattle.pif_model.specs.Table.{Table, uses_of, status_at, line_at}
-use Rattle.pif_model.specs.Projection.{Shadow, Agrees, memory_at, chooses_on, call_at, call_shown, health_at, world_of}
+use Rattle.pif_model.specs.Projection.{HistoryVariables, Agrees, memory_at, chooses_on, call_at, call_shown, health_at, world_of}
 use Rattle.pif_model.specs.Soundness.{IsSound}
 use Rattle.pif_model_lemmas.proofs.Next.{next_is_next}
 use Rattle.pif_model_lemmas.proofs.Waiting.{by_test, pairs, has_waiter-from_pair}
 use Rattle.pif_model_lemmas.proofs.kernel.Facts.{living-from_added}
 use Rattle.pif_model_lemmas.proofs.kernel.Woken.{added-from_parked}
-use Rattle.pif_model_simulation.proofs.Hole.{each_thread}
+use Rattle.pif_model_simulation.proofs.WeakenedInvariant.{each_thread}
 use Rattle.pif_model_simulation.proofs.Shown.{threads_shown, thread_seen, call_seen_of}
 use Rattle.pif_model_simulation.proofs.Effective.{effective_seen}
 use Rattle.pif_model_simulation.proofs.Kept.{first, second}
@@ -51,7 +51,7 @@ greatest f ws c b u n e = go (in_append n.earlier ((u, c) ∷ n.later) b c
 
 module _ {s : Table} (h : IsSound s) where
   -- what the POSIX machine remembers is what is remembered
-  memory_seen : (y : Shadow) → Agrees s y → (t : ℕ) → (thread_at (world_of s y) t).memory ≡ memory_at y t
+  memory_seen : (y : HistoryVariables) → Agrees s y → (t : ℕ) → (thread_at (world_of s y) t).memory ≡ memory_at y t
   memory_seen y a t = go (cases_lt t (length s.lines))
     where
       go : (t < length s.lines) ⊎ (length s.lines ≤ t) → (thread_at (world_of s y) t).memory ≡ memory_at y t
@@ -78,7 +78,7 @@ module _ {s : Table} (h : IsSound s) where
           (sym (ap (is_call_blocked c) (λ j. call_at (health_at s) (uses_of s) (l.line j) (w j))) ∙ e)
 
   -- who was found blocked, and still is by the same wait, is parked on the variable
-  pub found_parked : (y : Shadow) (a : Agrees s y) (t b c : ℕ) → chooses_on (line_at s t) ≡ c → c ≢ 0
+  pub found_parked : (y : HistoryVariables) (a : Agrees s y) (t b c : ℕ) → chooses_on (line_at s t) ≡ c → c ≢ 0
       → is_still_blocked (world_of s y) t c b ≡ true → status_at s b ≡ Parked c
   found_parked y a t b c chosen z e =
       let blocked = sym (ap (is_call_blocked c) (call_seen_of h.all.shape y b))
@@ -89,7 +89,7 @@ module _ {s : Table} (h : IsSound s) where
       ∙ second (is_blocked_on (world_of s y) c b) (is_found (world_of s y) t b) e) blocked) blocked
 
   -- who is parked on c is blocked on it
-  pub parked_blocked : (y : Shadow) (b c : ℕ) → status_at s b ≡ Parked c → is_blocked_on (world_of s y) c b ≡ true
+  pub parked_blocked : (y : HistoryVariables) (b c : ℕ) → status_at s b ≡ Parked c → is_blocked_on (world_of s y) c b ≡ true
   parked_blocked y b c w =
       let alive = living-from_added s.kernel b (added-from_parked s.kernel h.kernel b c w) (ap has_ended w) in
       let l = (each_thread h b alive).parked c w in
@@ -101,7 +101,7 @@ module _ {s : Table} (h : IsSound s) where
   some_parked b c w = has_waiter-from_pair (parked_pairs s.kernel.parked) b c (h.kernel.parking.parked b c w)
 
   -- nobody who is parked on c has a greater effective priority than the one that is taken next
-  pub top_greatest : (y : Shadow) (b c : ℕ) → status_at s b ≡ Parked c
+  pub top_greatest : (y : HistoryVariables) (b c : ℕ) → status_at s b ≡ Parked c
       → effective_of (world_of s y) b ≤ effective_of (world_of s y) (top_parked s.kernel c)
   top_greatest y b c w = subst (λ f. f b ≤ f (top_parked s.kernel c)) (effective_seen h y)
       (greatest (effective_in s.kernel) (parked_pairs s.kernel.parked) c b (top_parked s.kernel c)

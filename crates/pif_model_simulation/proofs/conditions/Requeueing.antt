@@ -23,7 +23,7 @@ use Rattle.pif_model.specs.Posix.Step.{answered}
 use Rattle.pif_model.specs.PiKernel.{Parking, System, is_ready, is_parked, is_living, state_at, has_parked, parked_count, fits_state, top_parked, after_taking, after_takings, requeue_answer, after_requeue}
 use Rattle.pif_model.specs.Table.{Table, cell_at, has_thread, has_mutex, has_cond, bound_to, uses_of, status_at, line_at, with_line, with_kernel}
 use Rattle.pif_model.specs.Lines.{Outcome, answers, more_in, use_by, use_requeue}
-use Rattle.pif_model.specs.Projection.{Shadow, Agrees, chooses_on, world_of}
+use Rattle.pif_model.specs.Projection.{HistoryVariables, Agrees, chooses_on, world_of}
 use Rattle.pif_model.specs.Soundness.{CellIsSound, IsSound}
 use Rattle.pif_model.specs.declared.events.Event.TheVariants.{Go}
 use Rattle.pif_model.specs.declared.events.Seen.TheVariants.{Answered}
@@ -110,7 +110,7 @@ module _ (s : Table) (t : ℕ) (q : Request) (n : ℕ) (g : Going s t q (Wake (R
   -- WAKING THESE
 
   module _ (us : List ℕ) (x : System) (a : TakesAll s c us x)
-      (rule : (y : Shadow) → Agrees s y
+      (rule : (y : HistoryVariables) → Agrees s y
       → Chooses t q (world_of s y) (all_unblocked us (with_progress t (Has 0) (world_of s y)))) where
     abbrev v : Table
     v = table_with x s
@@ -137,7 +137,7 @@ module _ (s : Table) (t : ℕ) (q : Request) (n : ℕ) (g : Going s t q (Wake (R
     last_frames : Frames v last
     last_frames = closed_frames v t q (Wake (Requeue n)) going u refl ready_then
 
-    module _ (y : Shadow) (fits : Agrees s y) where
+    module _ (y : HistoryVariables) (fits : Agrees s y) where
       abbrev w : World
       w = world_of s y
 
@@ -171,7 +171,7 @@ module _ (s : Table) (t : ℕ) (q : Request) (n : ℕ) (g : Going s t q (Wake (R
     }
 
   -- who was found blocked, and still is, is parked
-  found : (y : Shadow) → Agrees s y → (b : ℕ) → is_still_blocked (world_of s y) t c b ≡ true → status_at s b ≡ Parked c
+  found : (y : HistoryVariables) → Agrees s y → (b : ℕ) → is_still_blocked (world_of s y) t c b ≡ true → status_at s b ≡ Parked c
   found y f b e = found_parked g.sound y f t b c chosen c0 e
 
   -- A SIGNAL

@@ -11,13 +11,13 @@ use Rattle.pif_model.specs.declared.lines.Woken.{Woken}
 use Rattle.pif_model.specs.declared.lines.Woken.TheVariants.{Owns as WokenOwns, Again as WokenAgain}
 use Rattle.pif_model.specs.Graph.{has_waiter, reaches_within}
 use Rattle.pif_model.specs.Word.{Word, taken_word, mark_word, word_at, health_word_at, set_word}
-use Rattle.pif_model.specs.Posix.{Progress, Call, Mutex, World, Locks, nobody, thread_at, mutex_at, with_thread, with_mutex, is_blocked, with_progress, at_progress, with_call_by, after_unblocking, is_lost, leads_to, on_taking}
-use Rattle.pif_model.specs.World.Progress.{Waiting, Owing, Blocked}
+use Rattle.pif_model.specs.Posix.{Progress, Call, Mutex, World, Locks, nobody, thread_at, mutex_at, with_thread, with_mutex, is_blocked, with_progress, at_progress, with_call_by, after_unblocking, is_orphaned, leads_to, on_taking}
+use Rattle.pif_model.specs.World.Progress.{Waiting, Reacquiring, Blocked}
 use Rattle.pif_model.specs.Posix.Locks.{free, joins}
 use Rattle.pif_model.specs.PiKernel.{Kernel, System, Seat, seat_at, has_seat, state_at, has_ended, is_parked, is_ready, is_woken_again, is_living, waits_for, has_parked, top_parked, without_parking, kernel_after_waking, kernel_after_queueing, after_taking}
 use Rattle.pif_model.specs.RobustList.{robust_at}
 use Rattle.pif_model.specs.Table.{Table, Cell, cell_at, has_thread, has_mutex, bound_to, library_at, status_at, line_at, with_kernel}
-use Rattle.pif_model.specs.Projection.{Shadow, progress_parked, health_at, world_of}
+use Rattle.pif_model.specs.Projection.{HistoryVariables, progress_parked, health_at, world_of}
 use Rattle.pif_model.specs.Soundness.{use_at, CallIsSound, CellIsSound, LineIsSound, IsParkedLine, MeetsAll, needs, IsSound}
 use Rattle.pif_model_lemmas.proofs.Waiting.{by_test, has_waiter-push, or_true, or_false}
 use Rattle.pif_model_lemmas.proofs.Numbers.{above_0, below}
@@ -26,7 +26,7 @@ use Rattle.pif_model_lemmas.proofs.kernel.Places.{queued_limits, queued_length, 
 use Rattle.pif_model_lemmas.proofs.kernel.Woken.{top-parked, top-added, woken_limits, woken_length, woken_seat_other, woken_seat_same, woken_base, woken_state, woken_waiters, woken_parked, kernel-woken, requeued_state_same, requeued_parked, kernel-requeued}
 use Rattle.pif_model_lemmas.proofs.kernel.Taken.{taking-cases, may_queue-facts, woken_living}
 use Rattle.pif_model_simulation.proofs.Facts.{call_bound}
-use Rattle.pif_model_simulation.proofs.Hole.{aims, each_thread}
+use Rattle.pif_model_simulation.proofs.WeakenedInvariant.{aims, each_thread}
 use Rattle.pif_model_simulation.proofs.Shown.{mutex_seen, living_seen}
 use Rattle.pif_model_simulation.proofs.Agreement.{Frames, quiet, taking_unblocked}
 use Rattle.pif_model_simulation.proofs.Written.{IsCallOn, written, written_is, same_word, same_health, same_list, same_library}
@@ -37,7 +37,7 @@ use Rattle.pif_model_simulation.proofs.Owning.{reworded}
 use Rattle.pif_model_simulation.proofs.conditions.WaitLines.{wait_mutex}
 use Rattle.pif_model_simulation.proofs.Effective.{leads_seen}
 use Rattle.pif_model_simulation.proofs.conditions.Aims.{aims-unparked}
-use Rattle.pif_model_simulation.proofs.conditions.Unblocking.{lost_same, chain_same}
+use Rattle.pif_model_simulation.proofs.conditions.Unblocking.{orphaned_same, chain_same}
 use Rattle.pif_model_simulation.proofs.Called.HasTaken.{kept, taken}
 use Rattle.pif_model_simulation.proofs.Called.{IsOneCall, called_sound, called_frames, called_shown, called_taken}
 
@@ -72,7 +72,7 @@ pub record TakesOne (s : Table) (u m : ℕ) (x : System) : Type 0 where
   pub frames : Frames s (with_kernel x.words x.kernel s)
   pub living : (v : ℕ) → is_living x.kernel v ≡ is_living s.kernel v
   pub unparked : is_parked (seat_at x.kernel u).status ≡ false
-  pub world : (y : Shadow) → (world_of (with_kernel x.words x.kernel s) y ≡ with_call_by u after_unblocking (world_of s y))
+  pub world : (y : HistoryVariables) → (world_of (with_kernel x.words x.kernel s) y ≡ with_call_by u after_unblocking (world_of s y))
       ⊎ Locks u m (with_call_by u after_unblocking (world_of s y)) (world_of (with_kernel x.words x.kernel s) y)
 
 module _ (s : Table) (h : IsSound s) (c : ℕ) (some : has_parked s.kernel c ≡ true) where
@@ -129,7 +129,7 @@ module _ (s : Table) (h : IsSound s) (c : ℕ) (some : has_parked s.kernel c ≡
   few = omega (arith, below m (length s.mutexes) named, h.all.shape.few_mutexes, h.all.shape.within.mutexes)
 
   -- its call is blocked, and was noted
-  pub called_u : (y : Shadow) → (thread_at (world_of s y) u).call
+  pub called_u : (y : HistoryVariables) → (thread_at (world_of s y) u).call
       ≡ Some (record { request = Wait c m; progress = Blocked true })
   called_u y = going_called parked_going y
       ∙ ap (λ x. Some (record { request = Wait c m; progress = progress_parked x (health_at s m) })) was
@@ -300,11 +300,11 @@ module _ (s : Table) (h : IsSound s) (c : ℕ) (some : has_parked s.kernel c ≡
     living = again.call.living;
     unparked = ap (λ (y : Seat). is_parked y.status) (woken_here WokenAgain);
     world = λ y. inl (ap (λ v. world_of v y) (sym as_woken)
-        ∙ called_shown parked_going named StayParked (word_at s.words m) (woken WokenAgain) again y Owing refl
+        ∙ called_shown parked_going named StayParked (word_at s.words m) (woken WokenAgain) again y Reacquiring refl
         (ap (λ (x : Seat). progress_parked x.status (health_at s m)) (woken_here WokenAgain))
-        ∙ (λ i. record (with_progress u Owing (world_of s y)) { waiters = woken_waiters u WokenAgain s.kernel i })
+        ∙ (λ i. record (with_progress u Reacquiring (world_of s y)) { waiters = woken_waiters u WokenAgain s.kernel i })
         ∙ ap (λ k. with_thread u (record (thread_at (world_of s y) u) { call = k }) (world_of s y))
-        (ap (at_progress Owing) (called_u y) ∙ sym (ap after_unblocking (called_u y))));
+        (ap (at_progress Reacquiring) (called_u y) ∙ sym (ap after_unblocking (called_u y))));
   }
 
   -- U IS QUEUED
@@ -403,17 +403,17 @@ module _ (s : Table) (h : IsSound s) (c : ℕ) (some : has_parked s.kernel c ≡
         not_parked j e = cc
 
     -- the owner that the POSIX machine sees, which lives, and from which no chain leads to u
-    owner_seen : (y : Shadow) → (mutex_at (world_of s y) m).owner ≡ (word_at s.words m).number
+    owner_seen : (y : HistoryVariables) → (mutex_at (world_of s y) m).owner ≡ (word_at s.words m).number
     owner_seen y = ap (λ (x : Mutex). x.owner) (mutex_seen h.all.shape y m)
 
-    not_lost : (y : Shadow) → is_lost (world_of s y) m ≡ false
-    not_lost y = rw (
+    not_orphaned : (y : HistoryVariables) → is_orphaned (world_of s y) m ≡ false
+    not_orphaned y = rw (
       mutex_seen h.all.shape y m,
       ne_eqb (cell_at s m).word.number 0 owned,
       living_seen s y (cell_at s m).word.number h.all.shape ∙ alive,
     ) (either (cell_at s m).robust)
 
-    no_chain : (y : Shadow) → leads_to (world_of s y) (mutex_at (world_of s y) m).owner u ≡ false
+    no_chain : (y : HistoryVariables) → leads_to (world_of s y) (mutex_at (world_of s y) m).owner u ≡ false
     no_chain y = ap (λ n. leads_to (world_of s y) n u) (owner_seen y)
         ∙ leads_seen h y (word_at s.words m).number u ∙ open_end
 
@@ -428,7 +428,7 @@ module _ (s : Table) (h : IsSound s) (c : ℕ) (some : has_parked s.kernel c ≡
       world = λ y. inr (joins (
         (λ e. other (sym (owner_seen y) ∙ e)),
         (λ e. owned (sym (owner_seen y) ∙ e)),
-        lost_same (world_of s y) u after_unblocking m ∙ not_lost y,
+        orphaned_same (world_of s y) u after_unblocking m ∙ not_orphaned y,
       )
           (chain_same (world_of s y) u after_unblocking (mutex_at (world_of s y) m).owner u ∙ no_chain y)
           (ap (λ v. world_of v y) (sym (as_written (mark_word (word_at s.words m)) queued))

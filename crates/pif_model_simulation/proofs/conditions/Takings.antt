@@ -5,7 +5,7 @@ use Rattle.pif_model.specs.declared.lines.Status.TheVariants.{Parked}
 use Rattle.pif_model.specs.Posix.{Thread, World, Locks, is_blocked_on, with_call_by, after_unblocking, all_unblocked}
 use Rattle.pif_model.specs.PiKernel.{System, Seat, seat_at, is_parked, is_living, has_parked, top_parked, after_taking, after_takings}
 use Rattle.pif_model.specs.Table.{Table, bound_to, status_at, with_kernel}
-use Rattle.pif_model.specs.Projection.{Shadow, Agrees, world_of}
+use Rattle.pif_model.specs.Projection.{HistoryVariables, Agrees, world_of}
 use Rattle.pif_model.specs.Soundness.{IsSound}
 use Rattle.pif_model_lemmas.proofs.Waiting.{by_test}
 use Rattle.pif_model_lemmas.proofs.kernel.Taken.{takings-none, takings-more}
@@ -26,14 +26,14 @@ abbrev pub table_with : System → Table → Table
 table_with x s = with_kernel x.words x.kernel s
 
 -- these threads were taken from c, and what it comes to: each of them was parked on it; the others have the statuses
--- that they had; and in the POSIX machine, where all of them are unblocked, some lock what they owe
+-- that they had; and in the POSIX machine, where all of them are unblocked, some reacquire their mutexes
 pub record TakesAll (s : Table) (c : ℕ) (us : List ℕ) (x : System) : Type 0 where
   pub sound : IsSound (table_with x s)
   pub living : (v : ℕ) → is_living x.kernel v ≡ is_living s.kernel v
   pub parked : (b : ℕ) → one_of us b ≡ true → status_at s b ≡ Parked c
   pub others : (b : ℕ) → one_of us b ≡ false → (seat_at x.kernel b).status ≡ status_at s b
-  pub agrees : (y : Shadow) → Agrees s y → Agrees (table_with x s) y
-  pub owes : (y : Shadow) (begin : World) → ((b : ℕ) → one_of us b ≡ true → is_blocked_on begin c b ≡ true)
+  pub agrees : (y : HistoryVariables) → Agrees s y → Agrees (table_with x s) y
+  pub owes : (y : HistoryVariables) (begin : World) → ((b : ℕ) → one_of us b ≡ true → is_blocked_on begin c b ≡ true)
       → Owed begin (all_unblocked us (world_of s y)) (world_of (table_with x s) y)
 
 -- nobody is taken
@@ -82,7 +82,7 @@ takes_more s c h some us x rest = record {
         (ne_eqb (top_parked s.kernel c) b (λ z. d (sym z)))) ∙ e)
         ∙ ap (λ (y : Seat). y.status) (taking-seat_other (top_parked s.kernel c) (bound_to s c) (system_of s) b d)
 
-    owes : (y : Shadow) (begin : World)
+    owes : (y : HistoryVariables) (begin : World)
         → ((b : ℕ) → one_of (top_parked s.kernel c ∷ us) b ≡ true → is_blocked_on begin c b ≡ true)
         → (world_of (table_with (after_taking (top_parked s.kernel c) (bound_to s c) (system_of s)) s) y
         ≡ with_call_by (top_parked s.kernel c) after_unblocking (world_of s y))

@@ -6,9 +6,9 @@ use Rattle.std.proofs.lemmas.Bool.{true≢false}
 use Rattle.std.proofs.lemmas.List.{length-set, get_or-set_other, set_comm}
 use Rattle.pif_types.specs.declared.requests.Request.TheVariants.{Wait}
 use Rattle.pif_model.specs.Graph.{reaches_within}
-use Rattle.pif_model.specs.Posix.{Progress, Call, Thread, World, Locks, Effects, nobody, thread_at, mutex_at, is_living, is_lost, leads_to, waits_for, is_blocked_on, with_call_by, after_unblocking, all_unblocked, at_progress, with_progress, with_mutex, with_hold_count, on_taking}
-use Rattle.pif_model.specs.World.Progress.{Owing, Stuck, Has, Waiting}
-use Rattle.pif_model.specs.Posix.Locks.{own_normal, own_errorcheck, own_recursive, free, lost, cycle, joins}
+use Rattle.pif_model.specs.Posix.{Progress, Call, Thread, World, Locks, Effects, nobody, thread_at, mutex_at, is_living, is_orphaned, leads_to, waits_for, is_blocked_on, with_call_by, after_unblocking, all_unblocked, at_progress, with_progress, with_mutex, with_hold_count, on_taking}
+use Rattle.pif_model.specs.World.Progress.{Reacquiring, Stuck, Has, Waiting}
+use Rattle.pif_model.specs.Posix.Locks.{own_normal, own_errorcheck, own_recursive, free, orphaned, cycle, joins}
 use Rattle.pif_model.specs.Posix.LocksAgain.{rises, at_limit}
 use Rattle.pif_model.specs.Posix.Effects.{owed}
 use Rattle.pif_model_lemmas.proofs.Places.{kept_at}
@@ -51,9 +51,9 @@ module _ (w : World) (t : ℕ) (f : Option Call → Option Call) where
   living_same n = kept_at (λ (x : Thread). x.living) w.threads t
       (record (thread_at w t) { call = f (thread_at w t).call }) nobody refl n
 
-  -- what is lost is
-  pub lost_same : (m : ℕ) → is_lost after m ≡ is_lost w m
-  lost_same m = ap (λ b. if (mutex_at w m).robust then false else (if (mutex_at w m).owner == 0 then false
+  -- what is orphaned stays so
+  pub orphaned_same : (m : ℕ) → is_orphaned after m ≡ is_orphaned w m
+  orphaned_same m = ap (λ b. if (mutex_at w m).robust then false else (if (mutex_at w m).owner == 0 then false
       else (if b then false else true))) (living_same (mutex_at w m).owner)
 
   -- chains are the same
@@ -76,10 +76,10 @@ module _ (w : World) (t : ℕ) (f : Option Call → Option Call) where
       own_recursive o k (at_limit l (ap (with_call_by t f) e ∙ past w b (Has 11) d))
   locks_past b m d (free o z e) = free o z (ap (with_call_by t f) e
       ∙ past (with_mutex m (record (mutex_at w m) { owner = b; count = 1 }) w) b (on_taking (mutex_at w m).health) d)
-  locks_past b m d (lost l e) = lost (l.0, l.1, lost_same m ∙ l.2) (ap (with_call_by t f) e ∙ past w b Stuck d)
-  locks_past b m d (cycle l k e) = cycle (l.0, l.1, lost_same m ∙ l.2) (chain_same (mutex_at w m).owner b ∙ k)
+  locks_past b m d (orphaned l e) = orphaned (l.0, l.1, orphaned_same m ∙ l.2) (ap (with_call_by t f) e ∙ past w b Stuck d)
+  locks_past b m d (cycle l k e) = cycle (l.0, l.1, orphaned_same m ∙ l.2) (chain_same (mutex_at w m).owner b ∙ k)
       (ap (with_call_by t f) e ∙ past w b (Has 35) d)
-  locks_past b m d (joins l k e) = joins (l.0, l.1, lost_same m ∙ l.2) (chain_same (mutex_at w m).owner b ∙ k)
+  locks_past b m d (joins l k e) = joins (l.0, l.1, orphaned_same m ∙ l.2) (chain_same (mutex_at w m).owner b ∙ k)
       (ap (with_call_by t f) e ∙ (λ i. record (past w b Waiting d i) { waiters = w.waiters ++ (b, m) ∷ [] }))
 
 -- MANY
@@ -128,7 +128,7 @@ locks_past_all (u ∷ us) {w} b m e l =
 pub data Owed (begin : World) : World → World → Type 0 where
   done : {w v : World} → v ≡ w → Owed begin w v
   lock : {w u v : World} (b c m : ℕ) → is_blocked_on begin c b ≡ true
-      → (thread_at w b).call ≡ Some (record { request = Wait c m; progress = Owing }) → Locks b m w u → Owed begin u v
+      → (thread_at w b).call ≡ Some (record { request = Wait c m; progress = Reacquiring }) → Locks b m w u → Owed begin u v
       → Owed begin w v
 
 -- they are effects

@@ -27,13 +27,13 @@ use Rattle.pif_model.specs.Posix.Effects.{none, then as first}
 use Rattle.pif_model.specs.PiKernel.{is_parked, is_living}
 use Rattle.pif_model.specs.Table.{Table, Cell, cell_at, has_mutex, has_cond, uses_of, status_at, line_at, with_line, with_cond_word}
 use Rattle.pif_model.specs.Lines.{goes_to, use_read, use_exchange}
-use Rattle.pif_model.specs.Projection.{Shadow, before_lock, progress_taking, progress_waking, progress_at, call_at, call_shown, health_at, thread_shown, variable_shown, world_of, chooses_on, may_enlist}
+use Rattle.pif_model.specs.Projection.{HistoryVariables, before_lock, progress_taking, progress_waking, progress_at, call_at, call_shown, health_at, thread_shown, variable_shown, world_of, chooses_on, may_enlist}
 use Rattle.pif_model.specs.Soundness.{Use, use_at, MeetsAll, needs, mutex_by, is_unsettled, LineIsSound, ListIsSound, IsShaped, IsSound}
 use Rattle.pif_model_lemmas.proofs.Waiting.{by_test}
 use Rattle.pif_model_lemmas.proofs.Numbers.{above_0, below}
 use Rattle.pif_model_simulation.proofs.Facts.{fact, is_used_need}
 use Rattle.pif_model_simulation.proofs.Kept.{unwritten, same_conds}
-use Rattle.pif_model_simulation.proofs.Hole.{Changes, change_kept, excuse_one, admit_last, each_thread, each_absent}
+use Rattle.pif_model_simulation.proofs.WeakenedInvariant.{Changes, change_kept, exempt_one, admit_last, each_thread, each_absent}
 use Rattle.pif_model_simulation.proofs.Shown.{threads_shown, variables_shown, thread_seen, variable_seen, same_world}
 use Rattle.pif_model_simulation.proofs.Agreement.{Frames, AllParked, WasBlockedIn, taking_unblocked, quiet}
 use Rattle.pif_model_simulation.proofs.Local.{ready-not_queued, ready-not_parked}
@@ -279,7 +279,7 @@ module _ (s : Table) (t : ℕ) (q : Request) (n : ℕ) (g : Going s t q (Wake (C
   -- the table is sound
   sound : IsSound v
   sound = record {
-    all = admit_last (change_kept (excuse_one g.sound t) change) g.known (record {
+    all = admit_last (change_kept (exempt_one g.sound t) change) g.known (record {
       line = subst (LineIsSound v t) (sym line_here) (record {
         named = going_named g;
         belongs = use_belongs q (Wake (Requeue (n + 1))) u refl;
@@ -430,7 +430,7 @@ module _ (s : Table) (t : ℕ) (q : Request) (n : ℕ) (g : Going s t q (Wake (C
 
   -- IN THE POSIX MACHINE
 
-  module _ (y : Shadow) where
+  module _ (y : HistoryVariables) where
     abbrev w : World
     w = world_of s y
 

@@ -18,10 +18,10 @@ use Rattle.pif_model.specs.Posix.Effects.{none, then as first}
 use Rattle.pif_model.specs.PiKernel.{is_ready, is_living}
 use Rattle.pif_model.specs.Table.{Table, cell_at, has_mutex, has_cond, bound_to, uses_of, status_at, with_line}
 use Rattle.pif_model.specs.Lines.{goes_to, answers, use_read}
-use Rattle.pif_model.specs.Projection.{Shadow, world_of}
+use Rattle.pif_model.specs.Projection.{HistoryVariables, world_of}
 use Rattle.pif_model.specs.Soundness.{use_at, belongs, is_using, MeetsAll, needs, mutex_by, is_unsettled, LineIsSound, ListIsSound, IsSound}
 use Rattle.pif_model_lemmas.proofs.kernel.LineCases.{use_read_cases}
-use Rattle.pif_model_simulation.proofs.Hole.{each_thread}
+use Rattle.pif_model_simulation.proofs.WeakenedInvariant.{each_thread}
 use Rattle.pif_model_simulation.proofs.Shown.{variable_seen, closed_progressed, call_progressed}
 use Rattle.pif_model_simulation.proofs.Written.{no_call}
 use Rattle.pif_model_simulation.proofs.Agreement.{Frames, Follows, quiet, was_not, call_unblocked}
@@ -121,14 +121,14 @@ module _ (s : Table) (t : ℕ) (q : Request) (p : Place) (g : Going s t q p) (u 
         (lined_call s t Idle g.sound g.known s.kernel)))
 
     -- it shows the world in which the call has a result and is closed
-    pub closed_shown : (n : ℕ) (y : Shadow)
+    pub closed_shown : (n : ℕ) (y : HistoryVariables)
         → world_of (with_line t Idle s) y ≡ with_call_by t without_call (with_progress t (Has n) (world_of s y))
     closed_shown n y = lined_shown s t Idle g.sound g.known y closed_sound None refl
         ∙ sym (closed_progressed (world_of s y) t (Has n) (going_below g y))
 
     -- to answer n with an effect on the call alone
     pub use_answers : (n : ℕ)
-        → ((y : Shadow) → Effect t (world_of s y) (with_progress t (Has n) (world_of s y))) → GoKeeps s t (answers t n s)
+        → ((y : HistoryVariables) → Effect t (world_of s y) (with_progress t (Has n) (world_of s y))) → GoKeeps s t (answers t n s)
     use_answers n effect = answers_with g (with_line t Idle s) n (λ y. with_progress t (Has n) (world_of s y)) closed_sound
         refl g.known ready closed_frames (λ y. first (effect y) (none refl))
         (λ y. call_progressed (world_of s y) t (Has n) _ (going_below g y) (going_called g y))

@@ -16,7 +16,7 @@ use Rattle.pif_model.specs.PiKernel.{is_living}
 use Rattle.pif_model.specs.RobustList.{robust_at}
 use Rattle.pif_model.specs.Table.{Table, cell_at, has_mutex, has_cond, bound_to, uses_of, library_at, status_at}
 use Rattle.pif_model.specs.Lines.{wait_load, wait_uses}
-use Rattle.pif_model.specs.Projection.{Shadow, world_of}
+use Rattle.pif_model.specs.Projection.{HistoryVariables, world_of}
 use Rattle.pif_model.specs.Soundness.{use_at, MeetsAll, needs}
 use Rattle.pif_model_lemmas.proofs.kernel.LineCases.{wait_load_cases, wait_uses_cases}
 use Rattle.pif_model_simulation.proofs.Kept.{second}
@@ -57,13 +57,13 @@ module _ (s : Table) (t c m : ℕ) where
       h : MeetsAll (is_living s.kernel) t (status_at s t) (cell_at s m) (use_at s (Wait c m)) (needs Load)
       h = going_met g
 
-      bound : (y : Shadow) → (variable_at (world_of s y) c).mutex ≡ bound_to s c
+      bound : (y : HistoryVariables) → (variable_at (world_of s y) c).mutex ≡ bound_to s c
       bound y = ap (λ (x : Variable). x.mutex) (variable_seen g.sound.all.shape y c)
 
-      owner : (y : Shadow) → (mutex_at (world_of s y) m).owner ≡ (cell_at s m).word.number
+      owner : (y : HistoryVariables) → (mutex_at (world_of s y) m).owner ≡ (cell_at s m).word.number
       owner y = ap (λ (x : Mutex). x.owner) (mutex_seen g.sound.all.shape y m)
 
-      count : (y : Shadow) → (mutex_at (world_of s y) m).count ≡ (cell_at s m).count
+      count : (y : HistoryVariables) → (mutex_at (world_of s y) m).count ≡ (cell_at s m).count
       count y = ap (λ (x : Mutex). x.count) (mutex_seen g.sound.all.shape y m)
 
       once : (cell_at s m).count ≤ 1 → (cell_at s m).count ≡ 1

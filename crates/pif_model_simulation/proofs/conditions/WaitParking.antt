@@ -15,13 +15,13 @@ use Rattle.pif_model.specs.declared.lines.Woken.TheVariants.{Fresh as WokenFresh
 use Rattle.pif_model.specs.Graph.{has_waiter}
 use Rattle.pif_model.specs.Word.{word_at, health_word_at, has_word, has_cond_word}
 use Rattle.pif_model.specs.Posix.{Health, Call, World, thread_at, with_call_by, after_waits, at_progress, on_taking, on_release, with_progress}
-use Rattle.pif_model.specs.World.Progress.{Blocked, Owing}
+use Rattle.pif_model.specs.World.Progress.{Blocked, Reacquiring}
 use Rattle.pif_model.specs.Posix.Effects.{none}
 use Rattle.pif_model.specs.PiKernel.{Kernel, Seat, seat_at, state_at, has_ended, is_parked, is_ready, is_woken_again, is_living, wait_requeue_answer, kernel_after_wait_requeue, kernel_after_parking}
 use Rattle.pif_model.specs.RobustList.{robust_at}
 use Rattle.pif_model.specs.Table.{Table, Cell, cell_at, has_thread, has_mutex, has_cond, bound_to, uses_of, library_at, status_at, with_kernel, with_line}
 use Rattle.pif_model.specs.Lines.{Outcome, goes_to, own_exchange, wait_by, wait_park, wait_parked}
-use Rattle.pif_model.specs.Projection.{Shadow, progress_parked, health_at, world_of}
+use Rattle.pif_model.specs.Projection.{HistoryVariables, progress_parked, health_at, world_of}
 use Rattle.pif_model.specs.Soundness.{use_at, is_handed, CellIsSound, MeetsAll, needs}
 use Rattle.pif_model_lemmas.proofs.kernel.LineCases.{wait_parked_cases, lock_queued_cases}
 use Rattle.pif_model_lemmas.proofs.Numbers.{above_0, below, from_within}
@@ -29,7 +29,7 @@ use Rattle.pif_model_lemmas.proofs.Waiting.{by_test}
 use Rattle.pif_model_lemmas.proofs.kernel.Facts.{ready-not_ended}
 use Rattle.pif_model_lemmas.proofs.kernel.Rested.{parked_limits, parked_length, parked_has, parked_seat_other, parked_seat_same, parked_state, parked_waiters, parked_parked, kernel-parked}
 use Rattle.pif_model_simulation.proofs.Kept.{first, second}
-use Rattle.pif_model_simulation.proofs.Hole.{aims}
+use Rattle.pif_model_simulation.proofs.WeakenedInvariant.{aims}
 use Rattle.pif_model_simulation.proofs.Agreement.{quiet, frames_same}
 use Rattle.pif_model_simulation.proofs.Written.{written, written_is, same_word, same_health, same_list, same_library}
 use Rattle.pif_model_simulation.proofs.Steps.{KeepsGo, GoKeeps, Going, going_named, going_called, waits_with, waits_noted, going_bound, going_other, going_ready, going_behind, going_once, going_own_handed}
@@ -157,11 +157,11 @@ module _ (s : Table) (t c m v : ℕ) (g : Going s t (Wait c m) (Park v)) where
       ∙ (λ i. record (with_progress t (Blocked true) (world_of s y)) { waiters = parked_waiters t c m s.kernel i })
       ∙ recalled_alike (world_of s y) t (at_progress (Blocked true)) after_waits (alike y)))
     where
-      alike : (y : Shadow)
+      alike : (y : HistoryVariables)
           → at_progress (Blocked true) (thread_at (world_of s y) t).call ≡ after_waits (thread_at (world_of s y) t).call
       alike y = ap (at_progress (Blocked true)) (called y) ∙ sym (ap after_waits (called y))
         where
-          called : (y : Shadow) → (thread_at (world_of s y) t).call
+          called : (y : HistoryVariables) → (thread_at (world_of s y) t).call
               ≡ Some (record { request = Wait c m; progress = Blocked false })
           called y = going_called g y ∙ ap (λ b. Some (record { request = Wait c m; progress = on_release b }))
               (eq-eqb v (uses_of s c) (sym unused))
@@ -199,7 +199,7 @@ module _ (s : Table) (t c m v : ℕ) (g : Going s t (Wait c m) (Park v)) where
 
 -- ONCE PARKED
 
--- who was woken to lock its mutex may run, and owes the lock
+-- who was woken to lock its mutex may run, and must reacquire it
 woken_ready : (x : Status) → is_woken_again x ≡ true → is_ready x ≡ true
 woken_ready (Ready w) e = refl
 woken_ready (Queued i) e = absurd (true≢false (sym e))
@@ -207,15 +207,15 @@ woken_ready (Parked i) e = absurd (true≢false (sym e))
 woken_ready Stopped e = absurd (true≢false (sym e))
 woken_ready Ended e = absurd (true≢false (sym e))
 
-woken_owes : (x : Status) (y : Health) → is_woken_again x ≡ true → progress_parked x y ≡ Owing
-woken_owes (Ready WokenFresh) y e = absurd (true≢false (sym e))
-woken_owes (Ready WokenOwns) y e = absurd (true≢false (sym e))
-woken_owes (Ready WokenAgain) y e = refl
-woken_owes (Ready WokenExpired) y e = absurd (true≢false (sym e))
-woken_owes (Queued i) y e = absurd (true≢false (sym e))
-woken_owes (Parked i) y e = absurd (true≢false (sym e))
-woken_owes Stopped y e = absurd (true≢false (sym e))
-woken_owes Ended y e = absurd (true≢false (sym e))
+woken_reacquires : (x : Status) (y : Health) → is_woken_again x ≡ true → progress_parked x y ≡ Reacquiring
+woken_reacquires (Ready WokenFresh) y e = absurd (true≢false (sym e))
+woken_reacquires (Ready WokenOwns) y e = absurd (true≢false (sym e))
+woken_reacquires (Ready WokenAgain) y e = refl
+woken_reacquires (Ready WokenExpired) y e = absurd (true≢false (sym e))
+woken_reacquires (Queued i) y e = absurd (true≢false (sym e))
+woken_reacquires (Parked i) y e = absurd (true≢false (sym e))
+woken_reacquires Stopped y e = absurd (true≢false (sym e))
+woken_reacquires Ended y e = absurd (true≢false (sym e))
 
 -- who may run, and was not, takes it
 handed_takes : (x : Status) (y : Health) → is_woken_again x ≡ false → is_ready x ≡ true → progress_parked x y ≡ on_taking y
@@ -235,8 +235,8 @@ module _ (s : Table) (t c m : ℕ) (g : Going s t (Wait c m) StayParked) where
   -- it was woken to lock the mutex, as it does here
   locks_again : is_woken_again (status_at s t) ≡ true → GoKeeps s t (own_exchange (Wait c m) t m s)
   locks_again again =
-      own_exchange_kept g mutex ready (woken_owes (status_at s t) (health_at s m) again) (by_wait c refl) refl refl refl
-      (goes g mutex CallKernel (quiet refl refl) ready refl (sym (woken_owes (status_at s t) (health_at s m) again))
+      own_exchange_kept g mutex ready (woken_reacquires (status_at s t) (health_at s m) again) (by_wait c refl) refl refl refl
+      (goes g mutex CallKernel (quiet refl refl) ready refl (sym (woken_reacquires (status_at s t) (health_at s m) again))
       (ready, (other, tt)) (λ r. row_other g mutex r refl refl other other))
     where
       ready : is_ready (status_at s t) ≡ true

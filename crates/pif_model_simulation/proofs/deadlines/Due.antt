@@ -19,9 +19,9 @@ use Rattle.pif_model.specs.Posix.{Health, counts_now, is_counting, is_due, on_ta
 use Rattle.pif_model.specs.PiKernel.{is_living}
 use Rattle.pif_model.specs.Table.{Table, uses_of, status_at, line_at, timer_at}
 use Rattle.pif_model.specs.Lines.{counts_at, is_line_due, is_due_in}
-use Rattle.pif_model.specs.Projection.{Shadow, call_at, health_at, progress_taking, progress_giving, progress_at, world_of}
+use Rattle.pif_model.specs.Projection.{HistoryVariables, call_at, health_at, progress_taking, progress_giving, progress_at, world_of}
 use Rattle.pif_model.specs.Soundness.{belongs, LineIsSound, IsSound}
-use Rattle.pif_model_simulation.proofs.Hole.{each_thread}
+use Rattle.pif_model_simulation.proofs.WeakenedInvariant.{each_thread}
 use Rattle.pif_model_simulation.proofs.Shown.{timer_seen, call_seen_of, either}
 
 -- the deadline of a call that takes its mutex counts no more
@@ -100,7 +100,7 @@ counts_seen (TimedLock m d) p x h n b = refl
 counts_seen (TimedWait c m d) p x h n b = refl
 
 -- a living thread's call is due in the POSIX machine where it is due at its line
-pub due_seen : {s : Table} (h : IsSound s) (x : Shadow) (t : ℕ) → is_living s.kernel t ≡ true
+pub due_seen : {s : Table} (h : IsSound s) (x : HistoryVariables) (t : ℕ) → is_living s.kernel t ≡ true
     → is_due (world_of s x) t ≡ is_due_in s t
 due_seen {s} h x t k =
     (λ i. if is_reached (timer_seen h.all.shape x t i).deadline s.time

@@ -20,7 +20,7 @@ use Rattle.pif_model_lemmas.proofs.kernel.Left.{mutex_left, waiters_left, waiter
 use Rattle.pif_model_lemmas.proofs.kernel.Expired.{limits-expired, length-expired, seat-expired_other, base-expired, waiters-expired, parked-expired, state-expired_other, state-expired, status-expired_same, living-expired_same, living-expired_other, kernel-expired}
 use Rattle.pif_model_lemmas.proofs.kernel.Facts.{no_waiter-0}
 use Rattle.pif_model_lemmas.proofs.Waiting.{by_test, has_waiter-without_none}
-use Rattle.pif_model_simulation.proofs.Hole.{aims}
+use Rattle.pif_model_simulation.proofs.WeakenedInvariant.{aims}
 use Rattle.pif_model_simulation.proofs.conditions.Aims.{aims-unparked}
 use Rattle.pif_model_simulation.proofs.Agreement.{Follows}
 use Rattle.pif_model_simulation.proofs.Called.{IsOneCall}

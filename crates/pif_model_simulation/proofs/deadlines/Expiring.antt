@@ -20,13 +20,13 @@ use Rattle.pif_model.specs.Word.{word_at, health_word_at}
 use Rattle.pif_model.specs.Posix.{Progress, Thread, World, Expires, thread_at, with_thread, with_progress, at_progress, after_timeout, with_call_by, without_call, is_due, is_call_blocked}
 use Rattle.pif_model.specs.Posix.Expires.{lock as lock_expires, wait as wait_expires}
 use Rattle.pif_model.specs.Posix.Moves.{expires}
-use Rattle.pif_model.specs.World.Progress.{Has, Owing}
+use Rattle.pif_model.specs.World.Progress.{Has, Reacquiring}
 use Rattle.pif_model.specs.Posix.Step.{went, answered}
 use Rattle.pif_model.specs.PiKernel.{Kernel, seat_at, state_at, is_ready, is_parked, is_living, queued_on, waits_for, IsKernel, kernel_after_expire}
 use Rattle.pif_model.specs.RobustList.{robust_at}
 use Rattle.pif_model.specs.Table.{Table, has_mutex, bound_to, uses_of, status_at, timer_at, library_at, with_line, with_timer, has_cond, new_mutex}
 use Rattle.pif_model.specs.Lines.{counts_at, is_due_in, expired_in, expires_at, Outcome}
-use Rattle.pif_model.specs.Projection.{Shadow, Agrees, health_at, progress_at, world_of}
+use Rattle.pif_model.specs.Projection.{HistoryVariables, Agrees, health_at, progress_at, world_of}
 use Rattle.pif_model.specs.Soundness.{is_unsettled, IsSound, ThreadIsSound, waited_in, is_handed}
 use Rattle.pif_types.specs.declared.requests.Kind.TheVariants.{Normal}
 use Rattle.pif_model_lemmas.proofs.kernel.Expired.{waiters-expired}
@@ -38,7 +38,7 @@ use Rattle.pif_model_simulation.proofs.Agreement.{Frames, framed, quiet, was_not
 use Rattle.pif_model_simulation.proofs.Called.{IsOneCall, called_sound, called_known, called_frames, called_shown}
 use Rattle.pif_model_simulation.proofs.deadlines.Due.{due_seen}
 use Rattle.pif_model_simulation.proofs.deadlines.Expired.{status_then, expired_one, expired_table}
-use Rattle.pif_model_simulation.proofs.Hole.{each_thread}
+use Rattle.pif_model_simulation.proofs.WeakenedInvariant.{each_thread}
 use Rattle.pif_model_simulation.proofs.Kept.{second}
 use Rattle.pif_model_simulation.proofs.Lined.{lined_sound, lined_frames, lined_call, lined_shown}
 use Rattle.pif_model_simulation.proofs.Local.{lists_after, going_cell, going_list, going_settled}
@@ -74,13 +74,13 @@ unnamed-from_unqueued k h t e = unnamed-from_0 k.waiters t (no_waiter-0 k h) (wa
 
 module _ {s : Table} {t : ℕ} {q : Request} {p : Place} (g : Going s t q p) (due : is_due_in s t ≡ true) where
   -- the call is due in the world
-  going_due : (x : Shadow) → is_due (world_of s x) t ≡ true
+  going_due : (x : HistoryVariables) → is_due (world_of s x) t ≡ true
   going_due x = due_seen g.sound x t g.known ∙ due
 
   -- the step follows with this expiry, after which t may run
   expires_with : (v : Table) → IsSound v → v.limits ≡ s.limits → is_living v.kernel t ≡ true
-      → is_ready (status_at v t) ≡ true → ((x : Shadow) → Agrees s x → Agrees v x)
-      → ((x : Shadow) → Expires t (world_of s x) (world_of v x))
+      → is_ready (status_at v t) ≡ true → ((x : HistoryVariables) → Agrees s x → Agrees v x)
+      → ((x : HistoryVariables) → Expires t (world_of s x) (world_of v x))
       → Keeps s (Happened (Go t) Went) v
   expires_with v sound limits known ready fits expiry = record {
     sound = sound;
@@ -113,7 +113,7 @@ module _ {s : Table} {t m : ℕ} {b : Place} (g : Going s t (Lock m) b) (ready :
   closed_frames = lined_frames s t Idle g.sound g.known s.kernel (λ j. refl) (quiet refl refl)
       (λ e. was_not s last t (λ c. ap (is_call_blocked c) (lined_call s t Idle g.sound g.known s.kernel)))
 
-  closed_shown : (y : Shadow) → world_of last y
+  closed_shown : (y : HistoryVariables) → world_of last y
       ≡ with_thread t (record (thread_at (world_of s y) t) { call = None }) (world_of s y)
   closed_shown y = lined_shown s t Idle g.sound g.known y closed_sound None refl
 
@@ -150,7 +150,7 @@ module _ {s : Table} {t m : ℕ} {p : Place} (g : Going s t (Lock m) p) (due : i
   progress_then b = progress_at (Lock m) b (seat_at k t).status (health_at s m) (uses_of s 0)
 
   -- t has left the waiters then
-  gone_shown : (b : Place) (a : Progress) → Goes b → progress_then b ≡ a → (y : Shadow)
+  gone_shown : (b : Place) (a : Progress) → Goes b → progress_then b ≡ a → (y : HistoryVariables)
       → world_of (gone b) y ≡ expired_world t a (world_of s y)
   gone_shown b a one has y = called_shown g named b (word_at s.words m) k one y a refl has
       ∙ (λ i. record (with_progress t a (world_of s y)) { waiters = waiters-expired t s.kernel i })
@@ -205,7 +205,7 @@ module _ {s : Table} {t m : ℕ} {p : Place} (g : Going s t (Lock m) p) (due : i
       closes = ap (with_line t Idle) (expired_table g named left b)
           ∙ (λ i. record (expired_in t s) { lines = set-set (expired_in t s).lines t (At (Lock m) b) Idle i })
 
-      shown : (y : Shadow)
+      shown : (y : HistoryVariables)
           → world_of (with_line t Idle (gone b)) y ≡ with_call_by t without_call (expired_world t (Has 110) (world_of s y))
       shown y =
           closed_shown there ready same_kind settled y
@@ -344,21 +344,21 @@ module _ {s : Table} {t c m : ℕ} (g : Going s t (Wait c m) StayParked) (due : 
   not_among : without s.kernel.waiters t ≡ s.kernel.waiters
   not_among = without-unnamed s.kernel.waiters t (unnamed-from_unqueued s.kernel g.sound.kernel t unqueued)
 
-  between_shown : (y : Shadow) → world_of between y ≡ with_progress t Owing (world_of s y)
-  between_shown y = called_shown g wait_named Exchange (word_at s.words m) late one y Owing refl refl
-      ∙ (λ i. record (with_progress t Owing (world_of s y)) { waiters = (waiters-expired t s.kernel ∙ not_among) i })
+  between_shown : (y : HistoryVariables) → world_of between y ≡ with_progress t Reacquiring (world_of s y)
+  between_shown y = called_shown g wait_named Exchange (word_at s.words m) late one y Reacquiring refl refl
+      ∙ (λ i. record (with_progress t Reacquiring (world_of s y)) { waiters = (waiters-expired t s.kernel ∙ not_among) i })
 
   abbrev x : Timer
   x = ran_out (timer_at s t)
 
-  expired_shown : (y : Shadow)
-      → world_of (with_timer t x between) y ≡ with_progress t Owing (after_timeout t (world_of s y))
+  expired_shown : (y : HistoryVariables)
+      → world_of (with_timer t x between) y ≡ with_progress t Reacquiring (after_timeout t (world_of s y))
   expired_shown y =
       timer_shown between t x between_sound y
       (subst (λ n. t < n) (sym (length-set s.lines t (At (Wait c m) Exchange))) (going_lined g))
       ∙ ap (λ w. with_thread t (record (thread_at w t) { timer = x }) w) (between_shown y)
-      ∙ late_alike (world_of s y) t Owing x (going_below g y)
-      ∙ ap (λ z. with_progress t Owing (with_thread t (record (thread_at (world_of s y) t) { timer = ran_out z })
+      ∙ late_alike (world_of s y) t Reacquiring x (going_below g y)
+      ∙ ap (λ z. with_progress t Reacquiring (with_thread t (record (thread_at (world_of s y) t) { timer = ran_out z })
       (world_of s y))) (sym (timer_seen g.sound.all.shape y t))
 
   pub parked_expires : GoExpires s t (expires_at (Wait c m) StayParked t s)

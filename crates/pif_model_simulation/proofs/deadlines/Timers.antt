@@ -7,10 +7,10 @@ use Rattle.pif_model.specs.Deadlines.{no_timer}
 use Rattle.pif_model.specs.Posix.{Thread, nobody, thread_at, with_thread}
 use Rattle.pif_model.specs.PiKernel.{is_living}
 use Rattle.pif_model.specs.Table.{Table, cell_at, with_timer}
-use Rattle.pif_model.specs.Projection.{Shadow, thread_shown, world_of}
+use Rattle.pif_model.specs.Projection.{HistoryVariables, thread_shown, world_of}
 use Rattle.pif_model.specs.Soundness.{IsShaped, IsSound}
 use Rattle.pif_model_simulation.proofs.Kept.{unused, unwritten}
-use Rattle.pif_model_simulation.proofs.Hole.{Changes, change_kept}
+use Rattle.pif_model_simulation.proofs.WeakenedInvariant.{Changes, change_kept}
 use Rattle.pif_model_simulation.proofs.Shown.{threads_shown, thread_seen, same_world}
 use Rattle.pif_model_simulation.proofs.Agreement.{Frames, frames_alike}
 
@@ -90,7 +90,7 @@ module _ (s : Table) (t : ℕ) (x : Timer) (h : IsSound s) where
   timer_frames = retimed_frames s (set s.timers t x) s.time (length-set s.timers t x)
 
   -- and the world shows it
-  pub timer_shown : (y : Shadow) → t < length s.lines
+  pub timer_shown : (y : HistoryVariables) → t < length s.lines
       → world_of (with_timer t x s) y ≡ with_thread t (record (thread_at (world_of s y) t) { timer = x }) (world_of s y)
   timer_shown y tl = same_world (world_of v y) (with_thread t z (world_of s y))
       (threads_shown timer_sound.all.shape y ∙ sym (length-set (world_of s y).threads t z ∙ threads_shown h.all.shape y))

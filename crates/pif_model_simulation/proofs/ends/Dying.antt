@@ -13,15 +13,15 @@ use Rattle.pif_model.specs.Posix.Passes.{to_nobody, to_next}
 use Rattle.pif_model.specs.PiKernel.{Kernel, IsKernel, seat_at, state_at, is_living, next_in, kernel_after_hand_over}
 use Rattle.pif_model.specs.RobustList.{no_robust_row, robust_at}
 use Rattle.pif_model.specs.Table.{Table, Cell, has_thread, has_mutex, bound_to, uses_of, status_at, line_at, library_at, cell_at, timer_at}
-use Rattle.pif_model.specs.Projection.{Shadow, memory_at, call_shown, call_at, health_of, health_at, thread_shown, mutex_shown, world_of}
-use Rattle.pif_model.specs.Soundness.{CellIsSound, SoundBut}
+use Rattle.pif_model.specs.Projection.{HistoryVariables, memory_at, call_shown, call_at, health_of, health_at, thread_shown, mutex_shown, world_of}
+use Rattle.pif_model.specs.Soundness.{CellIsSound, SoundExcept}
 use Rattle.pif_model_lemmas.proofs.Greatest.{effective_same}
 use Rattle.pif_model_lemmas.proofs.kernel.Facts.{next-some, next-added}
 use Rattle.pif_model_lemmas.proofs.Numbers.{above_0, below}
 use Rattle.pif_model_lemmas.proofs.Places.{kept_at}
 use Rattle.pif_model_lemmas.proofs.Waiting.{by_test}
 use Rattle.pif_model_simulation.proofs.Kept.{held_once}
-use Rattle.pif_model_simulation.proofs.Hole.{Changes, change_kept}
+use Rattle.pif_model_simulation.proofs.WeakenedInvariant.{Changes, change_kept}
 use Rattle.pif_model_simulation.proofs.Healths.{health-cases, health-unusable, health-inconsistent, health-behind}
 use Rattle.pif_model_simulation.proofs.Shown.{threads_shown, mutexes_shown, thread_seen, mutex_seen}
 use Rattle.pif_model_simulation.proofs.Written.{written, cell_written, no_call, changes, cell_here, line_here, list_here, call_there, thread_here, thread_there, shows, frames_written, same_health, same_list}
@@ -38,7 +38,7 @@ death-health h d = health-cases (λ x. health_of h true ≡ on_death x) h d
 
 -- t has ended, and has no call and no robust list; all else is sound
 pub record IsDead (s : Table) (t : ℕ) : Type 0 where
-  pub sound : SoundBut (λ u. u ≡ t) s
+  pub sound : SoundExcept (λ u. u ≡ t) s
   pub kernel : IsKernel s.kernel
   pub somebody : t ≢ 0
   pub lined : t < length s.lines
@@ -58,7 +58,7 @@ pub record HasPassed (s v : Table) (t m : ℕ) : Type 0 where
   pub count : (library_at v m).count ≡ 1
   -- who was found blocked stays so
   pub frames : Frames s v
-  pub passes : (y : Shadow) → Passes m (with_health m (on_death (mutex_at (world_of s y) m).health) (world_of s y))
+  pub passes : (y : HistoryVariables) → Passes m (with_health m (on_death (mutex_at (world_of s y) m).health) (world_of s y))
       (world_of v y)
 
 module _ (s : Table) (t m : ℕ) (h : IsDead s t) (named : has_mutex s m ≡ true) (robust : (library_at s m).robust ≡ true)
@@ -99,7 +99,7 @@ module _ (s : Table) (t m : ℕ) (h : IsDead s t) (named : has_mutex s m ≡ tru
   -- IN THE POSIX MACHINE
 
   -- the world in which m is as the end of its owner makes it, before it passes on
-  module _ (y : Shadow) where
+  module _ (y : HistoryVariables) where
     abbrev w : World
     w = world_of s y
 
@@ -128,7 +128,7 @@ module _ (s : Table) (t m : ℕ) (h : IsDead s t) (named : has_mutex s m ≡ tru
         (λ x. kept_at (λ (z : Mutex). z.owner) w.mutexes m behind no_mutex refl _) (λ x. refl)))
 
   -- t in the world
-  none_called : (y : Shadow) → thread_at (world_of s y) t ≡ record (thread_shown s y t) { call = None }
+  none_called : (y : HistoryVariables) → thread_at (world_of s y) t ≡ record (thread_shown s y t) { call = None }
   none_called y = thread_seen h.sound.shape y t h.lined ∙ (λ i.
       record (thread_shown s y t) { call = call_at (health_at s) (uses_of s) (h.line i) (status_at s t) })
 
@@ -169,7 +169,7 @@ module _ (s : Table) (t m : ℕ) (h : IsDead s t) (named : has_mutex s m ≡ tru
           ended = λ r. absurd (true≢false (sym robust ∙ r));
         })
 
-    sound : SoundBut (λ u. u ≡ t) v
+    sound : SoundExcept (λ u. u ≡ t) v
     sound = change_kept h.sound change
 
     cell : cell_at v m ≡ cell_written m x a 1 s.kernel s
@@ -191,7 +191,7 @@ module _ (s : Table) (t m : ℕ) (h : IsDead s t) (named : has_mutex s m ≡ tru
     orphan_frames = frames_written s t m Idle no_robust_row x a 1 s.kernel h.somebody h.lined h.row ml h.sound.shape
         (λ u d. refl) calls (quiet refl refl) (λ e. was_not s v t (not_blocked v line_v))
 
-    orphan_shown : (y : Shadow) → world_of v y ≡ with_mutex m (record (mutex_at (w1 y) m) { owner = 0; count = 1 })
+    orphan_shown : (y : HistoryVariables) → world_of v y ≡ with_mutex m (record (mutex_at (w1 y) m) { owner = 0; count = 1 })
         (w1 y)
     orphan_shown y =
         let z : Mutex = record (mutex_at (w1 y) m) { owner = 0; count = 1 } in
@@ -272,7 +272,7 @@ module _ (s : Table) (t m : ℕ) (h : IsDead s t) (named : has_mutex s m ≡ tru
     abbrev next_table : Table
     next_table = written t m Idle no_robust_row (inherit_word u) a 1 k s
 
-    inherit_shown : (y : Shadow) → world_of next_table y ≡ taken u m
+    inherit_shown : (y : HistoryVariables) → world_of next_table y ≡ taken u m
         (record (w1 y) { waiters = without s.kernel.waiters u })
     inherit_shown y =
         let o : Mutex = record (mutex_at (w1 y) m) { owner = u; count = 1 } in
@@ -295,7 +295,7 @@ module _ (s : Table) (t m : ℕ) (h : IsDead s t) (named : has_mutex s m ≡ tru
         ul = subst (λ j. u < j) (sym h.sound.shape.lines)
             (below u (length s.kernel.seats) (next-added s.kernel h.kernel m state))
 
-        uw : (y : Shadow) → u < length (world_of s y).threads
+        uw : (y : HistoryVariables) → u < length (world_of s y).threads
         uw y = subst (λ j. u < j) (sym (threads_shown h.sound.shape y ∙ h.sound.shape.lines))
             (below u (length s.kernel.seats) (next-added s.kernel h.kernel m state))
 

@@ -25,15 +25,15 @@ use Rattle.pif_model.specs.PiKernel.{System, state_at, is_living, kernel_after_l
 use Rattle.pif_model.specs.RobustList.{RobustRow, no_robust_row, robust_at, has_entry, walk_of}
 use Rattle.pif_model.specs.Table.{Table, Cell, LibraryMutex, new_mutex, has_thread, has_mutex, has_cond, line_at, library_at, cell_at}
 use Rattle.pif_model.specs.Lines.{table_refusal, ended_table, library_after_end}
-use Rattle.pif_model.specs.Projection.{Shadow, Agrees, world_of}
+use Rattle.pif_model.specs.Projection.{HistoryVariables, Agrees, world_of}
 use Rattle.pif_model.specs.Soundness.{mutex_by, is_pending, is_unlinked, is_last, is_named_giving, holds_robust, LineIsSound, ListIsSound, CellIsSound, IsShaped, IsSound}
 use Rattle.pif_model_lemmas.proofs.kernel.Left.{status-left_same, living-left_same}
 use Rattle.pif_model_lemmas.proofs.kernel.Exit.{death-other_number, death-orphaned, death-inherited, orphaned, inherited}
 use Rattle.pif_model_lemmas.proofs.kernel.Facts.{living-added}
 use Rattle.pif_model_lemmas.proofs.Numbers.{above_0, below, from_within}
 use Rattle.pif_model_lemmas.proofs.Waiting.{by_test}
-use Rattle.pif_model_simulation.proofs.Hole.{admit, each_thread}
-use Rattle.pif_model_simulation.proofs.Hole.MayBeAdmitted.{gone as may_be_gone}
+use Rattle.pif_model_simulation.proofs.WeakenedInvariant.{admit, each_thread}
+use Rattle.pif_model_simulation.proofs.WeakenedInvariant.MayBeAdmitted.{gone as may_be_gone}
 use Rattle.pif_model_simulation.proofs.Shown.{mutex_seen, refusal_seen}
 use Rattle.pif_model_simulation.proofs.Steps.{Keeps}
 use Rattle.pif_model_simulation.proofs.Kept.{second}
@@ -175,8 +175,8 @@ module _ (s : Table) (t : ℕ) (h : IsSound s) (known : is_living s.kernel t ≡
     dead : IsDead (at_system x' ls') t
     none : (m : ℕ) → has_mutex (at_system x' ls') m ≡ true → (library_at (at_system x' ls') m).robust ≡ true
         → (word_at x'.words m).number ≡ t → ⊥
-    releases : (y : Shadow) → Releases t (world_of (at_system x ls) y) (world_of (at_system x' ls') y)
-    agrees : (y : Shadow) → Agrees (at_system x ls) y → Agrees (at_system x' ls') y
+    releases : (y : HistoryVariables) → Releases t (world_of (at_system x ls) y) (world_of (at_system x' ls') y)
+    agrees : (y : HistoryVariables) → Agrees (at_system x ls) y → Agrees (at_system x' ls') y
 
   -- another than the first
   entry_rest : (m j : ℕ) (ms : List ℕ) → j ≢ m → has_entry (m ∷ ms) j ≡ true → has_entry ms j ≡ true
@@ -253,7 +253,7 @@ module _ (s : Table) (t : ℕ) (h : IsSound s) (known : is_living s.kernel t ≡
     agrees = λ y f. f;
   }
     where
-      stalled : (m : ℕ) (y : Shadow) → (mutex_at (world_of (at_system x ls) y) m).owner ≡ t
+      stalled : (m : ℕ) (y : HistoryVariables) → (mutex_at (world_of (at_system x ls) y) m).owner ≡ t
           → (mutex_at (world_of (at_system x ls) y) m).robust ≡ false
       stalled m y o = ap (λ (z : Mutex). z.robust) (mutex_seen w.dead.sound.shape y m)
           ∙ by_test (λ b. (library_at (at_system x ls) m).robust ≡ b → b ≡ false) (library_at (at_system x ls) m).robust

@@ -11,13 +11,13 @@ use Rattle.pif_model.specs.declared.lines.Status.TheVariants.{Ended}
 use Rattle.pif_model.specs.PiKernel.{Kernel, IsKernel, state_at, is_living, kernel_after_leaving}
 use Rattle.pif_model.specs.RobustList.{no_robust_row, robust_at, without_robust}
 use Rattle.pif_model.specs.Table.{Table, has_thread, has_mutex, uses_of, status_at, line_at, timer_at, cell_at}
-use Rattle.pif_model.specs.Projection.{Shadow, memory_at, may_enlist, chooses_on, call_at, health_at, thread_shown, world_of}
-use Rattle.pif_model.specs.Soundness.{CellIsSound, IsShaped, SoundBut, IsSound}
+use Rattle.pif_model.specs.Projection.{HistoryVariables, memory_at, may_enlist, chooses_on, call_at, health_at, thread_shown, world_of}
+use Rattle.pif_model.specs.Soundness.{CellIsSound, IsShaped, SoundExcept, IsSound}
 use Rattle.pif_model_lemmas.proofs.kernel.Left.{mutex_left, waiters_left, limits-left, length-left_seats, has-left, seat-left_other, base-left, status-left_other, living-left_other, living-left_same, waiters-left, state-left_other, waiter-left_other, waiter-left_before, state-left, parked-left, kernel-left}
 use Rattle.pif_model_lemmas.proofs.kernel.Facts.{living-added}
 use Rattle.pif_model_lemmas.proofs.Numbers.{above_0}
 use Rattle.pif_model_lemmas.proofs.Waiting.{by_test, has_waiter-without_none}
-use Rattle.pif_model_simulation.proofs.Hole.{Changes, aims, change_kept, excuse_one}
+use Rattle.pif_model_simulation.proofs.WeakenedInvariant.{Changes, aims, change_kept, exempt_one}
 use Rattle.pif_model_simulation.proofs.Kept.{unused}
 use Rattle.pif_model_simulation.proofs.conditions.Aims.{aims-unparked}
 use Rattle.pif_model_simulation.proofs.Agreement.{Frames, quiet, frames_by, was_same, was_not}
@@ -150,8 +150,8 @@ module _ (s : Table) (t : ℕ) (h : IsSound s) (known : is_living s.kernel t ≡
   }
 
   -- the table is sound, save for t
-  pub gone_sound : SoundBut (λ u. u ≡ t) gone
-  gone_sound = change_kept (excuse_one h t) change
+  pub gone_sound : SoundExcept (λ u. u ≡ t) gone
+  gone_sound = change_kept (exempt_one h t) change
 
   pub gone_kernel : IsKernel k
   gone_kernel = kernel-left Ended t s.kernel h.kernel added refl
@@ -167,7 +167,7 @@ module _ (s : Table) (t : ℕ) (h : IsSound s) (known : is_living s.kernel t ≡
       line_gone))
 
   -- it shows the world that t has left
-  pub gone_shown : (y : Shadow) → world_of gone y ≡ after_end t (world_of s y)
+  pub gone_shown : (y : HistoryVariables) → world_of gone y ≡ after_end t (world_of s y)
   gone_shown y = same_world (world_of gone y) (after_end t (world_of s y))
       (threads_shown shape_gone y ∙ length-set s.lines t Idle
       ∙ sym (length-set (world_of s y).threads t x ∙ threads_shown h.all.shape y))

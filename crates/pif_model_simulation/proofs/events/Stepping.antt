@@ -22,7 +22,7 @@ use Rattle.pif_model.specs.Soundness.{Use, MeetsAll, needs, CallIsSound, LineIsS
 use Rattle.pif_model_lemmas.proofs.Numbers.{above_0}
 use Rattle.pif_model_lemmas.proofs.Waiting.{by_test}
 use Rattle.pif_model_simulation.proofs.Facts.{call_own, call_robust, call_stopped}
-use Rattle.pif_model_simulation.proofs.Hole.{each_thread, each_absent}
+use Rattle.pif_model_simulation.proofs.WeakenedInvariant.{each_thread, each_absent}
 use Rattle.pif_model_simulation.proofs.Kept.{second}
 use Rattle.pif_model_simulation.specs.Steppable.{may_wait_at, is_link_next, is_unlink, CallMayStep}
 

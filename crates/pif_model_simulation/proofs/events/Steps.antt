@@ -25,12 +25,12 @@ use Rattle.pif_model.specs.Word.{free_word, held_by, word_at, set_word}
 use Rattle.pif_model.specs.PiKernel.{is_living, lock_answer, words_after_lock, kernel_after_lock, try_lock_answer, words_after_try_lock, unlock_answer, words_after_unlock, kernel_after_unlock, set_prio_answer, kernel_after_set_prio, wait_requeue_answer, kernel_after_wait_requeue, requeue_answer, after_requeue}
 use Rattle.pif_model.specs.Posix.{named_by}
 use Rattle.pif_model.specs.Table.{Table, has_mutex, has_cond, bound_to, uses_of, line_at, timer_at, library_at, cell_at, with_word, with_kernel}
-use Rattle.pif_model.specs.Lines.{Outcome, goes_to, ends_by, answers, own_exchange, relocks, lock_load, lock_by, lock_kernel, lock_queued, lock_stop, take_load, take_health, take_line, link_line, clears, given_up, give_exchange, given_up_by, gives_up, give_line, try_load, try_by, try_kernel, unlock_load, consistent_load, consistent_health, repair_line, set_priority, wait_load, wait_uses, wait_by, wait_park, wait_parked, more_in, use_read, use_exchange, use_by, use_requeue, giving_line, shared_line, locking_line, use_line, line_of, is_line_due, expired_place, expired_in, expires_at, told_outcome, go_outcome}
+use Rattle.pif_model.specs.Lines.{Outcome, goes_to, ends_by, answers, own_exchange, relocks, lock_load, lock_by, lock_kernel, lock_queued, lock_stop, take_load, take_health, take_line, link_line, clears, given_up, give_exchange, given_up_by, gives_up, give_line, try_load, try_by, try_kernel, unlock_load, consistent_load, consistent_health, repair_line, set_priority, wait_load, wait_uses, wait_by, wait_park, wait_parked, more_in, use_read, use_exchange, use_by, use_requeue, giving_line, shared_line, locking_line, use_line, line_of, is_line_due, expired_place, expired_in, expires_at, reported_outcome, go_outcome}
 use Rattle.pif_model.specs.Soundness.{CallIsSound, LineIsSound, IsSound}
 use Rattle.pif_model_lemmas.proofs.kernel.LineCases.{ends_by_cases, locked_again_cases, own_exchange_cases, lock_load_cases, lock_queued_cases, take_health_cases, give_health_cases, give_exchange_cases, try_load_cases, unlock_load_cases, consistent_load_cases, consistent_health_cases, wait_load_cases, wait_uses_cases, wait_parked_cases, use_read_cases, use_exchange_cases, answered_by_cases}
 use Rattle.pif_model_lemmas.proofs.Waiting.{by_test}
 use Rattle.pif_model_simulation.proofs.Facts.{call_once, call_own}
-use Rattle.pif_model_simulation.proofs.Hole.{each_thread}
+use Rattle.pif_model_simulation.proofs.WeakenedInvariant.{each_thread}
 use Rattle.pif_model_simulation.proofs.Kept.{second}
 use Rattle.pif_model_simulation.proofs.events.Counts.{GoesOnce, words_go, word_goes, lock_owns_free, try_takes_free, lock_goes, try_goes, unlock_goes, requeue_goes}
 
@@ -354,7 +354,7 @@ go_once : (s : Table) (t : ℕ) (q : Request) (p : Place) → IsSound s → Call
     → GoesOnce s (go_outcome (At q p) t s).after
 unfolding go_outcome
 go_once s t q p h c = by_test (λ b. GoesOnce s (if b then expires_at q p t s
-    else told_outcome q (timer_at s t).expired (line_of q p t s)).after) (is_line_due (At q p) t s)
+    else reported_outcome q (timer_at s t).expired (line_of q p t s)).after) (is_line_due (At q p) t s)
     (λ e. expires_once s t q p) (λ e. line_once s t q p h c)
 
 -- who owns a mutex after a step of a living thread, and did not before, holds it once

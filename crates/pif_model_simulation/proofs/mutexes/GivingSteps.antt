@@ -23,7 +23,7 @@ use Rattle.pif_model.specs.PiKernel.{is_living, is_ready, state_at, next_in, ker
 use Rattle.pif_model.specs.RobustList.{robust_at, without_entry, without_listed}
 use Rattle.pif_model.specs.Table.{Table, Cell, cell_at, has_mutex, has_cond, uses_of, library_at, status_at, with_word, with_line, with_health_word, with_lists, with_kernel}
 use Rattle.pif_model.specs.Lines.{goes_to, answers, with_pending_field, given_up, give_health, give_exchange, give_line, gives_up}
-use Rattle.pif_model.specs.Projection.{Shadow, progress_giving, progress_at, may_enlist, chooses_on, health_of, health_at, world_of}
+use Rattle.pif_model.specs.Projection.{HistoryVariables, progress_giving, progress_at, may_enlist, chooses_on, health_of, health_at, world_of}
 use Rattle.pif_model.specs.Soundness.{Need, use_at, MeetsAll, give_needs, needs, belongs, is_last, is_named_giving, is_loose_giving, is_pending, is_half_linked}
 use Rattle.pif_model_lemmas.proofs.kernel.LineCases.{give_health_cases, give_exchange_cases}
 use Rattle.pif_model_lemmas.proofs.Numbers.{above_0}
@@ -283,7 +283,7 @@ module _ {s : Table} {t : ℕ} {q : Request} {y : Purpose} (r : GivesLast s t q 
         nobody e = above_0 t (length s.kernel.seats) (going_added g exists) (sym e)
 
     -- the mutex passes on
-    passes_on : (w : Shadow) (v : World) → Passes mutex (with_progress t r.after (world_of s w)) v
+    passes_on : (w : HistoryVariables) (v : World) → Passes mutex (with_progress t r.after (world_of s w)) v
         → Effect t (world_of s w) v
     passes_on w v p = r.passes (world_of s w) v (going_called g w) (ap (λ (z : Mutex). z.owner) seen ∙ owned)
         (ap (λ (z : Mutex). z.count) seen ∙ held_once)

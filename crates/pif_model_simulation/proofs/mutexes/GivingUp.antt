@@ -17,12 +17,12 @@ use Rattle.pif_model.specs.PiKernel.{is_ready, is_living, state_at, next_in, unl
 use Rattle.pif_model.specs.RobustList.{robust_at}
 use Rattle.pif_model.specs.Table.{Table, Cell, has_thread, has_mutex, uses_of, status_at, line_at, library_at, cell_at, with_kernel, with_word, with_line}
 use Rattle.pif_model.specs.Lines.{Outcome, given_up_by, gives_up}
-use Rattle.pif_model.specs.Projection.{Shadow, no_shadow, may_enlist, call_shown as shown_call, call_at, health_of, health_at, thread_shown, world_of}
+use Rattle.pif_model.specs.Projection.{HistoryVariables, no_history_variables, may_enlist, call_shown as shown_call, call_at, health_of, health_at, thread_shown, world_of}
 use Rattle.pif_model.specs.Soundness.{use_at, MeetsAll, needs, mutex_by, is_pending, is_half_linked, is_unlinked, is_unsettled, LineIsSound, CellIsSound, ListIsSound, ThreadIsSound, IsSound}
 use Rattle.pif_model_lemmas.proofs.Waiting.{by_test}
 use Rattle.pif_model_lemmas.proofs.Numbers.{above_0, below, from_within}
 use Rattle.pif_model_lemmas.proofs.kernel.Facts.{next-some, next-added}
-use Rattle.pif_model_simulation.proofs.Hole.{excuse_one, admit_last}
+use Rattle.pif_model_simulation.proofs.WeakenedInvariant.{exempt_one, admit_last}
 use Rattle.pif_model_simulation.proofs.Shown.{threads_shown, mutexes_shown, thread_seen, mutex_seen}
 use Rattle.pif_model_simulation.proofs.Written.{written_is, same_health, same_list, same_library}
 use Rattle.pif_model_simulation.proofs.Steps.{KeepsGo, Going, progress_of, going_named, going_called, going_lined, going_below, goes_with, answers_with}
@@ -74,7 +74,7 @@ module _ {s : Table} {t : ℕ} {q : Request} {p : Place} (h : GivesUp s t q p) w
 
     pub hands : HandsOver s t m l (robust_at s.lists t) (hand_word u)
     hands = record {
-      sound = excuse_one h.going.sound t;
+      sound = exempt_one h.going.sound t;
       kernel = h.going.sound.kernel;
       somebody = t0;
       lined = going_lined h.going;
@@ -147,7 +147,7 @@ module _ {s : Table} {t : ℕ} {q : Request} {p : Place} (h : GivesUp s t q p) w
 
     -- IN THE POSIX MACHINE
 
-    module _ (a : Progress) (y : Shadow) where
+    module _ (a : Progress) (y : HistoryVariables) where
       abbrev w : World
       w = world_of s y
 
@@ -263,19 +263,19 @@ module _ {s : Table} {t : ℕ} {q : Request} {p : Place} (h : GivesUp s t q p) w
     -- m is handed on, and the call goes on
     pub handed_goes : (a : Progress)
         → (may_enlist (At q p) ≡ false → is_blocked a ≡ true → is_blocked (progress_of s t q p) ≡ true)
-        → ((y : Shadow) → call_at (health_at v) (uses_of s) l (status_at s t) ≡ Some
+        → ((y : HistoryVariables) → call_at (health_at v) (uses_of s) l (status_at s t) ≡ Some
         (record { request = q; progress = a }))
-        → ((y : Shadow) (w' : World) → Passes m (with_progress t a (world_of s y)) w'
+        → ((y : HistoryVariables) (w' : World) → Passes m (with_progress t a (world_of s y)) w'
         → Effect t (world_of s y) w')
         → KeepsGo s t Went hands_on
     handed_goes a blocked call effect = subst (KeepsGo s t Went) is_handed
         (goes_with h.going v sound limits (living_kept hands t ∙ h.going.known) (ap is_ready (status_t hands) ∙ h.ready)
-        (frames a blocked (λ c b. sym (ap (is_call_blocked c) (call_then ∙ call no_shadow)) ∙ b))
+        (frames a blocked (λ c b. sym (ap (is_call_blocked c) (call_then ∙ call no_history_variables)) ∙ b))
         (λ y. first (effect y (passed a y) (passes_next a y)) (none (passed_open a y (call y)))))
 
     -- m is handed on, and the call is answered
     pub handed_answers : (n : ℕ) → l ≡ Idle
-        → ((y : Shadow) (w' : World) → Passes m (with_progress t (Has n) (world_of s y)) w'
+        → ((y : HistoryVariables) (w' : World) → Passes m (with_progress t (Has n) (world_of s y)) w'
         → Effect t (world_of s y) w')
         → KeepsGo s t (Answered n) hands_on
     handed_answers n e effect = subst (KeepsGo s t (Answered n)) is_handed

@@ -17,8 +17,8 @@ use Rattle.pif_model.specs.Posix.{World, Health, is_call_blocked, named_by, vari
 use Rattle.pif_model.specs.PiKernel.{Kernel, IsKernel, Seat, seat_at, state_at, is_living, has_ended, next_in, kernel_after_hand_over}
 use Rattle.pif_model.specs.RobustList.{RobustRow, robust_at}
 use Rattle.pif_model.specs.Table.{Table, Cell, has_thread, has_mutex, bound_to, uses_of, status_at, line_at, timer_at, library_at, cell_at}
-use Rattle.pif_model.specs.Projection.{Shadow, may_enlist, call_shown as shown_call, memory_at, progress_at, call_at, health_of, health_at, thread_shown, mutex_shown, world_of}
-use Rattle.pif_model.specs.Soundness.{Use, use_at, is_queued_place, is_unlinked, MeetsAll, needs, waited_in, CallIsSound, mutex_by, is_unsettled, LineIsSound, IsQueuedLine, CellIsSound, ListIsSound, ThreadIsSound, SoundBut}
+use Rattle.pif_model.specs.Projection.{HistoryVariables, may_enlist, call_shown as shown_call, memory_at, progress_at, call_at, health_of, health_at, thread_shown, mutex_shown, world_of}
+use Rattle.pif_model.specs.Soundness.{Use, use_at, is_queued_place, is_unlinked, MeetsAll, needs, waited_in, CallIsSound, mutex_by, is_unsettled, LineIsSound, IsQueuedLine, CellIsSound, ListIsSound, ThreadIsSound, SoundExcept}
 use Rattle.pif_model_lemmas.proofs.Waiting.{by_test, has_waiter-without_other}
 use Rattle.pif_model_lemmas.proofs.Numbers.{above_0, below}
 use Rattle.pif_model_lemmas.proofs.kernel.Facts.{next-queued, next-added, next-waited, next-some}
@@ -26,8 +26,8 @@ use Rattle.pif_model_lemmas.proofs.kernel.Kept.{hand_over_kept}
 use Rattle.pif_model_lemmas.proofs.kernel.Places.{handed_limits, handed_length, handed_has, handed_seat_same, handed_seat_other, handed_state_other, handed_state_same, handed_waiters, handed_parked}
 use Rattle.pif_model_simulation.proofs.Kept.{held_once}
 use Rattle.pif_model_simulation.proofs.Facts.{fact, is_bound_need}
-use Rattle.pif_model_simulation.proofs.Hole.{Changes, change_kept, excuse, admit}
-use Rattle.pif_model_simulation.proofs.Hole.MayBeAdmitted.{lives}
+use Rattle.pif_model_simulation.proofs.WeakenedInvariant.{Changes, change_kept, exempt_all, admit}
+use Rattle.pif_model_simulation.proofs.WeakenedInvariant.MayBeAdmitted.{lives}
 use Rattle.pif_model_simulation.proofs.Written.{written, cell_written, IsCallOn, same_targets, changes, cell_here, line_here, line_there, list_there, call_there, thread_here, thread_there, shows}
 use Rattle.pif_model_simulation.proofs.Local.{ListsAfter, lists_after, settled_after, known_still, ready-not_queued, ready-not_parked}
 use Rattle.pif_model_simulation.proofs.Agreement.{Frames, Follows, WasBlockedIn, frames_by, was_same, was_not, call_unblocked, taking_unblocked}
@@ -74,10 +74,10 @@ queued_takes q StayQueued h n e = refl
 queued_takes q StayParked h n e = refl
 queued_takes q _ h n e = absurd (true≢false (sym e))
 
--- t, which alone is excused, owns m, for which threads wait, and m is handed on: it gets this word and is held once,
+-- t, which alone is exempt, owns m, for which threads wait, and m is handed on: it gets this word and is held once,
 -- and t goes to this line and robust list
 pub record HandsOver (s : Table) (t m : ℕ) (l : Line) (r : RobustRow) (x : Word) : Type 0 where
-  pub sound : SoundBut (λ j. j ≡ t) s
+  pub sound : SoundExcept (λ j. j ≡ t) s
   pub kernel : IsKernel s.kernel
   pub somebody : t ≢ 0
   pub lined : t < length s.lines
@@ -307,9 +307,9 @@ module _ {s : Table} {t m : ℕ} {l : Line} {r : RobustRow} {x : Word} (h : Hand
       call_u = subst (LineIsSound s u) queued_line.line sound_u.line
 
   -- the table is sound, save for t
-  pub handed_sound : SoundBut (λ j. j ≡ t) handed
+  pub handed_sound : SoundExcept (λ j. j ≡ t) handed
   handed_sound = admit (λ j. j ≡ t) u by_two (lives (living_kept u ∙ living_u) taker_sound)
-      (change_kept (excuse Two (λ j e. inl e) h.sound) change)
+      (change_kept (exempt_all Two (λ j e. inl e) h.sound) change)
     where
       by_two : (j : ℕ) → Two j → (j ≡ u) ⊎ (j ≡ t)
       by_two j (inl e) = inr e
@@ -389,7 +389,7 @@ module _ {s : Table} {t m : ℕ} {l : Line} {r : RobustRow} {x : Word} (h : Hand
           (ap (λ (y : Seat). y.status) (seat_kept j e))
 
   -- the world that the table shows is w, where w has these threads, mutexes and waiters
-  pub handed_shown : (y : Shadow) (w : World) → length w.threads ≡ length s.lines → length w.mutexes ≡ length s.mutexes
+  pub handed_shown : (y : HistoryVariables) (w : World) → length w.threads ≡ length s.lines → length w.mutexes ≡ length s.mutexes
       → w.waiters ≡ without s.kernel.waiters u
       → thread_at w t ≡ record (thread_shown s y t) { call = call_at (health_at handed) (uses_of s) l (status_at s t) }
       → thread_at w u ≡ record (thread_shown s y u) { call = at_progress (on_taking (health_of a x.died)) (shown_call s u) }

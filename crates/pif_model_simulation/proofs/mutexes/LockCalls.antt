@@ -16,17 +16,17 @@ use Rattle.pif_model.specs.declared.lines.Took.TheVariants.{Owns as TookOwns, Qu
 use Rattle.pif_model.specs.Graph.{has_waiter, reaches_within}
 use Rattle.pif_model.specs.Kinds.{relock_of}
 use Rattle.pif_model.specs.Word.{mark_word, taken_word, word_at, health_word_at, has_word, set_word}
-use Rattle.pif_model.specs.Posix.{named_by, variable_of, is_blocked, Mutex, Effect, Locks, mutex_at, is_lost, leads_to, with_progress}
+use Rattle.pif_model.specs.Posix.{named_by, variable_of, is_blocked, Mutex, Effect, Locks, mutex_at, is_orphaned, leads_to, with_progress}
 use Rattle.pif_model.specs.World.Progress.{Waiting, Stuck, Has}
 use Rattle.pif_model.specs.Posix.Effects.{none, then as first}
-use Rattle.pif_model.specs.Posix.Locks.{own_normal, lost, cycle, joins}
+use Rattle.pif_model.specs.Posix.Locks.{own_normal, orphaned, cycle, joins}
 use Rattle.pif_model.specs.PiKernel.{Kernel, Seat, has_seat, has_ended, no_seat, seat_at, state_at, is_ready, is_living, waits_for, lock_answer, words_after_lock, kernel_after_lock, kernel_after_queueing, kernel_after_stop}
 use Rattle.pif_model.specs.Table.{Table, cell_at, has_thread, has_mutex, bound_to, uses_of, library_at, with_kernel, with_line, with_word}
 use Rattle.pif_model.specs.Lines.{Outcome, ends_by, lock_by, lock_kernel, lock_stop}
 use Rattle.pif_model.specs.RobustList.{robust_at}
-use Rattle.pif_model.specs.Projection.{Shadow, progress_at, health_at, world_of}
+use Rattle.pif_model.specs.Projection.{HistoryVariables, progress_at, health_at, world_of}
 use Rattle.pif_model.specs.Soundness.{waited_in, CellIsSound, MayStopFor}
-use Rattle.pif_model.specs.Soundness.MayStopFor.{own_normal as stops_own, lost as stops_lost}
+use Rattle.pif_model.specs.Soundness.MayStopFor.{own_normal as stops_own, orphaned as stops_orphaned}
 use Rattle.pif_model_lemmas.proofs.Waiting.{by_test, has_waiter-push, or_true}
 use Rattle.pif_model_lemmas.proofs.Numbers.{above_0, below, from_within}
 use Rattle.pif_model_lemmas.proofs.kernel.Facts.{ready-not_ended}
@@ -115,21 +115,21 @@ module _ (s : Table) (t : ℕ) (q : Request) (named : has_mutex s (named_by q) �
       not_queued j e = cc
 
   -- the owner, as the POSIX machine sees it, has ended
-  lost_seen : (g : Going s t q Stop) (y : Shadow) → (cell_at s m).robust ≡ false
+  orphaned_seen : (g : Going s t q Stop) (y : HistoryVariables) → (cell_at s m).robust ≡ false
       → (cell_at s m).word.number ≢ 0 → is_living s.kernel (cell_at s m).word.number ≡ false
-      → is_lost (world_of s y) m ≡ true
-  lost_seen g y r n e = rw (mutex_seen g.sound.all.shape y m, r, ne_eqb (cell_at s m).word.number 0 n)
+      → is_orphaned (world_of s y) m ≡ true
+  orphaned_seen g y r n e = rw (mutex_seen g.sound.all.shape y m, r, ne_eqb (cell_at s m).word.number 0 n)
       (ap (λ b. if b then false else true) (living_seen s y (cell_at s m).word.number g.sound.all.shape ∙ e))
 
   -- why it may stop is a rule of locking
-  stops : (g : Going s t q Stop) (y : Shadow) → MayStopFor (is_living s.kernel) t (cell_at s m)
+  stops : (g : Going s t q Stop) (y : HistoryVariables) → MayStopFor (is_living s.kernel) t (cell_at s m)
       → Locks t m (world_of s y) (with_progress t Stuck (world_of s y))
   stops g y (stops_own own normal) = own_normal (owner_seen s t q named may g y ∙ own)
       (ap (λ (x : Mutex). relock_of x.kind) (mutex_seen g.sound.all.shape y m) ∙ normal) refl
-  stops g y (stops_lost r n e) = lost (
+  stops g y (stops_orphaned r n e) = orphaned (
     (λ z. true≢false (sym g.known ∙ ap (is_living s.kernel) (sym (sym (owner_seen s t q named may g y) ∙ z)) ∙ e)),
     (λ z. n (sym (owner_seen s t q named may g y) ∙ z)),
-    lost_seen g y r n e,
+    orphaned_seen g y r n e,
   ) refl
 
   -- lock: stop for good
@@ -197,15 +197,15 @@ module _ (s : Table) (t : ℕ) (q : Request) (named : has_mutex s (named_by q) �
 
   module _ (g : Going s t q CallKernel) (owned : (cell_at s m).word.number ≢ 0) where
     -- the owner is another, and there is one, as the POSIX machine sees it
-    other_seen : (y : Shadow) → (mutex_at (world_of s y) m).owner ≢ t
+    other_seen : (y : HistoryVariables) → (mutex_at (world_of s y) m).owner ≢ t
     other_seen y z = going_other g (sym (owner_seen s t q named may g y) ∙ z)
 
-    owned_seen : (y : Shadow) → (mutex_at (world_of s y) m).owner ≢ 0
+    owned_seen : (y : HistoryVariables) → (mutex_at (world_of s y) m).owner ≢ 0
     owned_seen y z = owned (sym (owner_seen s t q named may g y) ∙ z)
 
-    -- a mutex whose owner lives is not lost
-    not_lost : (y : Shadow) → lives_owner ≡ true → is_lost (world_of s y) m ≡ false
-    not_lost y l = rw (
+    -- a mutex whose owner lives is not orphaned
+    not_orphaned : (y : HistoryVariables) → lives_owner ≡ true → is_orphaned (world_of s y) m ≡ false
+    not_orphaned y l = rw (
       mutex_seen g.sound.all.shape y m,
       ne_eqb (cell_at s m).word.number 0 owned,
       living_seen s y
@@ -217,7 +217,7 @@ module _ (s : Table) (t : ℕ) (q : Request) (named : has_mutex s (named_by q) �
         either false = refl
 
     -- chains from the owner, as the POSIX machine sees them
-    chain_seen : (y : Shadow) → leads_to (world_of s y) (mutex_at (world_of s y) m).owner t ≡ closes
+    chain_seen : (y : HistoryVariables) → leads_to (world_of s y) (mutex_at (world_of s y) m).owner t ≡ closes
     chain_seen y = ap (λ n. leads_to (world_of s y) n t) (owner_seen s t q named may g y)
         ∙ leads_seen g.sound y (cell_at s m).word.number t
 
@@ -231,9 +231,9 @@ module _ (s : Table) (t : ℕ) (q : Request) (named : has_mutex s (named_by q) �
         (λ stalled. answers_alone g named 35 (going_ready g) effect
         (λ r. absurd (true≢false (sym r ∙ stalled))))
       where
-        effect : (y : Shadow) → Effect t (world_of s y) (with_progress t (Has 35) (world_of s y))
+        effect : (y : HistoryVariables) → Effect t (world_of s y) (with_progress t (Has 35) (world_of s y))
         effect y = locks s t q named may g refl y (with_progress t (Has 35) (world_of s y))
-            (cycle (other_seen y, owned_seen y, not_lost y l) (chain_seen y ∙ e) refl)
+            (cycle (other_seen y, owned_seen y, not_orphaned y l) (chain_seen y ∙ e) refl)
 
     -- to queue t is a call in which t goes to where it is queued
     queue_one : lives_owner ≡ true → closes ≡ false
@@ -365,7 +365,7 @@ module _ (s : Table) (t : ℕ) (q : Request) (named : has_mutex s (named_by q) �
         (unready c) (called_frames g named StayQueued x k c)
         (λ y. first (locks s t q named may g refl y (record (with_progress t Waiting (world_of s y))
         { waiters = s.kernel.waiters ++ (t, m) ∷ [] })
-        (joins (other_seen y, owned_seen y, not_lost y l) (chain_seen y ∙ e) refl))
+        (joins (other_seen y, owned_seen y, not_orphaned y l) (chain_seen y ∙ e) refl))
         (none (called_shown g named StayQueued x k c y Waiting refl
         (ap (λ z. progress_at q StayQueued z (health_at s m) (uses_of s (variable_of q))) (status_here))))))
       where
@@ -404,7 +404,7 @@ module _ (s : Table) (t : ℕ) (q : Request) (named : has_mutex s (named_by q) �
           (λ e. refused g owned l e) (λ e. queues g owned l e))
           (λ l. goes g named Stop (quiet refl refl) (going_ready g)
           (locking_belongs may Stop refl) refl
-          (going_ready g, (stops_lost (stalled owned l) owned l, tt))
+          (going_ready g, (stops_orphaned (stalled owned l) owned l, tt))
           (λ r. absurd (true≢false (sym r ∙ stalled owned l))))
 
       go : ((cell_at s m).word.number ≡ 0) ⊎ ((cell_at s m).word.number ≢ 0) → GoKeeps s t (lock_kernel q t m s)

@@ -22,7 +22,7 @@ use Rattle.pif_model.specs.Posix.Effects.{none}
 use Rattle.pif_model.specs.PiKernel.{is_ready, is_living}
 use Rattle.pif_model.specs.Table.{Table, cell_at, has_mutex, uses_of, status_at}
 use Rattle.pif_model.specs.Lines.{goes_to, own_exchange, lock_load, lock_queued, with_pending_field, give_line}
-use Rattle.pif_model.specs.Projection.{Shadow, before_lock, progress_at, health_at, world_of}
+use Rattle.pif_model.specs.Projection.{HistoryVariables, before_lock, progress_at, health_at, world_of}
 use Rattle.pif_model.specs.Soundness.{use_at, MeetsAll, needs, belongs, is_last, is_locking}
 use Rattle.pif_model.specs.Soundness.MayStopFor.{own_normal as stops_own}
 use Rattle.pif_model_lemmas.proofs.kernel.LineCases.{lock_load_cases, lock_queued_cases}
@@ -97,12 +97,12 @@ module _ (s : Table) (t : ℕ) (q : Request) (named : has_mutex s (named_by q) �
   mutex = named_by q
 
   -- a call that is to lock has an effect by this rule
-  pub locks : {p : Place} (g : Going s t q p) → progress_of s t q p ≡ before_lock q → (y : Shadow) (v : World)
+  pub locks : {p : Place} (g : Going s t q p) → progress_of s t q p ≡ before_lock q → (y : HistoryVariables) (v : World)
       → Locks t mutex (world_of s y) v → Effect t (world_of s y) v
   locks g fresh y v rule = locks_by (world_of s y) t (going_called g y) mutex l fresh rule
 
   -- the owner that the POSIX machine sees is the number in the word
-  pub owner_seen : {p : Place} (g : Going s t q p) (y : Shadow)
+  pub owner_seen : {p : Place} (g : Going s t q p) (y : HistoryVariables)
       → (mutex_at (world_of s y) mutex).owner ≡ (cell_at s mutex).word.number
   owner_seen g y = ap (λ (x : Mutex). x.owner) (mutex_seen g.sound.all.shape y mutex)
 

@@ -11,7 +11,7 @@ use Rattle.pif_types.specs.declared.requests.Request.TheVariants.{Lock, TryLock,
 use Rattle.pif_model.specs.Graph.{without}
 use Rattle.pif_model.specs.Posix.{Health, Progress, Call, Thread, Mutex, World, nobody, no_mutex, thread_at, mutex_at, is_thread, is_living, is_mutex, with_thread, with_mutex, with_progress, at_progress, on_taking, taken, with_health, on_death, named_by, Passes, Releases}
 use Rattle.pif_model.specs.World.Health.{Fine, Inconsistent, Unusable}
-use Rattle.pif_model.specs.World.Progress.{Fresh, Waiting, Owing}
+use Rattle.pif_model.specs.World.Progress.{Fresh, Waiting, Reacquiring}
 use Rattle.pif_model.specs.Posix.Passes.{to_nobody, to_next}
 use Rattle.pif_model.specs.Posix.Releases.{none_left, one_more}
 use Rattle.pif_model.specs.Soundness.{waited_in}
@@ -380,7 +380,7 @@ may_take m = ((λ n x c. lock x n c), (λ n x c. lock x n c), (λ n x c. try x n
     try Unusable n e = (e, refl)
 
 -- and so may a wait that has given it up
-pub wait_may_take : (c m : ℕ) → MayTake (Wait c m) Owing × MayTake (Wait c m) Waiting
+pub wait_may_take : (c m : ℕ) → MayTake (Wait c m) Reacquiring × MayTake (Wait c m) Waiting
 wait_may_take c m = ((λ n x e. takes x n e.0), (λ n x e. takes x n e.0))
   where
     takes : (x : Health) (n : ℕ) → n ≡ 1 → Counted (Wait c m) (on_taking x) n 1

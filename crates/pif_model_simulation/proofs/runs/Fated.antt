@@ -19,8 +19,8 @@ use Rattle.pif_model.specs.Posix.Expires.{lock as lock_expires, wait as wait_exp
 use Rattle.pif_model.specs.Posix.Moves.{expires, acts}
 use Rattle.pif_model.specs.Posix.Step.{thread_added, mutex_added, cond_added, refused, begun, went, waits, answered, ended, ticked}
 use Rattle.pif_model.specs.Posix.IsRun.{start, next}
-use Rattle.pif_model.specs.World.Progress.{Waiting, Stuck, Has, Blocked, Owing}
-use Rattle.pif_model.specs.Deadlines.{ran_out, is_reached, told_result}
+use Rattle.pif_model.specs.World.Progress.{Waiting, Stuck, Has, Blocked, Reacquiring}
+use Rattle.pif_model.specs.Deadlines.{ran_out, is_reached, reported_result}
 use Rattle.pif_model.specs.declared.lines.Timer.{Timer}
 use Rattle.pif_model_simulation.proofs.runs.Worlds.{call_of, push_same, call-with_progress, begin_allowed}
 use Rattle.pif_model_simulation.proofs.runs.Timing.{GoesOn, Quiet, goes_on_then, result_of, call-recalled, quiet_threads, quiet_then, quiet_Effects, quiet_noted, quiet_closed, quiet_Ends}
@@ -114,9 +114,9 @@ expired_awake {t = t} {w = w} {u = u} h due (wait_expires c m p before e) =
     kept : call_of (after_timeout t w) t ≡ call_of w t
     kept = kept_at (λ (y : Thread). y.call) w.threads t x nobody refl t
 
-    late : call_of u t ≡ Some (record { request = Wait c m; progress = Owing })
-    late = ap (λ y. call_of y t) e ∙ call-with_progress (after_timeout t w) t Owing
-        ∙ ap (at_progress Owing) (kept ∙ before)
+    late : call_of u t ≡ Some (record { request = Wait c m; progress = Reacquiring })
+    late = ap (λ y. call_of y t) e ∙ call-with_progress (after_timeout t w) t Reacquiring
+        ∙ ap (at_progress Reacquiring) (kept ∙ before)
 
     awake : rests (with_call_by t after_waits u) t ≡ names t u.waiters
     awake = ap (λ a. if sleeps a then true else names t u.waiters)
@@ -316,7 +316,7 @@ run_fated l (next {h = h} {r = r} {e = e} {w = w} {v = v} run step) = step_fated
 -- WHO IS ANSWERED ETIMEDOUT
 
 -- a result that is not to be told otherwise is told as it is
-told_as_is : (q : Request) (a : ℕ) → told_result q false a ≡ a
+told_as_is : (q : Request) (a : ℕ) → reported_result q false a ≡ a
 told_as_is (Wait c m) a = refl
 told_as_is _ a = refl
 
@@ -330,13 +330,13 @@ late_before h (comes r p b k l past n) q e = absurd (n (same_progress l e))
 -- a call with this result that is told as ETIMEDOUT has expired
 told_late : (w u : World) (t a : ℕ) (q : Request) (f : Fate) → Fated f (thread_at w t) → Moves t w u
     → call_of u t ≡ Some (record { request = q; progress = Has a })
-    → told_result q (thread_at w t).timer.expired a ≡ 110
+    → reported_result q (thread_at w t).timer.expired a ≡ 110
     → fate_on (t == t) (is_due w t) (is_settled (call_of w t)) f ≡ Expired
 told_late w u t a q f h (expires due e) before told_so = due_expires w t f h due
 told_late w u t a q f h (acts due e) before told_so =
     stays_expired (t == t) (is_due w t) (is_settled (call_of w t)) f (go (thread_at w t).timer.expired refl told_so)
   where
-    go : (b : Bool) → (thread_at w t).timer.expired ≡ b → told_result q b a ≡ 110 → f ≡ Expired
+    go : (b : Bool) → (thread_at w t).timer.expired ≡ b → reported_result q b a ≡ 110 → f ≡ Expired
     go true k z = h.expired k
     go false k z = late_before h ((quiet_Effects e).call t) q
         (before ∙ ap (λ n. Some (record { request = q; progress = Has n })) (sym (told_as_is q a) ∙ z))

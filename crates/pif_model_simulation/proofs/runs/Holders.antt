@@ -19,13 +19,13 @@ use Rattle.pif_model.specs.History.{open_call, hold_count, hold_count_after_answ
 use Rattle.pif_model.specs.Posix.{Progress, Call, Thread, Mutex, World, empty_world, nobody, no_mutex, thread_at, mutex_at, is_thread, is_living, is_mutex, with_thread, with_progress, with_base, variable_of, named_by, names_known, Memory, Variable, is_variable, begun_memory, begun_thread, with_call_by, after_waits, after_unblocking, on_unblocking, is_newly_blocked, after_use, used, all_unblocked, on_release, ChecksWait, GivesUp, Chooses, new_thread, LocksAgain, Locks, TriesToLock, Unlocks, MakesConsistent, Passes, SetsPriority, after_end, Ends, Effect, Effects, refusal_of, Step, IsRun, counts_now, is_counting, is_due, Expires, Moves}
 use Rattle.pif_model.specs.Graph.{without}
 use Rattle.pif_model.specs.World.Health.{Fine, Unusable}
-use Rattle.pif_model.specs.World.Progress.{Fresh, Waiting, Stuck, Leaving, Has, Checked, Enlisted, Blocked, Owing, Used}
+use Rattle.pif_model.specs.World.Progress.{Fresh, Waiting, Stuck, Leaving, Has, Checked, Enlisted, Blocked, Reacquiring, Used}
 use Rattle.pif_model.specs.Posix.ChecksWait.{other_mutex, not_owner as wait_not_owner, held_more, checked}
 use Rattle.pif_model.specs.Posix.GivesUp.{becomes_unusable as wait_unusable, released as wait_released}
 use Rattle.pif_model.specs.Posix.Uses.{at_limit as use_at_limit, counts as use_counts}
 use Rattle.pif_model.specs.Posix.Chooses.{one, no_one, all}
 use Rattle.pif_model.specs.Posix.LocksAgain.{rises, at_limit}
-use Rattle.pif_model.specs.Posix.Locks.{own_normal, own_errorcheck, own_recursive as lock_own_recursive, free as lock_free, lost as lock_lost, cycle, joins}
+use Rattle.pif_model.specs.Posix.Locks.{own_normal, own_errorcheck, own_recursive as lock_own_recursive, free as lock_free, orphaned as lock_orphaned, cycle, joins}
 use Rattle.pif_model.specs.Posix.TriesToLock.{own_recursive as try_own_recursive, busy as try_busy, free as try_free}
 use Rattle.pif_model.specs.Posix.Unlocks.{not_owner, falls, becomes_unusable, released}
 use Rattle.pif_model.specs.Posix.MakesConsistent.{not_robust, not_owner as consistent_not_owner, not_inconsistent, made_fine}
@@ -35,7 +35,7 @@ use Rattle.pif_model.specs.Posix.Effects.{none as no_effect, then as effect_then
 use Rattle.pif_model.specs.Posix.Expires.{lock as lock_expires, wait as wait_expires}
 use Rattle.pif_model.specs.Posix.Moves.{expires, acts}
 use Rattle.pif_model.specs.declared.lines.Timer.{Timer}
-use Rattle.pif_model.specs.Deadlines.{plain, timer_of, ran_out, is_reached, told_result}
+use Rattle.pif_model.specs.Deadlines.{plain, timer_of, ran_out, is_reached, reported_result}
 use Rattle.pif_model.specs.Posix.Step.{ticked, thread_added, mutex_added, cond_added, refused, begun, went, waits, answered, ended}
 use Rattle.pif_model.specs.Posix.IsRun.{start, next}
 use Rattle.pif_model.specs.Soundness.{waited_in}
@@ -113,8 +113,8 @@ may_lock m = (
     again_try : (n i : ℕ) → n ≡ i → hold_count_after_answer m (Some (TryLock m)) 0 n ≡ i + 1
     again_try n i e = grind (arith, nat_tests)
 
--- and a wait that owes the lock
-wait_may_lock : (c m : ℕ) → MayLock (Wait c m) Owing
+-- and a wait that must reacquire its mutex
+wait_may_lock : (c m : ℕ) → MayLock (Wait c m) Reacquiring
 wait_may_lock c m = record {
   takes = (wait_may_take c m).0;
   again = λ n i e. rw (eq-eqb m m refl) (more n i e.0 e.1);
@@ -145,7 +145,7 @@ module _ {f : ℕ → Option Request} {counts : ℕ → ℕ → ℕ} {w : World}
   IsHeld-Locks named (own_errorcheck own kind e) = rw e (IsHeld-progresses h k (Has 35) may.cycle)
   IsHeld-Locks named (lock_own_recursive own kind e) = IsHeld-LocksAgain own e
   IsHeld-Locks named (lock_free other free e) = rw e (IsHeld-takes h k known may.takes free)
-  IsHeld-Locks named (lock_lost lost e) = rw e (IsHeld-progresses h k Stuck may.sticks)
+  IsHeld-Locks named (lock_orphaned orphaned e) = rw e (IsHeld-progresses h k Stuck may.sticks)
   IsHeld-Locks named (cycle owned leads e) = rw e (IsHeld-progresses h k (Has 35) may.cycle)
   IsHeld-Locks named (joins owned leads e) = rw e (IsHeld-joins h k (named_by q) named may.joins)
 
@@ -405,7 +405,7 @@ IsHeld-Effect {f} {counts} {t} {w} {v} h effect = by_call effect
     by_call (give_up c m still before e) =
         IsHeld-GivesUp h still (acting h t (Wait c m) (Enlisted still) before (λ k. absurd (cc))) e
     by_call (lock_again c m before e) =
-        IsHeld-Locks h (acting h t (Wait c m) Owing before (λ k. absurd (cc))) ((h.each t).named _ before)
+        IsHeld-Locks h (acting h t (Wait c m) Reacquiring before (λ k. absurd (cc))) ((h.each t).named _ before)
         (wait_may_lock c m) refl e
     by_call (use_variable q before is_used (use_at_limit full e)) = rw e (IsHeld-fails h (afresh q before) 75 refl)
     by_call (use_variable q before is_used (use_counts some e)) =
@@ -424,7 +424,7 @@ IsHeld-Effects : {f : ℕ → Option Request} {counts : ℕ → ℕ → ℕ} {t 
 IsHeld-Effects h (no_effect e) = rw e h
 IsHeld-Effects h (effect_then e more) = IsHeld-Effects (IsHeld-Effect h e) more
 IsHeld-Effects h (effect_owed b c m blocked before e more) =
-    IsHeld-Effects (IsHeld-Locks h (acting h b (Wait c m) Owing before (λ k. absurd (cc))) ((h.each b).named _ before)
+    IsHeld-Effects (IsHeld-Locks h (acting h b (Wait c m) Reacquiring before (λ k. absurd (cc))) ((h.each b).named _ before)
     (wait_may_lock c m) refl e) more
 
 -- DEADLINES
@@ -458,7 +458,7 @@ IsHeld-Expires {t = t} {w = w} h due (lock_expires m p before e) =
     (λ n i c. error_changes_nothing (Lock m) 110 refl n ∙ due_counted m p (due_counts w t (Lock m) p before due) n i c))
 IsHeld-Expires {f = f} {counts = counts} {t = t} {w = w} h due (wait_expires c m p before e) =
     rw e (IsHeld-progresses late (acting late t (Wait c m) (Blocked true) (kept ∙ before ∙ shown) (λ k. absurd (cc)))
-    Owing (λ n i j. j))
+    Reacquiring (λ n i j. j))
   where
     x : Thread
     x = record (thread_at w t) { timer = ran_out (thread_at w t).timer }
@@ -559,7 +559,7 @@ IsHeld-begins h w t q held allowed =
 -- a call is answered, as it is told
 IsHeld-answers : (h : List Entry) (w : World) (t a : ℕ) (x : Bool) (q : Request) → IsHeldBy h w
     → call_of w t ≡ Some (record { request = q; progress = Has a })
-    → IsHeldBy (Happened (Go t) (Answered (told_result q x a)) ∷ h) (with_thread t (record (thread_at w t) { call = None }) w)
+    → IsHeldBy (Happened (Go t) (Answered (reported_result q x a)) ∷ h) (with_thread t (record (thread_at w t) { call = None }) w)
 IsHeld-answers h w t a x q held before =
     IsHeld-calls held t None (thread_at w t).timer (thread_at w t).memory
     (λ x d. (rw (ne_eqb t x (λ e. d (sym e))) refl, λ m. rw (ne_eqb t x (λ e. d (sym e))) refl))

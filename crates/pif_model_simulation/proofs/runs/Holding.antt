@@ -26,9 +26,9 @@ use Rattle.pif_types.specs.declared.requests.Request.{Request}
 use Rattle.pif_types.specs.declared.requests.Request.TheVariants.{Lock, TryLock, Unlock, Consistent, Wait, Signal, Broadcast, SetPrio, TimedLock, TimedWait}
 use Rattle.pif_model.specs.History.{hold_count_after_answer, unlocking, waiting_with, hold_count_waited}
 use Rattle.pif_model.specs.Posix.{Progress, Call, named_by, names_known}
-use Rattle.pif_model.specs.World.Progress.{Fresh, Waiting, Stuck, Leaving, Has, Checked, Enlisted, Blocked, Owing, Used}
+use Rattle.pif_model.specs.World.Progress.{Fresh, Waiting, Stuck, Leaving, Has, Checked, Enlisted, Blocked, Reacquiring, Used}
 use Rattle.pif_model.specs.Soundness.{waited_in}
-use Rattle.pif_model.specs.Deadlines.{told_result}
+use Rattle.pif_model.specs.Deadlines.{reported_result}
 use Rattle.pif_model_lemmas.proofs.Waiting.{by_test}
 
 -- what a state of the POSIX machine has of one thread
@@ -71,7 +71,7 @@ Counted q (Has a) n k = hold_count_after_answer (named_by q) (Some q) a n ≡ k
 Counted q Checked n k = (n ≡ 1) × (k ≡ 1)
 Counted q (Enlisted still) n k = (n ≡ 1) × (k ≡ 1)
 Counted q (Blocked noted) n k = Apart q n k
-Counted q Owing n k = Apart q n k
+Counted q Reacquiring n k = Apart q n k
 Counted q Used n k = n ≡ k
 
 -- this call waits for m
@@ -131,7 +131,7 @@ elsewhere_answered m _ a n d = refl
 
 -- ETIMEDOUT in place of 0 changes a hold count as 0 does, where a wait is told it
 told_counted : (m : ℕ) (q : Request) (x : Bool) (a n : ℕ)
-    → hold_count_after_answer m (Some q) (told_result q x a) n ≡ hold_count_after_answer m (Some q) a n
+    → hold_count_after_answer m (Some q) (reported_result q x a) n ≡ hold_count_after_answer m (Some q) a n
 told_counted m (Wait c k) true a n = ap (λ i. if k == m then i else n) (by_test
     (λ b. hold_count_waited (if b then 110 else a) n ≡ hold_count_waited a n) (a == 0)
     (λ e. sym (ap (λ i. hold_count_waited i n) (eqb-true a 0 e))) (λ e. refl))
@@ -166,7 +166,7 @@ unlocked_once q Used n k h w l = λ e. omega arith
 unlocked_once q Waiting n k h w l = apart_held q n k h w l
 unlocked_once q Stuck n k h w l = apart_held q n k h w l
 unlocked_once q (Blocked noted) n k h w l = apart_held q n k h w l
-unlocked_once q Owing n k h w l = apart_held q n k h w l
+unlocked_once q Reacquiring n k h w l = apart_held q n k h w l
 
 -- who holds a mutex by the answers holds it by the machine
 pub held-from_holds : {f : Option Request} {counts : ℕ → ℕ} {known : ℕ → Bool} {x : View} → Holding f counts known x
@@ -330,7 +330,7 @@ pub record Answers (q : Request) (a : ℕ) (x y : View) : Type 0 where
 
 pub Holding-answers : {f later_f : Option Request} {counts later_counts : ℕ → ℕ} {known : ℕ → Bool} {x y : View}
     {q : Request} {a : ℕ} (expired : Bool) → Holding f counts known x → later_f ≡ None
-    → ((m : ℕ) → later_counts m ≡ hold_count_after_answer m f (told_result q expired a) (counts m)) → Answers q a x y
+    → ((m : ℕ) → later_counts m ≡ hold_count_after_answer m f (reported_result q expired a) (counts m)) → Answers q a x y
     → Holding later_f later_counts known y
 Holding-answers {counts = counts} {x = x} {y = y} {q = q} {a = a} expired h closed counted s =
     record {
@@ -342,7 +342,7 @@ Holding-answers {counts = counts} {x = x} {y = y} {q = q} {a = a} expired h clos
       own = λ c e. let none = s.after in absurd (cc);
       elsewhere = λ m apart.
           counted m
-          ∙ ap (λ g. hold_count_after_answer m g (told_result q expired a) (counts m)) (h.request ∙ ap request_of s.before)
+          ∙ ap (λ g. hold_count_after_answer m g (reported_result q expired a) (counts m)) (h.request ∙ ap request_of s.before)
           ∙ told_counted m q expired a (counts m)
           ∙ by_mutex m (cases_eq (named_by q) m);
     }

@@ -5,8 +5,8 @@ use Rattle.std.proofs.lemmas.List.{get_or_past}
 use Rattle.pif_types.specs.declared.requests.Request.{Request}
 use Rattle.pif_types.specs.declared.requests.Request.TheVariants.{Lock, Wait}
 use Rattle.pif_model.specs.Posix.{Health, Progress, Call, Thread, World, nobody, thread_at, mutex_at, with_mutex, with_base, with_call_by, with_progress, at_progress, on_taking, taken, on_release, after_unblocking, after_waits, is_newly_blocked, after_use, used, all_unblocked, Locks, LocksAgain, TriesToLock, Passes, Unlocks, MakesConsistent, SetsPriority, ChecksWait, GivesUp, Uses, Chooses, Effect, Effects, Releases, without_call, after_end, Ends}
-use Rattle.pif_model.specs.World.Progress.{Fresh, Waiting, Stuck, Has, Checked, Enlisted, Blocked, Owing, Used}
-use Rattle.pif_model.specs.Posix.Locks.{own_normal, own_errorcheck, own_recursive as lock_own_recursive, free as lock_free, lost as lock_lost, cycle, joins}
+use Rattle.pif_model.specs.World.Progress.{Fresh, Waiting, Stuck, Has, Checked, Enlisted, Blocked, Reacquiring, Used}
+use Rattle.pif_model.specs.Posix.Locks.{own_normal, own_errorcheck, own_recursive as lock_own_recursive, free as lock_free, orphaned as lock_orphaned, cycle, joins}
 use Rattle.pif_model.specs.Posix.LocksAgain.{rises, at_limit}
 use Rattle.pif_model.specs.Posix.TriesToLock.{own_recursive as try_own_recursive, busy as try_busy, free as try_free}
 use Rattle.pif_model.specs.Posix.Passes.{to_nobody, to_next}
@@ -165,7 +165,7 @@ module _ {w : World} {t : ℕ} where
   quiet_Locks q a before may (own_errorcheck own kind e) = rw e (quiet_result w t 35 (λ z. omega arith))
   quiet_Locks q a before may (lock_own_recursive own kind e) = quiet_LocksAgain e
   quiet_Locks {m} q a before may (lock_free other free e) = rw e (quiet_taken w t m)
-  quiet_Locks q a before may (lock_lost lost e) = rw e (quiet_from w t q a Stuck before may.sticks (λ z. cc))
+  quiet_Locks q a before may (lock_orphaned orphaned e) = rw e (quiet_from w t q a Stuck before may.sticks (λ z. cc))
   quiet_Locks q a before may (cycle owned leads e) = rw e (quiet_result w t 35 (λ z. omega arith))
   quiet_Locks q a before may (joins owned leads e) =
       rw e (quiet_then (quiet_from w t q a Waiting before may.waits (λ z. cc)) (quiet_threads refl refl))
@@ -248,7 +248,7 @@ goes_unblocked (Some x) = by_progress x.request x.progress
     by_progress : (q : Request) (p : Progress)
         → GoesOn (Some (record { request = q; progress = p })) (after_unblocking (Some (record { request = q; progress = p })))
     by_progress q (Enlisted b) = comes q (Enlisted b) (Enlisted false) refl refl (λ e. refl) (λ z. cc)
-    by_progress q (Blocked b) = comes q (Blocked b) Owing refl refl (λ e. refl) (λ z. cc)
+    by_progress q (Blocked b) = comes q (Blocked b) Reacquiring refl refl (λ e. refl) (λ z. cc)
     by_progress q _ = stays refl
 
 -- a call that is noted
@@ -316,7 +316,7 @@ module _ {w : World} {t : ℕ} where
 lock_may : (m : ℕ) → MayCome (Lock m) Fresh
 lock_may m = record { sticks = λ z. z; waits = λ z. z }
 
-wait_may : (c m : ℕ) → MayCome (Wait c m) Owing
+wait_may : (c m : ℕ) → MayCome (Wait c m) Reacquiring
 wait_may c m = record { sticks = λ z. refl; waits = λ z. refl }
 
 -- EFFECTS
@@ -332,7 +332,7 @@ quiet_Effect (check_wait c m before e) = quiet_ChecksWait before e
 quiet_Effect {t} {w} (enlist c m before e) =
     rw e (quiet_from w t (Wait c m) Checked (Enlisted true) before (λ z. z) (λ z. cc))
 quiet_Effect (give_up c m still before e) = quiet_GivesUp still before e
-quiet_Effect (lock_again c m before e) = quiet_Locks (Wait c m) Owing before (wait_may c m) e
+quiet_Effect (lock_again c m before e) = quiet_Locks (Wait c m) Reacquiring before (wait_may c m) e
 quiet_Effect (use_variable q before is_used e) = quiet_Uses q before e
 quiet_Effect (choose q before e) = quiet_Chooses e
 quiet_Effect {t} {w} (leave q before passes) = quiet_then (quiet_result w t 131 (λ z. omega arith)) (quiet_Passes passes)
@@ -342,7 +342,7 @@ pub quiet_Effects : {t : ℕ} {first w v : World} → Effects t first w v → Qu
 quiet_Effects (no_effect e) = rw e (quiet_threads refl refl)
 quiet_Effects (effect_then e more) = quiet_then (quiet_Effect e) (quiet_Effects more)
 quiet_Effects (effect_owed b c m blocked before e more) =
-    quiet_then (quiet_Locks (Wait c m) Owing before (wait_may c m) e) (quiet_Effects more)
+    quiet_then (quiet_Locks (Wait c m) Reacquiring before (wait_may c m) e) (quiet_Effects more)
 
 -- the call of t is closed
 pub quiet_closed : (w : World) (t : ℕ) → Quiet w (with_call_by t without_call w)

@@ -89,7 +89,7 @@ const HELD: [(Ask, Reply); 9] = [
     (Ask::Effective(3), Reply::Prio(10)),
 ];
 
-// The state of mutex 65 came later, and is gone. It comes anew, and then that of mutex 1 goes.
+// The state of mutex 65 came later, and is gone. It comes again, and then that of mutex 1 goes.
 const AGAIN: [(Ask, Reply); 9] = [
     (Ask::Lock(3, 65), Reply::Queued),
     (Ask::Unlock(1, 1), Reply::Done),

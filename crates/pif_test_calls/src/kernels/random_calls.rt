@@ -98,7 +98,7 @@ fn word(rng: &mut SplitMix64, t: u32) -> u32 {
 }
 
 // Makes a random list of calls on new kernels, and counts those that could be made. Many threads have equal priorities,
-// and the first ticket is so late that tickets are numbered anew.
+// and the first ticket is so late that tickets are renumbered.
 fn play_list(
     rt: &impl Abort,
     alloc: Global,

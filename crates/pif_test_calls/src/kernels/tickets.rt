@@ -30,8 +30,8 @@ fn tickets_are_renumbered(rt: HostRuntime) -> Result<(), Fail> {
     play_late(&rt, rt.alloc(), &HAND_OVERS)
 }
 
-// Threads 3, 1, 4 and 2 of priority 10 park on variable 1 in that order. Each gets a greater priority and its own again,
-// which puts it where its ticket says, and they stand as before. Then all are taken for mutex 1.
+// Threads 3, 1, 4 and 2 of priority 10 park on variable 1 in that order. Each gets a greater priority and its own
+// again, which puts it where its ticket says, and they stand as before. Then all are taken for mutex 1.
 const PARKED_IN_TURN: [(Ask, Reply); 23] = [
     (Ask::Park(3, 1, 0, 1), Reply::Done),
     (Ask::Park(1, 1, 0, 1), Reply::Done),

@@ -18,9 +18,9 @@ fn is_fault(alloc: Global, session: &mut Session, line: &[u8], cause: Cause) -> 
     }
 }
 
-/// Whether a line is a slip.
-fn is_slip(alloc: Global, session: &mut Session, line: &[u8]) -> bool {
-    matches!(session.take(alloc, line), Err(Refusal::Slip(_)))
+/// Whether a line is a syntax error.
+fn is_syntax_error(alloc: Global, session: &mut Session, line: &[u8]) -> bool {
+    matches!(session.take(alloc, line), Err(Refusal::SyntaxError(_)))
 }
 
 /// Checks why lines are not accepted, and that they change nothing.
@@ -28,11 +28,11 @@ fn check_refused(rt: &impl Abort, alloc: Global, session: &mut Session) {
     let limits = is_fault(alloc, session, b"limits 0 1 1 1", Cause::Limits);
     let pick = is_taken(alloc, session, b"pick");
     let late = is_fault(alloc, session, b"limits 1 1 1 1", Cause::Command);
-    let slip = is_slip(alloc, session, b"");
+    let syntax_error = is_syntax_error(alloc, session, b"");
     let count = session.len();
     assert!(rt;
-        limits && pick && late && slip && count == 1,
-        "{limits} {pick} {late} {slip} {count}"
+        limits && pick && late && syntax_error && count == 1,
+        "{limits} {pick} {late} {syntax_error} {count}"
     );
 }
 

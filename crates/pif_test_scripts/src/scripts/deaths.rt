@@ -414,7 +414,7 @@ static STALLED_TAKING: [Row; 3] = [
     (NEW, TAKEN_AT_2, true, 0, 0, NO_STEP, LOST_MARKED),
 ];
 
-/// lock of a stalled mutex that another owns, or that is lost.
+/// lock of a stalled mutex that another owns, or that is orphaned.
 static STALLED_LOCKING: [Row; 9] = [
     (OTHERS, AT_ONCE, false, 0, 2, WENT, HELD),
     (OTHERS, AT_ONCE, false, 3, 3, WAITS, HELD_MARKED),

@@ -4,7 +4,7 @@ use Rattle.pif_model.specs.declared.events.Seen.{Seen}
 use Rattle.pif_model.specs.declared.lines.Timer.{Timer}
 use Rattle.pif_model.specs.PiKernel.{is_woken_again}
 use Rattle.pif_model.specs.Table.{status_at}
-use Rattle.pif_model.specs.Lines.{own_exchange, lock_queued, told_outcome}
+use Rattle.pif_model.specs.Lines.{own_exchange, lock_queued, reported_outcome}
 use Rattle.pif_cond.proofs.Stepping.{due_unready, due_goes, undue_goes}
 use Rattle.pif_cond.proofs.wait.wait_stay_parked.Goals as goal
 
@@ -21,9 +21,9 @@ returns-then-is_due_at g c =
 
 pub returns-else-is_due_at : goal.returns-else-is_due_at
 returns-else-is_due_at g c =
-    ap (λ (x : Seen). record { seen = x; after = c.wait_parked-progress.new.state }) c.told.ensures
-    ∙ ap (told_outcome c.args.request c.timer-expired.result.expired) c.wait_parked-progress.ensures
-    ∙ ap (λ (x : Timer). told_outcome c.args.request x.expired
+    ap (λ (x : Seen). record { seen = x; after = c.wait_parked-progress.new.state }) c.reported.ensures
+    ∙ ap (reported_outcome c.args.request c.timer-expired.result.expired) c.wait_parked-progress.ensures
+    ∙ ap (λ (x : Timer). reported_outcome c.args.request x.expired
     (if is_woken_again (status_at c.args.state.now c.args.t)
     then own_exchange c.args.request c.args.t c.args.m c.args.state.now
     else lock_queued c.args.request c.args.t c.args.m c.args.state.now)) c.timer-expired.ensures

@@ -7,8 +7,8 @@ use Rattle.pif_posix.specs.Shapes.{progress_of}
 use Rattle.pif_posix.proofs.Results.{done_by_rule}
 use Rattle.pif_posix.proofs.state.State.act_on_wait.Goals as goal
 
-pub returns-in-Owing : goal.returns-in-Owing
-returns-in-Owing c =
+pub returns-in-Reacquiring : goal.returns-in-Reacquiring
+returns-in-Reacquiring c =
     IfOk-weaker c.lock.result (λ (b : Bool). Does c.args.self.now (locked c.args.thread c.args.mutex c.args.self.now) b c.lock.new.self)
     (λ (b : Bool). wait_effects (progress_of c.args.progress) c.args.thread c.args.mutex c.args.self.now ≡ if_done b c.lock.new.self)
-    (λ b d. ap (λ (p : Progress). wait_effects (progress_of p) c.args.thread c.args.mutex c.args.self.now) c.in-Owing.is ∙ done_by_rule d) c.lock.ensures
+    (λ b d. ap (λ (p : Progress). wait_effects (progress_of p) c.args.thread c.args.mutex c.args.self.now) c.in-Reacquiring.is ∙ done_by_rule d) c.lock.ensures

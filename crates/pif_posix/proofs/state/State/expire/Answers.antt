@@ -2,7 +2,7 @@ use Rattle.std.proofs.Common.{◌∙◌, refl, ap}
 use Rattle.pif_types.specs.declared.requests.Request.{Request}
 use Rattle.pif_model.specs.Posix.{with_progress}
 use Rattle.pif_model.specs.NamedNumbers.{ETIMEDOUT}
-use Rattle.pif_model.specs.World.Progress.{Has, Owing}
+use Rattle.pif_model.specs.World.Progress.{Has, Reacquiring}
 use Rattle.pif_posix_model.specs.Doing.{expired_by}
 use Rattle.pif_posix_model.specs.Doing.Does.{did_not}
 use Rattle.pif_posix_model.proofs.DoingCases.{did_this}
@@ -18,7 +18,7 @@ pub returns-in-Wait : goal.returns-in-Wait
 returns-in-Wait c =
     did_this (expired_by c.args.request.now c.args.thread c.args.self.now)
     (ap (λ (q : Request). expired_by q c.args.thread c.args.self.now) c.in-Wait.is)
-    (c.set_progress.ensures ∙ ap (with_progress c.args.thread Owing) c.run_out.ensures)
+    (c.set_progress.ensures ∙ ap (with_progress c.args.thread Reacquiring) c.run_out.ensures)
 
 pub returns-in-TryLock : goal.returns-in-TryLock
 returns-in-TryLock c = did_not (ap (λ (q : Request). expired_by q c.args.thread c.args.self.now) c.in-TryLock.is) refl

@@ -1,6 +1,6 @@
 use Rattle.std.proofs.Common.{◌∙◌, sym, ap}
 use Rattle.pif_model.specs.Kinds.{relock_of}
-use Rattle.pif_model.specs.declared.lines.Relock.TheVariants.{Stops, Answers}
+use Rattle.pif_model.specs.declared.lines.Relock.TheVariants.{Deadlocks, Answers}
 use Rattle.pif_posix_model.specs.Doing.{tried}
 use Rattle.pif_posix_model.proofs.DoingCases.{did_this}
 use Rattle.pif_posix_model.proofs.DoingLocks.{tried-free, tried-own, tried-busy}
@@ -20,7 +20,7 @@ returns-then-owner-thread c =
 pub returns-in-Normal : goal.returns-in-Normal
 returns-in-Normal c =
     did_this (tried c.args.thread c.args.mutex c.args.self.now)
-    (tried-own c.args.thread c.args.mutex c.args.self.now Stops (rw (← c.owner-owner.ensures) c.if-owner-eq0.false)
+    (tried-own c.args.thread c.args.mutex c.args.self.now Deadlocks (rw (← c.owner-owner.ensures) c.if-owner-eq0.false)
     (sym c.owner-owner.ensures ∙ c.if-owner-thread.false) (ap relock_of (sym c.in-Normal.ensures))) c.fail-in-Normal.ensures
 
 pub returns-in-ErrorCheck : goal.returns-in-ErrorCheck

@@ -1,5 +1,5 @@
--- The invariant with a hole: one change of a table, of one mutex and of excused threads, keeps it save for these. Every
--- step of the table is such a change, after which the excused threads are admitted again.
+-- The weakened invariant: one change of a table, of one mutex and of exempt threads, keeps it save for these. Every
+-- step of the table is such a change, after which the exempt threads are admitted again.
 use Rattle.std.proofs.Common.{◌≡◌, ◌≢◌, ◌≤◌, ℕ, nat_lt, length, get_or, Bool, true, false, ◌==◌, refl, sym, ap, ◌∙◌, subst, if◌then◌else◌, ◌⊎◌, inl, inr, true≢false, eq-eqb, ne_eqb}
 use Rattle.std.specs.List.{list_any}
 use Rattle.std.proofs.lemmas.Bool.{cases_eq}
@@ -8,7 +8,7 @@ use Rattle.pif_model.specs.Word.{word_at, health_word_at}
 use Rattle.pif_model.specs.PiKernel.{Kernel, Parking, is_living}
 use Rattle.pif_model.specs.RobustList.{RobustRow, robust_at, has_entry}
 use Rattle.pif_model.specs.Table.{Table, Cell, has_thread, has_mutex, has_cond, bound_to, uses_of, status_at, line_at, library_at, cell_at}
-use Rattle.pif_model.specs.Soundness.{LineIsSound, IsQueuedLine, IsParkedLine, CellIsSound, CondIsSound, ListIsSound, ThreadIsSound, AbsentIsSound, IsShaped, SoundBut, IsSound, mutex_by, is_pending, is_half_linked, is_unlinked, is_unsettled, holds_robust}
+use Rattle.pif_model.specs.Soundness.{LineIsSound, IsQueuedLine, IsParkedLine, CellIsSound, CondIsSound, ListIsSound, ThreadIsSound, AbsentIsSound, IsShaped, SoundExcept, IsSound, mutex_by, is_pending, is_half_linked, is_unlinked, is_unsettled, holds_robust}
 use Rattle.pif_model_lemmas.proofs.Waiting.{by_test}
 use Rattle.pif_model_simulation.proofs.Kept.{Spares, Uses, unwritten, line_spared}
 
@@ -16,8 +16,8 @@ use Rattle.pif_model_simulation.proofs.Kept.{Spares, Uses, unwritten, line_spare
 abbrev pub aims : Kernel → ℕ → ℕ → Bool
 aims k c m = list_any (λ (p : Parking). if p.cond == c then p.target == m else false) k.parked
 
--- the table v in place of s, where m alone may be another mutex, and other threads than the excused ones stay
-pub record Changes (Excused : ℕ → Type 0) (s v : Table) (m : ℕ) : Type 0 where
+-- the table v in place of s, where m alone may be another mutex, and other threads than the exempt ones stay
+pub record Changes (Exempt : ℕ → Type 0) (s v : Table) (m : ℕ) : Type 0 where
   pub shape : IsShaped v
   -- both have the same threads and mutexes, and of each mutex the same kind
   pub threads : (u : ℕ) → has_thread v u ≡ has_thread s u
@@ -29,15 +29,15 @@ pub record Changes (Excused : ℕ → Type 0) (s v : Table) (m : ℕ) : Type 0 w
   -- m is sound, where it was added, and who owns it lives, where it is robust
   pub cell : has_mutex s m ≡ true → CellIsSound (has_thread s) (has_waiter v.kernel.waiters m) (cell_at v m)
   pub alive : has_mutex s m ≡ true → (cell_at v m).robust ≡ true → (cell_at v m).word.number ≢ 0
-      → (Excused (cell_at v m).word.number → ⊥)
+      → (Exempt (cell_at v m).word.number → ⊥)
       → is_living s.kernel (cell_at v m).word.number ≡ true
-  -- a thread that is not excused lives as it did, and keeps its status, its line and its robust list; what its line
+  -- a thread that is not exempt lives as it did, and keeps its status, its line and its robust list; what its line
   -- knows of m outlives the change
-  pub living : (u : ℕ) → (Excused u → ⊥) → is_living v.kernel u ≡ is_living s.kernel u
-  pub status : (u : ℕ) → (Excused u → ⊥) → status_at v u ≡ status_at s u
-  pub line : (u : ℕ) → (Excused u → ⊥) → line_at v u ≡ line_at s u
-  pub list : (u : ℕ) → (Excused u → ⊥) → robust_at v.lists u ≡ robust_at s.lists u
-  pub spares : (u : ℕ) → u ≢ 0 → (Excused u → ⊥) → Spares (is_living s.kernel) (is_living v.kernel) u (cell_at s m)
+  pub living : (u : ℕ) → (Exempt u → ⊥) → is_living v.kernel u ≡ is_living s.kernel u
+  pub status : (u : ℕ) → (Exempt u → ⊥) → status_at v u ≡ status_at s u
+  pub line : (u : ℕ) → (Exempt u → ⊥) → line_at v u ≡ line_at s u
+  pub list : (u : ℕ) → (Exempt u → ⊥) → robust_at v.lists u ≡ robust_at s.lists u
+  pub spares : (u : ℕ) → u ≢ 0 → (Exempt u → ⊥) → Spares (is_living s.kernel) (is_living v.kernel) u (cell_at s m)
       (cell_at v m)
   -- who has ended stays so
   pub ended : (u : ℕ) → has_thread s u ≡ true → is_living s.kernel u ≡ false → is_living v.kernel u ≡ false
@@ -63,7 +63,7 @@ cell_spared added added' waited waited' c d more w e h = subst (λ b. CellIsSoun
       contended = h.contended;
     }))
 
-module _ {Excused : ℕ → Type 0} {s v : Table} {m : ℕ} (h : SoundBut Excused s) (c : Changes Excused s v m) where
+module _ {Exempt : ℕ → Type 0} {s v : Table} {m : ℕ} (h : SoundExcept Exempt s) (c : Changes Exempt s v m) where
   -- a mutex is m or another
   each_cell : (n : ℕ) → has_mutex v n ≡ true → (n ≡ m) ⊎ (n ≢ m)
       → CellIsSound (has_thread v) (has_waiter v.kernel.waiters n) (cell_at v n)
@@ -77,21 +77,21 @@ module _ {Excused : ℕ → Type 0} {s v : Table} {m : ℕ} (h : SoundBut Excuse
 
   -- who owns a robust mutex lives
   each_alive : (n : ℕ) → has_mutex v n ≡ true → (n ≡ m) ⊎ (n ≢ m) → (cell_at v n).robust ≡ true
-      → (cell_at v n).word.number ≢ 0 → (Excused (cell_at v n).word.number → ⊥)
+      → (cell_at v n).word.number ≢ 0 → (Exempt (cell_at v n).word.number → ⊥)
       → is_living v.kernel (cell_at v n).word.number ≡ true
   each_alive n e (inl q) r z out =
       c.living (cell_at v n).word.number out
       ∙ subst (λ k. (cell_at v k).robust ≡ true → (cell_at v k).word.number ≢ 0
-      → (Excused (cell_at v k).word.number → ⊥) → is_living s.kernel (cell_at v k).word.number ≡ true) (sym q)
+      → (Exempt (cell_at v k).word.number → ⊥) → is_living s.kernel (cell_at v k).word.number ≡ true) (sym q)
       (c.alive (sym (c.mutexes m) ∙ ap (has_mutex v) (sym q) ∙ e)) r z out
   each_alive n e (inr d) r z out =
       c.living (cell_at v n).word.number out
-      ∙ subst (λ k. k.robust ≡ true → k.word.number ≢ 0 → (Excused k.word.number → ⊥)
+      ∙ subst (λ k. k.robust ≡ true → k.word.number ≢ 0 → (Exempt k.word.number → ⊥)
       → is_living s.kernel k.word.number ≡ true) (sym (c.cells n d))
       (h.alive n (sym (c.mutexes n) ∙ e)) r z out
 
-  -- each mutex spares a thread that is not excused
-  each_spares : (u : ℕ) → u ≢ 0 → (Excused u → ⊥) → (n : ℕ) → has_mutex s n ≡ true → (n ≡ m) ⊎ (n ≢ m)
+  -- each mutex spares a thread that is not exempt
+  each_spares : (u : ℕ) → u ≢ 0 → (Exempt u → ⊥) → (n : ℕ) → has_mutex s n ≡ true → (n ≡ m) ⊎ (n ≢ m)
       → Spares (is_living s.kernel) (is_living v.kernel) u (cell_at s n) (cell_at v n)
   each_spares u k out n e (inl q) = subst (λ j. Spares (is_living s.kernel) (is_living v.kernel) u (cell_at s j)
       (cell_at v j)) (sym q) (c.spares u k out)
@@ -106,8 +106,8 @@ module _ {Excused : ℕ → Type 0} {s v : Table} {m : ℕ} (h : SoundBut Excuse
         ended = λ r z l. ((a.ended r z l).0, c.ended (cell_at s n).word.number ((h.mutexes n e).owner z) l);
       }
 
-  -- who owns a mutex is the same, to a thread that is not excused
-  number_same : (u : ℕ) → u ≢ 0 → (Excused u → ⊥) → (n : ℕ) → has_mutex s n ≡ true
+  -- who owns a mutex is the same, to a thread that is not exempt
+  number_same : (u : ℕ) → u ≢ 0 → (Exempt u → ⊥) → (n : ℕ) → has_mutex s n ≡ true
       → ((word_at v.words n).number == u) ≡ ((word_at s.words n).number == u)
   number_same u k out n e = go (cases_eq (word_at s.words n).number u)
     where
@@ -120,7 +120,7 @@ module _ {Excused : ℕ → Type 0} {s v : Table} {m : ℕ} (h : SoundBut Excuse
       go (inr x) = ne_eqb (word_at v.words n).number u (a.other x) ∙ sym (ne_eqb (word_at s.words n).number u x)
 
   -- which robust mutexes it holds is the same
-  holds_same : (u : ℕ) → u ≢ 0 → (Excused u → ⊥) → (n : ℕ) → holds_robust v u n ≡ holds_robust s u n
+  holds_same : (u : ℕ) → u ≢ 0 → (Exempt u → ⊥) → (n : ℕ) → holds_robust v u n ≡ holds_robust s u n
   holds_same u k out n =
       ap (λ b. if b then (if (library_at v n).robust then (word_at v.words n).number == u else false) else false)
       (c.mutexes n)
@@ -131,8 +131,8 @@ module _ {Excused : ℕ → Type 0} {s v : Table} {m : ℕ} (h : SoundBut Excuse
       (has_mutex s n) (λ e _. ap (λ b. if (library_at s n).robust then b else false) (number_same u k out n e))
       (λ _ _. refl) refl
 
-  -- a robust list of a thread that is not excused stays sound
-  pub list_kept : (u : ℕ) → u ≢ 0 → (Excused u → ⊥) → ListIsSound s u (line_at s u) → ListIsSound v u (line_at s u)
+  -- a robust list of a thread that is not exempt stays sound
+  pub list_kept : (u : ℕ) → u ≢ 0 → (Exempt u → ⊥) → ListIsSound s u (line_at s u) → ListIsSound v u (line_at s u)
   list_kept u k out b = record {
     pending = ap (λ (r : RobustRow). r.pending) (c.list u out) ∙ b.pending
         ∙ sym (ap (λ a. if a then mutex_by is_pending (line_at s u) else 0)
@@ -146,7 +146,7 @@ module _ {Excused : ℕ → Type 0} {s v : Table} {m : ℕ} (h : SoundBut Excuse
   }
 
   -- what it owns stays in order
-  settled_kept : (u : ℕ) → u ≢ 0 → (Excused u → ⊥) → ThreadIsSound s u → (n : ℕ) → has_mutex v n ≡ true
+  settled_kept : (u : ℕ) → u ≢ 0 → (Exempt u → ⊥) → ThreadIsSound s u → (n : ℕ) → has_mutex v n ≡ true
       → (word_at v.words n).number ≡ u → n ≢ mutex_by is_unsettled (line_at s u)
       → ((word_at v.words n).died ≡ false) × (health_word_at v.words n ≢ 2)
   settled_kept u k out b n e own away =
@@ -182,8 +182,8 @@ module _ {Excused : ℕ → Type 0} {s v : Table} {m : ℕ} (h : SoundBut Excuse
   aimed i n (inl e) = bound_same i ∙ h.targets i n e
   aimed i n (inr e) = bound_same i ∙ e
 
-  -- such a change keeps the invariant, save for the excused threads
-  pub change_kept : SoundBut Excused v
+  -- such a change keeps the invariant, save for the exempt threads
+  pub change_kept : SoundExcept Exempt v
   change_kept = record {
     shape = c.shape;
     mutexes = λ n e. each_cell n e (cases_eq n m);
@@ -211,10 +211,10 @@ module _ {Excused : ℕ → Type 0} {s v : Table} {m : ℕ} (h : SoundBut Excuse
         );
   }
 
--- more threads may be excused
-pub excuse : {Excused : ℕ → Type 0} {s : Table} (More : ℕ → Type 0) → ((u : ℕ) → Excused u → More u)
-    → SoundBut Excused s → SoundBut More s
-excuse More f h = record {
+-- more threads may be exempt
+pub exempt_all : {Exempt : ℕ → Type 0} {s : Table} (More : ℕ → Type 0) → ((u : ℕ) → Exempt u → More u)
+    → SoundExcept Exempt s → SoundExcept More s
+exempt_all More f h = record {
   shape = h.shape;
   mutexes = h.mutexes;
   conds = h.conds;
@@ -224,7 +224,7 @@ excuse More f h = record {
   absent = λ u k out. h.absent u k (λ e. out (f u e));
 }
 
--- what an excused number has to show to be excused no more: it is a living thread and sound, or it is none, owns no
+-- what an exempt number has to show to be exempt no more: it is a living thread and sound, or it is none, owns no
 -- robust mutex and is sound
 pub data MayBeAdmitted (s : Table) (t : ℕ) : Type 0 where
   lives : is_living s.kernel t ≡ true → ThreadIsSound s t → MayBeAdmitted s t
@@ -232,10 +232,10 @@ pub data MayBeAdmitted (s : Table) (t : ℕ) : Type 0 where
       → (word_at s.words m).number ≢ 0 → (word_at s.words m).number ≡ t → ⊥)
       → AbsentIsSound s t → MayBeAdmitted s t
 
--- an excused number that may be admitted is excused no more
-pub admit : {Excused : ℕ → Type 0} {s : Table} (Fewer : ℕ → Type 0) (t : ℕ)
-    → ((u : ℕ) → Excused u → (u ≡ t) ⊎ Fewer u) → MayBeAdmitted s t → SoundBut Excused s → SoundBut Fewer s
-admit {Excused} {s} Fewer t f sound h = record {
+-- an exempt number that may be admitted is exempt no more
+pub admit : {Exempt : ℕ → Type 0} {s : Table} (Fewer : ℕ → Type 0) (t : ℕ)
+    → ((u : ℕ) → Exempt u → (u ≡ t) ⊎ Fewer u) → MayBeAdmitted s t → SoundExcept Exempt s → SoundExcept Fewer s
+admit {Exempt} {s} Fewer t f sound h = record {
   shape = h.shape;
   mutexes = h.mutexes;
   conds = h.conds;
@@ -270,13 +270,13 @@ admit {Excused} {s} Fewer t f sound h = record {
     none u k n (inl q) (gone l owns b) = subst (AbsentIsSound s) (sym q) b
     none u k n (inr d) a = h.absent u k (λ e. still u n d (f u e))
 
--- in a sound table one thread may be excused
-pub excuse_one : {s : Table} → IsSound s → (t : ℕ) → SoundBut (λ u. u ≡ t) s
-excuse_one h t = excuse (λ u. u ≡ t) (λ u e. absurd e) h.all
+-- in a sound table one thread may be exempt
+pub exempt_one : {s : Table} → IsSound s → (t : ℕ) → SoundExcept (λ u. u ≡ t) s
+exempt_one h t = exempt_all (λ u. u ≡ t) (λ u e. absurd e) h.all
 
--- the last excused thread that lives and is sound is excused no more
-pub admit_last : {s : Table} {t : ℕ} → SoundBut (λ u. u ≡ t) s → is_living s.kernel t ≡ true → ThreadIsSound s t
-    → SoundBut (λ u. ⊥) s
+-- the last exempt thread that lives and is sound is exempt no more
+pub admit_last : {s : Table} {t : ℕ} → SoundExcept (λ u. u ≡ t) s → is_living s.kernel t ≡ true → ThreadIsSound s t
+    → SoundExcept (λ u. ⊥) s
 admit_last {s} {t} h l sound = admit (λ u. ⊥) t (λ u e. inl e) (lives l sound) h
 
 -- what holds of each living thread of a sound table

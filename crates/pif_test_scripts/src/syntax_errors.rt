@@ -1,5 +1,5 @@
 use pif_text::command_of;
-use pif_text_errors::{Slip, Wrong, read_command};
+use pif_text_errors::{SyntaxError, Wrong, read_command};
 use std::process::Abort;
 
 /// A line that is no command, and what is wrong with it: the column, the word, the form and the near word.
@@ -602,21 +602,21 @@ static NUMBERS: [Row; 10] = [
     ),
 ];
 
-/// The slip of each line of a table is that of its row.
+/// The syntax error of each line of a table is that of its row.
 fn check_rows(rt: &impl Abort, rows: &'static [Row]) {
     for (line, wrong, column, word, form, near) in rows {
-        let slip = Slip {
+        let syntax_error = SyntaxError {
             wrong: *wrong,
             column: *column,
             word: word.as_bytes(),
             form: *form,
             near: *near,
         };
-        let is_slip = match read_command(line.as_bytes()) {
+        let is_syntax_error = match read_command(line.as_bytes()) {
             Ok(_) => false,
-            Err(found) => found == slip,
+            Err(found) => found == syntax_error,
         };
-        assert!(rt; is_slip, "{line:?}");
+        assert!(rt; is_syntax_error, "{line:?}");
     }
 }
 
@@ -716,8 +716,9 @@ fn a_word_too_many_is_found_behind_each_command(rt: HostRuntime) {
     for longer in &LONGER {
         let is_found = match read_command(longer.as_bytes()) {
             Ok(_) => false,
-            Err(slip) => {
-                slip.word == b"x".as_slice() && matches!(slip.wrong, Wrong::TooMany | Wrong::NoWord)
+            Err(syntax_error) => {
+                syntax_error.word == b"x".as_slice()
+                    && matches!(syntax_error.wrong, Wrong::TooMany | Wrong::NoWord)
             }
         };
         assert!(rt; is_found, "{longer:?}");

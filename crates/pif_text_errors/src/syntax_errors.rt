@@ -1,11 +1,11 @@
 ghost use Rattle.std.specs.Prelude.{◌≤◌, length};
-ghost use Rattle.pif_text_errors.specs.Slips.{IsIn};
+ghost use Rattle.pif_text_errors.specs.SyntaxErrors.{IsIn};
 
 use crate::Wrong;
 
-/// The first slip of a line that is no command.
+/// The first syntax error of a line that is no command.
 #[derive(Clone, Copy, PartialEq, Eq)]
-pub struct Slip<'a> {
+pub struct SyntaxError<'a> {
     /// What is wrong.
     pub wrong: Wrong,
     /// The column where it is wrong: that of the byte, from 1. One more than the line has bytes, where the line ends
@@ -33,19 +33,19 @@ pub fn end_of_word(line: &[u8], place: usize) -> usize
     line.len()
 }
 
-/// The slip at a place of a line, which is counted from 0, in a command of this form.
-pub fn slip_at<'a>(
+/// The syntax error at a place of a line, which is counted from 0, in a command of this form.
+pub fn syntax_error_at<'a>(
     line: &'a [u8],
     place: usize,
     wrong: Wrong,
     form: Option<&'static str>,
     near: Option<&'static str>,
-) -> Slip<'a>
+) -> SyntaxError<'a>
     requires { place ≤ length line.now }
     ensures { IsIn line.now result }
 {
     let end = end_of_word(line, place);
-    Slip {
+    SyntaxError {
         wrong,
         column: place + 1,
         word: &line[place..end],
