@@ -11,7 +11,8 @@ without a library, is named as such and in no sum; the status is then 1. It is n
 the sums, and the longest chain: the crates that have to be proved one after the other, with the tests or edits of the last.
 
 With `--since COMMIT` two clones are made, of that commit and of HEAD, and each part is measured in one right after the
-other, so that what else the machine does falls on both alike.
+other, so that what else the machine does falls on both alike. Crates that were renamed or merged since are measured
+under the names that they had (RENAMED). An `rt` that has no seeded edits tries those of a crate by `rt must-fail` at once.
 
 What the toolchain says goes to standard error, the figures to standard output. The clock of a machine differs by two from
 day to day and with what else runs, so compare figures of one sitting on a quiet machine.
@@ -29,6 +30,41 @@ import tempfile
 
 PARTS = ("proof", "tests", "edits")
 MEASURED = re.compile(r"(\w+) (proof|tests|edits): ([0-9.]+) s$")
+# The names that crates had before they were named by layers; several were merged into one.
+RENAMED = {
+    "pif_model_lemmas": ["pif_chains"],
+    "pif_model_simulation": ["pif_simulation", "pif_calls"],
+    "pif_nodes_model": ["pif_lists"],
+    "pif_kernel_model": ["pif_owners", "pif_kernel_state"],
+    "pif_kernel": ["pif_kernel", "pif_kernel_chains", "pif_kernel_steps", "pif_kernel_refusals"],
+    "pif_kernel_linked": ["pif_linked"],
+    "pif_core_callers": ["pif_uses"],
+    "pif_text_errors": ["pif_slips"],
+    "pif_text_core": ["pif_show"],
+    "pif_script": ["pif_reading"],
+    "pif_story": ["pif_story_texts"],
+    "pif_story_drawing": ["pif_drawing"],
+    "pif_job_trace": ["pif_scripts"],
+    "pif_job_replay": ["pif_replays"],
+    "pif_job_show": ["pif_shows"],
+    "pif_job_check": ["pif_stories"],
+    "pif_job_draw": ["pif_pictures"],
+    "pif_job_random": ["pif_random"],
+    "pif_job_shell": ["pif_sessions", "pif_shell"],
+    "pif_job_drive": ["pif_drive"],
+    "pif_cli_words": ["pif_arguments"],
+    "pif_test_foundation": ["pif_foundation_tests"],
+    "pif_test_quick": ["pif_quick_tests"],
+    "pif_test_calls": ["pif_call_tests"],
+    "pif_test_core": ["pif_core_tests"],
+    "pif_test_desk": ["pif_thread_tests"],
+    "pif_test_scripts": ["pif_script_tests"],
+    "pif_test_drive": ["pif_drive_tests"],
+    "pif_test_jobs": ["pif_program_tests"],
+    "pif_test_cli": ["pif_cli_tests"],
+    "pif_test_blocks": ["pif_blocks"],
+    "pif_test_transcripts": ["pif_transcripts"],
+}
 
 
 def load_rt():
@@ -87,6 +123,8 @@ class Sitting:
 
     def edits(self, crate, wanted):
         """Tries a crate's edits as the gate does: each over what one more check of the crate proved."""
+        if not hasattr(self.rt, "seeded"):
+            return self.edits_at_once(crate)
         room = self.rt.seeded(crate, self.jobs)
         if not room:
             return "the check that its edits begin with did not end well"
@@ -109,6 +147,11 @@ class Sitting:
         finally:
             shutil.rmtree(room, ignore_errors=True)
         return f"not refused: {', '.join(bad)}" if bad else None
+
+    def edits_at_once(self, crate):
+        """Tries all edits of a crate by `rt must-fail`, for an `rt` that has no seeded edits."""
+        done = subprocess.run(["rt", "must-fail"], cwd=crate.folder, stdout=sys.stderr, check=False)
+        return "rt must-fail says that not all are refused" if done.returncode else None
 
     def crate(self, crate, parts, wanted):
         os.makedirs(os.path.join(crate.folder, "out"), exist_ok=True)
@@ -176,15 +219,26 @@ def measured(clone, name, chosen):
     return found, [line for line in done.stdout.splitlines() if "NOT" in line]
 
 
+def names_before(name, old):
+    """The names under which the older clone has what this crate is now."""
+    return [it for it in RENAMED.get(name, [name]) if it in old] or [it for it in [name] if it in old]
+
+
 def in_turn(old, new):
     """The crates of both clones, each as often as it stands in one; those of the older clone that are gone in their place."""
-    gone = [name for name in old if name not in new]
+    went_on = {it for name in new for it in names_before(name, old)}
     order = list(new)
-    for name in gone:
+    for name in (it for it in old if it not in went_on):
         before = old[: old.index(name)]
         place = max((order.index(other) + 1 for other in before if other in order), default=0)
         order.insert(place, name)
     return order
+
+
+def added(costs):
+    """The figures of several crates as those of one."""
+    parts = dict.fromkeys(part for found, _ in costs for part in found)
+    return {part: sum(found.get(part, 0.0) for found, _ in costs) for part in parts}, [line for _, bad in costs for line in bad]
 
 
 def compare(chosen):
@@ -196,8 +250,9 @@ def compare(chosen):
         sums, failed = [dict.fromkeys(PARTS, 0.0) for _ in clones], []
         for name in chosen.crates or in_turn(*there):
             costs = []
-            for clone, names, total in zip(clones, there, sums):
-                found, bad = measured(clone, name, chosen) if name in names else ({}, [])
+            named = names_before(name, there[0]), [name] if name in there[1] else []
+            for clone, names, total in zip(clones, named, sums):
+                found, bad = added([measured(clone, it, chosen) for it in names])
                 failed += [f"{os.path.basename(clone)}: {line.strip()}" for line in bad]
                 costs.append(found)
                 for part, seconds in found.items():

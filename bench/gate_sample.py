@@ -2,14 +2,17 @@
 """Runs `rt ci` in this clone and prints, once it has ended, the processor seconds of each crate's proof, tests and edits.
 
     cd the top of a clean clone && python3 bench/gate_sample.py [LOG]      LOG is where the gate's own output goes (gate.log)
+    python3 bench/gate_sample.py --below PID     samples what PID starts until SIGTERM comes; .ci/run does this beside `rt ci`
 
 Once a second it reads what each process of the prover has spent so far, and adds it to the crate and part that the
 process works for; what a process spends in its last second is lost, and so are linking and the runs of programs. It judges
-nothing; the status is that of `rt ci`. bench/gate_cost.py measures one part after the other, which takes hours.
+nothing; the status is that of `rt ci`. `--below` prints the sums and the ten dearest parts alone. bench/gate_cost.py
+measures one part after the other, which takes hours.
 """
 
 import os
 import re
+import signal
 import subprocess
 import sys
 import time
@@ -71,26 +74,68 @@ def sample(root, spent, parts):
         spent[pid] = seconds
 
 
+class Sums:
+    """What the processes below one have spent, by crate and part."""
+
+    def __init__(self):
+        self.spent, self.parts, self.start = {}, {}, time.monotonic()
+
+    def sample(self, root):
+        sample(root, self.spent, self.parts)
+
+    def each(self):
+        """The processor seconds of each crate's parts."""
+        sums = {}
+        for pid, part in self.parts.items():
+            sums[part] = sums.get(part, 0) + self.spent[pid]
+        return sums
+
+    def whole(self):
+        """The processor minutes of each part, and all together, in one line."""
+        sums = self.each()
+        minutes = {part: sum(it for (_, other), it in sums.items() if other == part) / 60 for part in PARTS}
+        wall = (time.monotonic() - self.start) / 60
+        each = ", ".join(f"{part} {minutes[part]:.1f}" for part in PARTS)
+        return f"processor minutes: {each}, together {sum(minutes.values()):.1f}; wall {wall:.1f} minutes"
+
+
+def watch(root):
+    """Samples what this process starts until SIGTERM comes, and prints the sums and the ten dearest parts."""
+    ended = []
+    signal.signal(signal.SIGTERM, lambda *_: ended.append(True))
+    sums = Sums()
+    while not ended:
+        sums.sample(root)
+        time.sleep(1)
+    dearest = sorted(sums.each().items(), key=lambda it: -it[1])[:10]
+    print(sums.whole())
+    for (crate, part), seconds in dearest:
+        print(f"{crate} {part}: {seconds:.0f} s")
+    return 0
+
+
+def gate(log):
+    """Runs `rt ci`, its output to this file, and prints what each crate cost. The status is that of `rt ci`."""
+    sums = Sums()
+    with open(log, "w", encoding="utf-8") as output:
+        run = subprocess.Popen(["rt", "ci"], stdout=output, stderr=subprocess.STDOUT)
+        while run.poll() is None:
+            sums.sample(run.pid)
+            time.sleep(1)
+    each = sums.each()
+    for crate in dict.fromkeys(crate for crate, _ in each):
+        print(f"{crate}: " + ", ".join(f"{part} {each.get((crate, part), 0):.0f} s" for part in PARTS))
+    print(sums.whole())
+    return run.returncode
+
+
 def main():
     if sys.argv[1:] in (["-h"], ["--help"]):
         print(__doc__, end="")
         return 0
-    log = sys.argv[1] if len(sys.argv) > 1 else "gate.log"
-    spent, parts, start = {}, {}, time.monotonic()
-    with open(log, "w", encoding="utf-8") as output:
-        gate = subprocess.Popen(["rt", "ci"], stdout=output, stderr=subprocess.STDOUT)
-        while gate.poll() is None:
-            sample(gate.pid, spent, parts)
-            time.sleep(1)
-    sums = {}
-    for pid, part in parts.items():
-        sums[part] = sums.get(part, 0) + spent[pid]
-    for crate in dict.fromkeys(crate for crate, _ in sums):
-        print(f"{crate}: " + ", ".join(f"{part} {sums.get((crate, part), 0):.0f} s" for part in PARTS))
-    each = {part: sum(seconds for (_, other), seconds in sums.items() if other == part) / 60 for part in PARTS}
-    print("processor minutes: " + ", ".join(f"{part} {each[part]:.1f}" for part in PARTS), end="")
-    print(f", together {sum(each.values()):.1f}; wall {(time.monotonic() - start) / 60:.1f} minutes")
-    return gate.returncode
+    if sys.argv[1:2] == ["--below"]:
+        return watch(int(sys.argv[2]))
+    return gate(sys.argv[1] if len(sys.argv) > 1 else "gate.log")
 
 
 if __name__ == "__main__":
