@@ -15,7 +15,7 @@ other, so that what else the machine does falls on both alike. Crates that were 
 under the names that they had (RENAMED). An `rt` that has no seeded edits tries those of a crate by `rt must-fail` at once.
 
 What the toolchain says goes to standard error, the figures to standard output. The clock of a machine differs by two from
-day to day and with what else runs, so compare figures of one sitting on a quiet machine.
+day to day and with what else runs, so compare figures of one measurement on a quiet machine.
 """
 import argparse
 import importlib.machinery

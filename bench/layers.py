@@ -1,7 +1,7 @@
 #!/usr/bin/env python3
 """Prints the figures of single layers of docs/COSTS.md: it runs each benchmark of a single layer several times,
 41 by default, all of them in turn, and prints of each the median with the least and the greatest, and how many pairs of
-bare compare-exchanges of the same sitting the median is. It judges nothing.
+bare compare-exchanges of the same measurement the median is. It judges nothing.
 
     bench/layers.py [TIMES [PROGRAM]]     once `rt run` has built pif_bench; PROGRAM is crates/pif_bench/out/pif_bench
 """
