@@ -88,7 +88,7 @@ def processor_seconds():
     return usage.ru_utime + usage.ru_stime
 
 
-class Sitting:
+class Measurement:
     """One run over some crates; keeps the sums, and which parts could not be measured."""
 
     def __init__(self, rt, jobs, figures):
@@ -289,12 +289,12 @@ def main():
     unknown = [name for name in chosen.crates if name not in crates]
     if unknown:
         sys.exit(f"gate_cost: crates.txt has no {', '.join(unknown)}")
-    sitting = Sitting(rt, chosen.jobs, figures)
+    measurement = Measurement(rt, chosen.jobs, figures)
     wanted = tuple(filter(None, chosen.edits.split(",")))
     for name in chosen.crates or crates:
-        sitting.crate(crates[name], chosen.parts.split(","), wanted)
-    sitting.total()
-    return 1 if sitting.failed else 0
+        measurement.crate(crates[name], chosen.parts.split(","), wanted)
+    measurement.total()
+    return 1 if measurement.failed else 0
 
 
 sys.exit(main())

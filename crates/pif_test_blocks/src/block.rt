@@ -1,4 +1,5 @@
-//! A block of a transcript: one job, with what it reads and what it has to answer. docs/TRANSCRIPTS.md has its lines.
+//! A block of a transcript: one job, with what it reads and what it has to answer. The page of
+//! `pif_test_transcripts` has its lines.
 
 use crate::marks::{keep_escaped, keep_line, keep_words, mark_of};
 use crate::streams::Kept;

@@ -1,5 +1,5 @@
 //! The blocks of transcripts: what one says of a job, by its lines, and the streams between which the job is done.
-//! docs/TRANSCRIPTS.md has the lines. `pif_test_transcripts` does the jobs.
+//! The page of `pif_test_transcripts` has the lines, and that crate does the jobs.
 #![tactic(auto)]
 
 mod block;

@@ -11,7 +11,7 @@
 //! | `jobs` | none: what the others have done between two streams |
 //!
 //! `stories` tests `show_story` of `pif_job_show` and `trace_story` of `pif_job_trace` too, and `shells` the sessions
-//! of `pif_job_shell`. What words and an input can ask is a transcript (docs/TRANSCRIPTS.md).
+//! of `pif_job_shell`. What words and an input can ask is a transcript of `pif_test_transcripts`.
 #![tactic(auto)]
 
 #[cfg(test)]

@@ -9,7 +9,7 @@
 //! | `jobs` | none: what the others have done between two streams |
 //!
 //! `scripts` tests `pif_script`, `pif_job_replay` and `pif_job_trace`. What words and an input can ask is a transcript
-//! (docs/TRANSCRIPTS.md).
+//! of `pif_test_transcripts`.
 #![tactic(auto)]
 
 #[cfg(test)]

@@ -621,32 +621,32 @@ fn check_rows(rt: &impl Abort, rows: &'static [Row]) {
 }
 
 #[test]
-fn slips_of_bytes_are_found(rt: HostRuntime) {
+fn syntax_errors_of_bytes_are_found(rt: HostRuntime) {
     check_rows(&rt, &BYTES);
 }
 
 #[test]
-fn slips_of_commands_are_found(rt: HostRuntime) {
+fn syntax_errors_of_commands_are_found(rt: HostRuntime) {
     check_rows(&rt, &COMMANDS);
 }
 
 #[test]
-fn slips_of_words_are_found(rt: HostRuntime) {
+fn syntax_errors_of_words_are_found(rt: HostRuntime) {
     check_rows(&rt, &WORDS);
 }
 
 #[test]
-fn slips_of_ends_are_found(rt: HostRuntime) {
+fn syntax_errors_of_ends_are_found(rt: HostRuntime) {
     check_rows(&rt, &ENDS);
 }
 
 #[test]
-fn slips_of_names_are_found(rt: HostRuntime) {
+fn syntax_errors_of_names_are_found(rt: HostRuntime) {
     check_rows(&rt, &NAMES);
 }
 
 #[test]
-fn slips_of_numbers_are_found(rt: HostRuntime) {
+fn syntax_errors_of_numbers_are_found(rt: HostRuntime) {
     check_rows(&rt, &NUMBERS);
 }
 
