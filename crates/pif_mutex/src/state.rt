@@ -30,8 +30,8 @@ pub(crate) const INCONSISTENT: u32 = 1;
 /// The health word of a robust mutex that is unusable.
 pub(crate) const UNUSABLE: u32 = 2;
 
-/// The lines and timers, the time, what the library knows of mutexes and of condition variables, the words, the robust
-/// lists and the kernel, between two accesses of an event.
+/// What an event changes between two of its accesses: the words, the kernel and the robust lists. It has each thread's
+/// line and timer, what the library knows of mutexes and of condition variables, and the time.
 #[derive(Drop)]
 pub struct State<K: PiKernel + Drop> {
     limits: Limits,
