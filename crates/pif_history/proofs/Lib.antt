@@ -1,5 +1,5 @@
 mod Lines
-mod Listing
+pub mod Listing
 mod Numbers
 mod Settling
 mod Telling
