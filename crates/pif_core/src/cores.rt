@@ -113,6 +113,7 @@ impl Core {
     /// was never added. A tick, which belongs to no thread, is refused, by `Past`, where it would set the time back. A
     /// thread may end at any point, with a call open or not. A call that is open closes or waits within 24 steps of its
     /// thread, where no other event comes between.
+    #[inline(always)]
     pub fn step(&mut self, event: Event) -> Seen
         ensures seen { result ≡ (event_outcome event self.old).seen }
         ensures after { self.new ≡ (event_outcome event self.old).after }
