@@ -1,12 +1,17 @@
-/* Nanoseconds of an event through the library, and of an uncontended pair, lock and unlock, by whole calls: the median of
-   many short rounds, of which a busy machine spoils few. */
+/* Nanoseconds of an event through the library, and of an uncontended pair, lock and unlock, by whole calls: the least of
+   many short rounds, to which the machine adds least of its own, and their median.
+
+       bench [ROUNDS]      1001 by default; the status is 1 if that is no number, or a core can't be made */
 #include <stdio.h>
 #include <stdlib.h>
 #include <time.h>
 
 #include "pif.h"
 
-enum { ROUNDS = 1001, TIMES = 2000 };
+enum { ROUNDS = 1001, MOST_ROUNDS = 100000, TIMES = 500 };
+
+/* One round on thread 1 and mutex 1: nanoseconds of one event, or of one pair. */
+typedef double round_of(pif_core *core);
 
 static double now(void)
 {
@@ -16,41 +21,34 @@ static double now(void)
     return (double)time.tv_sec * 1e9 + (double)time.tv_nsec;
 }
 
-/* The events of a pair, one by one: how many there were. */
-static unsigned long pair_by_events(pif_core *core, uint32_t thread, uint32_t mutex)
+/* A call by single events: how many there were. */
+static unsigned long events_of(pif_core *core, pif_request request)
 {
     unsigned long events = 2;
 
-    pif_begin(core, thread, pif_lock(mutex));
-    while (pif_go(core, thread).what == PIF_WENT)
+    pif_begin(core, 1, request);
+    while (pif_go(core, 1).what == PIF_WENT)
         events++;
-    events++;
-    pif_begin(core, thread, pif_unlock(mutex));
-    while (pif_go(core, thread).what == PIF_WENT)
-        events++;
-    return events + 1;
+    return events;
 }
 
-/* One round: nanoseconds of one event, or of one pair. */
-typedef double round_of(pif_core *core, uint32_t thread, uint32_t mutex);
-
-static double event(pif_core *core, uint32_t thread, uint32_t mutex)
+static double event(pif_core *core)
 {
     unsigned long events = 0;
     double began = now();
 
     for (int i = 0; i < TIMES; i++)
-        events += pair_by_events(core, thread, mutex);
+        events += events_of(core, pif_lock(1)) + events_of(core, pif_unlock(1));
     return (now() - began) / (double)events;
 }
 
-static double pair(pif_core *core, uint32_t thread, uint32_t mutex)
+static double pair(pif_core *core)
 {
     double began = now();
 
     for (int i = 0; i < TIMES; i++) {
-        pif_call(core, thread, pif_lock(mutex));
-        pif_call(core, thread, pif_unlock(mutex));
+        pif_call(core, 1, pif_lock(1));
+        pif_call(core, 1, pif_unlock(1));
     }
     return (now() - began) / TIMES;
 }
@@ -62,28 +60,32 @@ static int compare(const void *one, const void *other)
     return (first > second) - (first < second);
 }
 
-static void print_median(const char *name, round_of *round, pif_core *core, uint32_t thread, uint32_t mutex)
+/* Measures so many rounds on a core of one thread and one mutex. False where there is no core. */
+static bool measure(const char *name, round_of *round, bool robust, long rounds)
 {
-    static double took[ROUNDS];
-
-    for (int i = 0; i < ROUNDS; i++)
-        took[i] = round(core, thread, mutex);
-    qsort(took, ROUNDS, sizeof took[0], compare);
-    printf("%s %.1f ns (%.1f to %.1f)\n", name, took[ROUNDS / 2], took[0], took[ROUNDS - 1]);
-}
-
-int main(void)
-{
+    static double took[MOST_ROUNDS];
     pif_core core = {0};
 
-    if (pif_core_new(&core, 64, 64, 1, 1) != PIF_OK)
-        return 1;
-    uint32_t thread = pif_add_thread(&core, 10).number;
-    uint32_t stalled = pif_add_mutex(&core, PIF_NORMAL, false).number;
-    uint32_t robust = pif_add_mutex(&core, PIF_NORMAL, true).number;
-    print_median("event", event, &core, thread, stalled);
-    print_median("pair", pair, &core, thread, stalled);
-    print_median("robust pair", pair, &core, thread, robust);
+    if (pif_core_new(&core, 1, 1, 0, 1) != PIF_OK)
+        return false;
+    pif_add_thread(&core, 10);
+    pif_add_mutex(&core, PIF_NORMAL, robust);
+    for (long i = 0; i < rounds; i++)
+        took[i] = round(&core);
     pif_core_free(&core);
-    return 0;
+    qsort(took, (size_t)rounds, sizeof took[0], compare);
+    printf("%s: %.1f ns, median %.1f ns\n", name, took[0], took[rounds / 2]);
+    return true;
+}
+
+int main(int count, char **words)
+{
+    long rounds = count > 1 ? strtol(words[1], NULL, 10) : ROUNDS;
+
+    if (rounds < 1 || rounds > MOST_ROUNDS)
+        return 1;
+    return measure("event", event, false, rounds) && measure("stalled_pair", pair, false, rounds)
+                   && measure("robust_pair", pair, true, rounds)
+               ? 0
+               : 1;
 }

@@ -87,7 +87,9 @@ static void events_are_refused(void)
     SEEN(pif_begin(&core, 2, pif_lock(1)), PIF_REFUSED, PIF_NO_SUCH);
     SEEN(pif_begin(&core, 1, pif_lock(2)), PIF_REFUSED, PIF_NO_SUCH);
     SEEN(pif_call(&core, 1, pif_signal(1)), PIF_REFUSED, PIF_NO_SUCH);
+    SEEN(pif_call(&core, 2, pif_lock(1)), PIF_REFUSED, PIF_NO_SUCH);
     SEEN(pif_go(&core, 2), PIF_REFUSED, PIF_NO_SUCH);
+    SEEN(pif_finish(&core, 2), PIF_REFUSED, PIF_NO_SUCH);
     SEEN(pif_go(&core, 1), PIF_REFUSED, PIF_IDLE);
     SEEN(pif_finish(&core, 1), PIF_REFUSED, PIF_IDLE);
     SEEN(pif_begin(&core, 1, pif_lock(1)), PIF_BEGUN, 0);
@@ -102,6 +104,8 @@ static void events_are_refused(void)
     SEEN(pif_end(&core, 1), PIF_REFUSED, PIF_DEAD);
     SEEN(pif_begin(&core, 1, pif_lock(1)), PIF_REFUSED, PIF_DEAD);
     SEEN(pif_go(&core, 1), PIF_REFUSED, PIF_DEAD);
+    SEEN(pif_call(&core, 1, pif_lock(1)), PIF_REFUSED, PIF_DEAD);
+    SEEN(pif_finish(&core, 1), PIF_REFUSED, PIF_DEAD);
     pif_core_free(&core);
 }
 
@@ -116,6 +120,8 @@ static void holder_is_boosted_until_it_unlocks(void)
     NUMBER(pif_add_mutex(&core, PIF_NORMAL, false), PIF_OK, 1);
     SEEN(pif_call(&core, 1, pif_lock(1)), PIF_ANSWERED, PIF_DONE);
     SEEN(pif_call(&core, 2, pif_lock(1)), PIF_WAITS, 0);
+    SEEN(pif_go(&core, 2), PIF_WAITS, 0);
+    SEEN(pif_finish(&core, 2), PIF_WAITS, 0);
     NUMBER(pif_word(&core, 1), PIF_OK, PIF_WAITERS | 1);
     NUMBER(pif_effective(&core, 1), PIF_OK, 50);
     NUMBER(pif_waiting(&core, 2), PIF_OK, 1);

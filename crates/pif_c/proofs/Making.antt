@@ -4,14 +4,15 @@ use Rattle.std.specs.Prelude.{is_some}
 use Rattle.pif_types.specs.Bounds.{Bounds, IsWithin}
 use Rattle.pif_model.specs.Table.{Table, new_table}
 use Rattle.pif_c.specs.Numbers.{invalid, full, no_memory}
-use Rattle.pif_c.specs.Asking.{IsMade}
-use Rattle.pif_c.specs.Asking.IsMade.{made, none_left, not_within, there}
+use Rattle.pif_model_simulation.proofs.StandingLaws.{new_stands}
+use Rattle.pif_c.specs.Standing.{IsMade}
+use Rattle.pif_c.specs.Standing.IsMade.{made, none_left, not_within, there}
 
 pub made_on : (l : Bounds) (before after : Option Table) (core : Table) → before ≡ None → after ≡ Some core
     → core ≡ new_table l → IsWithin l → IsMade l before after 0
 made_on l before after core empty holds is within =
     subst (λ (b : Option Table). IsMade l b after 0) (sym empty)
-    (subst (λ (a : Option Table). IsMade l None a 0) (sym (holds ∙ ap Some is)) (made within))
+    (subst (λ (a : Option Table). IsMade l None a 0) (sym (holds ∙ ap Some is)) (made within (new_stands l within)))
 
 pub none_left_on : (l : Bounds) (before : Option Table) → before ≡ None → IsWithin l → IsMade l before before no_memory
 none_left_on l before empty within =

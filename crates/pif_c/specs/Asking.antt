@@ -1,9 +1,8 @@
 -- What a handle answers to what C asks: what its core answers, where it holds one and the numbers name something.
 use Rattle.std.specs.Prelude.{ℕ, ◌≡◌, ◌==◌, Bool, Option, Some, None, option_map, Result, if◌then◌else◌}
 use Rattle.pif_types.specs.declared.errors.AddFault.{AddFault}
-use Rattle.pif_types.specs.Bounds.{Bounds, IsWithin}
 use Rattle.pif_model.specs.declared.events.Event.TheVariants.{Begin, Go, End, Tick}
-use Rattle.pif_model.specs.Table.{Table, new_table}
+use Rattle.pif_model.specs.Table.{Table}
 use Rattle.pif_model.specs.Lines.{Outcome, event_outcome}
 use Rattle.pif_model.specs.Calls.{add_thread_answer, add_thread_after, add_mutex_answer, add_mutex_after, add_cond_answer, add_cond_after, effective_answer, waiting_answer, word_answer, health_answer, cond_word_answer, pick_answer, owner_answer, status_answer}
 use Rattle.pif_model_simulation.specs.Calls.{call_outcome, finish_outcome}
@@ -18,7 +17,7 @@ use Rattle.pif_c.specs.declared.numbers.PifNumber.{PifNumber}
 use Rattle.pif_c.specs.declared.numbers.PifOwned.{PifOwned}
 use Rattle.pif_c.specs.declared.numbers.PifDoing.{PifDoing}
 use Rattle.pif_c.specs.declared.numbers.PifRequest.{PifRequest}
-use Rattle.pif_c.specs.Numbers.{where_named, request_of, kind_of, seen_reported, nothing_seen, unnamed_seen, number_told, owner_told, status_told, added_told, health_number, no_core, invalid, full, no_memory}
+use Rattle.pif_c.specs.Numbers.{where_named, request_of, kind_of, seen_reported, nothing_seen, unnamed_seen, number_told, owner_told, status_told, added_told, health_number, no_core, invalid}
 
 -- TURNS
 
@@ -92,7 +91,7 @@ abbrev pub status_shown : ℕ → Option Table → PifDoing
 status_shown t None = record { result = no_core; state = 0; waits_for = 0 }
 status_shown t (Some s) = status_told (status_answer t s)
 
--- CORES
+-- ADDITIONS
 
 -- what an addition is answered by a core, and the core after it
 abbrev pub added : Addition → Table → Result ℕ AddFault
@@ -116,19 +115,6 @@ add_after x None = None
 add_after None (Some s) = Some s
 add_after (Some x) (Some s) = Some (added_after x s)
 
--- an addition to what a handle holds: the answer, and what it holds then
-pub record Adds (x : Option Addition) (before after : Option Table) (told : PifNumber) : Type 0 where
-  pub answer : told ≡ add_told x before
-  pub next : after ≡ add_after x before
-
 -- the addition of a mutex of the kind that has this number
 abbrev pub mutex_of : ℕ → Bool → Option Addition
 mutex_of kind robust = option_map (λ k. Mutex k robust) (kind_of kind)
-
--- a new core under these limits, on what a handle held: what it holds then, and the result. It is refused where there
--- is a core already, or a limit is outside its range; where the heap refuses a request there is no core
-pub data IsMade (l : Bounds) : Option Table → Option Table → ℕ → Type 0 where
-  made : IsWithin l → IsMade l None (Some (new_table l)) 0
-  none_left : IsWithin l → IsMade l None None no_memory
-  not_within : (IsWithin l → ⊥) → IsMade l None None invalid
-  there : (s : Table) → IsMade l (Some s) (Some s) full

@@ -1,7 +1,8 @@
 ghost use Rattle.std.specs.Prelude.{◌≡◌, ℕ, Option, Some, None, Result};
 ghost use Rattle.pif_types.specs.declared.errors.AddFault.{AddFault};
 ghost use Rattle.pif_c.specs.Handles.{held};
-ghost use Rattle.pif_c.specs.Asking.{added, added_after, add_told, add_after, Adds, mutex_of};
+ghost use Rattle.pif_c.specs.Asking.{added, added_after, add_told, add_after, mutex_of};
+ghost use Rattle.pif_c.specs.Standing.{Adds};
 
 use crate::handles::PifCore;
 use crate::numbers::{PifNumber, added_told, kind_of};
@@ -70,6 +71,7 @@ fn add(core: &mut Core, asked: Option<Addition>) -> PifNumber
 }
 
 /// An addition to the core that a handle holds.
+#[tactic(auto, using(crate::proofs::Keeping::added_keeps_after))]
 fn add_on(alloc: Global, handle: &mut PifCore, asked: Option<Addition>) -> PifNumber
     ensures { Adds asked (held handle.old) (held handle.new) result }
 {

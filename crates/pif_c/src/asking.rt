@@ -38,6 +38,7 @@ pub enum Look {
 }
 
 /// A turn of a core: what was seen.
+#[inline(always)]
 fn take_turn(core: &mut Core, turn: Turn) -> Seen
     ensures seen { result ≡ (outcome_of turn core.old).seen }
     ensures after { core.new ≡ (outcome_of turn core.old).after }
@@ -50,6 +51,7 @@ fn take_turn(core: &mut Core, turn: Turn) -> Seen
 }
 
 /// A turn of the core that a handle holds, where the numbers name one.
+#[inline(always)]
 #[tactic(auto, using(crate::proofs::Keeping::keeps_after))]
 pub(crate) fn turn_on(alloc: Global, handle: &mut PifCore, asked: Option<Turn>) -> PifSeen
     ensures { Turns asked (held handle.old) (held handle.new) result }
@@ -65,6 +67,7 @@ pub(crate) fn turn_on(alloc: Global, handle: &mut PifCore, asked: Option<Turn>) 
 }
 
 /// A turn of a core, where the numbers name one.
+#[inline(always)]
 fn told_turn(core: &mut Core, asked: Option<Turn>) -> PifSeen
     ensures answer { result ≡ turn_told asked (Some core.old) }
     ensures after { Some core.new ≡ turn_after asked (Some core.old) }

@@ -1,7 +1,7 @@
 ghost use Rattle.std.specs.Prelude.{◌≡◌, None, IfSome};
 ghost use Rattle.pif_model.specs.Table.{new_table};
 ghost use Rattle.pif_c.specs.Handles.{held};
-ghost use Rattle.pif_c.specs.Asking.{IsMade};
+ghost use Rattle.pif_c.specs.Standing.{IsMade};
 
 use crate::handles::PifCore;
 use pif_core::Core;

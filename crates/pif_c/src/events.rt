@@ -10,6 +10,7 @@ use pif_core::Event;
 use pif_types::Tid;
 use std::alloc::Global;
 
+#[inline(always)]
 fn begin_of(thread: u32, request: PifRequest) -> Option<Turn>
     ensures { result ≡ begin_of thread request }
 {
@@ -18,6 +19,7 @@ fn begin_of(thread: u32, request: PifRequest) -> Option<Turn>
     Some(Turn::Event(Event::Begin(thread, request)))
 }
 
+#[inline(always)]
 fn call_of(thread: u32, request: PifRequest) -> Option<Turn>
     ensures { result ≡ call_of thread request }
 {
@@ -26,18 +28,21 @@ fn call_of(thread: u32, request: PifRequest) -> Option<Turn>
     Some(Turn::Call(thread, request))
 }
 
+#[inline(always)]
 fn go_of(thread: u32) -> Option<Turn>
     ensures { result ≡ go_of thread }
 {
     Some(Turn::Event(Event::Go(Tid::new(thread)?)))
 }
 
+#[inline(always)]
 fn end_of(thread: u32) -> Option<Turn>
     ensures { result ≡ end_of thread }
 {
     Some(Turn::Event(Event::End(Tid::new(thread)?)))
 }
 
+#[inline(always)]
 fn finish_of(thread: u32) -> Option<Turn>
     ensures { result ≡ finish_of thread }
 {

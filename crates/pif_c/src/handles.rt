@@ -1,4 +1,4 @@
-ghost use Rattle.std.specs.Prelude.{◌≡◌, Some, None, option_map, if◌then◌else◌};
+ghost use Rattle.std.specs.Prelude.{◌≡◌, false, Some, None, option_map, if◌then◌else◌};
 
 use crate::loose::Loose;
 use pif_core::Core;
@@ -13,6 +13,7 @@ pub struct PifCore {
 
 impl PifCore {
     /// The core that it holds.
+    #[inline(always)]
     pub(crate) fn into_core(self) -> Option<Box<Core>>
         ensures { option_map (λ core. core.value) result ≡ (if self.full then Some self.loose.table else None) }
     {
@@ -23,6 +24,15 @@ impl PifCore {
             loose.let_go();
             None
         }
+    }
+
+    /// Lets it go, where it holds no core.
+    #[inline(always)]
+    pub(crate) fn let_go(self)
+        requires { self.full ≡ false }
+    {
+        let PifCore { loose, full: _ } = self;
+        loose.let_go();
     }
 }
 

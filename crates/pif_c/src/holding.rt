@@ -8,6 +8,7 @@ use std::alloc::Global;
 
 impl PifCore {
     /// A handle that holds no core.
+    #[inline(always)]
     pub(crate) fn empty(alloc: Global) -> PifCore
         ensures { held result ≡ None }
     {
@@ -18,6 +19,7 @@ impl PifCore {
     }
 
     /// A handle that holds this core.
+    #[inline(always)]
     pub(crate) fn of(core: Box<Core>) -> PifCore
         ensures { held result ≡ Some core.value }
     {
@@ -35,6 +37,7 @@ impl PifCore {
     }
 
     /// Takes the core out that it holds, and leaves it empty.
+    #[inline(always)]
     pub(crate) fn take(&mut self, alloc: Global) -> Option<Box<Core>>
         ensures core { option_map (λ core. core.value) result ≡ held self.old }
         ensures empty { held self.new ≡ None }
@@ -42,11 +45,13 @@ impl PifCore {
         std::mem::replace(self, PifCore::empty(alloc)).into_core()
     }
 
-    /// Has it hold this core. One that it held is freed.
+    /// Has it hold this core, where it holds none.
+    #[inline(always)]
     pub(crate) fn put(&mut self, core: Box<Core>)
+        requires { held self.old ≡ None }
         ensures { held self.new ≡ Some core.value }
     {
-        *self = PifCore::of(core);
+        std::mem::replace(self, PifCore::of(core)).let_go();
     }
 }
 

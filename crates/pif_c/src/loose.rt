@@ -20,6 +20,7 @@ impl<T, A: Allocator> Model for Opened<T, A> {
 
 impl<T, A: Allocator> Opened<T, A> {
     /// Takes a box apart.
+    #[inline(always)]
     pub(crate) fn open(boxed: Box<T, A>) -> Opened<T, A>
     where
         T: Drop,
@@ -30,6 +31,7 @@ impl<T, A: Allocator> Opened<T, A> {
     }
 
     /// The box again.
+    #[inline(always)]
     pub(crate) fn close(self) -> Box<T, A>
         ensures { result.value ≡ self.value }
     {
@@ -55,6 +57,7 @@ impl Model for Loose {
 
 impl Loose {
     /// No core: the null pointer.
+    #[inline(always)]
     pub(crate) fn none(alloc: Global) -> Loose
         ensures { result.holds ≡ false }
     {
@@ -65,6 +68,7 @@ impl Loose {
     }
 
     /// The core of this box.
+    #[inline(always)]
     pub(crate) fn of(core: Opened<Core, Global>) -> Loose
         ensures { (result.holds ≡ true) × (result.table ≡ core.value) }
     {
@@ -76,6 +80,7 @@ impl Loose {
     }
 
     /// The box of the core that there is.
+    #[inline(always)]
     pub(crate) fn into_opened(self) -> Opened<Core, Global>
         requires { self.holds ≡ true }
         ensures { result.value ≡ self.table }
@@ -88,6 +93,7 @@ impl Loose {
     }
 
     /// Lets it go, where there is no core.
+    #[inline(always)]
     pub(crate) fn let_go(self)
         requires { self.holds ≡ false }
     {

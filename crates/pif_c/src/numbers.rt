@@ -67,6 +67,7 @@ pub struct PifRequest {
 }
 
 /// The number of a refusal.
+#[inline(always)]
 fn refusal_number(refusal: Refusal) -> u32
     ensures { result ≡ refusal_number refusal }
 {
@@ -80,6 +81,7 @@ fn refusal_number(refusal: Refusal) -> u32
 }
 
 /// What was seen, in numbers.
+#[inline(always)]
 pub(crate) fn seen_reported(seen: Seen) -> PifSeen
     ensures { result ≡ seen_reported seen }
 {
@@ -174,6 +176,7 @@ pub(crate) fn doing_told(status: Status) -> PifDoing
 }
 
 /// The call that these numbers name, where each number that it needs names something.
+#[inline(always)]
 pub(crate) fn request_of(asked: PifRequest) -> Option<Request>
     ensures { result ≡ request_of asked }
 {
