@@ -132,6 +132,16 @@ fn check_overlap(rt: &impl Abort, entries: &[Entry]) {
     assert!(rt; overlaps(entries));
 }
 
+/// Whether an entry is the end of a thread.
+fn is_end(entry: &Entry) -> bool {
+    matches!(*entry, Entry::Step(Event::End(_), _))
+}
+
+/// No client has ended: each was answered all of its calls.
+fn check_no_end(rt: &impl Abort, entries: &[Entry]) {
+    assert!(rt; !entries.iter().any(is_end));
+}
+
 /// Checks the book of a drive of two clients that were held.
 fn check_book(rt: &impl Abort, book: &Book) {
     let entries = book.entries.as_slice();
@@ -139,6 +149,7 @@ fn check_book(rt: &impl Abort, book: &Book) {
     check_requests(rt, entries, 1);
     check_requests(rt, entries, 2);
     check_overlap(rt, entries);
+    check_no_end(rt, entries);
 }
 
 /// The book has the limits of a drive of two clients, and begins with what that adds.
@@ -194,7 +205,7 @@ fn end_with_mutex<R: Wait + Abort>(
 }
 
 /// A client was out of memory.
-fn is_out_of_memory(rt: &impl Abort, ended: &Ending) {
+pub(crate) fn is_out_of_memory(rt: &impl Abort, ended: &Ending) {
     assert!(rt; matches!(*ended, Ending::Fault(DriveFault::NoMemory)));
 }
 

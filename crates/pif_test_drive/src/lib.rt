@@ -4,6 +4,7 @@
 //! | Module | Tests of |
 //! |---|---|
 //! | `drives` | `pif_job_drive`: what the clients of a drive do, and that one without memory ends |
+//! | `leaving` | `pif_job_drive`: how a client ends at a fault, and which drives are refused |
 //! | `desks` | `pif_desk` and `pif_job_trace`: the journal of a desk as a trace that replays the same |
 #![tactic(auto)]
 
@@ -11,3 +12,5 @@
 mod desks;
 #[cfg(test)]
 mod drives;
+#[cfg(test)]
+mod leaving;

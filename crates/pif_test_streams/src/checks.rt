@@ -70,8 +70,9 @@ pub fn check_slowly<R, T: Task<R>>(rt: &R, alloc: Global, job: T, read: &str, wr
     check_streams(rt, alloc, job, &mut input, &mut output, Ok(()));
 }
 
-/// Has a job done that reads so many bytes of a text, behind which a read fails, and checks what it has written.
-pub fn check_read<R, T: Task<R>>(
+/// Has a job done that reads so many bytes of a text, behind which a read fails by this error, and checks what it has
+/// written.
+fn check_error<R, T: Task<R>>(
     rt: &R,
     alloc: Global,
     job: T,
@@ -84,6 +85,21 @@ pub fn check_read<R, T: Task<R>>(
     let mut input = Stream::failing(&read, most, Some(failure));
     let mut output = Stream::new(&written);
     check_streams(rt, alloc, job, &mut input, &mut output, Err(CliFault::Read));
+}
+
+/// The same by this error and by `Interrupted`, at which readers of std try again.
+pub fn check_read<R, T: Task<R> + Copy>(
+    rt: &R,
+    alloc: Global,
+    job: T,
+    read: &str,
+    most: usize,
+    failure: ErrorKind,
+    written: &str,
+) {
+    check_error(rt, alloc, job, read, most, failure, written);
+    let interrupted = ErrorKind::Interrupted;
+    check_error(rt, alloc, job, read, most, interrupted, written);
 }
 
 /// Has a job done that writes so many bytes of a text, at most `each` a call, behind which a write fails.

@@ -3,7 +3,7 @@ use super::scenes::{Scene, add_mutex, enter, is_answer, is_count, is_fault, lock
 use super::watch::Watch;
 use crate::checks::holds;
 use pif_desk::{Client, Desk, DeskFault};
-use pif_types::{Kind, Refusal};
+use pif_types::{Kind, MutexId, Refusal};
 use std::process::Abort;
 use std::sync::Wait;
 use std::test::Fail;
@@ -57,25 +57,30 @@ fn begin_call<R: Wait + Abort>(
     Ok(())
 }
 
-/// Another call is refused while one is open; the open one goes on.
+/// Another call is refused while one is open, by one event. The open one goes on, by its two steps.
 fn resume_call<R: Wait + Abort>(
     rt: &R,
     desk: &Desk<Watch>,
     client: &mut Client,
 ) -> Result<(), DeskFault> {
+    let before = desk.entries(rt);
     check_refused(rt, desk, client, DeskFault::Refused(Refusal::Busy));
     let receipt = client.resume(rt, desk)?;
+    is_count(rt, desk.entries(rt).wrapping_sub(before), 3);
     holds(rt, receipt.request == lock(), "another call is answered");
     is_answer(rt, Ok(receipt.answer), Ok(0));
     holds(rt, !client.is_open(), "a call is open");
     Ok(())
 }
 
-/// The client ends with its call open.
+/// The client ends with its call open, by one event. The call stays open in its log, and its next step is refused.
 fn quit<R: Wait + Abort>(rt: &R, desk: &Desk<Watch>, client: &mut Client) -> Result<(), DeskFault> {
+    let before = desk.entries(rt);
     client.quit(rt, desk)?;
+    is_count(rt, desk.entries(rt).wrapping_sub(before), 1);
     let dead = client.resume(rt, desk).err();
     is_fault(rt, dead, Some(DeskFault::Refused(Refusal::Dead)));
+    is_count(rt, desk.entries(rt).wrapping_sub(before), 2);
     Ok(())
 }
 
@@ -123,10 +128,20 @@ pub(crate) fn enter_and_call<R: Wait + Abort>(
     Ok(())
 }
 
-/// A tick is refused memory, and the time stays, so that a lesser one is none to the past.
+/// Each addition is refused memory.
+fn check_additions<R: Wait + Abort>(rt: &R, desk: &Desk<Watch>) {
+    let refused = Some(DeskFault::NoMemory);
+    is_fault(rt, desk.enter(rt, 1).err(), refused);
+    is_fault(rt, desk.make_mutex(rt, Kind::Normal, true).err(), refused);
+    is_fault(rt, desk.make_cond(rt, MutexId::default()).err(), refused);
+}
+
+/// Additions and a tick are refused memory, and the journal stays. So does the time: a lesser one is none to the past.
 pub(crate) fn refuse_tick<R: Wait + Abort>(rt: &R, desk: &Desk<Watch>) -> Result<(), DeskFault> {
+    add_mutex(rt, desk, false);
     refuse_growth(rt, desk, 0)?;
     let before = desk.entries(rt);
+    check_additions(rt, desk);
     is_fault(rt, desk.tick(rt, 5).err(), Some(DeskFault::NoMemory));
     is_count(rt, desk.entries(rt), before);
     desk.set_growth(rt, 1);
@@ -134,7 +149,7 @@ pub(crate) fn refuse_tick<R: Wait + Abort>(rt: &R, desk: &Desk<Watch>) -> Result
 }
 
 #[test]
-fn refused_tick_changes_nothing(rt: HostRuntime) -> Result<(), Fail> {
+fn refused_additions_and_ticks_change_nothing(rt: HostRuntime) -> Result<(), Fail> {
     play(&rt, rt.alloc(), Watch::new(rt), Scene::Tick, Ok(0))
 }
 

@@ -1,11 +1,12 @@
 //! Desks and clients for tests. A scene that holds a desk or clients lends them to what may fail.
 ghost use Rattle.std.specs.Prelude.{◌≤◌};
 
+use super::counts::Counted;
 use super::memory::Course;
 use super::receipts::Before;
 use super::sleepers::Owner;
 use super::watch::Watch;
-use super::{memory, receipts, sleepers, ticks};
+use super::{bells, counts, memory, receipts, sleepers, ticks};
 use crate::checks::holds;
 use pif_desk::{Book, Client, Desk, DeskFault, Room, Why};
 use pif_types::{CondId, Kind, Limits, MutexId, Request, Tid};
@@ -35,6 +36,12 @@ pub(crate) enum Scene {
     Deadlines,
     /// A client enters, and something happens in the room.
     Before(Before),
+    /// Entries or pauses are counted from none.
+    Counts(Counted),
+    /// A new journal grows.
+    Growth,
+    /// The last of 65 clients waits for the first.
+    Crowd,
 }
 
 /// Does what happens at the desk, where clients enter.
@@ -53,6 +60,9 @@ fn act<R: Threads + Wait + Clock + Abort + Sync>(
         Scene::Deadline => ticks::tick_for_two(rt, desk, clients),
         Scene::Deadlines => ticks::tick_for_three(rt, desk, clients),
         Scene::Before(_) => receipts::enter_alone(rt, desk, clients),
+        Scene::Counts(counted) => counts::count_all(rt, desk, clients, counted),
+        Scene::Growth => counts::grow(rt, desk),
+        Scene::Crowd => bells::last_waits_for_first(rt, desk, clients),
     }
 }
 
@@ -84,6 +94,8 @@ fn check_book(rt: &impl Abort, book: &Book, scene: Scene) {
 fn limits_of(scene: Scene) -> Option<Limits> {
     match scene {
         Scene::Adds => Limits::new(2, 3, 1, 9),
+        Scene::Counts(_) => Limits::new(2, 2, 2, 9),
+        Scene::Crowd => Limits::new(65, 1, 0, 1),
         _ => Limits::new(64, 64, 1, 9),
     }
 }

@@ -96,7 +96,7 @@ fn desk_ticks(rt: HostRuntime) -> Result<(), Fail> {
 }
 
 /// Waits until the client of this thread sleeps, which has to come: its lock waits for the first client.
-fn wait_for_sleep<R: Wait + Clock + Abort>(rt: &R, desk: &Desk<Watch>, t: Tid) {
+pub(crate) fn wait_for_sleep<R: Wait + Clock + Abort>(rt: &R, desk: &Desk<Watch>, t: Tid) {
     for _ in 0..LOOKS {
         if desk.sleeps(rt, t) {
             return;
@@ -110,7 +110,7 @@ fn wait_for_sleep<R: Wait + Clock + Abort>(rt: &R, desk: &Desk<Watch>, t: Tid) {
 type Row = (u32, Result<(), DeskFault>, u64, u64);
 
 /// The bell of this thread has rung so often, and its client sleeps as long as it has not.
-fn check_bell<R: Wait + Abort>(rt: &R, desk: &Desk<Watch>, t: Tid, rings: u64) {
+pub(crate) fn check_bell<R: Wait + Abort>(rt: &R, desk: &Desk<Watch>, t: Tid, rings: u64) {
     holds(
         rt,
         desk.rings(t) == Some(rings),

@@ -22,6 +22,8 @@ pub(crate) struct Watch {
     overlapped: AtomicU32,
     waits: AtomicU32,
     ends: AtomicU32,
+    events: AtomicU32,
+    refused: AtomicU32,
 }
 
 impl Watch {
@@ -35,6 +37,8 @@ impl Watch {
             overlapped: AtomicU32::new(0),
             waits: AtomicU32::new(0),
             ends: AtomicU32::new(0),
+            events: AtomicU32::new(0),
+            refused: AtomicU32::new(0),
         }
     }
 
@@ -75,6 +79,12 @@ impl Watch {
         self.ends.load(Ordering::SeqCst)
     }
 
+    /// After how many events of clients it was called, and how many of these were refused.
+    pub(crate) fn calls(&self) -> (u32, u32) {
+        let events = self.events.load(Ordering::SeqCst);
+        (events, self.refused.load(Ordering::SeqCst))
+    }
+
     /// Holds thread 1, at the first time.
     fn hold(&self) {
         if self.held.fetch_add(1, Ordering::SeqCst) == 0 && self.comes(&self.answered, 1) {
@@ -84,12 +94,16 @@ impl Watch {
 
     /// Counts an event that was answered so.
     fn count(&self, t: Tid, seen: Seen) {
+        self.events.fetch_add(1, Ordering::SeqCst);
         match seen {
             Seen::Waits => {
                 self.waits.fetch_add(1, Ordering::SeqCst);
             }
             Seen::Ended => {
                 self.ends.fetch_add(1, Ordering::SeqCst);
+            }
+            Seen::Refused(_) => {
+                self.refused.fetch_add(1, Ordering::SeqCst);
             }
             Seen::Answered(_) => {
                 if t.get() != 1 {

@@ -107,3 +107,84 @@ fn a_notice_is_left_where_a_read_fails(rt: HostRuntime) {
     let ended = run_text(rt.alloc(), &mut input, &mut notice);
     check_noted(&rt, &notice, ended, &UNREAD);
 }
+
+/// How long a line is, why it is a fault, and how many of its bytes are kept.
+static LENGTHS: [(usize, Cause, usize); 4] = [
+    (119, Cause::Command, 119),
+    (120, Cause::Command, 120),
+    (121, Cause::Long, 120),
+    (400, Cause::Long, 120),
+];
+
+/// A notice keeps so many bytes of a line of x, and nothing that the core gives.
+fn check_kept(rt: &impl Abort, notice: &Notice, kept: usize) {
+    let line = notice.line();
+    let is_kept = line.len() == kept && line.iter().all(|byte| *byte == b'x');
+    assert!(rt; is_kept && notice.given().is_empty(), "{kept} bytes");
+}
+
+/// A script ends by this fault of its first line.
+fn is_fault(rt: &impl Abort, ended: Result<(), CliFault>, cause: Cause) {
+    assert_eq!(rt; ended, Err(CliFault::Script(1, cause)));
+}
+
+/// Runs a line of so many x, and checks what is noted of it.
+fn check_length(rt: &impl Abort, alloc: Global, length: usize, cause: Cause, kept: usize) {
+    let mut notice = Notice::new();
+    let script = [("x", length), ("\n", 1)];
+    let ended = run_text(alloc, &mut Stream::new(&script), &mut notice);
+    is_fault(rt, ended, cause);
+    check_kept(rt, &notice, kept);
+}
+
+#[test]
+fn a_notice_keeps_120_bytes_of_a_line(rt: HostRuntime) {
+    for (length, cause, kept) in &LENGTHS {
+        check_length(&rt, rt.alloc(), *length, *cause, *kept);
+    }
+}
+
+/// A command of 400 bytes.
+static LONG: [u8; 400] = [b'x'; 400];
+
+/// A trace that differs in its second line.
+static DIFFERING: [(&str, usize); 1] = [("pif-trace 1\nthread 10 = t2\n", 1)];
+
+/// Keeps a difference, with what the core gives there.
+fn keep_difference(rt: &impl Abort, alloc: Global, notice: &mut Notice) {
+    let mut input = Stream::new(&DIFFERING);
+    let ended = replay_noting(alloc, &mut input, &mut Stream::new(&[]), notice);
+    let parts = notice.parts() == Some((b"thread 10".as_slice(), b"t2".as_slice()));
+    assert!(rt; parts && notice.given() == b"t1".as_slice(), "{ended:?}");
+}
+
+/// A command of so many bytes takes the place of a difference: so many of them are kept, and it has no answer.
+fn check_command(rt: &impl Abort, alloc: Global, length: usize, kept: usize) {
+    let mut notice = Notice::new();
+    keep_difference(rt, alloc, &mut notice);
+    notice.keep_command(&LONG[..length.min(400)]);
+    check_kept(rt, &notice, kept);
+    assert!(rt; notice.parts().is_none());
+}
+
+#[test]
+fn a_notice_keeps_120_bytes_of_a_command(rt: HostRuntime) {
+    for (length, kept) in [(0, 0), (119, 119), (120, 120), (121, 120), (400, 120)] {
+        check_command(&rt, rt.alloc(), length, kept);
+    }
+}
+
+/// A fault takes the place of a difference: its line is kept, and nothing that the core gives.
+fn check_fault_behind(rt: &impl Abort, alloc: Global) {
+    let mut notice = Notice::new();
+    keep_difference(rt, alloc, &mut notice);
+    let script = [("x", 3), ("\n", 1)];
+    let ended = run_text(alloc, &mut Stream::new(&script), &mut notice);
+    is_fault(rt, ended, Cause::Command);
+    check_kept(rt, &notice, 3);
+}
+
+#[test]
+fn a_fault_takes_the_place_of_a_difference(rt: HostRuntime) {
+    check_fault_behind(&rt, rt.alloc());
+}

@@ -1,0 +1,102 @@
+//! A client that meets a fault ends, or is given up if it is refused memory for that.
+use crate::drives::is_out_of_memory;
+use pif_desk::{Client, Desk, DeskFault, NoPause};
+use pif_job_drive::{DriveFault, Ending, drive_book, end_of};
+use pif_types::{AddFault, Limits, MutexId, Refusal};
+use std::alloc::Global;
+use std::process::Abort;
+use std::sync::Wait;
+use std::test::Fail;
+use std::thread::Threads;
+
+/// The most entries by which a journal is filled.
+const MOST: u32 = 10_000;
+
+/// Fills the journal, and refuses its growth from then on.
+fn refuse_growth(rt: &impl Wait, desk: &Desk<NoPause>) -> Result<(), DeskFault> {
+    for _ in 0..MOST {
+        if desk.spare_entries(rt) == 0 {
+            break;
+        }
+        desk.tick(rt, 0)?;
+    }
+    desk.set_growth(rt, usize::MAX);
+    Ok(())
+}
+
+/// A client of a desk whose journal is full and can't grow.
+fn enter_full(rt: &impl Wait, desk: &Desk<NoPause>) -> Result<Client, DeskFault> {
+    desk.set_growth(rt, 1);
+    let client = desk.enter(rt, 1)?;
+    refuse_growth(rt, desk)?;
+    Ok(client)
+}
+
+/// How a client ends that was answered so.
+fn end_after(rt: &impl Wait, desk: &Desk<NoPause>, client: Client, fault: DeskFault) -> Ending {
+    end_of(rt, desk, MutexId::default(), client, Err(fault))
+}
+
+/// This is so.
+fn holds(rt: &impl Abort, is_so: Result<bool, DeskFault>) {
+    assert_eq!(rt; is_so, Ok(true));
+}
+
+/// Whether a client that is refused memory for good is given up, with no entry made.
+fn is_given_up<R: Wait + Abort>(rt: &R, desk: &Desk<NoPause>) -> Result<bool, DeskFault> {
+    let client = enter_full(rt, desk)?;
+    let before = desk.entries(rt);
+    is_out_of_memory(rt, &end_after(rt, desk, client, DeskFault::NoMemory));
+    Ok(desk.entries(rt) == before)
+}
+
+#[test]
+fn a_client_that_cannot_end_is_given_up(rt: HostRuntime) -> Result<(), Fail> {
+    let limits = Limits::new(1, 0, 0, 1).ok_or("limits")?;
+    let desk = Desk::new(rt.alloc(), limits, NoPause)?;
+    holds(&rt, is_given_up(&rt, &desk));
+    Ok(())
+}
+
+/// A refused client ends by one event, and is told as unsettled.
+fn is_told<R: Wait + Abort>(
+    rt: &R,
+    desk: &Desk<NoPause>,
+    fault: DeskFault,
+) -> Result<bool, DeskFault> {
+    let client = desk.enter(rt, 1)?;
+    let before = desk.entries(rt);
+    let ended = end_after(rt, desk, client, fault);
+    let is_unsettled = matches!(ended, Ending::Fault(DriveFault::Unsettled));
+    Ok(is_unsettled && desk.entries(rt).wrapping_sub(before) == 1)
+}
+
+#[test]
+fn a_refused_client_ends_unsettled(rt: HostRuntime) -> Result<(), Fail> {
+    let limits = Limits::new(2, 0, 0, 1).ok_or("limits")?;
+    let desk = Desk::new(rt.alloc(), limits, NoPause)?;
+    let faults = [
+        DeskFault::Refused(Refusal::Busy),
+        DeskFault::NotAdded(AddFault::TooMany),
+    ];
+    for fault in faults {
+        holds(&rt, is_told(&rt, &desk, fault));
+    }
+    Ok(())
+}
+
+/// A drive of so many clients is refused as unsettled.
+fn is_refused<R: Threads + Wait + Sync>(rt: &R, alloc: Global, clients: u32) -> bool {
+    let drive = drive_book(alloc, rt, clients, NoPause);
+    matches!(drive, Err(DriveFault::Unsettled))
+}
+
+#[test]
+fn a_drive_has_1_to_1024_clients(rt: HostRuntime) {
+    for clients in [0, 1025, u32::MAX] {
+        assert!(&rt;
+            is_refused(&rt, rt.alloc(), clients),
+            "of {clients} clients"
+        );
+    }
+}
