@@ -1,5 +1,5 @@
 -- The fault of a script that is read part by part.
-use Rattle.std.proofs.Common.{◌≡◌, ℕ, List, [], drop, take, Ok, Err, sym, ap, ◌∙◌, take-append-drop}
+use Rattle.std.proofs.Common.{◌≡◌, ℕ, false, List, [], ◌∷◌, drop, take, Ok, Err, sym, ap, ◌∙◌, take-append-drop}
 use Rattle.pif_model.specs.Table.{Table}
 use Rattle.pif_script_model.specs.declared.ending.End.{End}
 use Rattle.pif_script_model.specs.declared.ending.Stop.TheVariants.{Ended}
@@ -7,7 +7,9 @@ use Rattle.pif_script_model.specs.Running.{script}
 use Rattle.pif_script_model.specs.Scripts.{Scan, TakesSome, closed_at, ended_by, reading_of, start}
 use Rattle.pif_script_model.specs.Transcripts.{script_end}
 use Rattle.pif_script_model.proofs.ScriptLemmas.{reading_of-append, reading_of-nil}
-use Rattle.pif_story_model.specs.Checks.{fault_by, fault_in, script_fault}
+use Rattle.pif_story_model.specs.Checks.{check_end, fault_by, fault_in, fill_telling, filled_or, flaws_beside, script_fault}
+use Rattle.pif_story_model.specs.Verdicts.{Flaw, differing, faulty, refusing}
+use Rattle.pif_job_check.specs.Rows.{FillsRows}
 
 -- all of a script comes to what the rest does from where it stands
 abbrev pub LeavesRest : (bytes : List ℕ) → Scan Table → (rest : List ℕ) → Type 0
@@ -33,3 +35,13 @@ unfolding script_fault script_end
 fault_closed bytes s rest e n =
     sym (ap (λ r. fault_in (ended_by script r))
     (e ∙ ap (λ l. (reading_of script s l).stands) n ∙ (reading_of-nil script s).1))
+
+-- how filling in ends, by the flaws that stand beside no answers
+pub filled_rows : (story : List ℕ) (flaws : List Flaw) → flaws ≡ flaws_beside false story []
+    → FillsRows {A = Unit {0}} story (check_end flaws)
+unfolding fill_telling
+filled_rows story [] e = ap (λ found. (filled_or [] story found).1) (sym e)
+filled_rows story (faulty line command cause ∷ more) e = ap (λ found. (filled_or [] story found).1) (sym e)
+filled_rows story (differing line command written given ∷ more) e =
+    ap (λ found. (filled_or [] story found).1) (sym e)
+filled_rows story (refusing line command given ∷ more) e = ap (λ found. (filled_or [] story found).1) (sym e)

@@ -1,14 +1,18 @@
-ghost use Rattle.std.specs.Prelude.{◌≡◌, ◌≤◌, IfErr, IfOk, length, option_copied};
-ghost use Rattle.pif_story_model.specs.Checks.{IsUntold, OkExactly, TellsTo, WritesTelling, check_telling, check_end, fill_telling, verdict_beside, text_of_run, script_fault, verdict_telling};
+ghost use Rattle.std.specs.Prelude.{◌≡◌, ◌≤◌, ◌∷◌, [], true, false, IfErr, IfOk, length, option_copied};
+ghost use Rattle.pif_story_model.specs.Checks.{IsUntold, OkExactly, StrictExactly, TellsTo, WritesTelling, check_end, check_telling, checked_telling, fill_telling, flaws_beside, flaws_telling, script_fault, strict_telling, text_of_run, title_telling, titled_telling};
 ghost use Rattle.pif_story_model.specs.Lines.{lines, lines_behind, plain_lines};
-ghost use Rattle.pif_story_model.specs.Stories.{rows_from, script_by, script_of};
-ghost use Rattle.pif_story_model.specs.Verdicts.{verdict_of};
+ghost use Rattle.pif_story_model.specs.Stories.{count_in, rows_from, script_by, script_of};
+ghost use Rattle.pif_story_model.specs.Verdicts.{faulty, flaws_of};
+ghost use Rattle.pif_text_model.specs.declared.replies.Cause.TheVariants.{Size};
 
 use pif_script::{CliFault, Notice, read_all, run, write_whole};
-use pif_story::{MOST, compare, filled_text, line_at_end, plain_story, script_of, verdict_line};
+use pif_story::{
+    MOST, compare, count_commands, filled_text, line_at_end, plain_story, script_of, titled_story,
+    verdict_text,
+};
 use pif_story_model::Flaw;
 use pif_text::Cause;
-use std::alloc::Global;
+use std::alloc::{AllocError, Global};
 use std::io::{Read, Write};
 
 /// What is written for a story, and how that ends.
@@ -56,77 +60,107 @@ fn run_story(alloc: Global, plain: &[u8]) -> Result<Ran, CliFault>
     }
 }
 
-/// How a check ends that comes to this.
-fn check_end(verdict: Result<u64, Flaw<'_>>) -> Result<(), CliFault>
-    ensures { result ≡ check_end (verdict_of verdict.entry) }
+/// How a check ends that finds these flaws.
+pub fn check_end(flaws: &[Flaw<'_>]) -> Result<(), CliFault>
+    ensures { result ≡ check_end (flaws_of flaws.now) }
 {
-    match verdict {
-        Ok(_) => Ok(()),
-        Err(Flaw::Fault(line, _, cause)) => Err(CliFault::Script(line, cause)),
-        Err(Flaw::Differs(line, ..)) => Err(CliFault::Differs(line)),
+    match flaws {
+        [] => Ok(()),
+        [flaw, ..] => match *flaw {
+            Flaw::Fault(line, _, cause) => Err(CliFault::Script(line, cause)),
+            Flaw::Differs(line, ..) | Flaw::Refused(line, ..) => Err(CliFault::Differs(line)),
+        },
     }
 }
 
-/// Has `notice` keep the command that is a fault, if one is.
-fn note(verdict: Result<u64, Flaw<'_>>, notice: &mut Notice) {
-    if let Err(Flaw::Fault(_, command, _)) = verdict {
-        notice.keep_command(command);
+/// Has `notice` keep the command of the first flaw, if that is a fault or a refusal.
+pub fn note(flaws: &[Flaw<'_>], notice: &mut Notice) {
+    if let Some(flaw) = flaws.first() {
+        match *flaw {
+            Flaw::Fault(_, command, _) | Flaw::Refused(_, command, _) => {
+                notice.keep_command(command)
+            }
+            Flaw::Differs(..) => {}
+        }
     }
 }
 
-/// What is told of a story of this name that comes to this; `notice` keeps the command that is a fault, if one is.
+/// What is told of a story of this name with so many commands and these flaws; `notice` keeps the command of the first
+/// flaw, if that is a fault or a refusal.
 fn tell(
     alloc: Global,
     name: &[u8],
-    verdict: Result<u64, Flaw<'_>>,
+    commands: usize,
+    flaws: &[Flaw<'_>],
     notice: &mut Notice,
 ) -> Result<Telling, CliFault>
-    ensures told { IfOk result (λ telling. (telling.0.items, telling.1) ≡ verdict_telling name.now (verdict_of verdict.entry)) }
+    ensures told { IfOk result (λ telling. (telling.0.items, telling.1) ≡ flaws_telling name.now commands (flaws_of flaws.now)) }
     ensures failed { IfErr result IsUntold }
 {
-    let end = check_end(verdict);
-    note(verdict, notice);
-    match verdict_line(alloc, name, verdict) {
-        Ok(line) => Ok((line, end)),
+    note(flaws, notice);
+    match verdict_text(alloc, name, commands, flaws) {
+        Ok(text) => Ok((text, check_end(flaws))),
         Err(_) => Err(CliFault::NoMemory),
     }
 }
 
-/// What a story comes to that may be too large. `plain` is the story with nothing but its words.
-#[tactic(auto, unfolding(pif_story_model::specs::Checks::verdict_beside))]
+/// The flaw of a story that is too large.
+///
+/// # Errors
+///
+/// A growth of memory was refused.
+fn too_large<'a>(alloc: Global, line: u64) -> Result<Vec<Flaw<'a>>, AllocError>
+    ensures { IfOk result (λ flaws. flaws_of flaws.items ≡ faulty line [] Size ∷ []) }
+{
+    let mut flaws = Vec::new(alloc);
+    flaws.push(Flaw::Fault(line, b"", Cause::Size))?;
+    Ok(flaws)
+}
+
+/// All flaws of a story, which may be too large. `plain` is the story with nothing but its words.
+///
+/// # Errors
+///
+/// A growth of memory was refused.
+#[tactic(auto, unfolding(pif_story_model::specs::Checks::flaws_beside))]
 pub fn judge<'a>(
+    alloc: Global,
+    strict: bool,
     story: &[u8],
     plain: &'a [u8],
     answers: Option<&'a [u8]>,
     fault: Option<(u64, Cause)>,
-) -> Result<u64, Flaw<'a>>
+) -> Result<Vec<Flaw<'a>>, AllocError>
     requires lines { lines plain.now ≡ plain_lines story.now }
     requires shorter { length plain.now ≤ length story.now }
     requires fault { fault ≡ script_fault (script_of story.now) }
-    ensures { verdict_of result ≡ verdict_beside story.now (lines_behind (option_copied answers.entry)) }
+    ensures { IfOk result (λ flaws. flaws_of flaws.items ≡ flaws_beside strict story.now (lines_behind (option_copied answers.entry))) }
 {
     if story.len() > MOST {
-        return Err(Flaw::Fault(line_at_end(&story[..MOST]), b"", Cause::Size));
+        return too_large(alloc, line_at_end(&story[..MOST]));
     }
-    compare(plain, answers, fault)
+    compare(alloc, strict, plain, answers, fault)
 }
 
 /// What a check tells of a story of this name.
-#[tactic(auto, unfolding(pif_story_model::specs::Checks::check_telling, pif_story_model::specs::Checks::story_verdict, pif_story_model::specs::Stories::script_of))]
+#[tactic(auto, unfolding(pif_story_model::specs::Checks::checked_telling, pif_story_model::specs::Checks::story_flaws, pif_story_model::specs::Stories::script_of))]
 fn check_text(
     alloc: Global,
+    strict: bool,
     name: &[u8],
     story: &[u8],
     notice: &mut Notice,
 ) -> Result<Telling, CliFault>
-    ensures told { IfOk result (λ telling. (telling.0.items, telling.1) ≡ check_telling name.now story.now) }
+    ensures told { IfOk result (λ telling. (telling.0.items, telling.1) ≡ checked_telling strict name.now story.now) }
     ensures failed { IfErr result IsUntold }
 {
     let plain = words_of(alloc, story)?;
     let words = plain.as_slice();
     let (output, fault) = run_story(alloc, words)?;
-    let verdict = judge(story, words, Some(output.as_slice()), fault);
-    tell(alloc, name, verdict, notice)
+    let Ok(flaws) = judge(alloc, strict, story, words, Some(output.as_slice()), fault) else {
+        return Err(CliFault::NoMemory);
+    };
+    tell(alloc, name, count_commands(words), flaws.as_slice(), notice)
 }
 
 /// What is told of a story of this name that is filled in.
@@ -143,12 +177,16 @@ fn fill_text(
     let plain = words_of(alloc, story)?;
     let words = plain.as_slice();
     let (output, fault) = run_story(alloc, words)?;
-    match judge(story, words, None, fault) {
-        Ok(_) => match filled_text(alloc, story, words, output.as_slice()) {
+    let Ok(flaws) = judge(alloc, false, story, words, None, fault) else {
+        return Err(CliFault::NoMemory);
+    };
+    let found = flaws.as_slice();
+    match found {
+        [] => match filled_text(alloc, story, words, output.as_slice()) {
             Ok(text) => Ok((text, Ok(()))),
             Err(_) => Err(CliFault::NoMemory),
         },
-        Err(flaw) => tell(alloc, name, Err(flaw), notice),
+        [_, ..] => tell(alloc, name, 0, found, notice),
     }
 }
 
@@ -163,15 +201,16 @@ fn write_telling<W: Write>(telling: Telling, writer: &mut W) -> Result<(), CliFa
 
 /// Checks a story: reads its bytes to the end, runs the script that is left when comments, empty lines and answers are
 /// taken out, and asks of each answer that is written whether it says what `run` prints for its command. One line is
-/// written: `ok` with `name` and the number of commands; or `name` with the first flaw. That is a fault, or a command
-/// with the answer that is written and the one that the core gives. Lines are counted in the story, from 1. It is kept
-/// in memory, and so is what `run` prints.
+/// written if it does: `ok` with `name` and the number of commands. Else a line with `name` is written for each flaw,
+/// and from the 21st on one line for all that are left. A flaw is a command with the answer that is written and the one
+/// that the core gives, or the fault of the script, which is the last. Lines are counted in the story, from 1. It is
+/// kept in memory, and so is what `run` prints.
 ///
 /// # Errors
 ///
-/// `Script` with the line of the fault, and `Differs` with that of the first difference, which were written then;
-/// `Read`, if the reader fails, and `NoMemory`, and nothing was written; and `Write`, if the writer fails or takes no
-/// byte.
+/// By the first flaw, which were all written then: `Script` with the line of the fault, and `Differs` with that of a
+/// difference; `Read`, if the reader fails, and `NoMemory`, and nothing was written; and `Write`, if the writer fails
+/// or takes no byte.
 pub fn check<R: Read, W: Write>(
     alloc: Global,
     name: &[u8],
@@ -184,8 +223,8 @@ pub fn check<R: Read, W: Write>(
     check_noting(alloc, name, reader, writer, &mut Notice::new())
 }
 
-/// Checks a story as `check` does, and has `notice` keep the command that is a fault; if there is none, `notice` is
-/// left as it is.
+/// Checks a story as `check` does, and has `notice` keep the command of the first flaw if that is a fault; else
+/// `notice` is left as it is.
 ///
 /// # Errors
 ///
@@ -201,7 +240,29 @@ pub fn check_noting<R: Read, W: Write>(
         (W.contents writer.old) (W.contents writer.new) result }
 {
     let story = read_all(alloc, reader)?;
-    let telling = check_text(alloc, name, story.as_slice(), notice)?;
+    let telling = check_text(alloc, false, name, story.as_slice(), notice)?;
+    write_telling(telling, writer)
+}
+
+/// Checks a story as `check` does, and finds a flaw, too, if a command has no answer behind it and the core refuses it:
+/// its line has the refusal. `notice` keeps the command of the first flaw if that is a fault or such a refusal; else it
+/// is left as it is.
+///
+/// # Errors
+///
+/// Those of `check`, and `Differs` with the line of such a refusal.
+pub fn check_strictly<R: Read, W: Write>(
+    alloc: Global,
+    name: &[u8],
+    reader: &mut R,
+    writer: &mut W,
+    notice: &mut Notice,
+) -> Result<(), CliFault>
+    ensures { TellsTo (strict_telling name.now) (R.remaining reader.old) (R.remaining reader.new)
+        (W.contents writer.old) (W.contents writer.new) result }
+{
+    let story = read_all(alloc, reader)?;
+    let telling = check_text(alloc, true, name, story.as_slice(), notice)?;
     write_telling(telling, writer)
 }
 
@@ -246,8 +307,65 @@ pub fn fill_noting<R: Read, W: Write>(
     write_telling(telling, writer)
 }
 
+/// A telling of a story of this name that is filled in, behind a comment with the name; any other one as it is.
+fn title(alloc: Global, name: &[u8], telling: Telling) -> Result<Telling, CliFault>
+    ensures told { IfOk result (λ titled. (titled.0.items, titled.1) ≡ title_telling name.now (telling.0.items, telling.1)) }
+    ensures failed { IfErr result IsUntold }
+{
+    let (text, end) = telling;
+    if end.is_err() {
+        return Ok((text, end));
+    }
+    match titled_story(alloc, name, text.as_slice()) {
+        Ok(titled) => Ok((titled, end)),
+        Err(_) => Err(CliFault::NoMemory),
+    }
+}
+
+/// What is told of a story of this name that is filled in as one of several.
+#[tactic(auto, unfolding(pif_story_model::specs::Checks::titled_telling))]
+fn fill_titled(
+    alloc: Global,
+    name: &[u8],
+    story: &[u8],
+    notice: &mut Notice,
+) -> Result<Telling, CliFault>
+    ensures told { IfOk result (λ telling. (telling.0.items, telling.1) ≡ titled_telling name.now story.now) }
+    ensures failed { IfErr result IsUntold }
+{
+    let telling = fill_text(alloc, name, story, notice)?;
+    title(alloc, name, telling)
+}
+
+/// Fills in one of several stories, as `fill_noting` does: it stands behind a comment with its name, and has an LF at
+/// its end. So a story may stand behind it. A byte order mark at its front is left out.
+///
+/// # Errors
+///
+/// Those of `fill`.
+pub fn fill_as_one_of_several<R: Read, W: Write>(
+    alloc: Global,
+    name: &[u8],
+    reader: &mut R,
+    writer: &mut W,
+    notice: &mut Notice,
+) -> Result<(), CliFault>
+    ensures { TellsTo (titled_telling name.now) (R.remaining reader.old) (R.remaining reader.new)
+        (W.contents writer.old) (W.contents writer.new) result }
+{
+    let story = read_all(alloc, reader)?;
+    let telling = fill_titled(alloc, name, story.as_slice(), notice)?;
+    write_telling(telling, writer)
+}
+
 /// A check of a story of at most 16,777,216 bytes is ok exactly if the script that is left has no fault, and each
 /// command with an answer has one that says what `run` prints for it.
 pub fn ok_is_exact()
     ensures { OkExactly }
+{}
+
+/// A strict check of a story of at most 16,777,216 bytes is ok exactly if, besides, no command without an answer is
+/// refused.
+pub fn strict_is_exact()
+    ensures { StrictExactly }
 {}

@@ -14,5 +14,8 @@ mod asked;
 mod checking;
 mod rows;
 
-pub use checking::{check, check_noting, fill, fill_noting, ok_is_exact};
+pub use checking::{
+    check, check_noting, check_strictly, fill, fill_as_one_of_several, fill_noting, ok_is_exact,
+    strict_is_exact,
+};
 pub use rows::fill_rows;

@@ -1,17 +1,17 @@
-ghost use Rattle.std.specs.Prelude.{◌≡◌, IfOk};
+ghost use Rattle.std.specs.Prelude.{◌≡◌, ◌≤◌, IfOk, length};
 ghost use Rattle.pif_script_model.specs.Running.{script};
 ghost use Rattle.pif_script_model.specs.Scripts.{start, closed_at};
 ghost use Rattle.pif_script.specs.Scanners.{scan_of};
 ghost use Rattle.pif_story_model.specs.Checks.{fault_by, fault_in, script_fault};
-ghost use Rattle.pif_story_model.specs.Lines.{lines};
+ghost use Rattle.pif_story_model.specs.Lines.{lines, plain_lines};
 ghost use Rattle.pif_story_model.specs.Stories.{rows_from, script_by, script_of};
 ghost use Rattle.pif_job_check.specs.Rows.{FillsRows};
 
 use crate::asked::Asked;
-use crate::checking::judge;
+use crate::checking::{check_end, judge, note};
 use pif_script::{CliFault, End, Ending, Notice, Output, Scanner, Stop};
 use pif_story::{answered_rows, plain_story, script_of};
-use pif_story_model::{AnsweredRow, Flaw};
+use pif_story_model::AnsweredRow;
 use pif_text::{Cause, Command, Reply};
 use std::alloc::{AllocError, Global};
 
@@ -95,6 +95,33 @@ fn run_commands(
     run_script(alloc, text.as_slice(), &mut scanner, replies)
 }
 
+/// How filling in a story ends, whose script has this fault or none. `words` is the story with nothing but its words.
+/// `notice` keeps the command that is a fault; if there is none, it is left as it is.
+///
+/// # Errors
+///
+/// Those of `fill_rows`.
+#[tactic(auto, using(crate::proofs::RowLemmas::filled_rows))]
+fn end_of_filling(
+    alloc: Global,
+    story: &[u8],
+    words: &[u8],
+    fault: Option<(u64, Cause)>,
+    notice: &mut Notice,
+) -> Result<(), CliFault>
+    requires lines { lines words.now ≡ plain_lines story.now }
+    requires shorter { length words.now ≤ length story.now }
+    requires fault { fault ≡ script_fault (script_of story.now) }
+    ensures { FillsRows story.now result }
+{
+    let Ok(flaws) = judge(alloc, false, story, words, None, fault) else {
+        return Err(CliFault::NoMemory);
+    };
+    let found = flaws.as_slice();
+    note(found, notice);
+    check_end(found)
+}
+
 /// Fills in a story that is in memory, as rows. Answers the story with nothing but its words, and where each of its
 /// commands stands in that, what it asks for, and what it is answered, in their order. `notice` keeps the command that
 /// is a fault; if there is none, it is left as it is.
@@ -102,7 +129,7 @@ fn run_commands(
 /// # Errors
 ///
 /// `Script` with the line of the first fault, as of `fill`; and `NoMemory`.
-#[tactic(auto, unfolding(pif_story_model::specs::Checks::fill_telling, pif_story_model::specs::Stories::script_of))]
+#[tactic(auto, unfolding(pif_story_model::specs::Stories::script_of))]
 pub fn fill_rows(
     alloc: Global,
     story: &[u8],
@@ -118,14 +145,7 @@ pub fn fill_rows(
     let Ok(fault) = run_commands(alloc, words, &mut replies) else {
         return Err(CliFault::NoMemory);
     };
-    match judge(story, words, None, fault) {
-        Ok(_) => {}
-        Err(Flaw::Fault(line, command, cause)) => {
-            notice.keep_command(command);
-            return Err(CliFault::Script(line, cause));
-        }
-        Err(Flaw::Differs(line, ..)) => return Err(CliFault::Differs(line)),
-    }
+    end_of_filling(alloc, story, words, fault, notice)?;
     match answered_rows(alloc, words, replies.as_slice()) {
         Ok(rows) => Ok((plain, rows)),
         Err(_) => Err(CliFault::NoMemory),

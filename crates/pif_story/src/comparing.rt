@@ -1,13 +1,33 @@
-ghost use Rattle.std.specs.Prelude.{◌≡◌, ◌≤◌, length, option_copied};
+ghost use Rattle.std.specs.Prelude.{◌≡◌, ◌++◌, ◌≤◌, [], length, option_copied, option_map, IfOk, OnOk};
+ghost use Rattle.std.specs.List.{cons_option};
+ghost use Rattle.pif_story_model.specs.Comparing.{cause_at, row_flaws};
+ghost use Rattle.pif_story_model.specs.Filling.{more_answers};
 ghost use Rattle.pif_story_model.specs.Lines.{lines, lines_behind};
-ghost use Rattle.pif_story_model.specs.Stories.{rows_from};
-ghost use Rattle.pif_story_model.specs.Comparing.{answers_left, cause_at, row_compared};
-ghost use Rattle.pif_story_model.specs.Verdicts.{verdict_of_rows, verdict_of};
+ghost use Rattle.pif_story_model.specs.Stories.{count_in, rows_from};
+ghost use Rattle.pif_story_model.specs.Verdicts.{fault_flaws, flaw_beside, flaw_of, flaws_of, flaws_of_rows, is_refusal};
 
 use crate::answers::says;
 use crate::lines::{Row, row_of, split_line};
 use pif_story_model::Flaw;
 use pif_text::Cause;
+use std::alloc::{AllocError, Global};
+
+/// How many commands a story has, of which nothing but its words is given.
+#[tactic(auto, using(pif_story_model::proofs::StoriesLemmas::count_in_nothing, pif_story_model::proofs::StoriesLemmas::count_in_passed, pif_story_model::proofs::StoriesLemmas::count_in_row))]
+pub fn count_commands(story: &[u8]) -> usize
+    ensures { result ≡ count_in (lines story.now) }
+{
+    let mut count = 0;
+    let mut rest = Some(story);
+    'lines: while let Some(text) = rest {
+        let (line, behind) = split_line(text);
+        rest = behind;
+        if row_of(line).is_some() {
+            count += 1;
+        }
+    }
+    count
+}
 
 /// The cause, if the script ends at the command of this number, from 1, or before it.
 fn cause_at(fault: Option<(u64, Cause)>, number: u64) -> Option<Cause>
@@ -19,54 +39,101 @@ fn cause_at(fault: Option<(u64, Cause)>, number: u64) -> Option<Cause>
     }
 }
 
-/// Compares a command in the line of this number with the first of the lines that are printed from there on. Answers
-/// the lines behind it.
-///
-/// # Errors
-///
-/// The flaw of the command.
+/// Whether it is printed that a command is refused.
+#[tactic(auto, unfolding(pif_story_model::specs::Verdicts::is_refusal))]
+fn is_refusal(given: &[u8]) -> bool
+    ensures { result ≡ is_refusal given.now }
+{
+    given.starts_with(b"refused ")
+}
+
+/// The flaw of a command in the line of this number, beside what is printed for it, if it has one.
+fn flaw_beside<'a>(strict: bool, number: u64, row: Row<'a>, given: &'a [u8]) -> Option<Flaw<'a>>
+    ensures { option_map flaw_of result ≡ flaw_beside strict number row.entry.0.now (option_copied row.entry.1) given.now }
+{
+    let (command, written) = row;
+    match written {
+        Some(written) => if says(written, given) {
+            None
+        } else {
+            Some(Flaw::Differs(number, command, written, given))
+        },
+        None => if strict && is_refusal(given) {
+            Some(Flaw::Refused(number, command, given))
+        } else {
+            None
+        },
+    }
+}
+
+/// Appends a flaw, if there is one.
+fn keep_flaw<'a>(flaws: &mut Vec<Flaw<'a>>, flaw: Option<Flaw<'a>>) -> Result<(), AllocError>
+    ensures { OnOk result (flaws_of flaws.new.items ≡ flaws_of flaws.old.items ++ cons_option (option_map flaw_of flaw.entry) []) }
+{
+    if let Some(flaw) = flaw {
+        flaws.push(flaw)?;
+    }
+    Ok(())
+}
+
+/// Appends the flaw of a fault behind the last command, if there is one: it is in the last line.
+fn keep_fault<'a>(
+    flaws: &mut Vec<Flaw<'a>>,
+    last: u64,
+    fault: Option<(u64, Cause)>,
+) -> Result<(), AllocError>
+    ensures { OnOk result (flaws_of flaws.new.items ≡ flaws_of flaws.old.items ++ fault_flaws last fault []) }
+{
+    if let Some((_, cause)) = fault {
+        flaws.push(Flaw::Fault(last, b"", cause))?;
+    }
+    Ok(())
+}
+
+/// Compares a command in the line of this number with the first of the lines that are printed from there on, and
+/// appends its flaw, if it has one. Answers the lines behind it.
 fn compare_row<'a>(
+    strict: bool,
     number: u64,
     row: Row<'a>,
     answers: Option<&'a [u8]>,
-) -> Result<Option<&'a [u8]>, Flaw<'a>>
-    ensures { answers_left result
-        ≡ row_compared number (row.entry.0.now, option_copied row.entry.1)
-        (lines_behind (option_copied answers.entry)) }
+    flaws: &mut Vec<Flaw<'a>>,
+) -> Result<Option<&'a [u8]>, AllocError>
+    ensures flaws { OnOk result (flaws_of flaws.new.items
+        ≡ flaws_of flaws.old.items ++ row_flaws strict number (row.entry.0.now, option_copied row.entry.1) (lines_behind (option_copied answers.entry))) }
+    ensures left { IfOk result (λ left. lines_behind (option_copied left) ≡ more_answers (lines_behind (option_copied answers.entry))) }
 {
-    let (command, written) = row;
-    let Some(output) = answers else {
-        return Ok(None);
-    };
-    let (given, more) = split_line(output);
-    match written {
-        Some(written) => if says(written, given) {
+    match answers {
+        Some(output) => {
+            let (given, more) = split_line(output);
+            keep_flaw(flaws, flaw_beside(strict, number, row, given))?;
             Ok(more)
-        } else {
-            Err(Flaw::Differs(number, command, written, given))
-        },
-        None => Ok(more),
+        }
+        None => Ok(None),
     }
 }
 
 /// Compares the commands of a story, of which nothing but its words is given, with the lines that are printed for its
-/// script, which has this first fault or none; if no text is given, nothing is compared. Answers how many commands
-/// there are.
+/// script, which has this first fault or none; if no text is given, nothing is compared. Answers all flaws, in the
+/// order of the lines; a strict comparison wants an answer beside each refusal.
 ///
 /// # Errors
 ///
-/// The first flaw of the story.
-#[tactic(auto, using(pif_story_model::proofs::ComparingLemmas::compared_end, pif_story_model::proofs::ComparingLemmas::compared_faulty, pif_story_model::proofs::ComparingLemmas::compared_next, pif_story_model::proofs::ComparingLemmas::compared_start, pif_story_model::proofs::StoriesLemmas::rows_from_nothing, pif_story_model::proofs::StoriesLemmas::rows_from_passed, pif_story_model::proofs::StoriesLemmas::rows_from_row))]
+/// A growth of memory was refused.
+#[tactic(auto, using(pif_story_model::proofs::ComparingLemmas::flaws_start, pif_story_model::proofs::StoriesLemmas::rows_from_passed))]
 pub fn compare<'a>(
+    alloc: Global,
+    strict: bool,
     story: &'a [u8],
     output: Option<&'a [u8]>,
     fault: Option<(u64, Cause)>,
-) -> Result<u64, Flaw<'a>>
+) -> Result<Vec<Flaw<'a>>, AllocError>
     requires { length story.now ≤ 16777216 }
-    ensures { verdict_of result
-        ≡ verdict_of_rows (length (lines story.now)) fault (rows_from 1 (lines story.now))
-        (lines_behind (option_copied output.entry)) }
+    ensures { IfOk result (λ flaws. flaws_of flaws.items
+        ≡ flaws_of_rows strict (length (lines story.now)) fault (rows_from 1 (lines story.now))
+        (lines_behind (option_copied output.entry))) }
 {
+    let mut flaws = Vec::new(alloc);
     let mut rest = Some(story);
     let mut answers = output;
     let mut number = 0;
@@ -78,13 +145,12 @@ pub fn compare<'a>(
         if let Some(row) = row_of(line) {
             commands += 1;
             if let Some(cause) = cause_at(fault, commands) {
-                return Err(Flaw::Fault(number, row.0, cause));
+                flaws.push(Flaw::Fault(number, row.0, cause))?;
+                return Ok(flaws);
             }
-            answers = compare_row(number, row, answers)?;
+            answers = compare_row(strict, number, row, answers, &mut flaws)?;
         }
     }
-    match fault {
-        Some((_, cause)) => Err(Flaw::Fault(number, b"", cause)),
-        None => Ok(commands),
-    }
+    keep_fault(&mut flaws, number, fault)?;
+    Ok(flaws)
 }

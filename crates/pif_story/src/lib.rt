@@ -1,5 +1,5 @@
 //! The texts of stories: their lines, the script that is left of one, its answers beside the lines that a run prints,
-//! filling in, and the line that says what a story comes to.
+//! filling in, and the lines that say what a story comes to.
 //!
 //! A line of a story is a command of scripts, with ` = ` and its answer behind it or without, or it has no words. Words
 //! stand between blanks, and `#` begins a comment. A CR at the end of a line and a byte order mark at the front are
@@ -15,8 +15,9 @@
 //! | `reading` | that script, of a story that is read |
 //! | `comparing` | the answers that are written, beside the lines that are printed |
 //! | `filling` | a story with the lines that are printed as its answers |
+//! | `titles` | a story behind a comment with its name |
 //! | `pairing` | the commands of a story beside what they ask for and are answered |
-//! | `verdicts` | what a story comes to, as a line |
+//! | `verdicts` | what a story comes to, as lines |
 #![tactic(auto)]
 
 mod answers;
@@ -27,13 +28,15 @@ mod pairing;
 mod plain;
 mod reading;
 mod scripts;
+mod titles;
 mod verdicts;
 
-pub use comparing::compare;
+pub use comparing::{compare, count_commands};
 pub use filling::filled_text;
 pub use lines::line_at_end;
 pub use pairing::answered_rows;
 pub use plain::plain_story;
 pub use reading::{MOST, read_script_of_story};
 pub use scripts::script_of;
-pub use verdicts::verdict_line;
+pub use titles::titled_story;
+pub use verdicts::verdict_text;

@@ -1,5 +1,5 @@
 -- The run of a story's script.
-use Rattle.std.proofs.Common.{◌≡◌, ℕ, true, List, [], ◌++◌, Option, Some, None, Result, Ok, Err, append-nil, inl, inr, refl, sym, ap, ◌∙◌, subst}
+use Rattle.std.proofs.Common.{◌≡◌, ℕ, Bool, true, false, List, [], ◌∷◌, ◌++◌, Option, Some, None, Result, Ok, Err, append-nil, inl, inr, refl, sym, ap, ◌∙◌, subst, if◌then◌else◌}
 use Rattle.std.specs.Prelude.{is_ok}
 use Rattle.std.proofs.lemmas.Bool.{false≢true}
 use Rattle.std.specs.Io.KnownBytes.{Appends}
@@ -13,11 +13,9 @@ use Rattle.pif_script_model.specs.Scripts.{Hearing, Reading, Scan, ended_by, rea
 use Rattle.pif_script_model.specs.Transcripts.{script_end}
 use Rattle.pif_script_model.proofs.ScriptLemmas.{by_cases}
 use Rattle.pif_script_model.specs.Migrating.{IsAllRead, ReadsTo}
-use Rattle.pif_story_model.specs.Checks.{Telling, TellsOfStory, TellsTo, WritesTelling, check_telling, check_end, fault_in, fill_telling, verdict_beside, text_of_run, script_fault, verdict_telling, story_verdict}
-use Rattle.pif_story_model.specs.Filling.{filled_text}
-use Rattle.pif_story_model.specs.Lines.{lines}
-use Rattle.pif_story_model.specs.Stories.{script_of}
-use Rattle.pif_story_model.specs.Verdicts.{Verdict, differing, faulty}
+use Rattle.pif_story_model.specs.Checks.{Telling, TellsOfStory, TellsTo, WritesTelling, check_end, checked_telling, fault_in, fill_telling, filled_or, flaws_beside, flaws_telling, script_fault, story_flaws, text_of_run, title_telling, titled_telling}
+use Rattle.pif_story_model.specs.Filling.{titled}
+use Rattle.pif_story_model.specs.Verdicts.{Flaw, differing, faulty, refusing}
 use Rattle.pif_story_model.proofs.AnswerLines.{stopped}
 
 same_output : {S : Type 0} (hearing : Hearing S) (f g : Reading S) → g.text ≡ f.text → g.stands ≡ f.stands
@@ -79,10 +77,11 @@ IsEnd (Err Read) = ⊥
 IsEnd (Err Write) = ⊥
 IsEnd (Err NoMemory) = ⊥
 
-check_end-ends : (v : Verdict) → IsEnd (check_end v)
-check_end-ends (Ok commands) = tt
-check_end-ends (Err (faulty line command cause)) = tt
-check_end-ends (Err (differing line command written given)) = tt
+check_end-ends : (flaws : List Flaw) → IsEnd (check_end flaws)
+check_end-ends [] = tt
+check_end-ends (faulty line command cause ∷ more) = tt
+check_end-ends (differing line command written given ∷ more) = tt
+check_end-ends (refusing line command given ∷ more) = tt
 
 whole-told : (telling : List ℕ → Telling) (b h k : Option (List ℕ)) (bytes : List ℕ) (end : Result (Unit {0}) CliFault)
     → (telling bytes).1 ≡ end → IsEnd end → IsAllRead bytes b → Appends h k (telling bytes).0
@@ -111,25 +110,43 @@ tells-written telling a b h k bytes text end result r t i (inr w) =
     (bytes, r.0, r.1, (r.2, subst (λ l. WritesPart h k l) (ap (λ (x : Telling). x.0) t) w.1))
 
 -- what a check tells
-pub checked_told : (name : List ℕ) (a b h k : Option (List ℕ)) (bytes text : List ℕ)
-    (end result : Result (Unit {0}) CliFault) → ReadsTo a b bytes → ◌≡◌ {A = Telling} (text, end) (check_telling name bytes)
-    → WritesTelling h k text end result → TellsTo (check_telling name) a b h k result
-unfolding check_telling
-checked_told name a b h k bytes text end result r t w =
-    tells-written (check_telling name) a b h k bytes text end result r t (check_end-ends (story_verdict bytes)) w
+pub checked_told : (strict : Bool) (name : List ℕ) (a b h k : Option (List ℕ)) (bytes text : List ℕ)
+    (end result : Result (Unit {0}) CliFault) → ReadsTo a b bytes
+    → ◌≡◌ {A = Telling} (text, end) (checked_telling strict name bytes) → WritesTelling h k text end result
+    → TellsTo (checked_telling strict name) a b h k result
+unfolding checked_telling
+checked_told strict name a b h k bytes text end result r t w =
+    tells-written (checked_telling strict name) a b h k bytes text end result r t
+    (check_end-ends (story_flaws strict bytes)) w
+
+filled-ends : (name bytes : List ℕ) → IsEnd (fill_telling name bytes).1
+unfolding fill_telling
+filled-ends name bytes = by_flaws (flaws_beside false bytes [])
+  where
+    by_flaws : (flaws : List Flaw) → IsEnd (filled_or name bytes flaws).1
+    by_flaws [] = tt
+    by_flaws (flaw ∷ more) = check_end-ends (flaw ∷ more)
+
+title-ends : (name : List ℕ) (telling : Telling) → IsEnd telling.1 → IsEnd (title_telling name telling).1
+title-ends name telling ends = by_test (is_ok telling.1)
+  where
+    by_test : (b : Bool) → IsEnd (if b then (titled name telling.0, telling.1) else telling).1
+    by_test true = ends
+    by_test false = ends
 
 -- what is told of a story that is filled in
 pub filled_told : (name : List ℕ) (a b h k : Option (List ℕ)) (bytes text : List ℕ)
     (end result : Result (Unit {0}) CliFault) → ReadsTo a b bytes → ◌≡◌ {A = Telling} (text, end) (fill_telling name bytes)
     → WritesTelling h k text end result → TellsTo (fill_telling name) a b h k result
-unfolding fill_telling
 filled_told name a b h k bytes text end result r t w =
-    tells-written (fill_telling name) a b h k bytes text end result r t (by_judged (verdict_beside bytes [])) w
-  where
-    by_judged : (v : Verdict)
-        → IsEnd (elim v as (λ _. Telling) [
-          | Ok commands ↦ (filled_text bytes (lines (text_of_run (script_of bytes))), Ok tt)
-          | Err flaw ↦ verdict_telling name (Err flaw)
-        ]).1
-    by_judged (Ok commands) = tt
-    by_judged (Err flaw) = check_end-ends (Err flaw)
+    tells-written (fill_telling name) a b h k bytes text end result r t (filled-ends name bytes) w
+
+-- and of one of several
+pub titled_told : (name : List ℕ) (a b h k : Option (List ℕ)) (bytes text : List ℕ)
+    (end result : Result (Unit {0}) CliFault) → ReadsTo a b bytes
+    → ◌≡◌ {A = Telling} (text, end) (titled_telling name bytes) → WritesTelling h k text end result
+    → TellsTo (titled_telling name) a b h k result
+unfolding titled_telling
+titled_told name a b h k bytes text end result r t w =
+    tells-written (titled_telling name) a b h k bytes text end result r t
+    (title-ends name (fill_telling name bytes) (filled-ends name bytes)) w

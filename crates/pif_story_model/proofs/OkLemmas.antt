@@ -1,7 +1,7 @@
 -- Which stories are ok.
-use Rattle.std.proofs.Common.{◌≡◌, ℕ, ◌-◌, ◌≤◌, ◌==◌, not, nat_lt, Bool, true, false, cond, List, [], ◌∷◌, ◌++◌, length, Option, Some, None, Result, Ok, Err, inl, inr, append-nil, append_assoc, arith, refl, sym, ap, ◌∙◌, subst}
-use Rattle.std.specs.Prelude.{find, is_ok, slice_get}
-use Rattle.std.specs.List.{zip}
+use Rattle.std.proofs.Common.{◌≡◌, ℕ, ◌-◌, ◌≤◌, ◌==◌, ◌&&◌, not, nat_lt, Bool, true, false, cond, List, [], ◌∷◌, ◌++◌, length, Option, Some, None, Result, Ok, Err, inl, inr, append-nil, append_assoc, arith, refl, sym, ap, ◌∙◌, subst, if◌then◌else◌}
+use Rattle.std.specs.Prelude.{filter_map, is_ok, slice_get}
+use Rattle.std.specs.List.{cons_option, zip}
 use Rattle.std.proofs.lemmas.Bool.{and_parts, false≢true}
 use Rattle.std.proofs.lemmas.Bool.Decides.{nat_tests}
 use Rattle.std.proofs.lemmas.List.{append_cancel_left, append_cancel_right}
@@ -20,8 +20,8 @@ use Rattle.pif_script_model.proofs.ScriptLemmas.{by_cases}
 use Rattle.pif_story_model.specs.Answers.{Says, says}
 use Rattle.pif_story_model.specs.Lines.{lines, plain_lines}
 use Rattle.pif_story_model.specs.Stories.{NumberedRow, rows_of, script_of}
-use Rattle.pif_story_model.specs.Verdicts.{Fault as ScriptFault, Flaw, Verdict, verdict_of_rows, difference, differs, differs_from, fault_at, rows_before}
-use Rattle.pif_story_model.specs.Checks.{HasItsAnswers, OkExactly, fault_by, fault_in, verdict_beside, text_of_run, script_fault, story_verdict}
+use Rattle.pif_story_model.specs.Verdicts.{Fault as ScriptFault, Flaw, differing, fault_at, flaw_at, flaw_beside, flaws_of_rows, is_refusal, refusing}
+use Rattle.pif_story_model.specs.Checks.{AnswersRefusals, HasItsAnswers, IsAnswerBehind, OkExactly, StrictExactly, answers_to, fault_by, fault_in, flaws_beside, script_fault, story_flaws, text_of_run}
 use Rattle.pif_story_model.proofs.AnswerLines.{AreAnswered, answer_lines, answered_all, answered_behind, answered_nothing, answered_text, answers_from, line_of}
 use Rattle.pif_story_model.proofs.AnswersLemmas.{says_back, says_forth}
 use Rattle.pif_story_model.proofs.RowLemmas.{none_ends}
@@ -49,56 +49,71 @@ lines-answered (row ∷ rows) (x ∷ xs) s t a =
 
 -- ---- answers that say what is written
 
-not_false : (b : Bool) → not b ≡ false → b ≡ true
-not_false true e = refl
-not_false false e = absurd (false≢true (sym e))
+-- an answer that is written says this one; or none is written, and a strict check wants none
+abbrev Stands : (strict : Bool) → (written : Option (List ℕ)) → (answer : List ℕ) → Type 0
+Stands strict None answer = strict ≡ true → is_refusal answer ≡ false
+Stands strict (Some written) answer = Says written answer
 
--- a command beside its answer
-module _ (row : NumberedRow) (answer : List ℕ) where
-  written-says : (o : Option (List ℕ)) (w : List ℕ) → differs_from o answer ≡ false → o ≡ Some w → Says w answer
-  written-says None w d e = cc
-  written-says (Some v) w d e =
-      let q : v ≡ w = cc in
-      subst (λ v. Says v answer) q (says_forth v answer (not_false (says v answer) d))
+-- a command without a flaw is one whose answer stands
+module _ (strict : Bool) (line : ℕ) (command answer : List ℕ) where
+  flawless-stands : (written : Option (List ℕ)) → flaw_beside strict line command written answer ≡ None
+      → Stands strict written answer
+  flawless-stands None e = λ is. by_test (is_refusal answer) (ap (λ s. if s && is_refusal answer then Some (refusing line command answer) else None) (sym is) ∙ e)
+    where
+      by_test : (b : Bool) → (if true && b then Some (refusing line command answer) else None) ≡ None → b ≡ false
+      by_test true e = cc
+      by_test false e = refl
+  flawless-stands (Some written) e = says_forth written answer (by_test (says written answer) e)
+    where
+      by_test : (b : Bool) → (if b then None else Some (differing line command written answer)) ≡ None → b ≡ true
+      by_test true e = refl
+      by_test false e = cc
 
-  says-written : (o : Option (List ℕ)) → ((w : List ℕ) → o ≡ Some w → Says w answer) → differs_from o answer ≡ false
-  says-written None h = refl
-  says-written (Some w) h = ap not (says_back w answer (h w refl))
+  stands-flawless : (written : Option (List ℕ)) → Stands strict written answer
+      → flaw_beside strict line command written answer ≡ None
+  stands-flawless None h = by_test strict h
+    where
+      by_test : (b : Bool) → (b ≡ true → is_refusal answer ≡ false)
+          → (if b && is_refusal answer then Some (refusing line command answer) else None) ≡ None
+      by_test true h = rw (h refl) refl
+      by_test false h = refl
+  stands-flawless (Some written) h = rw (says_back written answer h) refl
 
--- no command differs from its answer
-find-none : (p : NumberedRow × List ℕ) (ps : List (NumberedRow × List ℕ)) → find differs (p ∷ ps) ≡ None
-    → (differs p ≡ false) × (find differs ps ≡ None)
-find-none p ps e = by_test (differs p) refl e
+-- no command has a flaw
+find-none : (strict : Bool) (p : NumberedRow × List ℕ) (ps : List (NumberedRow × List ℕ))
+    → filter_map (flaw_at strict) (p ∷ ps) ≡ [] → (flaw_at strict p ≡ None) × (filter_map (flaw_at strict) ps ≡ [])
+find-none strict p ps e = by_flaw (flaw_at strict p) e
   where
-    by_test : (b : Bool) → differs p ≡ b → cond b (Some p) (find differs ps) ≡ None
-        → (b ≡ false) × (find differs ps ≡ None)
-    by_test true d e = cc
-    by_test false d e = (refl, e)
+    by_flaw : (o : Option Flaw) → cons_option o (filter_map (flaw_at strict) ps) ≡ []
+        → (o ≡ None) × (filter_map (flaw_at strict) ps ≡ [])
+    by_flaw None e = (refl, e)
+    by_flaw (Some flaw) e = cc
 
--- the command behind these is answered so that what is written says it
-abbrev IsSaidAt : Scan Table → List NumberedRow → NumberedRow → (written : List ℕ) → Type 0
-IsSaidAt s before row written =
+-- the command behind these is answered so that what is written stands
+abbrev StandsAt : (strict : Bool) → Scan Table → List NumberedRow → NumberedRow → Type 0
+StandsAt strict s before row =
     (answer : List ℕ) × (answers_from s (before ++ row ∷ []) ≡ answers_from s before ++ (answer ++ 10 ∷ []))
-    × Says written answer
+    × Stands strict row.1.1 answer
 
 -- then that is so of the command at any place
-at-place : (before behind : List NumberedRow) (row : NumberedRow) (written : List ℕ) (answers more : List (List ℕ))
+at-place : (strict : Bool) (before behind : List NumberedRow) (row : NumberedRow) (answers more : List (List ℕ))
     (s t : Scan Table) → AreAnswered s (before ++ row ∷ behind) answers t
-    → find differs (zip (before ++ row ∷ behind) (answers ++ more)) ≡ None → row.1.1 ≡ Some written
-    → IsSaidAt s before row written
-at-place [] behind row written [] more s t a e w = absurd a
-at-place [] behind row written (x ∷ xs) more s t a e w =
-    let says = written-says row x row.1.1 written (find-none (row, x) (zip behind (xs ++ more)) e).0 w in (
+    → filter_map (flaw_at strict) (zip (before ++ row ∷ behind) (answers ++ more)) ≡ []
+    → StandsAt strict s before row
+at-place strict [] behind row [] more s t a e = absurd a
+at-place strict [] behind row (x ∷ xs) more s t a e =
+    let stands = flawless-stands strict row.0 row.1.0 x row.1.1
+    (find-none strict (row, x) (zip behind (xs ++ more)) e).0 in (
       x,
       answered_behind row [] s a.0 a.2 ∙ ap (λ l. (reading_of script s (line_of row)).text ++ l) (answered_nothing a.0)
           ∙ append-nil _ ∙ a.1 ∙ ap (λ l. l ++ (x ++ 10 ∷ [])) (sym (answered_nothing s)),
-      says,
+      stands,
     )
-at-place (first ∷ before) behind row written [] more s t a e w = absurd a
-at-place (first ∷ before) behind row written (x ∷ xs) more s t a e w =
+at-place strict (first ∷ before) behind row [] more s t a e = absurd a
+at-place strict (first ∷ before) behind row (x ∷ xs) more s t a e =
     let here =
-    at-place before behind row written xs more a.0 t a.4
-    (find-none (first, x) (zip (before ++ row ∷ behind) (xs ++ more)) e).1 w in (
+    at-place strict before behind row xs more a.0 t a.4
+    (find-none strict (first, x) (zip (before ++ row ∷ behind) (xs ++ more)) e).1 in (
       here.0,
       answered_behind first (before ++ row ∷ []) s a.0 a.2
           ∙ ap (λ l. (reading_of script s (line_of first)).text ++ l) here.1
@@ -107,33 +122,26 @@ at-place (first ∷ before) behind row written (x ∷ xs) more s t a e w =
       here.2,
     )
 
--- where each command with an answer has one that says what is given, none differs
-none-differs : (rows : List NumberedRow) (answers more : List (List ℕ)) (s t : Scan Table)
+-- where all that is given for a command stands, none has a flaw
+none-flawed : (strict : Bool) (rows : List NumberedRow) (answers more : List (List ℕ)) (s t : Scan Table)
     → AreAnswered s rows answers t
-    → ((before behind : List NumberedRow) (row : NumberedRow) (written : List ℕ) → rows ≡ before ++ row ∷ behind
-    → row.1.1 ≡ Some written → IsSaidAt s before row written)
-    → find differs (zip rows (answers ++ more)) ≡ None
-none-differs [] answers more s t a h = refl
-none-differs (row ∷ rows) [] more s t a h = absurd a
-none-differs (row ∷ rows) (x ∷ xs) more s t a h =
-    let here : differs (row, x) ≡ false =
-    says-written row x row.1.1 (λ w e.
-    let said = h [] rows row w refl e in
-    let same : x ≡ said.0 =
-    append_cancel_right x said.0 (10 ∷ [])
-    (sym a.1 ∙ sym (append-nil _)
-    ∙ ap (λ l. (reading_of script s (line_of row)).text ++ l) (sym (answered_nothing a.0))
-    ∙ sym (answered_behind row [] s a.0 a.2) ∙ said.1 ∙ ap (λ l. l ++ (said.0 ++ 10 ∷ [])) (answered_nothing s)) in
-    subst (λ l. Says w l) (sym same) said.2) in
-    rw here (none-differs rows xs more a.0 t a.4 (λ before behind r w e f.
-    let said = h (row ∷ before) behind r w (ap (λ l. row ∷ l) e) f in (
-      said.0,
-      append_cancel_left (reading_of script s (line_of row)).text _ _
-          (sym (answered_behind row (before ++ r ∷ []) s a.0 a.2) ∙ said.1
-          ∙ ap (λ l. l ++ (said.0 ++ 10 ∷ [])) (answered_behind row before s a.0 a.2)
-          ∙ append_assoc _ (answers_from a.0 before) (said.0 ++ 10 ∷ [])),
-      said.2,
-    )))
+    → ((before behind : List NumberedRow) (row : NumberedRow) (answer : List ℕ) → rows ≡ before ++ row ∷ behind
+    → answers_from s (before ++ row ∷ []) ≡ answers_from s before ++ (answer ++ 10 ∷ [])
+    → Stands strict row.1.1 answer)
+    → filter_map (flaw_at strict) (zip rows (answers ++ more)) ≡ []
+none-flawed strict [] answers more s t a h = refl
+none-flawed strict (row ∷ rows) [] more s t a h = absurd a
+none-flawed strict (row ∷ rows) (x ∷ xs) more s t a h =
+    let here : flaw_at strict (row, x) ≡ None =
+    stands-flawless strict row.0 row.1.0 x row.1.1 (h [] rows row x refl
+    (answered_behind row [] s a.0 a.2 ∙ ap (λ l. (reading_of script s (line_of row)).text ++ l) (answered_nothing a.0)
+    ∙ append-nil _ ∙ a.1 ∙ ap (λ l. l ++ (x ++ 10 ∷ [])) (sym (answered_nothing s)))) in
+    rw here (none-flawed strict rows xs more a.0 t a.4 (λ before behind r w e f.
+    h (row ∷ before) behind r w (ap (λ l. row ∷ l) e)
+    (answered_behind row (before ++ r ∷ []) s a.0 a.2
+    ∙ ap (λ l. (reading_of script s (line_of row)).text ++ l) f
+    ∙ sym (append_assoc _ (answers_from a.0 before) (w ++ 10 ∷ []))
+    ∙ ap (λ l. l ++ (w ++ 10 ∷ [])) (sym (answered_behind row before s a.0 a.2)))))
 
 -- ---- scripts without a fault
 
@@ -184,76 +192,117 @@ stands-at bytes ok =
     by_close true x ok = refl
     by_close false x ok = absurd (false≢true ok)
 
--- ---- verdicts
+-- ---- flaws
 
-compared-ok : (last : ℕ) (fault : Option ScriptFault) (rows : List NumberedRow) (answers : List (List ℕ))
-    → is_ok (verdict_of_rows last fault rows answers) ≡ true
-    → (fault ≡ None) × (find differs (zip rows answers) ≡ None)
-unfolding verdict_of_rows
-compared-ok last None rows answers ok = (refl, by_found (find differs (zip rows answers)) ok)
-  where
-    by_found : (o : Option (NumberedRow × List ℕ))
-        → is_ok (elim o as (λ _. Verdict) [ Some pair ↦ Err (difference pair) | None ↦ Ok (length rows) ]) ≡ true
-        → o ≡ None
-    by_found (Some pair) ok = absurd (false≢true ok)
-    by_found None ok = refl
-compared-ok last (Some fault) rows answers ok =
-    absurd (by_found (find differs (zip (rows_before (Some fault) rows) answers))
-    (fault_at last fault.1 (slice_get rows (fault.0 - 1))) ok)
-  where
-    by_found : (o : Option (NumberedRow × List ℕ)) (flaw : Flaw)
-        → is_ok (elim o as (λ _. Verdict) [ Some pair ↦ Err (difference pair) | None ↦ Err flaw ]) ≡ true → ⊥
-    by_found (Some pair) flaw ok = false≢true ok
-    by_found None flaw ok = false≢true ok
+no-front : {A : Type 0} (xs ys : List A) → xs ++ ys ≡ [] → (xs ≡ []) × (ys ≡ [])
+no-front [] ys e = (refl, e)
+no-front (x ∷ xs) ys e = cc
 
-compared-same : (last : ℕ) (rows : List NumberedRow) (answers : List (List ℕ)) → find differs (zip rows answers) ≡ None
-    → is_ok (verdict_of_rows last None rows answers) ≡ true
-unfolding verdict_of_rows
-compared-same last rows answers e =
-    ap (λ (o : Option (NumberedRow × List ℕ)).
-    is_ok (elim o as (λ _. Verdict) [ Some pair ↦ Err (difference pair) | None ↦ Ok (length rows) ])) e
+compared-ok : (strict : Bool) (last : ℕ) (fault : Option ScriptFault) (rows : List NumberedRow)
+    (answers : List (List ℕ)) → flaws_of_rows strict last fault rows answers ≡ []
+    → (fault ≡ None) × (filter_map (flaw_at strict) (zip rows answers) ≡ [])
+unfolding flaws_of_rows
+compared-ok strict last None rows answers e = (refl, (no-front _ [] e).0)
+compared-ok strict last (Some fault) rows answers e =
+    let bad : fault_at last fault.1 (slice_get rows (fault.0 - 1)) ∷ [] ≡ [] = (no-front _ _ e).1 in absurd (cc)
 
-story_verdict-small : (story : List ℕ) → length story ≤ 16777216
-    → story_verdict story
-    ≡ verdict_of_rows (length (plain_lines story)) (script_fault (script_of story)) (rows_of story)
+compared-same : (strict : Bool) (last : ℕ) (rows : List NumberedRow) (answers : List (List ℕ))
+    → filter_map (flaw_at strict) (zip rows answers) ≡ [] → flaws_of_rows strict last None rows answers ≡ []
+unfolding flaws_of_rows
+compared-same strict last rows answers e = rw e refl
+
+story_flaws-small : (strict : Bool) (story : List ℕ) → length story ≤ 16777216
+    → story_flaws strict story
+    ≡ flaws_of_rows strict (length (plain_lines story)) (script_fault (script_of story)) (rows_of story)
     (lines (text_of_run (script_of story)))
-unfolding story_verdict verdict_beside
-story_verdict-small story h = let small : nat_lt 16777216 (length story) ≡ false = grind (arith, nat_tests) in rw small refl
+unfolding story_flaws flaws_beside
+story_flaws-small strict story h =
+    let small : nat_lt 16777216 (length story) ≡ false = grind (arith, nat_tests) in rw small refl
 
-ok-forth : (story : List ℕ) → length story ≤ 16777216 → is_ok (story_verdict story) ≡ true
-    → (is_ok (script_end (script_of story)) ≡ true) × HasItsAnswers story
+-- each command of a story has an answer that stands
+abbrev AllStand : (strict : Bool) → List ℕ → Type 0
+AllStand strict story =
+    (before behind : List NumberedRow) (row : NumberedRow) → rows_of story ≡ before ++ row ∷ behind
+    → (answer : List ℕ) × IsAnswerBehind before row answer × Stands strict row.1.1 answer
+
+-- and so does each answer that it may have
+abbrev AnyStands : (strict : Bool) → List ℕ → Type 0
+AnyStands strict story =
+    (before behind : List NumberedRow) (row : NumberedRow) (answer : List ℕ) → rows_of story ≡ before ++ row ∷ behind
+    → IsAnswerBehind before row answer → Stands strict row.1.1 answer
+
+flawless-forth : (strict : Bool) (story : List ℕ) → length story ≤ 16777216 → story_flaws strict story ≡ []
+    → (is_ok (script_end (script_of story)) ≡ true) × AllStand strict story
 unfolding script_of
-ok-forth story h ok =
+flawless-forth strict story h ok =
     let rows = rows_of story in
-    let found = compared-ok _ _ rows _ (ap is_ok (sym (story_verdict-small story h)) ∙ ok) in
+    let found = compared-ok strict _ _ rows _ (sym (story_flaws-small strict story h) ∙ ok) in
     let clean = no-fault (script_of story) found.0 in
     let end = stands-at (script_of story) clean in
     let all = answered_all rows start end.0 (none_ends story) end.1 in
     let text = answered_text rows all.0 start end.0 all.1 in
     let given = ap lines (end.2 ∙ text) ∙ lines-answered rows all.0 start end.0 all.1 in
-    let same = subst (λ l. find differs (zip rows l) ≡ None) given found.1 in (
+    let same = subst (λ l. filter_map (flaw_at strict) (zip rows l) ≡ []) given found.1 in (
       clean,
-      λ before behind row written e w.
-          at-place before behind row written all.0 ([] ∷ []) start end.0
+      λ before behind row e.
+          at-place strict before behind row all.0 ([] ∷ []) start end.0
           (subst (λ r. AreAnswered start r all.0 end.0) e all.1)
-          (subst (λ r. find differs (zip r (all.0 ++ [] ∷ [])) ≡ None) e same) w,
+          (subst (λ r. filter_map (flaw_at strict) (zip r (all.0 ++ [] ∷ [])) ≡ []) e same),
     )
 
-ok-back : (story : List ℕ) → length story ≤ 16777216
-    → (is_ok (script_end (script_of story)) ≡ true) × HasItsAnswers story → is_ok (story_verdict story) ≡ true
+flawless-back : (strict : Bool) (story : List ℕ) → length story ≤ 16777216
+    → is_ok (script_end (script_of story)) ≡ true → AnyStands strict story → story_flaws strict story ≡ []
 unfolding script_of
-ok-back story h p =
+flawless-back strict story h ok stands =
     let rows = rows_of story in
-    let end = stands-at (script_of story) p.0 in
+    let end = stands-at (script_of story) ok in
     let all = answered_all rows start end.0 (none_ends story) end.1 in
     let text = answered_text rows all.0 start end.0 all.1 in
     let given = ap lines (end.2 ∙ text) ∙ lines-answered rows all.0 start end.0 all.1 in
-    let none = none-differs rows all.0 ([] ∷ []) start end.0 all.1 p.1 in
-    let same = subst (λ l. find differs (zip rows l) ≡ None) (sym given) none in
-    ap is_ok (story_verdict-small story h)
-    ∙ ap (λ f. is_ok (verdict_of_rows (length (plain_lines story)) f rows (lines (text_of_run (script_of story)))))
-    (fault-none (script_of story) p.0)
-    ∙ compared-same (length (plain_lines story)) rows (lines (text_of_run (script_of story))) same
+    let none = none-flawed strict rows all.0 ([] ∷ []) start end.0 all.1 stands in
+    let same = subst (λ l. filter_map (flaw_at strict) (zip rows l) ≡ []) (sym given) none in
+    story_flaws-small strict story h
+    ∙ ap (λ f. flaws_of_rows strict (length (plain_lines story)) f rows (lines (text_of_run (script_of story))))
+    (fault-none (script_of story) ok)
+    ∙ compared-same strict (length (plain_lines story)) rows (lines (text_of_run (script_of story))) same
+
+-- the answer of a command is one
+one-answer : (before : List NumberedRow) (row : NumberedRow) (one other : List ℕ) → IsAnswerBehind before row one
+    → IsAnswerBehind before row other → one ≡ other
+one-answer before row one other e f =
+    append_cancel_right one other (10 ∷ []) (append_cancel_left (answers_to before) _ _ (sym e ∙ f))
+
+has-answers : (strict : Bool) (story : List ℕ) → AllStand strict story → HasItsAnswers story
+has-answers strict story all before behind row written e w =
+    let here = all before behind row e in
+    (here.0, here.1, subst (λ o. Stands strict o here.0) w here.2)
+
+answers-refusals : (story : List ℕ) → AllStand true story → AnswersRefusals story
+answers-refusals story all before behind row answer e n a =
+    let here = all before behind row e in
+    ap is_refusal (one-answer before row answer here.0 a here.1) ∙ subst (λ o. Stands true o here.0) n here.2 refl
+
+-- what is asked of commands with an answer, and of those without one
+any-stands : (strict : Bool) (story : List ℕ) → HasItsAnswers story
+    → (strict ≡ true → AnswersRefusals story) → AnyStands strict story
+any-stands strict story has refusals before behind row answer e a = by_written row.1.1 refl
+  where
+    by_written : (o : Option (List ℕ)) → row.1.1 ≡ o → Stands strict o answer
+    by_written None n = λ is. refusals is before behind row answer e n a
+    by_written (Some written) w =
+        let here = has before behind row written e w in
+        subst (λ x. Says written x) (one-answer before row here.0 answer here.1 a) here.2
 
 pub ok_exactly : OkExactly
-ok_exactly story h = (ok-forth story h, ok-back story h)
+ok_exactly story h = (
+  λ ok. let found = flawless-forth false story h ok in (found.0, has-answers false story found.1),
+  λ p. flawless-back false story h p.0 (any-stands false story p.1 (λ is. absurd (false≢true is))),
+)
+
+pub strict_exactly : StrictExactly
+strict_exactly story h = (
+  λ ok.
+      let found = flawless-forth true story h ok in
+      (found.0, has-answers true story found.1, answers-refusals story found.1),
+  λ p. flawless-back true story h p.0 (any-stands true story p.1 (λ is. p.2)),
+)

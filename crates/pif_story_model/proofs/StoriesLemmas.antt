@@ -1,7 +1,7 @@
 -- The script and the commands of lines, line by line.
-use Rattle.std.proofs.Common.{◌≡◌, ℕ, ◌+◌, List, [], ◌∷◌, ◌++◌, Option, Some, None, refl, sym, ap, ◌∙◌, ◌⊎◌, inl, inr, append-nil, append_assoc}
+use Rattle.std.proofs.Common.{◌≡◌, ℕ, suc, ◌+◌, List, [], ◌∷◌, ◌++◌, Option, Some, None, refl, sym, ap, ◌∙◌, ◌⊎◌, inl, inr, append-nil, append_assoc}
 use Rattle.pif_story_model.specs.Lines.{StoryRow, plain_lines, row_in}
-use Rattle.pif_story_model.specs.Stories.{NumberedRow, rows_from, script_by, script_of}
+use Rattle.pif_story_model.specs.Stories.{NumberedRow, count_in, rows_from, script_by, script_of}
 
 pub rows_from_nothing : (number : ℕ) → rows_from number [] ≡ []
 unfolding rows_from
@@ -16,6 +16,20 @@ pub rows_from_row : (number : ℕ) (line : List ℕ) (lines : List (List ℕ)) (
     → rows_from number (line ∷ lines) ≡ (number, row) ∷ rows_from (number + 1) lines
 unfolding rows_from
 rows_from_row number line lines row e = rw e refl
+
+pub count_in_nothing : count_in [] ≡ 0
+unfolding count_in
+count_in_nothing = refl
+
+pub count_in_passed : (line : List ℕ) (lines : List (List ℕ)) → row_in line ≡ None
+    → count_in (line ∷ lines) ≡ count_in lines
+unfolding count_in
+count_in_passed line lines e = rw e refl
+
+pub count_in_row : (line : List ℕ) (lines : List (List ℕ)) (row : StoryRow) → row_in line ≡ Some row
+    → count_in (line ∷ lines) ≡ suc (count_in lines)
+unfolding count_in
+count_in_row line lines row e = rw e refl
 
 pub script_by_nothing : script_by [] ≡ []
 unfolding script_by

@@ -1,5 +1,5 @@
 -- What checking a story, or filling one in, does over a reader and a writer.
-use Rattle.std.specs.Prelude.{ℕ, ◌≡◌, ◌⊎◌, ◌↔◌, ◌≤◌, nat_lt, true, is_ok, List, [], ◌∷◌, ◌++◌, length, take, Option, Some, None, Result, Ok, Err, if◌then◌else◌}
+use Rattle.std.specs.Prelude.{ℕ, ◌≡◌, ◌⊎◌, ◌↔◌, ◌≤◌, nat_lt, Bool, true, false, is_ok, List, [], ◌∷◌, ◌++◌, length, take, Option, Some, None, Result, Ok, Err, if◌then◌else◌}
 use Rattle.std.specs.Io.KnownBytes.{Appends, Consumes, Keeps}
 use Rattle.pif_text_model.specs.declared.replies.Cause.TheVariants.{Size}
 use Rattle.pif_script_model.specs.declared.faults.CliFault.{CliFault}
@@ -12,10 +12,10 @@ use Rattle.pif_script_model.specs.Running.{script}
 use Rattle.pif_script_model.specs.Runs.{WritesPart, output_of}
 use Rattle.pif_script_model.specs.Transcripts.{script_end, script_reading}
 use Rattle.pif_story_model.specs.Answers.{Says}
-use Rattle.pif_story_model.specs.Filling.{filled_text}
+use Rattle.pif_story_model.specs.Filling.{filled_text, titled}
 use Rattle.pif_story_model.specs.Lines.{lines, plain_lines}
-use Rattle.pif_story_model.specs.Stories.{NumberedRow, rows_of, script_by, script_of}
-use Rattle.pif_story_model.specs.Verdicts.{Fault, Verdict, verdict_of_rows, differing, faulty, verdict_line}
+use Rattle.pif_story_model.specs.Stories.{NumberedRow, count_in, rows_of, script_by, script_of}
+use Rattle.pif_story_model.specs.Verdicts.{Fault, Flaw, differing, faulty, flaws_of_rows, is_refusal, refusing, verdict_text}
 
 -- ---- the script of a story
 
@@ -37,25 +37,29 @@ fault_in (Err end) = fault_by end.line end.ending
 unfoldable pub script_fault : List ℕ → Option Fault
 script_fault bytes = fault_in (script_end bytes)
 
--- ---- verdicts
+-- ---- flaws
 
--- what a story comes to whose commands are compared with these lines; one of more than 16,777,216 bytes is the fault
--- `size`, at the line in which the first byte stands that is too many
-unfoldable pub verdict_beside : List ℕ → (answers : List (List ℕ)) → Verdict
-verdict_beside story answers =
-    if nat_lt 16777216 (length story) then Err (faulty (length (lines (take 16777216 story))) [] Size)
-    else verdict_of_rows (length (plain_lines story)) (script_fault (script_of story)) (rows_of story) answers
+-- all flaws of a story whose commands are compared with these lines; one of more than 16,777,216 bytes has the fault
+-- `size` alone, at the line in which the first byte stands that is too many
+unfoldable pub flaws_beside : (strict : Bool) → List ℕ → (answers : List (List ℕ)) → List Flaw
+flaws_beside strict story answers =
+    if nat_lt 16777216 (length story) then faulty (length (lines (take 16777216 story))) [] Size ∷ []
+    else flaws_of_rows strict (length (plain_lines story)) (script_fault (script_of story)) (rows_of story) answers
 
--- what a story comes to: ok with the number of its commands, or its first flaw. Its commands are compared with the
--- lines that `run` prints for its script
-unfoldable pub story_verdict : List ℕ → Verdict
-story_verdict story = verdict_beside story (lines (text_of_run (script_of story)))
+-- all flaws of a story: its commands are compared with the lines that `run` prints for its script
+unfoldable pub story_flaws : (strict : Bool) → List ℕ → List Flaw
+story_flaws strict story = flaws_beside strict story (lines (text_of_run (script_of story)))
 
--- how a check ends
-abbrev pub check_end : Verdict → Result (Unit {0}) CliFault
-check_end (Ok commands) = Ok tt
-check_end (Err (faulty line command cause)) = Err (Script line cause)
-check_end (Err (differing line command written given)) = Err (Differs line)
+-- a check that meets this flaw first ends so
+abbrev pub flaw_end : Flaw → CliFault
+flaw_end (faulty line command cause) = Script line cause
+flaw_end (differing line command written given) = Differs line
+flaw_end (refusing line command given) = Differs line
+
+-- how a check ends, by the flaws that it finds
+abbrev pub check_end : List Flaw → Result (Unit {0}) CliFault
+check_end [] = Ok tt
+check_end (flaw ∷ more) = Err (flaw_end flaw)
 
 -- ---- what is written
 
@@ -63,21 +67,38 @@ check_end (Err (differing line command written given)) = Err (Differs line)
 abbrev pub Telling : Type 0
 Telling = List ℕ × Result (Unit {0}) CliFault
 
--- a verdict, told by its line
-abbrev pub verdict_telling : (name : List ℕ) → Verdict → Telling
-verdict_telling name found = (verdict_line name found, check_end found)
+-- so many commands and these flaws, told
+abbrev pub flaws_telling : (name : List ℕ) → (commands : ℕ) → List Flaw → Telling
+flaws_telling name commands flaws = (verdict_text name commands flaws, check_end flaws)
 
--- a check of a story of this name
-unfoldable pub check_telling : (name : List ℕ) → List ℕ → Telling
-check_telling name story = verdict_telling name (story_verdict story)
+-- a check of a story of this name: that it is ok, or its flaws
+unfoldable pub checked_telling : (strict : Bool) → (name : List ℕ) → List ℕ → Telling
+checked_telling strict name story = flaws_telling name (count_in (plain_lines story)) (story_flaws strict story)
+
+-- a check that passes over refusals that have no answer beside them
+abbrev pub check_telling : (name : List ℕ) → List ℕ → Telling
+check_telling name = checked_telling false name
+
+-- a check that does not
+abbrev pub strict_telling : (name : List ℕ) → List ℕ → Telling
+strict_telling name = checked_telling true name
+
+-- a story that is filled in, or what is told of these flaws
+abbrev pub filled_or : (name : List ℕ) → List ℕ → List Flaw → Telling
+filled_or name story [] = (filled_text story (lines (text_of_run (script_of story))), Ok tt)
+filled_or name story (flaw ∷ more) = flaws_telling name 0 (flaw ∷ more)
 
 -- a story of this name that is filled in: if it has a fault, what a check would tell of that alone
 unfoldable pub fill_telling : (name : List ℕ) → List ℕ → Telling
-fill_telling name story =
-    elim (verdict_beside story []) [
-      | Ok commands ↦ (filled_text story (lines (text_of_run (script_of story))), Ok tt)
-      | Err flaw ↦ verdict_telling name (Err flaw)
-    ]
+fill_telling name story = filled_or name story (flaws_beside false story [])
+
+-- a story that is filled in stands behind a comment with its name; all else that is told has the name in it
+abbrev pub title_telling : (name : List ℕ) → Telling → Telling
+title_telling name telling = if is_ok telling.1 then (titled name telling.0, telling.1) else telling
+
+-- the same of one of several stories, each behind a comment with its name
+unfoldable pub titled_telling : (name : List ℕ) → List ℕ → Telling
+titled_telling name story = title_telling name (fill_telling name story)
 
 -- of these bytes of a story, what is to be told was:
 --   ended well, a fault or a difference: all was read, it ends so, and the text was written
@@ -132,9 +153,23 @@ HasItsAnswers story =
     → rows_of story ≡ before ++ row ∷ behind → row.1.1 ≡ Some written
     → (answer : List ℕ) × IsAnswerBehind before row answer × Says written answer
 
+-- no command of a story without an answer is refused
+abbrev pub AnswersRefusals : List ℕ → Type 0
+AnswersRefusals story =
+    (before behind : List NumberedRow) (row : NumberedRow) (answer : List ℕ)
+    → rows_of story ≡ before ++ row ∷ behind → row.1.1 ≡ None → IsAnswerBehind before row answer
+    → is_refusal answer ≡ false
+
 -- a story that is not too large is ok exactly if its script has no fault and each command with an answer has one that
 -- says what `run` prints for it
 abbrev pub OkExactly : Type 0
 OkExactly =
     (story : List ℕ) → length story ≤ 16777216
-    → (is_ok (story_verdict story) ≡ true) ↔ ((is_ok (script_end (script_of story)) ≡ true) × HasItsAnswers story)
+    → (story_flaws false story ≡ []) ↔ ((is_ok (script_end (script_of story)) ≡ true) × HasItsAnswers story)
+
+-- and a strict check says so exactly if no command without an answer is refused, too
+abbrev pub StrictExactly : Type 0
+StrictExactly =
+    (story : List ℕ) → length story ≤ 16777216
+    → (story_flaws true story ≡ [])
+    ↔ ((is_ok (script_end (script_of story)) ≡ true) × HasItsAnswers story × AnswersRefusals story)

@@ -1,9 +1,10 @@
 -- Stories whose answers are filled in.
-use Rattle.std.specs.Prelude.{ℕ, ◌-◌, List, [], ◌∷◌, ◌++◌, codes, drop, filter_map, length, max, option_and_then, replicate, take, Option, Some, None}
-use Rattle.std.specs.List.{fold, join_with_byte}
+use Rattle.std.specs.Prelude.{ℕ, ◌-◌, List, [], ◌∷◌, ◌++◌, codes, drop, filter_map, length, map, max, nat_eq, option_and_then, replicate, take, Option, Some, None, if◌then◌else◌}
+use Rattle.std.specs.List.{ends_with, fold, join_with_byte}
 use Rattle.pif_story_model.specs.declared.forms.Form.{Form}
 use Rattle.pif_story_model.specs.declared.forms.Form.TheVariants.{Number}
 use Rattle.pif_story_model.specs.Answers.{form_in, in_form}
+use Rattle.pif_story_model.specs.Verdicts.{printable}
 use Rattle.pif_story_model.specs.Lines.{StoryRow, commentless, lines, plain_line, plain_lines, row_in, without_blanks, without_mark}
 
 -- the greater of this width and that of a command
@@ -80,3 +81,14 @@ filled_text story answers =
     take (length story - length (without_mark story)) story
     ++ join_with_byte 10
     (filled_lines (width_from 0 (plain_lines story)) (form_from (plain_lines story)) (lines (without_mark story)) answers)
+
+-- ---- several stories behind one another
+
+-- a text with an LF at its end
+unfoldable pub ended : List ℕ → List ℕ
+ended text = if ends_with nat_eq text (10 ∷ []) then text else text ++ 10 ∷ []
+
+-- a story behind a comment with its name, so that another one may stand behind it: a byte order mark at its front, which
+-- would not be at the front, is left out
+unfoldable pub titled : (name : List ℕ) → List ℕ → List ℕ
+titled name story = codes "# " ++ map printable name ++ 10 ∷ ended (without_mark story)

@@ -1,5 +1,5 @@
 -- The lines of a story.
-use Rattle.std.specs.Prelude.{ℕ, ◌==◌, ◌||◌, Bool, true, false, List, [], ◌∷◌, drop, filter, map, Option, Some, None, nat_eq, if◌then◌else◌}
+use Rattle.std.specs.Prelude.{ℕ, ◌==◌, ◌||◌, not, Bool, true, false, List, [], ◌∷◌, drop, filter, map, Option, Some, None, nat_eq, if◌then◌else◌}
 use Rattle.std.specs.List.{join_with_byte, list_all, slice_split, starts_with}
 use Rattle.std.specs.Str.Lines.{strip_carriage_return}
 use Rattle.pif_text_model.specs.Traces.{parts_of}
@@ -26,6 +26,9 @@ lines_behind (Some text) = lines text
 -- a space or a tab
 abbrev pub is_blank : ℕ → Bool
 is_blank byte = byte == 32 || byte == 9
+
+abbrev pub is_no_blank : ℕ → Bool
+is_no_blank byte = not (is_blank byte)
 
 -- what stands before a comment: a comment begins with the first `#`
 unfoldable pub without_comment : List ℕ → List ℕ

@@ -1,5 +1,5 @@
 -- Stories: the commands in them, and the script that is left when all else is taken out.
-use Rattle.std.specs.Prelude.{ℕ, List, [], ◌∷◌, ◌++◌, Option, option_map, filter_map, flat_map}
+use Rattle.std.specs.Prelude.{ℕ, List, [], ◌∷◌, ◌++◌, Option, option_map, filter_map, flat_map, length}
 use Rattle.std.specs.List.{enumerate_from}
 use Rattle.pif_story_model.specs.Lines.{StoryRow, plain_lines, row_in}
 
@@ -17,6 +17,10 @@ rows_from number lines = filter_map numbered_row (enumerate_from number lines)
 -- the commands of a story, with the answers that are written behind them and the numbers of their lines, from 1
 abbrev pub rows_of : List ℕ → List NumberedRow
 rows_of story = rows_from 1 (plain_lines story)
+
+-- how many commands lines with nothing but their words have
+unfoldable pub count_in : List (List ℕ) → ℕ
+count_in lines = length (filter_map row_in lines)
 
 -- a command as a line of a script
 abbrev pub row_line : StoryRow → List ℕ

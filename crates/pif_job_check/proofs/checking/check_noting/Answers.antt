@@ -1,7 +1,8 @@
+use Rattle.std.proofs.Common.{false}
 use Rattle.pif_story_model.proofs.ChecksLemmas.{checked_told}
 use Rattle.pif_job_check.proofs.checking.check_noting.Goals as goal
 
 pub returns : goal.returns
 returns g c =
-    checked_told c.args.name.now _ _ _ _ c.in_ok-story.story.items _ _ _ c.in_ok-story.ensures.read
+    checked_told false c.args.name.now _ _ _ _ c.in_ok-story.story.items _ _ _ c.in_ok-story.ensures.read
     (rw c.as_slice.ensures.value at c.in_ok-telling.ensures.told) c.write_telling.ensures

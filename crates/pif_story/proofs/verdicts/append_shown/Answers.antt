@@ -1,7 +1,8 @@
+use Rattle.std.proofs.Common.{◌≡◌, ◌++◌, List, OnOk, ℕ, subst}
 use Rattle.pif_story_model.proofs.OrderLemmas.{shown_whole}
 use Rattle.pif_story.proofs.verdicts.append_shown.Goals as goal
 
 pub returns : goal.returns
 returns c =
-    shown_whole c.loop-byte.line.items c.args.line.now.items c.args.text.now c.loop-byte.byte-index c.min.result
-    c.min.ensures c.loop-byte.invariant c.loop-byte-test.false
+    subst (λ (l : List ℕ). OnOk c.append_printable.result (c.append_printable.new.line.items ≡ c.args.line.now.items ++ l))
+    (shown_whole c.args.text.now c.min.result c.min.ensures) c.append_printable.ensures

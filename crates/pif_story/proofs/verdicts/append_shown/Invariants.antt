@@ -1,6 +1,0 @@
-use Rattle.std.proofs.Common.{◌≡◌, ◌++◌, map, take}
-use Rattle.pif_story_model.specs.Verdicts.{printable}
-use Rattle.pif_story.proofs.verdicts.append_shown.Given as goal
-
-abbrev pub invariant-loop-byte : goal.invariant-loop-byte
-invariant-loop-byte l = l.line.items ≡ l.initial.line.items ++ map printable (take l.byte-index l.byte-items)
