@@ -12,6 +12,7 @@ mod messages;
 mod process;
 mod progress;
 mod random;
+mod reasons;
 mod shelves;
 mod statuses;
 mod words;

@@ -287,14 +287,21 @@ and an empty one, are passed over. A line that is no command is told so, and
 changes nothing.
 
 Besides, it knows
-  help          names the commands; 'help WORD' tells of one, or of a call
+  help          names the commands; 'help WORD' tells of one, of a call, of an
+                error, as EDEADLK or 35, or of another answer, as waits
   state         shows what there is, as 'pif show' does
-  undo          takes the last command back
-  save FILE     saves the commands with their answers as a story, in a new file
+  undo          takes the last command back; 'undo N' the last N of them
+  redo          gives the command again that was taken back last
+  save FILE     saves the commands with their answers as a story, in a new file;
+                'save! FILE' replaces what is there
+  load FILE     begins with the commands of a story or a script
+  exit          ends, and so does 'quit'
 
-At a terminal each line has '> ' before it. The end of input, Ctrl-D, ends.
+At a terminal each line has '> ' before it. The session is kept as one goes on,
+in a story that is named at the beginning and at the end. 'exit' removes it if
+nothing came behind the last 'save'. The end of input, Ctrl-D, ends too.
 
-Status: 0 at the end of input, 1 wrong words, 3 a read or write failed.
+Status: 0 at the end, 1 wrong words, 3 a read or write failed.
 Standard error says what went wrong.";
 
 /// What `judge` reads, and what it answers.

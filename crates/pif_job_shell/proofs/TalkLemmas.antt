@@ -17,7 +17,7 @@ talks_on a b c h i j p q = (read_on a b c p.0 q.0, λ front x. q.1 front (p.1 fr
 
 pub talks_out : (a b c h i j : Option (List ℕ)) → Reads a b × Stays h i → TurnsTo b c i j (Ok false)
     → TurnsTo a c h j (Ok false)
-talks_out a b c h i j p q = ((read_on a b c p.0 q.0.0, q.0.1), λ front x. q.1 front (p.1 front x))
+talks_out a b c h i j p q = (read_on a b c p.0 q.0, λ front x. q.1 front (p.1 front x))
 
 pub talks_failed : (a b c h i j : Option (List ℕ)) (fault : CliFault) → Reads a b × Stays h i
     → TurnsTo b c i j (Err fault) → TalksTo a c h j (Err fault)

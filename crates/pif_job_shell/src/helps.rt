@@ -1,7 +1,11 @@
+use crate::answers::{ANSWERS, error_word};
+
 /// A word and the help on it.
-struct Help {
-    word: &'static str,
-    text: &'static str,
+pub struct Help {
+    /// The word.
+    pub word: &'static str,
+    /// The help, in lines of at most 80 bytes.
+    pub text: &'static str,
 }
 
 /// The help on the shell.
@@ -22,15 +26,19 @@ Commands of scripts:
 Calls: lock mN, trylock mN, unlock mN, consistent mN, wait cN mN, signal cN,
   broadcast cN, setprio tN P, timedlock mN D, timedwait cN mN D
 Commands of the shell:
-  help WORD             tells of a command or a call
+  help WORD             tells of a command, a call, an error or another answer
   state                 shows what there is
-  undo                  takes the last command back
+  undo, undo N          takes the last command back, or the last N
+  redo                  gives the command again that was taken back last
   save FILE             saves the commands as a story, in a new file
-A line that begins with # is a comment. The end of input (Ctrl-D) ends.
+  save! FILE            the same, in place of a file that is there
+  load FILE             begins with the commands of a story or a script
+  exit, quit            ends, as the end of input (Ctrl-D) does
+A line that begins with # is a comment.
 ";
 
 /// The help on each word.
-static WORDS: [Help; 29] = [
+static WORDS: [Help; 34] = [
     Help {
         word: "thread",
         text: "\
@@ -238,7 +246,8 @@ timedwait cN mN D
         word: "help",
         text: "\
 help [WORD]
-  Names the commands, or tells of one, or of a call.
+  Names the commands, or tells of one, of a call, of an error, as EDEADLK or 35,
+  or of another answer, as waits.
 ",
     },
     Help {
@@ -252,30 +261,98 @@ state
     Help {
         word: "undo",
         text: "\
-undo
-  Takes the last command back: the others are played again from the start.
+undo [N]
+  Takes the last command back, or the last N: the others are played again from
+  the start. 'redo' gives them again.
+",
+    },
+    Help {
+        word: "redo",
+        text: "\
+redo
+  Gives the command again that was taken back last. A new command forgets those
+  that were taken back.
 ",
     },
     Help {
         word: "save",
+        text: SAVE,
+    },
+    Help {
+        word: "save!",
+        text: SAVE,
+    },
+    Help {
+        word: "load",
         text: "\
-save FILE
-  Saves the commands with their answers as a story, for 'pif check FILE'. A file
-  that is there already is left as it is.
+load FILE
+  Begins with the commands of a story or a script. Their answers are not
+  compared. There may be no command before: 'undo N' takes them back.
 ",
+    },
+    Help {
+        word: "exit",
+        text: LEAVE,
+    },
+    Help {
+        word: "quit",
+        text: LEAVE,
     },
 ];
 
-/// The help on a word, or on the shell if there is no word; `None` if there is no help on the word. It is printable
-/// ASCII, in lines of at most 80 bytes that end in LF.
-pub fn help_of(word: &[u8]) -> Option<&'static str> {
-    if word.is_empty() {
-        return Some(ALL);
-    }
-    for help in &WORDS {
+/// The help on saving.
+const SAVE: &str = "\
+save FILE, save! FILE
+  Saves the commands with their answers as a story, for 'pif check FILE'. A file
+  that is there already is left as it is by 'save', and replaced by 'save!'.
+";
+
+/// The help on leaving.
+const LEAVE: &str = "\
+exit, quit
+  Ends. At a terminal the story in which the session was kept is removed, if
+  nothing came behind the last 'save'.
+";
+
+/// What is said of a word on which there is no help.
+const UNKNOWN: &str = "\
+no help on this word; there is help on
+  thread mutex cond limits call begin go finish end tick
+  word health condword prio pick
+  lock trylock unlock consistent wait signal broadcast setprio timedlock
+  timedwait
+  help state undo redo save load exit quit
+  EPERM ESRCH EAGAIN EBUSY EINVAL EDEADLK EOVERFLOW ETIMEDOUT EOWNERDEAD
+  ENOTRECOVERABLE, and their numbers
+  answer waits went begun ended dead ticked ok none refused
+  nosuch busy idle past badprio toomany
+";
+
+/// The help on a word that stands in a table.
+fn help_in(word: &[u8], table: &'static [Help]) -> Option<&'static str> {
+    for help in table {
         if word == help.word.as_bytes() {
             return Some(help.text);
         }
     }
     None
+}
+
+/// The help on a word, on the shell if there is no word, and which words there are if there is no help on it. It is
+/// printable ASCII, in lines of at most 80 bytes that end in LF. An error is found by its name or its number.
+pub fn help_of(word: &[u8]) -> &'static str {
+    if word.is_empty() {
+        return ALL;
+    }
+    if let Some(text) = help_in(word, WORDS.as_slice()) {
+        return text;
+    }
+    let name = match error_word(word) {
+        Some(name) => name.as_bytes(),
+        None => word,
+    };
+    match help_in(name, ANSWERS.as_slice()) {
+        Some(text) => text,
+        None => UNKNOWN,
+    }
 }

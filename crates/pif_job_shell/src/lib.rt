@@ -7,23 +7,34 @@
 //! | `lines` | the lines of an input, one after the other |
 //! | `wishes` | what a line asks of a shell |
 //! | `remarks` | what a shell says: syntax errors, and why a command is not accepted or not taken back |
-//! | `helps` | the help on each word |
+//! | `helps`, `answers` | the help on each word |
 //! | `replies` | the answer to a command, with what it changed |
 //! | `stories`, `shelves` | the session as a story, and where it is saved |
+//! | `loads` | a session with the commands of a story |
+//! | `keeping` | the story in which a session at a terminal is kept as it goes on |
+//! | `deeds`, `telling` | what a line asks for, done, and what is said of it |
 //! | `shells` | the talk: line by line, to the end of the input |
 #![tactic(auto)]
 
+mod answers;
+mod deeds;
 mod helps;
+mod keeping;
 mod lines;
+mod loads;
 mod remarks;
 mod replies;
 mod sessions;
 mod shells;
 mod shelves;
 mod stories;
+mod telling;
 mod wishes;
 
-pub use sessions::{MOST_COMMANDS, NotUndone, Refusal, Session, Unplayed, sessions_are_runs};
+pub use sessions::{
+    MOST_COMMANDS, NotLoaded, NotRedone, NotUndone, Refusal, Session, Unplayed, session_of,
+    sessions_are_runs,
+};
 pub use shells::shell;
-pub use shelves::{NoShelf, SaveFault, Shelf};
+pub use shelves::{LoadFault, NoShelf, SaveFault, Shelf};
 pub use stories::story_of;

@@ -1,8 +1,9 @@
-use crate::sessions::{NotUndone, Refusal, Unplayed};
+use crate::sessions::{NotRedone, NotUndone, Refusal, Unplayed};
+use crate::shelves::{LoadFault, SaveFault};
 use arrayvec::ArrayVec;
 use itoa::Buffer;
 use pif_text::Cause;
-use pif_text_errors::{SyntaxError, Wrong, nearest_name};
+use pif_text_errors::{SyntaxError, Wrong, line_of_command, nearest_name, written_column};
 
 /// The most bytes of a remark.
 const REMARK_ROOM: usize = 512;
@@ -73,7 +74,9 @@ fn wrong_words(wrong: Wrong) -> &'static str {
 }
 
 /// What a line of the shell begins with that is no command of scripts.
-const OWN_WORDS: [&str; 4] = ["help", "state", "undo", "save"];
+const OWN_WORDS: [&str; 8] = [
+    "help", "state", "undo", "redo", "save", "load", "exit", "quit",
+];
 
 /// The right word that is nearest to what is wrong, if one is near. A word that no command begins with may be meant as
 /// one of the shell's own.
@@ -92,6 +95,11 @@ fn say_syntax_error(syntax_error: &SyntaxError<'_>, remark: &mut Remark) {
     remark.say("column ");
     remark.number(syntax_error.column as u64);
     remark.say(": ");
+    say_wrong(syntax_error, remark);
+}
+
+/// Says what is wrong with a line, the nearest word and the form of the command, if there are such.
+fn say_wrong(syntax_error: &SyntaxError<'_>, remark: &mut Remark) {
     remark.say(wrong_words(syntax_error.wrong));
     let near = near_of(syntax_error);
     say_hint(", perhaps '", near, remark);
@@ -130,10 +138,97 @@ pub fn too_many(word: &'static str) -> Remark {
     remark
 }
 
-/// Why nothing was taken back, in words.
-pub fn undone_words(why: NotUndone) -> &'static str {
+/// Says why so many commands were not taken back, of those that there are.
+pub fn say_not_undone(why: NotUndone, count: usize, remark: &mut Remark) {
     match why {
-        NotUndone::Nothing => "there is nothing to undo",
-        NotUndone::NoMemory => "out of memory: nothing has changed",
+        NotUndone::NoMemory => remark.say("out of memory: nothing has changed"),
+        NotUndone::Fewer => match count {
+            0 => remark.say("there is nothing to undo"),
+            _ => {
+                remark.say("there are no more to undo than ");
+                remark.number(count as u64);
+            }
+        },
+    }
+}
+
+/// Why nothing was given again, in words.
+pub fn not_redone_words(why: NotRedone) -> &'static str {
+    match why {
+        NotRedone::Nothing => "there is nothing to give again",
+        NotRedone::NoMemory => "out of memory: nothing has changed",
+    }
+}
+
+/// Says a file's name, and behind it why something was not done, in the system's words or else in these.
+fn say_reason(name: &str, why: Option<&'static str>, else_words: &str, remark: &mut Remark) {
+    remark.show(name.as_bytes());
+    match why {
+        Some(words) => {
+            remark.say(": ");
+            remark.say(words);
+        }
+        None => {
+            remark.say(" ");
+            remark.say(else_words);
+        }
+    }
+}
+
+/// Says why a file of this name was not saved.
+pub fn say_unsaved(name: &str, why: SaveFault, remark: &mut Remark) {
+    match why {
+        SaveFault::Taken => {
+            remark.show(name.as_bytes());
+            remark.say(" is there already, and is left as it is; 'save! FILE' replaces it");
+        }
+        SaveFault::Refused(why) => say_reason(name, why, "cannot be made", remark),
+        SaveFault::Cut(why) => say_reason(name, why, "cannot be written whole", remark),
+    }
+}
+
+/// Says why a file of this name was not read.
+pub fn say_unread(name: &str, why: LoadFault, remark: &mut Remark) {
+    match why {
+        LoadFault::Unread(why) => say_reason(name, why, "cannot be read", remark),
+        LoadFault::NoMemory => remark.say("out of memory: nothing has changed"),
+    }
+}
+
+/// Says a place in a file: its name, line and column, with a colon behind each.
+fn say_place(name: &str, line: u64, column: usize, remark: &mut Remark) {
+    remark.show(name.as_bytes());
+    remark.say(":");
+    remark.number(line);
+    remark.say(":");
+    remark.number(column as u64);
+    remark.say(": ");
+}
+
+/// Says that the file of this name is too large, at a line of this number.
+pub fn say_too_large(name: &str, line: u64, remark: &mut Remark) {
+    say_place(name, line, 1, remark);
+    remark.say("the input has more than 16777216 bytes");
+}
+
+/// Says why the command of this number is not accepted in the story of this name.
+pub fn say_not_loaded(
+    name: &str,
+    story: &[u8],
+    number: u64,
+    refusal: &Refusal<'_>,
+    remark: &mut Remark,
+) {
+    let (line, written) = line_of_command(story, number).unwrap_or((number, b"".as_slice()));
+    match refusal {
+        Refusal::SyntaxError(syntax_error) => {
+            let column = written_column(written, syntax_error.column);
+            say_place(name, line, column, remark);
+            say_wrong(syntax_error, remark);
+        }
+        Refusal::Unplayed(why) => {
+            say_place(name, line, 1, remark);
+            remark.say(unplayed_words(*why));
+        }
     }
 }

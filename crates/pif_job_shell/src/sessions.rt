@@ -1,8 +1,8 @@
-ghost use Rattle.std.specs.Prelude.{◌≡◌, ◌<◌, ◌≤◌, ◌++◌, ◌∷◌, [], List, All, IfErr, IfOk, OnOk, Ok, Err, None, Some, length, is_some, vec_len, vec_capacity, option_copied};
+ghost use Rattle.std.specs.Prelude.{◌≡◌, ◌<◌, ◌≤◌, ◌+◌, ◌++◌, ◌∷◌, [], List, All, IfErr, IfOk, OnOk, Ok, Err, None, Some, length, map, take, drop, is_some, vec_len, vec_capacity, option_copied};
 ghost use Rattle.pif_model.specs.Table.{Table};
 ghost use Rattle.pif_text_model.specs.CommandTexts.{IsWritten};
 ghost use Rattle.pif_script_model.specs.CommandLines.{command_line, script_lines};
-ghost use Rattle.pif_job_shell.specs.Sessions.{AnswersCommand, AnswersAsRuns, HasNoRoom, KeepsRuns, Leaves, PlaysParts, TakesBack};
+ghost use Rattle.pif_job_shell.specs.Sessions.{AnswersCommand, AnswersAsRuns, HasNoRoom, KeepsRuns, Leaves, PlaysAgain, PlaysBehind, TakesAll, nothing_kept};
 
 use pif_core::{Core, Event};
 use pif_script::{Ending, OpenFault, obey, open_core};
@@ -37,31 +37,43 @@ pub enum Refusal<'a> {
     Unplayed(Unplayed),
 }
 
-/// Why the last command was not taken back.
+/// Why commands were not taken back.
 #[derive(Clone, Copy, PartialEq, Eq)]
 pub enum NotUndone {
-    /// There is none.
+    /// There are fewer.
+    Fewer,
+    /// A growth of memory was refused.
+    NoMemory,
+}
+
+/// Why no command was given again.
+#[derive(Clone, Copy, PartialEq, Eq)]
+pub enum NotRedone {
+    /// None was taken back, or a command was given since.
     Nothing,
     /// A growth of memory was refused.
     NoMemory,
 }
 
 /// A script while it is written, one command after the other, and the core behind it. The script has no fault, and the
-/// core is the one that a run of it leaves: `sessions_are_runs`.
+/// core is the one that a run of it leaves: `sessions_are_runs`. Behind the commands that stand are those that were taken
+/// back.
 #[derive(Drop)]
 pub struct Session {
     commands: Vec<Command>,
+    standing: usize,
     core: Option<Core>,
 }
 
 impl Model for Session {
-    ghost use Rattle.pif_job_shell.specs.Sessions.{IsPlayed, Kept};
+    ghost use Rattle.std.specs.Prelude.{take, drop};
+    ghost use Rattle.pif_job_shell.specs.Sessions.{IsStanding, Kept};
 
     ghost Value = { Kept };
 
-    ghost view = { λ s. record { commands = s.commands.items; core = s.core } };
+    ghost view = { λ s. record { commands = take s.standing s.commands.items; undone = drop s.standing s.commands.items; core = s.core } };
 
-    ghost invariant = { λ s. IsPlayed s.commands.items s.core };
+    ghost invariant = { λ s. IsStanding s.commands.items s.standing s.core };
 }
 
 /// What a command is answered by the core, or as the first one, which makes it.
@@ -90,14 +102,15 @@ fn answer(alloc: Global, core: &mut Option<Core>, command: Command) -> Result<Re
     }
 }
 
-/// Makes room for one command more.
-fn make_room(commands: &mut Vec<Command>) -> Result<(), Unplayed>
+/// Makes room for one command more behind the first so many.
+fn make_room(commands: &mut Vec<Command>, standing: usize) -> Result<(), Unplayed>
+    requires { standing ≤ vec_len commands.old }
     ensures items { commands.new.items ≡ commands.old.items }
     ensures room { OnOk result (vec_len commands.new < vec_capacity commands.new) }
-    ensures full { OnOk result (vec_len commands.old < 131072) }
-    ensures why { IfErr result (λ why. HasNoRoom commands.old.items why) }
+    ensures full { OnOk result (standing < 131072) }
+    ensures why { IfErr result (λ why. HasNoRoom standing why) }
 {
-    if commands.len() >= MOST_COMMANDS {
+    if standing >= MOST_COMMANDS {
         return Err(Unplayed::Full);
     }
     match commands.try_reserve(1) {
@@ -106,22 +119,61 @@ fn make_room(commands: &mut Vec<Command>) -> Result<(), Unplayed>
     }
 }
 
-/// Has a command answered, and keeps it. Nothing changes if it is not accepted.
+/// Puts a command behind the first so many, in place of what stands there.
+fn put_behind(commands: &mut Vec<Command>, standing: usize, command: Command)
+    requires within { standing ≤ vec_len commands.old }
+    requires room { vec_len commands.old < vec_capacity commands.old }
+    ensures { commands.new.items ≡ take standing commands.old.items ++ command ∷ [] }
+{
+    // The types that a command has inside are named, so that the borrow checker finds them.
+    let _inside: Option<(Addition, Event, Question, Request)> = None;
+    commands.truncate(standing);
+    push_within(commands, command);
+}
+
+/// Has a command answered, and keeps it behind the first so many. Nothing changes if it is not accepted.
 fn play(
     alloc: Global,
     commands: &mut Vec<Command>,
+    standing: &mut usize,
     core: &mut Option<Core>,
     command: Command,
 ) -> Result<Reply, Unplayed>
-    ensures { PlaysParts command commands.old.items core.old commands.new.items core.new result }
+    requires { standing.old ≤ vec_len commands.old }
+    ensures { PlaysBehind command standing.old commands.old.items core.old standing.new commands.new.items core.new result }
 {
     // The types that a command has inside are named, so that the borrow checker finds them.
     let _inside: Option<(Addition, Event, Question, Request)> = None;
     let kept = command;
-    make_room(commands)?;
+    make_room(commands, *standing)?;
     let reply = answer(alloc, core, command)?;
-    push_within(commands, kept);
+    put_behind(commands, *standing, kept);
+    *standing += 1;
     Ok(reply)
+}
+
+/// Has the command answered again that stands behind the first so many, if there is one. Nothing changes if it is not
+/// accepted.
+fn play_again(
+    alloc: Global,
+    commands: &[Command],
+    standing: &mut usize,
+    core: &mut Option<Core>,
+) -> Result<(Command, Reply), NotRedone>
+    ensures { PlaysAgain commands.now standing.old core.old standing.new core.new result }
+{
+    if *standing >= commands.len() {
+        return Err(NotRedone::Nothing);
+    }
+    let command = commands[*standing];
+    let asked = command;
+    match answer(alloc, core, command) {
+        Ok(reply) => {
+            *standing += 1;
+            Ok((asked, reply))
+        }
+        Err(_) => Err(NotRedone::NoMemory),
+    }
 }
 
 /// The core behind these commands, which have no fault.
@@ -139,38 +191,16 @@ fn replayed(alloc: Global, commands: &[Command]) -> Result<Option<Core>, NotUndo
     Ok(core)
 }
 
-/// Takes the last of these commands away, and puts the core behind the others in the place of theirs. Nothing changes
-/// if that fails.
-fn take_back(
-    alloc: Global,
-    commands: &mut Vec<Command>,
-    core: &mut Option<Core>,
-) -> Result<Command, NotUndone>
-    ensures { TakesBack commands.old.items core.old commands.new.items core.new result }
-{
-    let count = commands.len();
-    if count == 0 {
-        return Err(NotUndone::Nothing);
-    }
-    match replayed(alloc, &commands.as_slice()[..count - 1]) {
-        Ok(left) => {
-            *core = left;
-            Ok(commands.pop().unwrap())
-        }
-        Err(why) => Err(why),
-    }
-}
-
 impl Session {
-    ghost use Rattle.pif_job_shell.specs.Sessions.{TakesLine, Undoes};
+    ghost use Rattle.pif_job_shell.specs.Sessions.{Redoes, TakesLine, Undoes, nothing_kept};
 
     /// A session with no command.
     pub fn new(alloc: Global) -> Session
-        ensures commands { result.commands ≡ [] }
-        ensures core { result.core ≡ None }
+        ensures { result ≡ nothing_kept }
     {
         Session {
             commands: Vec::new(alloc),
+            standing: 0,
             core: None,
         }
     }
@@ -179,7 +209,12 @@ impl Session {
     pub fn len(&self) -> usize
         ensures { result ≡ length self.now.commands }
     {
-        self.commands.len()
+        self.standing
+    }
+
+    /// The command that was taken back last, if no command was given since.
+    pub fn undone(&self) -> Option<&Command> {
+        self.commands.get(self.standing)
     }
 
     /// The core behind the commands, or `None` before the first.
@@ -198,28 +233,64 @@ impl Session {
     /// # Errors
     ///
     /// Why the line was not accepted; nothing has changed then.
+    #[tactic(auto, using(crate::proofs::SessionLemmas::take_placed, crate::proofs::SessionLemmas::drop_placed, crate::proofs::SessionLemmas::length_taken))]
     pub fn take<'a>(&mut self, alloc: Global, line: &'a [u8]) -> Result<Reply, Refusal<'a>>
         ensures { TakesLine line.now self.old self.new result }
     {
         commands_of_lines_are_written();
         match read_command(line) {
-            Ok(command) => match play(alloc, &mut self.commands, &mut self.core, command) {
-                Ok(reply) => Ok(reply),
-                Err(why) => Err(Refusal::Unplayed(why)),
-            },
+            Ok(command) => {
+                match play(
+                    alloc,
+                    &mut self.commands,
+                    &mut self.standing,
+                    &mut self.core,
+                    command,
+                ) {
+                    Ok(reply) => Ok(reply),
+                    Err(why) => Err(Refusal::Unplayed(why)),
+                }
+            }
             Err(syntax_error) => Err(Refusal::SyntaxError(syntax_error)),
         }
     }
 
-    /// Takes the last command back: the others are played again from the start. Answers the command.
+    /// Takes the last so many commands back: the others are played again from the start.
     ///
     /// # Errors
     ///
-    /// `Nothing` if there is none, and `NoMemory`; nothing has changed then.
-    pub fn undo(&mut self, alloc: Global) -> Result<Command, NotUndone>
-        ensures { Undoes self.old self.new result }
+    /// `Fewer` if there are not so many, and `NoMemory`; nothing has changed then.
+    pub fn undo(&mut self, alloc: Global, count: usize) -> Result<(), NotUndone>
+        ensures { Undoes count self.old self.new result }
     {
-        take_back(alloc, &mut self.commands, &mut self.core)
+        if count > self.standing {
+            return Err(NotUndone::Fewer);
+        }
+        let left = self.standing - count;
+        match replayed(alloc, &self.commands.as_slice()[..left]) {
+            Ok(core) => {
+                self.core = core;
+                self.standing = left;
+                Ok(())
+            }
+            Err(why) => Err(why),
+        }
+    }
+
+    /// Gives the command again that was taken back last. Answers it, and what it is answered.
+    ///
+    /// # Errors
+    ///
+    /// `Nothing` if none was taken back, or a command was given since, and `NoMemory`; nothing has changed then.
+    pub fn redo(&mut self, alloc: Global) -> Result<(Command, Reply), NotRedone>
+        ensures { Redoes self.old self.new result }
+    {
+        play_again(
+            alloc,
+            self.commands.as_slice(),
+            &mut self.standing,
+            &mut self.core,
+        )
     }
 
     /// The commands as a script: a line for each. It has at most 16,777,216 bytes.
@@ -231,8 +302,37 @@ impl Session {
         ensures lines { IfOk result (λ script. script.items ≡ script_lines self.now.commands) }
         ensures within { IfOk result (λ script. length script.items ≤ 16777216) }
     {
-        script_of(alloc, self.commands.as_slice())
+        script_of(alloc, &self.commands.as_slice()[..self.standing])
     }
+}
+
+/// The line that was not accepted of those of a script that is loaded, from 1, and why.
+#[derive(Clone, Copy, PartialEq, Eq)]
+pub struct NotLoaded<'a> {
+    /// The number of the line.
+    pub number: u64,
+    /// Why it was not accepted.
+    pub refusal: Refusal<'a>,
+}
+
+/// A session that takes each of these lines, one after the other.
+///
+/// # Errors
+///
+/// Why the first line was not accepted that was not.
+pub fn session_of<'a>(alloc: Global, lines: &[&'a [u8]]) -> Result<Session, NotLoaded<'a>>
+    ensures { IfOk result (λ session. TakesAll (map (λ line. line.now) lines.now) nothing_kept session) }
+{
+    let mut session = Session::new(alloc);
+    let mut number = 0_u64;
+    for line in lines {
+        number = number.saturating_add(1);
+        match session.take(alloc, *line) {
+            Ok(_) => {}
+            Err(refusal) => return Err(NotLoaded { number, refusal }),
+        }
+    }
+    Ok(session)
 }
 
 /// Appends a command as a line.

@@ -1,15 +1,26 @@
-/// Why a text was not saved.
+use std::alloc::Global;
+
+/// Why a text was not saved. Its reason is in the system's words, if there are such.
 #[derive(Clone, Copy, Debug, PartialEq, Eq)]
 pub enum SaveFault {
     /// There is a file of this name already; it is left as it is.
     Taken,
     /// The file cannot be made.
-    Refused,
+    Refused(Option<&'static str>),
     /// The file was made, and a write failed: a part of the text may stand in it.
-    Cut,
+    Cut(Option<&'static str>),
 }
 
-/// Where a shell saves its stories.
+/// Why a file was not read.
+#[derive(Clone, Copy, Debug, PartialEq, Eq)]
+pub enum LoadFault {
+    /// It cannot be read, for this reason in the system's words, if there are such.
+    Unread(Option<&'static str>),
+    /// A growth of memory was refused.
+    NoMemory,
+}
+
+/// Where a shell saves its stories, and reads them.
 pub trait Shelf {
     /// Makes a new file of this name, with this text in it.
     ///
@@ -17,14 +28,41 @@ pub trait Shelf {
     ///
     /// Why the text was not saved. A file that was there before is left as it is.
     fn save(&self, name: &str, text: &[u8]) -> Result<(), SaveFault>;
+
+    /// Puts this text into the file of this name, which is made if it is not there. It is written beside the file first.
+    ///
+    /// # Errors
+    ///
+    /// Why the text was not saved. A file that was there before is left as it is.
+    fn replace(&self, alloc: Global, name: &str, text: &[u8]) -> Result<(), SaveFault>;
+
+    /// The text of the file of this name, or its first 16,777,217 bytes.
+    ///
+    /// # Errors
+    ///
+    /// Why it was not read.
+    fn load(&self, alloc: Global, name: &str) -> Result<Vec<u8>, LoadFault>;
+
+    /// Removes the file of this name, if that can be done.
+    fn remove(&self, name: &str);
 }
 
-/// A place where nothing can be saved.
+/// A place where nothing can be saved and nothing is found.
 #[derive(Clone, Copy)]
 pub struct NoShelf;
 
 impl Shelf for NoShelf {
     fn save(&self, _name: &str, _text: &[u8]) -> Result<(), SaveFault> {
-        Err(SaveFault::Refused)
+        Err(SaveFault::Refused(None))
     }
+
+    fn replace(&self, _alloc: Global, _name: &str, _text: &[u8]) -> Result<(), SaveFault> {
+        Err(SaveFault::Refused(None))
+    }
+
+    fn load(&self, _alloc: Global, _name: &str) -> Result<Vec<u8>, LoadFault> {
+        Err(LoadFault::Unread(None))
+    }
+
+    fn remove(&self, _name: &str) {}
 }

@@ -1,6 +1,6 @@
 //! What the tests have done between two streams.
 
-use pif_job_check::{check, fill};
+use pif_job_check::{check, check_strictly, fill, fill_as_one_of_several};
 use pif_job_draw::{draw, write_graph, write_states};
 use pif_job_shell::{NoShelf, shell};
 use pif_job_show::show_story;
@@ -19,8 +19,12 @@ pub type Telling = Option<Detail>;
 pub enum Job {
     /// Checks a story of the name `story`.
     Check,
+    /// Checks it strictly.
+    Strict,
     /// Fills it in.
     Fill,
+    /// Fills it in as one of several.
+    FillSeveral,
     /// Shows a script.
     Show,
     /// Shows a script with all of its core.
@@ -57,7 +61,9 @@ pub fn do_job(
 ) -> Ended {
     match job {
         Job::Check => check(alloc, b"story", reader, writer),
+        Job::Strict => check_strictly(alloc, b"story", reader, writer, notice),
         Job::Fill => fill(alloc, b"story", reader, writer),
+        Job::FillSeveral => fill_as_one_of_several(alloc, b"story", reader, writer, notice),
         Job::Show => show_story(Detail::Changes, alloc, reader, writer, notice),
         Job::ShowAll => show_story(Detail::All, alloc, reader, writer, notice),
         Job::Tell(telling) => tell(telling, alloc, reader, writer, notice),

@@ -8,7 +8,8 @@ use std::alloc::Global;
 use std::process::Abort;
 
 /// What stands before the first prompt.
-const GREETING: &str = "'help' names the commands; Ctrl-D ends\n";
+const GREETING: &str = "'help' names the commands; Ctrl-D ends\n\
+    the session is not kept: pif-shell-1.story cannot be made\n";
 
 /// Lines, and what is written behind the greeting.
 static TALKS: [(&str, &str); 3] = [

@@ -1,6 +1,6 @@
 //! Stories that are saved.
 
-use pif_job_shell::{SaveFault, Shelf, shell};
+use pif_job_shell::{LoadFault, SaveFault, Shelf, shell};
 use pif_test_streams::Stream;
 use std::alloc::Global;
 use std::process::Abort;
@@ -18,10 +18,20 @@ impl Shelf for Wanting {
             return self.answer;
         }
         match self.answer {
-            Ok(()) => Err(SaveFault::Cut),
+            Ok(()) => Err(SaveFault::Cut(None)),
             Err(_) => Ok(()),
         }
     }
+
+    fn replace(&self, _alloc: Global, name: &str, text: &[u8]) -> Result<(), SaveFault> {
+        self.save(name, text)
+    }
+
+    fn load(&self, _alloc: Global, _name: &str) -> Result<Vec<u8>, LoadFault> {
+        Err(LoadFault::Unread(None))
+    }
+
+    fn remove(&self, _name: &str) {}
 }
 
 /// Talks with a shell whose stories are kept by this shelf, and compares what it writes.
@@ -40,21 +50,25 @@ const STORY: &str =
     "thread 10        = t1\nmutex errorcheck = m1\ncall t1 lock m1  = answer 0\ncall t1 lock m1  = answer 35\n";
 
 /// What a shelf answers, and what is written then.
-static ANSWERS: [(Result<(), SaveFault>, &str); 4] = [
+static ANSWERS: [(Result<(), SaveFault>, &str); 5] = [
     (
         Ok(()),
         "t1\nm1\nanswer 0\ncolumn 1: no such command; 'help' names them all\nanswer 35 EDEADLK\nsaved a story\nt1\n",
     ),
     (
         Err(SaveFault::Taken),
-        "t1\nm1\nanswer 0\ncolumn 1: no such command; 'help' names them all\nanswer 35 EDEADLK\na story is there already, and is left as it is\nt1\n",
+        "t1\nm1\nanswer 0\ncolumn 1: no such command; 'help' names them all\nanswer 35 EDEADLK\na story is there already, and is left as it is; 'save! FILE' replaces it\nt1\n",
     ),
     (
-        Err(SaveFault::Refused),
+        Err(SaveFault::Refused(None)),
         "t1\nm1\nanswer 0\ncolumn 1: no such command; 'help' names them all\nanswer 35 EDEADLK\na story cannot be made\nt1\n",
     ),
     (
-        Err(SaveFault::Cut),
+        Err(SaveFault::Refused(Some("Permission denied"))),
+        "t1\nm1\nanswer 0\ncolumn 1: no such command; 'help' names them all\nanswer 35 EDEADLK\na story: Permission denied\nt1\n",
+    ),
+    (
+        Err(SaveFault::Cut(None)),
         "t1\nm1\nanswer 0\ncolumn 1: no such command; 'help' names them all\nanswer 35 EDEADLK\na story cannot be written whole\nt1\n",
     ),
 ];

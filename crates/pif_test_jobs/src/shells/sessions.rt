@@ -49,15 +49,16 @@ fn is_told(alloc: Global, session: &mut Session, line: &[u8]) -> bool {
 
 /// Checks what is taken back.
 fn check_undone(rt: &impl Abort, alloc: Global, session: &mut Session) {
-    let nothing = session.undo(alloc) == Err(NotUndone::Nothing);
+    let nothing = session.undo(alloc, 1) == Err(NotUndone::Fewer);
     let no_core = session.core().is_none();
     let pick = is_told(alloc, session, b"pick");
     let core = session.core().is_some();
-    let undone = session.undo(alloc) == Ok(Command::Ask(Question::Pick));
+    let undone = session.undo(alloc, 1).is_ok();
+    let is_pick = session.undone() == Some(&Command::Ask(Question::Pick));
     let gone = session.core().is_none();
     assert!(rt;
-        nothing && no_core && pick && core && undone && gone,
-        "{nothing} {no_core} {pick} {core} {undone} {gone}"
+        nothing && no_core && pick && core && undone && is_pick && gone,
+        "{nothing} {no_core} {pick} {core} {undone} {is_pick} {gone}"
     );
 }
 

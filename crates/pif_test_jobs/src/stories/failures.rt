@@ -7,6 +7,11 @@ use std::io::ErrorKind;
 
 const OK: &str = "ok story 13\n";
 
+/// A story without an LF at its end, and as one of several.
+const SHORT: &str = "\u{feff}thread 10 # low";
+
+const TITLED: &str = "# story\nthread 10 = t1 # low\n";
+
 /// The reads fail behind each byte of a story in turn.
 #[test]
 fn where_a_read_fails_nothing_is_written(rt: HostRuntime) {
@@ -14,6 +19,11 @@ fn where_a_read_fails_nothing_is_written(rt: HostRuntime) {
         let (alloc, late) = (rt.alloc(), ErrorKind::TimedOut);
         check_read(&rt, alloc, Job::Check, BOOSTED, place, late, "");
         check_read(&rt, alloc, Job::Fill, BOOSTED, place, late, "");
+        check_read(&rt, alloc, Job::Strict, BOOSTED, place, late, "");
+    }
+    for place in 0..SHORT.len() {
+        let (alloc, late) = (rt.alloc(), ErrorKind::TimedOut);
+        check_read(&rt, alloc, Job::FillSeveral, SHORT, place, late, "");
     }
 }
 
@@ -32,11 +42,17 @@ fn where_a_write_fails_a_part_is_written(rt: HostRuntime) {
         let alloc = rt.alloc();
         check_write(&rt, alloc, Job::Fill, BOOSTED, BOOSTED, 4096, left, broken);
     }
+    for left in 0..TITLED.len() {
+        let (alloc, job) = (rt.alloc(), Job::FillSeveral);
+        check_write(&rt, alloc, job, SHORT, TITLED, 4096, left, broken);
+    }
 }
 
 /// Each allocation is refused in turn by `rt try --test --fail-alloc N`: then nothing is written.
 #[test]
 fn out_of_memory_writes_nothing(rt: HostRuntime) {
     check_memory(&rt, rt.alloc(), Job::Check, BOOSTED, OK);
+    check_memory(&rt, rt.alloc(), Job::Strict, BOOSTED, OK);
     check_memory(&rt, rt.alloc(), Job::Fill, BOOSTED, BOOSTED);
+    check_memory(&rt, rt.alloc(), Job::FillSeveral, SHORT, TITLED);
 }

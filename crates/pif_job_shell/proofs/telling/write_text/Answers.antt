@@ -1,5 +1,5 @@
 use Rattle.pif_script_model.proofs.ShowingLemmas.{Stays-written}
-use Rattle.pif_job_shell.proofs.shells.write_text.Goals as goal
+use Rattle.pif_job_shell.proofs.telling.write_text.Goals as goal
 
 pub returns-in-Ok : goal.returns-in-Ok
 returns-in-Ok g c =

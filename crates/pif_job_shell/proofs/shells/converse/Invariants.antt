@@ -1,6 +1,6 @@
 use Rattle.pif_text_model.specs.Extends.{Stays}
 use Rattle.pif_job_shell.specs.Lines.{Reads}
-use Rattle.pif_job_shell.proofs.shells.talk.Given as goal
+use Rattle.pif_job_shell.proofs.shells.converse.Given as goal
 
 abbrev pub invariant-loop-turn : goal.invariant-loop-turn
 invariant-loop-turn g l =

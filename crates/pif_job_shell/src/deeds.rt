@@ -1,0 +1,264 @@
+//! What a line asks for, done.
+ghost use Rattle.pif_text_model.specs.Extends.{Stays};
+
+use crate::helps::help_of;
+use crate::loads::load;
+use crate::remarks::{
+    Remark, not_redone_words, say_not_undone, say_refusal, say_unsaved, too_many,
+};
+use crate::replies::reply_line;
+use crate::sessions::Session;
+use crate::shelves::Shelf;
+use crate::stories::story_of;
+use crate::telling::{tell, tell_words, write_text};
+use crate::wishes::{Wish, count_of, name_of, wish_of};
+use pif_text::{Command, Text, command_text};
+use pif_text_core::{Unwritten, write_state};
+use std::alloc::Global;
+use std::io::Write;
+
+/// What was done by a line.
+#[derive(Clone, Copy)]
+pub enum Done {
+    /// Nothing has changed.
+    Nothing,
+    /// The commands have changed.
+    Changed,
+    /// They were saved.
+    Saved,
+    /// The person leaves.
+    Leaves,
+}
+
+/// Writes the help on a word.
+fn help<W: Write>(word: &[u8], writer: &mut W) -> Result<(), Unwritten>
+    ensures { Stays (W.contents writer.old) (W.contents writer.new) }
+{
+    write_text(help_of(word).as_bytes(), writer)
+}
+
+/// Writes the state of the core.
+fn show_state<W: Write>(session: &Session, writer: &mut W) -> Result<(), Unwritten>
+    ensures { Stays (W.contents writer.old) (W.contents writer.new) }
+{
+    match session.core() {
+        Some(core) => write_state(core, writer),
+        None => tell_words("nothing was added yet", writer),
+    }
+}
+
+/// Says a command.
+fn say_command(command: Command, remark: &mut Remark) {
+    let mut text = Text::new();
+    command_text(command, &mut text);
+    remark.show(text.as_slice());
+}
+
+/// What is said of so many commands that were taken back, the first of which is the one that is given again next.
+fn undone(count: usize, session: &Session) -> Remark {
+    let mut remark = Remark::new();
+    remark.say("undone: ");
+    if count > 1 {
+        remark.number(count as u64);
+        remark.say(" commands, from ");
+    }
+    if let Some(command) = session.undone() {
+        say_command(*command, &mut remark);
+    }
+    remark
+}
+
+/// Takes so many commands back. Answers what is to be said, and what was done.
+fn undo(alloc: Global, session: &mut Session, count: &[u8]) -> (Remark, Done) {
+    let mut remark = Remark::new();
+    let Some(count) = count_of(count) else {
+        remark.say("a number of at least 1 is wanted, in 'undo N'");
+        return (remark, Done::Nothing);
+    };
+    match session.undo(alloc, count) {
+        Ok(()) => (undone(count, session), Done::Changed),
+        Err(why) => {
+            say_not_undone(why, session.len(), &mut remark);
+            (remark, Done::Nothing)
+        }
+    }
+}
+
+/// Gives the command again that was taken back last, and writes it and its answer.
+fn redo<W: Write>(alloc: Global, session: &mut Session, writer: &mut W) -> Result<Done, Unwritten>
+    ensures { Stays (W.contents writer.old) (W.contents writer.new) }
+{
+    match session.redo(alloc) {
+        Ok((command, reply)) => {
+            let mut remark = Remark::new();
+            remark.say("again: ");
+            say_command(command, &mut remark);
+            tell(remark, writer)?;
+            write_text(reply_line(reply).as_slice(), writer)?;
+            Ok(Done::Changed)
+        }
+        Err(why) => {
+            tell_words(not_redone_words(why), writer)?;
+            Ok(Done::Nothing)
+        }
+    }
+}
+
+/// Saves the script so far as a story under this name; if `replaces`, in place of what is there. Answers what is to be
+/// said, and what was done.
+fn save_as<S: Shelf>(
+    alloc: Global,
+    shelf: &S,
+    session: &Session,
+    name: &str,
+    replaces: bool,
+) -> (Remark, Done) {
+    let mut remark = Remark::new();
+    let Ok(story) = story_of(alloc, session) else {
+        remark.say("out of memory: nothing is saved");
+        return (remark, Done::Nothing);
+    };
+    let saved = if replaces {
+        shelf.replace(alloc, name, story.as_slice())
+    } else {
+        shelf.save(name, story.as_slice())
+    };
+    match saved {
+        Ok(()) => {
+            remark.say("saved ");
+            remark.show(name.as_bytes());
+            (remark, Done::Saved)
+        }
+        Err(why) => {
+            say_unsaved(name, why, &mut remark);
+            (remark, Done::Nothing)
+        }
+    }
+}
+
+/// What is said if a name is wanted.
+fn name_wanted(form: &str) -> Remark {
+    let mut remark = Remark::new();
+    remark.say("the name of a file is wanted, in '");
+    remark.say(form);
+    remark.say("'");
+    remark
+}
+
+/// Saves the script so far under the name that these bytes are, if it has a command. Answers what is to be said, and
+/// what was done.
+fn save<S: Shelf>(
+    alloc: Global,
+    shelf: &S,
+    session: &Session,
+    name: &[u8],
+    replaces: bool,
+) -> (Remark, Done) {
+    let form = if replaces { "save! FILE" } else { "save FILE" };
+    let Some(name) = name_of(name) else {
+        return (name_wanted(form), Done::Nothing);
+    };
+    if session.len() == 0 {
+        let mut remark = Remark::new();
+        remark.say("there is nothing to save");
+        return (remark, Done::Nothing);
+    }
+    save_as(alloc, shelf, session, name, replaces)
+}
+
+/// Begins with the commands of the story of the name that these bytes are, if there is no command yet. Answers what is
+/// to be said, and what was done.
+fn begin_with<S: Shelf>(
+    alloc: Global,
+    shelf: &S,
+    session: &mut Session,
+    name: &[u8],
+) -> (Remark, Done) {
+    let Some(name) = name_of(name) else {
+        return (name_wanted("load FILE"), Done::Nothing);
+    };
+    let mut remark = Remark::new();
+    if session.len() > 0 {
+        remark.say("there are commands already; they are taken back by 'undo ");
+        remark.number(session.len() as u64);
+        remark.say("'");
+        return (remark, Done::Nothing);
+    }
+    match load(alloc, shelf, name) {
+        Ok(loaded) => {
+            *session = loaded;
+            remark.say("loaded ");
+            remark.show(name.as_bytes());
+            remark.say(": ");
+            remark.number(session.len() as u64);
+            remark.say(" commands");
+            (remark, Done::Changed)
+        }
+        Err(why) => (why, Done::Nothing),
+    }
+}
+
+/// Has a line answered by the session, and writes the answer or why there is none.
+fn play<W: Write>(
+    alloc: Global,
+    session: &mut Session,
+    line: &[u8],
+    writer: &mut W,
+) -> Result<Done, Unwritten>
+    ensures { Stays (W.contents writer.old) (W.contents writer.new) }
+{
+    match session.take(alloc, line) {
+        Ok(reply) => {
+            write_text(reply_line(reply).as_slice(), writer)?;
+            Ok(Done::Changed)
+        }
+        Err(refusal) => {
+            let mut remark = Remark::new();
+            say_refusal(&refusal, &mut remark);
+            tell(remark, writer)?;
+            Ok(Done::Nothing)
+        }
+    }
+}
+
+/// Writes what is to be said of what was done.
+fn tell_done<W: Write>(said: (Remark, Done), writer: &mut W) -> Result<Done, Unwritten>
+    ensures { Stays (W.contents writer.old) (W.contents writer.new) }
+{
+    let (remark, done) = said;
+    tell(remark, writer)?;
+    Ok(done)
+}
+
+/// Nothing was done but what was written.
+pub fn nothing(written: Result<(), Unwritten>) -> Result<Done, Unwritten> {
+    match written {
+        Ok(()) => Ok(Done::Nothing),
+        Err(why) => Err(why),
+    }
+}
+
+/// Does what a line asks for.
+pub fn obey<S: Shelf, W: Write>(
+    alloc: Global,
+    shelf: &S,
+    session: &mut Session,
+    line: &[u8],
+    writer: &mut W,
+) -> Result<Done, Unwritten>
+    ensures { Stays (W.contents writer.old) (W.contents writer.new) }
+{
+    match wish_of(line) {
+        Wish::Nothing => Ok(Done::Nothing),
+        Wish::Help(word) => nothing(help(word, writer)),
+        Wish::State => nothing(show_state(session, writer)),
+        Wish::Undo(count) => tell_done(undo(alloc, session, count), writer),
+        Wish::Redo => redo(alloc, session, writer),
+        Wish::Save(name) => tell_done(save(alloc, shelf, session, name, false), writer),
+        Wish::Replace(name) => tell_done(save(alloc, shelf, session, name, true), writer),
+        Wish::Load(name) => tell_done(begin_with(alloc, shelf, session, name), writer),
+        Wish::Leave => Ok(Done::Leaves),
+        Wish::More(word) => nothing(tell(too_many(word), writer)),
+        Wish::Line(line) => play(alloc, session, line, writer),
+    }
+}

@@ -1,0 +1,120 @@
+use crate::remarks::{Remark, say_unsaved};
+use crate::sessions::Session;
+use crate::shelves::{SaveFault, Shelf};
+use crate::stories::story_of;
+use pif_types::NoMemory;
+use std::alloc::Global;
+
+/// The names under which a session is kept as it goes on: the first that no file has.
+const NAMES: [&str; 9] = [
+    "pif-shell-1.story",
+    "pif-shell-2.story",
+    "pif-shell-3.story",
+    "pif-shell-4.story",
+    "pif-shell-5.story",
+    "pif-shell-6.story",
+    "pif-shell-7.story",
+    "pif-shell-8.story",
+    "pif-shell-9.story",
+];
+
+/// The story in which a session at a terminal is kept as it goes on, if there is one.
+#[derive(Drop)]
+pub struct Keeper {
+    name: Option<&'static str>,
+    /// Whether all that was given is saved under a name of the person's own.
+    is_saved: bool,
+}
+
+impl Keeper {
+    /// Keeps nothing.
+    pub fn idle() -> Keeper {
+        Keeper {
+            name: None,
+            is_saved: true,
+        }
+    }
+
+    /// Makes a new file for the session. Answers what is said of it, too.
+    pub fn begin<S: Shelf>(shelf: &S) -> (Keeper, Remark) {
+        let mut keeper = Keeper::idle();
+        let mut remark = Remark::new();
+        match first_free(shelf) {
+            Ok(name) => {
+                keeper.name = Some(name);
+                remark.say("the session is kept in ");
+                remark.say(name);
+            }
+            Err((_, SaveFault::Taken)) => {
+                remark.say(
+                    "the session is not kept: pif-shell-1.story to pif-shell-9.story are there",
+                );
+            }
+            Err((name, why)) => {
+                remark.say("the session is not kept: ");
+                say_unsaved(name, why, &mut remark);
+            }
+        }
+        (keeper, remark)
+    }
+
+    /// The session was saved.
+    pub fn note_saved(&mut self) {
+        self.is_saved = true;
+    }
+
+    /// The session has changed: it is kept as it is now. Answers what is said if that fails.
+    pub fn keep<S: Shelf>(
+        &mut self,
+        alloc: Global,
+        shelf: &S,
+        session: &Session,
+    ) -> Option<Remark> {
+        self.is_saved = false;
+        let name = self.name?;
+        let mut remark = Remark::new();
+        match story_of(alloc, session) {
+            Ok(story) => match shelf.replace(alloc, name, story.as_slice()) {
+                Ok(()) => return None,
+                Err(why) => {
+                    remark.say("the session is not kept: ");
+                    say_unsaved(name, why, &mut remark);
+                }
+            },
+            Err(NoMemory) => remark.say("out of memory: the session is not kept"),
+        }
+        Some(remark)
+    }
+
+    /// The session ends: what was kept of it is removed if there is no command, or if a person leaves who has saved it.
+    /// Answers what is said of it otherwise.
+    pub fn end<S: Shelf>(&self, shelf: &S, session: &Session, leaves: bool) -> Option<Remark> {
+        let name = self.name?;
+        if session.len() == 0 || (leaves && self.is_saved) {
+            shelf.remove(name);
+            return None;
+        }
+        let mut remark = Remark::new();
+        remark.say("the session is kept in ");
+        remark.say(name);
+        Some(remark)
+    }
+}
+
+/// Makes a new file of the first of the names that no file has.
+///
+/// # Errors
+///
+/// The name that was tried last, and why no file was made.
+fn first_free<S: Shelf>(shelf: &S) -> Result<&'static str, (&'static str, SaveFault)> {
+    let mut last = NAMES[0];
+    for name in NAMES {
+        last = name;
+        match shelf.save(name, b"") {
+            Ok(()) => return Ok(name),
+            Err(SaveFault::Taken) => {}
+            Err(why) => return Err((name, why)),
+        }
+    }
+    Err((last, SaveFault::Taken))
+}
