@@ -12,6 +12,7 @@ use Rattle.pif_model.specs.declared.events.Entry.{Entry}
 use Rattle.pif_model.specs.declared.events.Entry.TheVariants.{Thread as AddThread, Mutex as AddMutex, Cond as AddCond, Step as Happened}
 use Rattle.pif_desk.specs.declared.log.Act.{Act}
 use Rattle.pif_desk.specs.declared.log.Act.TheVariants.{Begin as ActBegin, Go as ActGo, End as ActEnd}
+use Rattle.pif_nodes_model.proofs.Places.{slice_get-front, slice_get-last}
 use Rattle.pif_desk.specs.declared.log.Mark.{Mark}
 use Rattle.pif_desk.specs.declared.log.Mark.TheVariants.{Begun as MarkBegun, Answered as MarkAnswered, Ended as MarkEnded, Nothing}
 use Rattle.pif_desk.specs.declared.log.Reply.{Reply}
@@ -19,20 +20,6 @@ use Rattle.pif_desk.specs.declared.log.Call.{Call}
 use Rattle.pif_desk.specs.Logs.{Log, with_reply, new_call, mark_of, mark_in, log_after, calls_of}
 use Rattle.pif_desk.specs.Rooms.{ClientState, history_of, IsExact}
 use Rattle.pif_desk.specs.Settling.{ReplyStandsIn, Fall, HasReceipts}
-
--- LISTS
-
--- what stands in a list stands in a longer one
-slice_get-longer : {A : Type 0} (xs ys : List A) (i : ℕ) (x : A) → slice_get xs i ≡ Some x
-    → slice_get (xs ++ ys) i ≡ Some x
-slice_get-longer [] ys i x e = absurd (cc)
-slice_get-longer (y ∷ xs) ys zero x e = e
-slice_get-longer (y ∷ xs) ys (suc i) x e = slice_get-longer xs ys i x e
-
--- what is added stands at the end
-slice_get-end : {A : Type 0} (xs : List A) (x : A) → slice_get (xs ++ x ∷ []) (length xs) ≡ Some x
-slice_get-end [] x = refl
-slice_get-end (y ∷ xs) x = slice_get-end xs x
 
 -- WHAT AN ENTRY TELLS
 
@@ -83,7 +70,7 @@ ReplyStandsIn-longer t j e c h = by_reply c.reply h
     by_reply : (o : Option Reply) → IfSome o (λ r. slice_get j r.at ≡ Some (Happened (Go t) (Answered r.answer)))
         → IfSome o (λ r. slice_get (j ++ e ∷ []) r.at ≡ Some (Happened (Go t) (Answered r.answer)))
     by_reply None h = tt
-    by_reply (Some r) h = slice_get-longer j (e ∷ []) r.at (Happened (Go t) (Answered r.answer)) h
+    by_reply (Some r) h = slice_get-front j (e ∷ []) r.at (Happened (Go t) (Answered r.answer)) h
 
 -- replies stand after one more entry
 stand_on : (t : ℕ) (j : List Entry) (e : Entry) (n : ℕ) (l : Log) → n ≡ length j → All (ReplyStandsIn t j) l.calls
@@ -114,7 +101,7 @@ stand_on t j e n l place h = by_mark (mark_in t e) refl
     by_mark (MarkAnswered a) told =
         let is : e ≡ Happened (Go t) (Answered a) = mark_answered t e a told in
         replied (record { answer = a; at = n })
-        (ap (slice_get (j ++ e ∷ [])) place ∙ slice_get-end j e ∙ ap (λ (x : Entry). Some x) is) l.calls old
+        (ap (slice_get (j ++ e ∷ [])) place ∙ slice_get-last j e ∙ ap (λ (x : Entry). Some x) is) l.calls old
     by_mark MarkEnded told = old
     by_mark Nothing told = old
 

@@ -1,6 +1,7 @@
 mod Lines
 pub mod Listing
 mod Numbers
+mod Selections
 mod Settling
 mod Telling
 pub mod Guided

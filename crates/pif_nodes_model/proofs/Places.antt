@@ -1,9 +1,9 @@
 -- What stands at a place of a list: of two lists in a row, of a list of the table, and of all levels of a queue.
-use Rattle.std.proofs.Common.{◌≡◌, ℕ, zero, suc, ◌+◌, ◌-◌, ◌<◌, ◌≤◌, true, false, eqb, List, [], ◌∷◌, ◌++◌, Some, None, length, refl, sym, ◌∙◌, ap, arith}
+use Rattle.std.proofs.Common.{◌≡◌, ◌⊎◌, ℕ, zero, suc, ◌+◌, ◌-◌, ◌<◌, ◌≤◌, true, false, eqb, List, [], ◌∷◌, ◌++◌, Some, None, length, refl, sym, subst, ◌∙◌, ap, inl, inr, arith}
 use Rattle.std.proofs.lemmas.Bool.{or_right, ne_eqb, eq-eqb}
 use Rattle.std.proofs.lemmas.List.{length-map}
-use Rattle.std.proofs.lemmas.Option.{same_Some, slice_get-map}
-use Rattle.std.specs.List.{slice_get}
+use Rattle.std.proofs.lemmas.Option.{same_Some, slice_get-map, slice_get_within, get_or_from_slice_get}
+use Rattle.std.specs.List.{slice_get, All}
 use Rattle.std.specs.Option.{option_map, option_and_then}
 use Rattle.pif_nodes_model.specs.Lists.{has, first_of, next_in_list, HasNoRepeats}
 use Rattle.pif_nodes_model.specs.Table.{NodeLists, list_at, next_node, IsApart}
@@ -23,6 +23,24 @@ pub slice_get-behind : {A : Type 0} (xs ys : List A) (n left : ℕ) → left + l
 slice_get-behind [] ys n left e = ap (slice_get ys) (omega (arith, e))
 slice_get-behind (x ∷ xs) ys zero left e = absurd (omega (arith, e))
 slice_get-behind (x ∷ xs) ys (suc n) left e = slice_get-behind xs ys n left (omega (arith, e))
+
+-- the last element of a list that has just got it
+pub slice_get-last : {A : Type 0} (xs : List A) (y : A) → slice_get (xs ++ y ∷ []) (length xs) ≡ Some y
+slice_get-last xs y = slice_get-behind xs (y ∷ []) (length xs) 0 (omega arith)
+
+-- what stands in a list that has one element more is an old element or the new one
+pub slice_get-more : {A : Type 0} (xs : List A) (y : A) (n : ℕ) (x : A) → slice_get (xs ++ y ∷ []) n ≡ Some x
+    → (slice_get xs n ≡ Some x) ⊎ ((n ≡ length xs) × (x ≡ y))
+slice_get-more [] y zero x e = inr (refl, cc)
+slice_get-more [] y (suc n) x e = absurd (cc)
+slice_get-more (z ∷ zs) y zero x e = inl e
+slice_get-more (z ∷ zs) y (suc n) x e =
+    elim (slice_get-more zs y n x e) [ inl h ↦ inl h | inr h ↦ inr (ap suc h.0, h.1) ]
+
+-- what holds of each element holds of the one at a place
+pub slice_get-all : {A : Type 0} (P : A → Type 0) (xs : List A) → All P xs → (n : ℕ) (x : A) → slice_get xs n ≡ Some x
+    → P x
+slice_get-all P xs a n x e = subst P (get_or_from_slice_get xs n x x e) (a n x (slice_get_within xs n x e))
 
 -- where nothing stands, the list has ended
 pub slice_get-ended : {A : Type 0} (xs : List A) (k : ℕ) → slice_get xs k ≡ None → length xs ≤ k

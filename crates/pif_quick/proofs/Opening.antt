@@ -5,6 +5,7 @@ use Rattle.std.proofs.lemmas.Option.{slice_get_within}
 use mathlib.Core.Option.{none}
 use Rattle.atomic_table.specs.Seated.{TableId}
 use Rattle.atomic_table.specs.Table.{step, Allows, Splits, opening}
+use Rattle.pif_nodes_model.proofs.Places.{slice_get-more}
 use Rattle.pif_quick.specs.declared.rule.Record.{Record}
 use Rattle.pif_quick.specs.Turns.{IsSound, fresh}
 use Rattle.pif_quick.specs.Rule.{EachWordHasOneHolder, opening_at, first_dealer, dealer_after, seat_from, Paged}
@@ -18,23 +19,12 @@ use Rattle.pif_quick.proofs.PlaceSteps.{Place}
 use Rattle.pif_quick.proofs.PassSteps.{record_at-is, sound_from}
 
 module _ {A : Type 0} where
-  got_end : (l : List A) (a b : A) (j : ℕ) → slice_get (l ++ a ∷ []) j ≡ Some b
-      → (slice_get l j ≡ Some b) ⊎ ((j ≡ length l) × (a ≡ b))
-  got_end [] a b zero e = inr (refl, cc)
-  got_end [] a b (suc j) e = absurd (no_value e)
-    where
-      no_value : ◌≡◌ {A = Option A} None (Some b) → ⊥
-      no_value q = cc
-  got_end (x ∷ xs) a b zero e = inl e
-  got_end (x ∷ xs) a b (suc j) e = ⊎_elim (λ (h : slice_get xs j ≡ Some b). inl h)
-      (λ (t : (j ≡ length xs) × (a ≡ b)). inr (omega arith, t.1)) (got_end xs a b j e)
-
   -- what holds of each element, and of one more, holds of each of the longer list
   pub each_got : (P : ℕ → A → Type 0) (l : List A) (a : A) → ((j : ℕ) (b : A) → slice_get l j ≡ Some b → P j b)
       → P (length l) a → (j : ℕ) (b : A) → slice_get (l ++ a ∷ []) j ≡ Some b → P j b
   each_got P l a others last j b e = ⊎_elim (λ (h : slice_get l j ≡ Some b). others j b h)
-      (λ (t : (j ≡ length l) × (a ≡ b)). subst (λ (x : ℕ × A). P x.0 x.1) (λ k. (sym t.0 k, t.1 k)) last)
-      (got_end l a b j e)
+      (λ (t : (j ≡ length l) × (b ≡ a)). subst (λ (x : ℕ × A). P x.0 x.1) (λ k. (sym t.0 k, sym t.1 k)) last)
+      (slice_get-more l a j b e)
 
 module _ {T : Type 0} where
   pub spread-end : (xs : List T) (x : T) → spread (xs ++ x ∷ []) ≡ spread xs ++ spaced x
