@@ -1,3 +1,4 @@
+pub mod Desks
 pub mod Logs
 pub mod Rooms
 pub mod Settling

@@ -1,6 +1,7 @@
 //! A room behind a lock, which real threads share.
-ghost use Rattle.std.specs.Prelude.{◌≡◌, ◌≤◌, IfOk, IfErr};
+ghost use Rattle.std.specs.Prelude.{◌≡◌, ◌≤◌, ◌↔◌, IsSome, IfOk, IfErr};
 ghost use Rattle.pif_model.specs.Posix.{IsLegal};
+ghost use Rattle.pif_desk.specs.Desks.{bells_of};
 ghost use Rattle.pif_desk.specs.Logs.{no_calls};
 ghost use Rattle.pif_desk.specs.Rooms.{history_of, IsTickFault, StandsAfter};
 
@@ -51,7 +52,9 @@ pub struct Desk<P: Pause + Drop> {
 impl<P: Pause + Drop> Desk<P> {
     /// A desk under these limits to which nothing was added. It fails where memory is refused, that of the core or that
     /// by which clients sleep.
-    pub fn new(alloc: Global, limits: Limits, pause: P) -> Result<Desk<P>, NoMemory> {
+    pub fn new(alloc: Global, limits: Limits, pause: P) -> Result<Desk<P>, NoMemory>
+        ensures bells { IfOk result (λ d. bells_of d ≡ limits.threads) }
+    {
         let core = Core::new(alloc, limits)?;
         let bells = Bells::new(alloc, limits.threads())?;
         let sleepers = Sleepers::new(alloc)?;
@@ -139,7 +142,9 @@ impl<P: Pause + Drop> Desk<P> {
     }
 
     /// How often events have woken the client of this thread. `None` where the limits allow no thread of that number.
-    pub fn rings(&self, t: Tid) -> Option<u64> {
+    pub fn rings(&self, t: Tid) -> Option<u64>
+        ensures { IsSome result ↔ (t ≤ bells_of self.now) }
+    {
         Some(self.bells.of(t)?.notifications())
     }
 

@@ -1,5 +1,5 @@
 //! The threads whose clients sleep, and the bells that wake them.
-ghost use Rattle.std.specs.Prelude.{◌≡◌, ◌≤◌, filter, [], IfOk};
+ghost use Rattle.std.specs.Prelude.{◌≡◌, ◌≤◌, ◌↔◌, filter, [], IfOk, IsSome, vec_len};
 ghost use Rattle.pif_model.specs.PiKernel.{is_among};
 ghost use Rattle.pif_desk.specs.Sleeping.{rests_in, with_sleeper};
 
@@ -20,19 +20,26 @@ pub(crate) struct Bells {
 
 impl Bells {
     /// The bells of so many threads.
-    pub(crate) fn new(alloc: Global, threads: u32) -> Result<Bells, NoMemory> {
+    pub(crate) fn new(alloc: Global, threads: u32) -> Result<Bells, NoMemory>
+        ensures { IfOk result (λ b. vec_len b.bells ≡ threads) }
+    {
         let mut bells = with_room(alloc, threads as usize)?;
         for _thread in 0..threads {
-            if bells.push(Condvar::new()).is_err() {
-                return Err(NoMemory);
-            }
+            push_within(&mut bells, Condvar::new());
         }
         Ok(Bells { bells })
     }
 
     /// The bell of a thread; `None` where the limits allow no thread of that number.
-    pub(crate) fn of(&self, t: Tid) -> Option<&Condvar> {
-        self.bells.get(t.get() as usize - 1)
+    pub(crate) fn of(&self, t: Tid) -> Option<&Condvar>
+        ensures { IsSome result ↔ (t ≤ vec_len self.now.bells) }
+    {
+        let place = t.get() as usize - 1;
+        if place < self.bells.len() {
+            Some(&self.bells[place])
+        } else {
+            None
+        }
     }
 
     /// Wakes the clients of a thread that sleep.
