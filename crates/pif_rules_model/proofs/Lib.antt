@@ -1,0 +1,4 @@
+pub mod Listing
+pub mod Moves
+pub mod Entries
+pub mod Sets

@@ -1,0 +1,30 @@
+ghost use Rattle.std.specs.Prelude.{◌≡◌, ℕ, Contains};
+ghost use Rattle.pif_types.specs.Bounds.{Bounds};
+ghost use Rattle.pif_model.specs.declared.events.Entry.{Entry};
+ghost use Rattle.pif_model.specs.Posix.{World};
+ghost use Rattle.pif_posix_model.specs.Once.{MovesOnce, Enters};
+ghost use Rattle.pif_rules_model.specs.declared.rules.Rules.{Rules};
+ghost use Rattle.pif_rules_model.specs.Rules.{Wide, WideMoves, WideEnters, AreAmong, no_rules};
+ghost use Rattle.pif_rules_model.specs.Ruled.{widely_moved, widely_entered};
+
+/// A law: the states to which moves and entries lead, with any rules, are those that are listed.
+pub fn steps_lead_to_those_listed()
+    ensures moves { (r : Rules) (t : ℕ) (s n : Wide) → WideMoves r t s n → Contains (widely_moved r t s) n }
+    ensures no_more_moves { (r : Rules) (t : ℕ) (s n : Wide) → Contains (widely_moved r t s) n → WideMoves r t s n }
+    ensures entries { (r : Rules) (l : Bounds) (s : Wide) (e : Entry) (n : Wide) → WideEnters r l s e n → Contains (widely_entered r l s e) n }
+    ensures no_more_entries { (r : Rules) (l : Bounds) (s : Wide) (e : Entry) (n : Wide) → Contains (widely_entered r l s e) n → WideEnters r l s e n }
+{}
+
+/// A law: with more rules there is each step that there is with fewer.
+pub fn more_rules_allow_more()
+    ensures moves { (a b : Rules) → AreAmong a b → (t : ℕ) (s n : Wide) → WideMoves a t s n → WideMoves b t s n }
+    ensures entries { (a b : Rules) → AreAmong a b → (l : Bounds) (s : Wide) (e : Entry) (n : Wide) → WideEnters a l s e n → WideEnters b l s e n }
+{}
+
+/// A law: each step of the plain machine is there with any rules, and with none there is no other.
+pub fn without_rules_the_machine_is_plain()
+    ensures moves { (r : Rules) (t : ℕ) (s : Wide) (v : World) → MovesOnce t s.world v → WideMoves r t s (record s { world = v }) }
+    ensures entries { (r : Rules) (l : Bounds) (s : Wide) (e : Entry) (v : World) → Enters l s.world e v → (n : Wide) × WideEnters r l s e n × (n.world ≡ v) }
+    ensures plain_moves { (t : ℕ) (s n : Wide) → WideMoves no_rules t s n → MovesOnce t s.world n.world }
+    ensures plain_entries { (l : Bounds) (s : Wide) (e : Entry) (n : Wide) → WideEnters no_rules l s e n → Enters l s.world e n.world }
+{}
