@@ -1,3 +1,4 @@
+pub mod Matching
 pub mod Allowed
 pub mod Choosing
 pub mod Entering

@@ -19,7 +19,7 @@ fn is_none_above(priorities: &[u32], priority: u32) -> bool
 }
 
 /// Whether a thread is among others by this wait: each stands with the number of its wait.
-fn is_among(others: &[(u32, u64)], thread: u32, waits: u64) -> bool
+pub(crate) fn is_among(others: &[(u32, u64)], thread: u32, waits: u64) -> bool
     ensures { result ≡ list_any (λ p. if p.0 == thread then p.1 == waits else false) others.now }
 {
     others
@@ -54,7 +54,7 @@ impl State {
     }
 
     /// The threads that are blocked on a variable, those of greatest numbers first.
-    fn all_blocked(&self, alloc: Global, variable: u32) -> Result<Vec<u32>, Stop>
+    pub(crate) fn all_blocked(&self, alloc: Global, variable: u32) -> Result<Vec<u32>, Stop>
         ensures { IfOk result (λ v. v.items ≡ all_blocked self.now variable) }
     {
         let count = self.threads_end()?;

@@ -3,6 +3,7 @@
 
 mod acts;
 mod additions;
+mod alike;
 mod calls;
 mod changes;
 mod choices;
@@ -15,6 +16,7 @@ mod moves;
 mod mutexes;
 mod parts;
 mod progress;
+mod readers;
 mod refusals;
 mod requests;
 mod same;
@@ -24,5 +26,5 @@ mod waiting;
 
 pub use parts::{Lockable, Signalled, Task};
 pub use progress::{Call, Progress};
-pub use requests::{named_by, variable_of};
+pub use requests::{named_by, reported_result, variable_of};
 pub use state::State;

@@ -1,6 +1,6 @@
 ghost use Rattle.std.specs.Prelude.{◌≡◌};
 ghost use Rattle.pif_model.specs.World.{variable_of};
-ghost use Rattle.pif_model.specs.Posix.{named_by};
+ghost use Rattle.pif_model.specs.Posix.{named_by, is_use};
 ghost use Rattle.pif_model.specs.Deadlines.{plain, deadline_of, is_reached, reported_result};
 
 use pif_types::{Answer, Errno, Request};
@@ -31,6 +31,16 @@ pub fn named_by(request: &Request) -> u32
         | Request::TimedLock(mutex, _)
         | Request::TimedWait(_, mutex, _) => mutex.get(),
         _ => 0,
+    }
+}
+
+/// Whether a request is a signal or a broadcast.
+pub(crate) fn is_use(request: &Request) -> bool
+    ensures { result ≡ is_use request.now }
+{
+    match *request {
+        Request::Signal(_) | Request::Broadcast(_) => true,
+        _ => false,
     }
 }
 
@@ -67,7 +77,7 @@ pub(crate) fn is_reached(deadline: Option<u32>, now: u32) -> bool
 
 /// What a call with this result is answered: a wait that has run out of time is answered ETIMEDOUT in place of 0
 /// (POSIX, pthread_cond_timedwait).
-pub(crate) fn reported_result(request: &Request, expired: bool, result_of: Answer) -> Answer
+pub fn reported_result(request: &Request, expired: bool, result_of: Answer) -> Answer
     ensures { result ≡ reported_result request.now expired result_of }
 {
     match request {
