@@ -4,4 +4,5 @@ mod Numbers
 mod Selections
 mod Settling
 mod Telling
+mod Taken
 pub mod Guided

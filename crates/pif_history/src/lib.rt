@@ -12,6 +12,7 @@
 #![tactic(auto)]
 
 mod dying;
+mod exact;
 mod guide;
 mod judge;
 mod later;
@@ -22,6 +23,7 @@ mod plans;
 mod position;
 mod refused;
 mod scene;
+mod unqueued;
 mod verdicts;
 
 pub use judge::{judge_lines, possible_answers, possible_priorities};

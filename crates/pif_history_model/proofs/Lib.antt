@@ -2,9 +2,16 @@ pub mod Running
 pub mod Entries
 pub mod Completeness
 pub mod Soundness
+pub mod Each
 pub mod Moving
 pub mod Keeping
 pub mod Telling
 pub mod RefusedLines
 pub mod Judging
 pub mod Fitting
+pub mod Forgetting
+mod Aside
+mod Even
+mod Unqueued
+mod Queues
+pub mod Taking

@@ -3,3 +3,5 @@ pub mod Shown
 pub mod Searched
 pub mod Refused
 pub mod Verdicts
+pub mod Forgetting
+pub mod Queues

@@ -1,6 +1,8 @@
-ghost use Rattle.std.specs.Prelude.{◌≡◌, ◌≤◌, ℕ, true, List, ◌∷◌, Some, map};
+ghost use Rattle.std.specs.Prelude.{◌≡◌, ◌≤◌, ℕ, Bool, true, false, List, ◌∷◌, Option, Some, map};
+ghost use Rattle.std.specs.List.{list_all};
 ghost use Rattle.pif_types.specs.Bounds.{Bounds};
 ghost use Rattle.pif_search.specs.Runs.{CanShow};
+ghost use Rattle.pif_search.specs.Enough.{IsEnough};
 ghost use Rattle.pif_history_model.specs.declared.lines.Line.{Line};
 ghost use Rattle.pif_history_model.specs.declared.lines.Line.TheVariants.{Answer, Prio};
 ghost use Rattle.pif_history_model.specs.declared.refusals.LineRefusal.{LineRefusal};
@@ -9,6 +11,8 @@ ghost use Rattle.pif_history_model.specs.Shown.{IsShown};
 ghost use Rattle.pif_history_model.specs.Searched.{Configuration, Advances, start_of, hides};
 ghost use Rattle.pif_history_model.specs.Refused.{refusal_of_line};
 ghost use Rattle.pif_history_model.specs.Verdicts.{is_answer};
+ghost use Rattle.pif_history_model.specs.Forgetting.{StandsFor};
+ghost use Rattle.pif_history_model.specs.Queues.{Takes, tells_of_no_waiters};
 
 /// A law: lines that the machine that is searched can show, some run of the POSIX machine shows.
 pub fn searched_lines_are_shown()
@@ -33,4 +37,16 @@ pub fn shown_answers_are_answers()
 /// A law: an effective priority that some run shows is 1 to 99.
 pub fn shown_priorities_are_priorities()
     ensures { (limits : Bounds) (before : List Line) (thread priority : ℕ) → IsShown limits (Prio thread priority ∷ before) → (1 ≤ priority) × (priority ≤ 99) }
+{}
+
+/// A law: it is enough to search all steps that are taken, and to leave out a state for which another stands that is
+/// kept. It stands for it if they differ only in what no step sees.
+pub fn what_no_step_sees_is_forgotten()
+    ensures { (limits : Bounds) (all : Bool) (start : Configuration) → IsEnough (Takes limits all) hides (Takes limits all) StandsFor start }
+{}
+
+/// A law: lines that tell of no waiters are shown without them, if they are shown at all. Threads all have the same base
+/// priority, or nobody signals.
+pub fn waiters_show_nothing_more()
+    ensures { (limits : Bounds) (same : Option ℕ) (lines : List Line) (last : Configuration) → list_all (tells_of_no_waiters same) lines ≡ true → CanShow (Advances limits) hides (start_of limits) (map (λ line. Shown line) lines) last → (other : Configuration) × CanShow (Takes limits false) hides (start_of limits) (map (λ line. Shown line) lines) other }
 {}

@@ -9,8 +9,8 @@
 //! | `LineRefusal` | why no run has a line, whatever was answered |
 //! | `Label` | one step of the machine that is searched: a line, or a move that no line shows |
 //!
-//! The functions do nothing, and state laws in their contracts: the machine that is searched shows what runs show, and
-//! no run shows a line that is refused.
+//! The functions do nothing, and state laws in their contracts: the machine that is searched shows what runs show, no
+//! run shows a line that is refused, and a search may keep one of several states that no step tells apart.
 #![tactic(auto)]
 
 mod labels;
@@ -21,7 +21,8 @@ mod refusals;
 pub use labels::Label;
 pub use laws::{
     refused_lines_are_not_shown, searched_lines_are_shown, shown_answers_are_answers,
-    shown_lines_are_searched, shown_priorities_are_priorities,
+    shown_lines_are_searched, shown_priorities_are_priorities, waiters_show_nothing_more,
+    what_no_step_sees_is_forgotten,
 };
 pub use lines::Line;
 pub use pif_posix_model::HistoryLimits;
