@@ -19,9 +19,10 @@ mod verdicts;
 mod writing;
 
 pub use heard::{History, MOST_BYTES};
-pub use lines::said_of;
+pub use lines::{answer_of, said_of};
 pub use reading::read_history;
 pub use said::Said;
+pub use texts::text_of_line;
 pub use verdicts::{
     push_began, push_fault, push_illegal, push_legal, push_possible, push_possible_undecided,
     push_refused, push_undecided,

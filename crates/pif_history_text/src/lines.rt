@@ -42,9 +42,10 @@ fn errno_of(word: &[u8]) -> Option<Errno>
     }
 }
 
-/// The number that a word writes, or that of the error which it names.
+/// What a call returned, as a word says it: the number that it writes, or that of the error which it names. `None` if the
+/// word is neither.
 #[tactic(auto, unfolding(crate::specs::Lines::answer_in))]
-fn answer_of(word: &[u8]) -> Option<Answer>
+pub fn answer_of(word: &[u8]) -> Option<Answer>
     ensures { result ≡ answer_in word.now }
 {
     match number_of(word) {
