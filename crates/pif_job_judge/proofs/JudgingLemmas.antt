@@ -1,11 +1,13 @@
 -- What is told of a history, put together.
-use Rattle.std.proofs.Common.{◌≡◌, ℕ, ◌-◌, inr, List, ◌++◌, Option, None, Some, IfSome, take, sym, Result, Ok, Err, refl, ap, ◌∙◌, subst, append_assoc}
+use Rattle.std.proofs.Common.{◌≡◌, ℕ, ◌-◌, ◌+◌, ◌<◌, ◌≤◌, inr, arith, List, [], ◌∷◌, ◌++◌, Vec, Global, Option, None, Some, IfSome, length, get_or, reverse, take, sym, Result, Ok, Err, refl, ap, ◌∙◌, subst, append_assoc}
 use Rattle.std.specs.Prelude.{slice_get}
+use Rattle.std.proofs.lemmas.List.{reverse-append, take_more}
 use Rattle.pif_script_model.specs.declared.faults.CliFault.TheVariants.{Differs}
 use Rattle.pif_types.specs.Bounds.{Bounds}
 use Rattle.pif_history_model.specs.declared.lines.Line.{Line}
 use Rattle.pif_history_model.specs.declared.lines.Line.TheVariants.{Answer, Prio}
 use Rattle.pif_history_model.specs.declared.refusals.LineRefusal.{LineRefusal}
+use Rattle.pif_history_model.specs.Lines.{thread_of}
 use Rattle.pif_history_model.specs.Verdicts.{ArePossibleAnswers, ArePossiblePriorities}
 use Rattle.pif_history.specs.declared.verdicts.Verdict.{Verdict}
 use Rattle.pif_history.specs.declared.verdicts.Verdict.TheVariants.{Illegal, Undecided}
@@ -14,24 +16,26 @@ use Rattle.pif_history_text.specs.Histories.{Heard, limits_of}
 use Rattle.pif_history_text.specs.Verdicts.{illegal_line, legal_line, undecided_line}
 use Rattle.pif_job_judge.specs.declared.known.Began.{Began}
 use Rattle.pif_job_judge.specs.declared.known.Known.{Known}
+use Rattle.pif_job_judge.specs.declared.known.Known.TheVariants.{Numbers}
+use Rattle.pif_job_judge.specs.declared.telling.Says.{Says}
 use Rattle.pif_job_judge.specs.declared.faults.JudgeFault.{JudgeFault}
 use Rattle.pif_job_judge.specs.declared.faults.JudgeFault.TheVariants as fault
-use Rattle.pif_job_judge.specs.Judging.{AppendsTold, ArePossible, IsKnown, IsNumbered, Judges, TellsIllegal, TellsVerdict, WritesText, why_text}
+use Rattle.pif_job_judge.specs.Judging.{AppendsTold, ArePossible, IsKnown, IsNumbered, Judges, TellsIllegal, TellsVerdict, WritesText, has_number, open_behind, open_call, open_of, said_of, why_text}
 use Rattle.pif_job_judge.specs.Judging.IsTold.{legal, illegal, undecided}
 
 -- the lines of an illegal history
 pub tells_illegal : (h : Heard) (n : ℕ) (old mid new : List ℕ) (number : ℕ) (line : Line) (known : Known)
     (began : Option Began) → slice_get h.shown (n - 1) ≡ Some line → IsNumbered h n number → IsKnown h (n - 1) line known
-    → mid ≡ old ++ illegal_line number line → new ≡ mid ++ why_text known began
+    → began ≡ open_of (thread_of line) h (n - 1) → mid ≡ old ++ illegal_line number line → new ≡ mid ++ why_text known began
     → TellsIllegal h n old new (fault.Cli (Differs number))
-tells_illegal h n old mid new number line known began there numbered is first second =
+tells_illegal h n old mid new number line known began there numbered is began_is first second =
     let why = why_text known began in (
       number,
       line,
       why,
       there,
       numbered,
-      (known, began, is, refl),
+      (known, is, ap (λ (o : Option Began). why_text known o) began_is),
       second ∙ ap (λ (l : List ℕ). l ++ why) first ∙ append_assoc old (illegal_line number line) why,
       refl,
     )
@@ -66,26 +70,25 @@ judged h held holds front old new end result e told w =
 
 -- WHAT IS KNOWN
 
-pub option_cases : {X : Type 0} (Q : Option X → Type 0) (P : X → Type 0) (o : Option X) → Q None → ((v : X) → P v → Q (Some v))
-    → IfSome o P → Q o
-option_cases Q P None n s x = n
-option_cases Q P (Some v) n s x = s v x
+pub answers_known : (h : Heard) (before : ℕ) (line : Line) (t a : ℕ) (l : Bounds) (lines : List Line) (o : Option (Vec ℕ Global))
+    → line ≡ Answer t a → l ≡ limits_of h → lines ≡ take before h.shown
+    → IsRefusalThere (limits_of h) (take before h.shown) line None
+    → IfSome o (λ v. ArePossibleAnswers l lines t v.items) → IsKnown h before line (Numbers o)
+answers_known h before line t a l lines None e b s n x = (n, ap (λ (z : Line). has_number z) e)
+answers_known h before line t a l lines (Some v) e b s n x =
+    let x1 = subst (λ (ls : List Line). ArePossibleAnswers l ls t v.items) s x in
+    let x2 = subst (λ (k : Bounds). ArePossibleAnswers k (take before h.shown) t v.items) b x1 in
+    (n, subst (λ (z : Line). ArePossible h before z v.items) (sym e) x2)
 
-pub answers_known : (h : Heard) (before : ℕ) (line : Line) (t a : ℕ) (l : Bounds) (lines : List Line) (numbers : List ℕ)
-    → line ≡ Answer t a → l ≡ limits_of h → lines ≡ take before h.shown → ArePossibleAnswers l lines t numbers
-    → ArePossible h before line numbers
-answers_known h before line t a l lines numbers e b s x =
-    let x1 = subst (λ (ls : List Line). ArePossibleAnswers l ls t numbers) s x in
-    let x2 = subst (λ (k : Bounds). ArePossibleAnswers k (take before h.shown) t numbers) b x1 in
-    subst (λ (z : Line). ArePossible h before z numbers) (sym e) x2
-
-pub priorities_known : (h : Heard) (before : ℕ) (line : Line) (t p : ℕ) (l : Bounds) (lines : List Line) (numbers : List ℕ)
-    → line ≡ Prio t p → l ≡ limits_of h → lines ≡ take before h.shown → ArePossiblePriorities l lines t numbers
-    → ArePossible h before line numbers
-priorities_known h before line t p l lines numbers e b s x =
-    let x1 = subst (λ (ls : List Line). ArePossiblePriorities l ls t numbers) s x in
-    let x2 = subst (λ (k : Bounds). ArePossiblePriorities k (take before h.shown) t numbers) b x1 in
-    subst (λ (z : Line). ArePossible h before z numbers) (sym e) x2
+pub priorities_known : (h : Heard) (before : ℕ) (line : Line) (t p : ℕ) (l : Bounds) (lines : List Line) (o : Option (Vec ℕ Global))
+    → line ≡ Prio t p → l ≡ limits_of h → lines ≡ take before h.shown
+    → IsRefusalThere (limits_of h) (take before h.shown) line None
+    → IfSome o (λ v. ArePossiblePriorities l lines t v.items) → IsKnown h before line (Numbers o)
+priorities_known h before line t p l lines None e b s n x = (n, ap (λ (z : Line). has_number z) e)
+priorities_known h before line t p l lines (Some v) e b s n x =
+    let x1 = subst (λ (ls : List Line). ArePossiblePriorities l ls t v.items) s x in
+    let x2 = subst (λ (k : Bounds). ArePossiblePriorities k (take before h.shown) t v.items) b x1 in
+    (n, subst (λ (z : Line). ArePossible h before z v.items) (sym e) x2)
 
 pub refused_there : (k l : Bounds) (ls lines : List Line) (line : Line) (o p : Option LineRefusal) → k ≡ l → ls ≡ lines → o ≡ p
     → IsRefusalThere k ls line o → IsRefusalThere l lines line p
@@ -93,3 +96,32 @@ refused_there k l ls lines line o p b s e x =
     let x1 = subst (λ (j : Bounds). IsRefusalThere j ls line o) b x in
     let x2 = subst (λ (zs : List Line). IsRefusalThere l zs line o) s x1 in
     subst (λ (r : Option LineRefusal). IsRefusalThere l lines line r) e x2
+
+-- WHICH CALL IS OPEN
+
+-- one item more
+more : {X : Type 0} (xs : List X) (i : ℕ) (x : X) → i < length xs → reverse (take (i + 1) xs) ≡ get_or xs i x ∷ reverse (take i xs)
+more {X} xs i x within =
+    ap (λ (ys : List X). reverse ys) (take_more xs i x within) ∙ reverse-append (take i xs) (get_or xs i x ∷ [])
+
+open-more : (h : Heard) (t i : ℕ) (line : Line) (says : Says) → i < length h.shown → i < length h.numbers
+    → line ≡ get_or h.shown i line → says ≡ said_of t line
+    → open_of (Some t) h (i + 1) ≡ open_behind t (get_or h.numbers i 0) says (open_of (Some t) h i)
+open-more h t i line says a b is e =
+    let ns = reverse (take i h.numbers) in
+    let n = get_or h.numbers i 0 in
+    ap (λ (lines : List Line). open_call t lines (reverse (take (i + 1) h.numbers))) (more h.shown i line a)
+    ∙ (ap (λ (z : Line). open_call t (z ∷ reverse (take i h.shown)) (reverse (take (i + 1) h.numbers))) (sym is)
+    ∙ (ap (λ (numbers : List ℕ). open_call t (line ∷ reverse (take i h.shown)) numbers) (more h.numbers i 0 b)
+    ∙ ap (λ (z : Says). open_behind t n z (open_call t (reverse (take i h.shown)) ns)) (sym e)))
+
+-- one line back
+pub open-back : (h : Heard) (t before left : ℕ) (line : Line) (says : Says) → 0 < left → left ≤ before → before ≤ length h.shown
+    → length h.numbers ≡ length h.shown → line ≡ get_or h.shown (left - 1) line → says ≡ said_of t line
+    → open_of (Some t) h before ≡ open_of (Some t) h left
+    → open_of (Some t) h before ≡ open_behind t (get_or h.numbers (left - 1) 0) says (open_of (Some t) h (left - 1))
+open-back h t before left line says some within all paired is e so_far =
+    let one : left ≡ left - 1 + 1 = omega (arith, some) in
+    so_far
+    ∙ (ap (λ (n : ℕ). open_of (Some t) h n) one
+    ∙ open-more h t (left - 1) line says (omega (arith, some, within, all)) (omega (arith, some, within, all, paired)) is e)

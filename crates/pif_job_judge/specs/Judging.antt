@@ -1,5 +1,5 @@
 -- What judging a history over a reader and a writer does: by the bytes that the reader gave, what the writer was given.
-use Rattle.std.specs.Prelude.{ℕ, ◌≡◌, ◌-◌, ◌⊎◌, List, [], ◌++◌, take, slice_get, Option, Some, None, Result, Ok, Err, codes}
+use Rattle.std.specs.Prelude.{ℕ, ◌≡◌, ◌-◌, ◌⊎◌, ◌==◌, Bool, true, false, List, [], ◌∷◌, ◌++◌, reverse, take, slice_get, Option, Some, None, Result, Ok, Err, codes, if◌then◌else◌}
 use Rattle.std.specs.Io.KnownBytes.{Appends, Keeps}
 use Rattle.pif_script_model.specs.declared.faults.CliFault.{CliFault}
 use Rattle.pif_script_model.specs.declared.faults.CliFault.TheVariants.{Differs, NoMemory, Script, Write}
@@ -7,11 +7,12 @@ use Rattle.pif_script_model.specs.Runs.{WritesPart}
 use Rattle.pif_types.specs.Bounds.{Bounds}
 use Rattle.pif_history_model.specs.declared.labels.Label.{Label}
 use Rattle.pif_history_model.specs.declared.lines.Line.{Line}
-use Rattle.pif_history_model.specs.declared.lines.Line.TheVariants.{Answer, Prio}
+use Rattle.pif_history_model.specs.declared.lines.Line.TheVariants.{Answer, Begin, Prio}
 use Rattle.pif_history.specs.declared.verdicts.Verdict.{Verdict}
 use Rattle.pif_history.specs.declared.verdicts.Verdict.TheVariants.{Legal, Illegal, Undecided}
 use Rattle.pif_history.specs.Verdicts.{IsRefusalThere, IsVerdictOf}
 use Rattle.pif_history_model.specs.Verdicts.{ArePossibleAnswers, ArePossiblePriorities}
+use Rattle.pif_history_model.specs.Lines.{thread_of}
 use Rattle.pif_history_model.specs.Searched.{Configuration}
 use Rattle.pif_history_text.specs.Histories.{Heard, limits_of}
 use Rattle.pif_history_text.specs.Reading.{ReadsHistory}
@@ -20,6 +21,8 @@ use Rattle.pif_history_witness.specs.Tellings.{IsTold as IsRunTold}
 use Rattle.pif_job_judge.specs.declared.known.Began.{Began}
 use Rattle.pif_job_judge.specs.declared.known.Known.{Known}
 use Rattle.pif_job_judge.specs.declared.known.Known.TheVariants.{Refused, Numbers, Nothing}
+use Rattle.pif_job_judge.specs.declared.telling.Says.{Says}
+use Rattle.pif_job_judge.specs.declared.telling.Says.TheVariants as says
 use Rattle.pif_job_judge.specs.declared.faults.JudgeFault.{JudgeFault}
 use Rattle.pif_job_judge.specs.declared.faults.JudgeFault.TheVariants as fault
 
@@ -30,12 +33,22 @@ ArePossible h before (Answer t a) numbers = ArePossibleAnswers (limits_of h) (ta
 ArePossible h before (Prio t p) numbers = ArePossiblePriorities (limits_of h) (take before h.shown) t numbers
 ArePossible h before line numbers = ⊥
 
--- What is known of the line behind the first `before` lines of a history is so.
+-- Whether a line has a number that may be another one: an answer, or a priority.
+abbrev pub has_number : Line → Bool
+has_number (Answer t a) = true
+has_number (Prio t p) = true
+has_number line = false
+
+-- What is known of the line behind the first `before` lines of a history is so: why it is refused; else its numbers, if
+-- it has any and they were found.
 abbrev pub IsKnown : (h : Heard) → (before : ℕ) → Line → Known → Type 0
 IsKnown h before line (Refused why) = IsRefusalThere (limits_of h) (take before h.shown) line (Some why)
-IsKnown h before line (Numbers (Some numbers)) = ArePossible h before line numbers.items
-IsKnown h before line (Numbers None) = Unit {0}
-IsKnown h before line Nothing = IsRefusalThere (limits_of h) (take before h.shown) line None
+IsKnown h before line (Numbers (Some numbers)) =
+    IsRefusalThere (limits_of h) (take before h.shown) line None × ArePossible h before line numbers.items
+IsKnown h before line (Numbers None) =
+    IsRefusalThere (limits_of h) (take before h.shown) line None × (has_number line ≡ true)
+IsKnown h before line Nothing =
+    IsRefusalThere (limits_of h) (take before h.shown) line None × (has_number line ≡ false)
 
 -- The line that says it.
 abbrev pub known_text : Known → List ℕ
@@ -56,12 +69,35 @@ why_text (Refused why) began = refused_line why
 why_text (Numbers numbers) began = known_text (Numbers numbers) ++ began_text began
 why_text Nothing began = began_text began
 
--- What is told of the line behind the first `before` lines of a history, up to which there is no run. That the call
--- which is told is the open one of its thread is only tested.
+-- What a line says of the call of t.
+abbrev pub said_of : (t : ℕ) → Line → Says
+said_of t (Begin u q) = if u == t then says.Begins q else says.Nothing
+said_of t (Answer u a) = if u == t then says.Answers else says.Nothing
+said_of t line = says.Nothing
+
+-- The call that t has open behind the nth line, which says this, if it had this one open before.
+abbrev pub open_behind : (t n : ℕ) → Says → Option Began → Option Began
+open_behind t n (says.Begins q) before = Some (record { number = n; thread = t; request = q })
+open_behind t n says.Answers before = None
+open_behind t n says.Nothing before = before
+
+-- The call that t has open behind these lines, newest first, with the numbers of the lines: its newest begin, if no
+-- answer of t stands behind it.
+abbrev pub open_call : (t : ℕ) → List Line → (numbers : List ℕ) → Option Began
+open_call t [] numbers = None
+open_call t (line ∷ lines) [] = None
+open_call t (line ∷ lines) (n ∷ numbers) = open_behind t n (said_of t line) (open_call t lines numbers)
+
+-- The call that the thread of a line has open behind the first `before` lines of a history; none if it is no line of a
+-- thread.
+abbrev pub open_of : (thread : Option ℕ) → Heard → (before : ℕ) → Option Began
+open_of (Some t) h before = open_call t (reverse (take before h.shown)) (reverse (take before h.numbers))
+open_of None h before = None
+
+-- What is told of the line behind the first `before` lines of a history, up to which there is no run.
 abbrev pub TellsWhy : (h : Heard) → (before : ℕ) → Line → (text : List ℕ) → Type 0
 TellsWhy h before line text =
-    (known : Known) × (began : Option Began) × IsKnown h before line known
-    × (text ≡ why_text known began)
+    (known : Known) × IsKnown h before line known × (text ≡ why_text known (open_of (thread_of line) h before))
 
 -- What stands in front of what is told: the name, if it is to be told.
 abbrev pub front_of : Option (List ℕ) → List ℕ

@@ -1,19 +1,22 @@
 //! What is told of a verdict.
-ghost use Rattle.std.specs.Prelude.{◌≡◌, ◌≤◌, ◌++◌, OnOk, vec_len};
-ghost use Rattle.pif_history_text.specs.Reading.{IsPaired};
+ghost use Rattle.std.specs.Prelude.{◌≡◌, ◌≤◌, ◌++◌, OnOk, Some, vec_len};
+ghost use Rattle.pif_history_model.specs.Lines.{thread_of};
+ghost use Rattle.pif_history_text.specs.Reading.{IsPaired, heard_of};
 ghost use Rattle.pif_history_text.specs.Verdicts.{legal_line};
-ghost use Rattle.pif_job_judge.specs.Judging.{began_text, known_text, why_text};
+ghost use Rattle.pif_job_judge.specs.Judging.{began_text, known_text, open_of, said_of, why_text};
 
 use crate::{Began, Known};
 use pif_history_model::Line;
 use pif_history_text::{
     History, push_began, push_legal, push_possible, push_possible_undecided, push_refused,
 };
-use pif_types::Tid;
+use pif_types::{Request, Tid};
 use std::alloc::AllocError;
 
 /// The thread whose line it is, if it is one of a thread.
-fn thread_of(line: &Line) -> Option<Tid> {
+fn thread_of(line: &Line) -> Option<Tid>
+    ensures { result ≡ thread_of line.now }
+{
     match line {
         Line::Begin(thread, _)
         | Line::Answer(thread, _)
@@ -25,28 +28,46 @@ fn thread_of(line: &Line) -> Option<Tid> {
     }
 }
 
+/// What a line says of the call of a thread.
+enum Says {
+    /// It began.
+    Begins(Request),
+    /// It was answered.
+    Answers,
+    /// Nothing.
+    Nothing,
+}
+
+/// What a line says of the call of a thread.
+fn said_of(line: &Line, thread: Tid) -> Says
+    ensures { result ≡ said_of thread line.now }
+{
+    match *line {
+        Line::Begin(other, request) if other == thread => Says::Begins(request),
+        Line::Answer(other, _) if other == thread => Says::Answers,
+        _ => Says::Nothing,
+    }
+}
+
 /// The call that a thread has open behind the first `before` lines of a history.
 fn open_call(history: &History, thread: Tid, before: usize) -> Option<Began>
     requires paired { IsPaired history.now }
     requires within { before ≤ vec_len history.now.shown }
+    ensures { result ≡ open_of (Some thread) (heard_of history.now) before }
 {
-    for place in (0..before).rev() {
-        match history.shown[place] {
-            Line::Begin(other, request) => {
-                if other == thread {
-                    return Some(Began {
-                        number: history.numbers[place],
-                        thread,
-                        request,
-                    });
-                }
+    let mut left = before;
+    while left > 0 {
+        left -= 1;
+        match said_of(&history.shown[left], thread) {
+            Says::Begins(request) => {
+                return Some(Began {
+                    number: history.numbers[left],
+                    thread,
+                    request,
+                });
             }
-            Line::Answer(other, _) | Line::End(other) => {
-                if other == thread {
-                    return None;
-                }
-            }
-            _ => {}
+            Says::Answers => return None,
+            Says::Nothing => {}
         }
     }
     None
@@ -57,6 +78,7 @@ fn open_call(history: &History, thread: Tid, before: usize) -> Option<Began>
 pub fn began_before(history: &History, before: usize, line: &Line) -> Option<Began>
     requires paired { IsPaired history.now }
     requires within { before ≤ vec_len history.now.shown }
+    ensures { result ≡ open_of (thread_of line.now) (heard_of history.now) before }
 {
     open_call(history, thread_of(line)?, before)
 }

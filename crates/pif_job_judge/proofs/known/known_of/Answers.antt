@@ -1,4 +1,4 @@
-use Rattle.std.proofs.Common.{◌≡◌, List, Some, take, ap}
+use Rattle.std.proofs.Common.{List, Some, take, ap}
 use Rattle.pif_history_model.specs.declared.lines.Line.{Line}
 use Rattle.pif_job_judge.proofs.JudgingLemmas.{refused_there}
 use Rattle.pif_job_judge.proofs.known.known_of.Goals as goal

@@ -1,21 +1,16 @@
-use Rattle.std.proofs.Common.{◌≡◌, List, Option, take, ap}
+use Rattle.std.proofs.Common.{List, take, ap}
 use Rattle.pif_history_model.specs.declared.lines.Line.{Line}
 use Rattle.pif_history_text.specs.Reading.{heard_of}
-use Rattle.pif_job_judge.specs.declared.known.Known.TheVariants.{Numbers}
-use Rattle.pif_job_judge.specs.Judging.{IsKnown}
-use Rattle.pif_job_judge.proofs.JudgingLemmas.{option_cases, answers_known, priorities_known}
+use Rattle.pif_job_judge.proofs.JudgingLemmas.{answers_known, priorities_known}
 use Rattle.pif_job_judge.proofs.known.numbers_of.Goals as goal
 
 pub returns-in-Ok-clause-known : goal.returns-in-Ok-clause-known
 returns-in-Ok-clause-known c =
-    option_cases (λ o. IsKnown (heard_of c.args.history.now) c.args.before c.args.line.now (Numbers o)) _ c.in-Ok.answers tt
-    (λ v x. answers_known (heard_of c.args.history.now) c.args.before c.args.line.now c.in-Answer.thread c.in-Answer.field-1 _ _ v.items
-    c.in-Answer.is c.limits-limits.ensures (ap (λ (ls : List Line). take c.args.before ls) c.as_slice.ensures.value) x)
-    c.in-Ok.ensures
+    answers_known (heard_of c.args.history.now) c.args.before c.args.line.now c.in-Answer.thread c.in-Answer.field-1 _ _ c.in-Ok.answers
+    c.in-Answer.is c.limits-limits.ensures (ap (λ (ls : List Line). take c.args.before ls) c.as_slice.ensures.value) c.requires.refused c.in-Ok.ensures
 
 pub returns-in-Ok-possible_priorities-clause-known : goal.returns-in-Ok-possible_priorities-clause-known
 returns-in-Ok-possible_priorities-clause-known c =
-    option_cases (λ o. IsKnown (heard_of c.args.history.now) c.args.before c.args.line.now (Numbers o)) _ c.in-Ok-possible_priorities.priorities tt
-    (λ v x. priorities_known (heard_of c.args.history.now) c.args.before c.args.line.now c.in-Prio.thread c.in-Prio.field-1 _ _ v.items
-    c.in-Prio.is c.limits-limits.ensures (ap (λ (ls : List Line). take c.args.before ls) c.as_slice.ensures.value) x)
+    priorities_known (heard_of c.args.history.now) c.args.before c.args.line.now c.in-Prio.thread c.in-Prio.field-1 _ _ c.in-Ok-possible_priorities.priorities
+    c.in-Prio.is c.limits-limits.ensures (ap (λ (ls : List Line). take c.args.before ls) c.as_slice.ensures.value) c.requires.refused
     c.in-Ok-possible_priorities.ensures
