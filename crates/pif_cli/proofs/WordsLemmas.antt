@@ -40,7 +40,7 @@ reason_tells : (held holds errors_held errors_hold : Option (List ℕ)) (status 
 reason_tells held holds errors_held errors_hold status shown =
     elim shown.1.1 [
       | inl s ↦ inr (inl (s.0, (shown.1.0, s.1)))
-      | inr s ↦ inr (inr (inr (s.0, (shown.1.0, s.1))))
+      | inr s ↦ inr (inr (inr (inl (s.0, (shown.1.0, s.1)))))
     ]
 
 -- a refusal is help or another one

@@ -1,8 +1,9 @@
 -- What the standard error gets where a run fails: one line.
-use Rattle.std.specs.Prelude.{ℕ, ◌≡◌, ◌≤◌, ◌⊎◌, ◌&&◌, nat_le, Bool, true, List, [], ◌∷◌, ◌++◌, Option, Result, Ok, Err}
+use Rattle.std.specs.Prelude.{ℕ, ◌≡◌, ◌≤◌, ◌⊎◌, ◌&&◌, nat_le, Bool, true, MatchBool, List, [], ◌∷◌, ◌++◌, Option, Result, Ok, Err}
 use Rattle.std.specs.List.{list_all}
 use Rattle.std.specs.Io.KnownBytes.{Appends, Keeps}
 use Rattle.pif_cli.specs.declared.statuses.JobFault.{JobFault}
+use Rattle.pif_cli.specs.Statuses.{is_output}
 use Rattle.pif_script_model.specs.Runs.{WritesPart}
 
 -- a byte of ASCII that shows: from a space to a tilde
@@ -19,16 +20,21 @@ TellsLine held holds =
     (text : List ℕ) × (is_shown text ≡ true)
     × (Appends held holds (text ++ 10 ∷ []) ⊎ WritesPart held holds (text ++ 10 ∷ []))
 
--- what is told of a job that ended so: nothing where it was done, else one line
+-- what is told of a fault: one line, or nothing of an output that nobody reads any more, or of which was told before
+abbrev pub TellsFault : JobFault → (held holds : Option (List ℕ)) → Type 0
+TellsFault fault held holds = MatchBool (is_output fault) (TellsLine held holds ⊎ Keeps held holds) (TellsLine held holds)
+
+-- what is told of a job that ended so: nothing where it was done, else what is told of its fault
 abbrev pub TellsOf : Result (Unit {0}) JobFault → (held holds : Option (List ℕ)) → Type 0
 TellsOf (Ok x) held holds = Keeps held holds
-TellsOf (Err e) held holds = TellsLine held holds
+TellsOf (Err e) held holds = TellsFault e held holds
 
 -- what is told at a status of the program: nothing at 0; a text at 1; one line at 2 to 7; and at 3, where the text of 1
--- could not be written, a proper part of that
+-- could not be written, a proper part of that, and nothing of an output that nobody reads any more
 abbrev pub TellsAt : ℕ → (held holds : Option (List ℕ)) → Type 0
 TellsAt status held holds =
     ((status ≡ 0) × Keeps held holds)
     ⊎ (((status ≡ 1) × ((text : List ℕ) × Appends held holds text))
     ⊎ (((2 ≤ status) × (status ≤ 7) × TellsLine held holds)
-    ⊎ ((status ≡ 3) × ((text : List ℕ) × WritesPart held holds text))))
+    ⊎ (((status ≡ 3) × ((text : List ℕ) × WritesPart held holds text))
+    ⊎ ((status ≡ 3) × Keeps held holds))))

@@ -1,5 +1,5 @@
 -- The statuses of the program.
-use Rattle.std.specs.Prelude.{ℕ, Result, Ok, Err}
+use Rattle.std.specs.Prelude.{ℕ, Bool, true, false, Result, Ok, Err}
 use Rattle.pif_script_model.specs.declared.faults.CliFault.{CliFault}
 use Rattle.pif_cli.specs.declared.statuses.JobFault.{JobFault}
 use Rattle.pif_cli.specs.declared.statuses.JobFault.TheVariants.{Cli, Threads, Unsettled, Undecided}
@@ -26,3 +26,8 @@ job_fault_status (Undecided line) = 7
 abbrev pub job_status : Result (Unit {0}) JobFault → ℕ
 job_status (Ok x) = 0
 job_status (Err e) = job_fault_status e
+
+-- a fault of the output: a write to it failed
+abbrev pub is_output : JobFault → Bool
+is_output (Cli Write) = true
+is_output fault = false

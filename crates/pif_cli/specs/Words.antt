@@ -1,5 +1,5 @@
 -- What the program does by its words, what is written, and its status.
-use Rattle.std.specs.Prelude.{ℕ, ◌≡◌, ◌⊎◌, ◌==◌, MatchBool, List, [], ◌∷◌, Option, Some, None, Result, Ok, Err, codes, bytes_eq, if◌then◌else◌}
+use Rattle.std.specs.Prelude.{ℕ, ◌≡◌, ◌⊎◌, ◌==◌, MatchBool, Bool, List, [], ◌∷◌, Option, Some, None, Result, Ok, Err, codes, bytes_eq, if◌then◌else◌}
 use Rattle.std.specs.Io.KnownBytes.{Appends, Keeps}
 use Rattle.clap.specs.Words.{IsAmong, Kinds, Text}
 use Rattle.clap.specs.declared.error.kind.ErrorKind.{ErrorKind}
@@ -12,7 +12,7 @@ use Rattle.pif_script_model.specs.Running.{RunsTo}
 use Rattle.pif_script_model.specs.Traces.{ReplaysTo}
 use Rattle.pif_script_model.specs.Runs.{WritesPart}
 use Rattle.pif_story_model.specs.Showing.{ShowsStoryTo, TracesStoryTo}
-use Rattle.pif_story_model.specs.Checks.{TellsTo, check_telling, fill_telling}
+use Rattle.pif_story_model.specs.Checks.{TellsTo, check_telling, fill_telling, strict_telling, titled_telling}
 use Rattle.pif_job_draw.specs.Pictures.{PicturesTo}
 use Rattle.pif_job_judge.specs.declared.faults.JudgeFault.{JudgeFault}
 use Rattle.pif_job_judge.specs.declared.faults.JudgeFault.TheVariants as judge_fault
@@ -20,8 +20,8 @@ use Rattle.pif_job_judge.specs.Judging.{JudgesTo, front_of}
 use Rattle.pif_job_shell.specs.Talks.{TalksTo}
 use Rattle.pif_cli_words.specs.declared.jobs.Judging.{Judging}
 use Rattle.pif_cli_words.specs.declared.jobs.Job.{Job}
-use Rattle.pif_cli_words.specs.declared.jobs.Job.TheVariants.{Run, Replay, Trace, Migrate, Show, Picture, Shell, Check, Fill, Judge, Random, Drive}
-use Rattle.pif_cli_words.specs.Words.{files_of, inputs_of, job_of, refusals_of, standard_name}
+use Rattle.pif_cli_words.specs.declared.jobs.Job.TheVariants.{Run, Replay, Trace, Migrate, Show, Picture, Shell, Check, Strict, Fill, FillSeveral, Judge, Random, Drive}
+use Rattle.pif_cli_words.specs.Words.{files_of, inputs_of, job_of, refusals_of, rewrites, standard_name}
 use Rattle.pif_cli.specs.declared.statuses.JobFault.{JobFault}
 use Rattle.pif_cli.specs.declared.statuses.JobFault.TheVariants.{Cli, Undecided}
 use Rattle.pif_cli.specs.Messages.{TellsLine, TellsOf}
@@ -67,7 +67,10 @@ Does (Show detail) name before after held holds result = EndsAsCli (ShowsStoryTo
 Does (Picture picture) name before after held holds result = EndsAsCli (PicturesTo before after held holds) result
 Does Shell name before after held holds result = EndsAsCli (TalksTo before after held holds) result
 Does Check name before after held holds result = EndsAsCli (TellsTo (check_telling name) before after held holds) result
+Does Strict name before after held holds result = EndsAsCli (TellsTo (strict_telling name) before after held holds) result
 Does Fill name before after held holds result = EndsAsCli (TellsTo (fill_telling name) before after held holds) result
+Does FillSeveral name before after held holds result =
+    EndsAsCli (TellsTo (titled_telling name) before after held holds) result
 Does (Judge asked) name before after held holds result = JudgesNamed asked name before after held holds result
 Does (Random recipe) name before after held holds result =
     Keeps before after × WritesRandom recipe.lines held holds result
@@ -78,6 +81,20 @@ abbrev pub Did : Job → (name : Text) → (before after held holds errors_held 
 Did job name before after held holds errors_held errors_hold status =
     (result : Result (Unit {0}) JobFault) × Does job name before after held holds result × (status ≡ job_status result)
     × TellsOf result errors_held errors_hold
+
+-- the standard input is no file into which something can be written, which is said
+abbrev pub no_file_text : List ℕ
+no_file_text = codes "error: 'check --write' writes into files, and the standard input is none\n"
+
+abbrev pub RefusesInput : (errors_held errors_hold : Option (List ℕ)) → ℕ → Type 0
+RefusesInput errors_held errors_hold status = Shows errors_held errors_hold no_file_text 1 status
+
+-- a job over an input of this name; or what it makes is to be written into the input's file, and there is none
+abbrev pub DidOrRefused : (rewrite : Bool) → Job → (name : Text)
+    → (before after held holds errors_held errors_hold : Option (List ℕ)) → ℕ → Type 0
+DidOrRefused rewrite job name before after held holds errors_held errors_hold status =
+    MatchBool rewrite (Keeps before after × Keeps held holds × RefusesInput errors_held errors_hold status)
+    (Did job name before after held holds errors_held errors_hold status)
 
 -- out of memory, of which the errors were told: nothing was written to the output
 abbrev pub HadNoMemory : (held holds errors_held errors_hold : Option (List ℕ)) → ℕ → Type 0
@@ -115,10 +132,10 @@ EndsIf (k ∷ more) done before after held holds errors_held errors_hold status 
     × (((why : ErrorKind) × IsAmong why (k ∷ more) × RefusedFor why held holds errors_held errors_hold status) ⊎ HadNoMemory held holds errors_held errors_hold status)
 
 -- words of these refusals that ask for this job over an input of this name end the program so
-abbrev pub EndsBy : Kinds → Job → (name : Text)
+abbrev pub EndsBy : Kinds → (rewrite : Bool) → Job → (name : Text)
     → (before after held holds errors_held errors_hold : Option (List ℕ)) → ℕ → Type 0
-EndsBy kinds job name before after held holds errors_held errors_hold status =
-    EndsIf kinds (Did job name before after held holds errors_held errors_hold status) before after held holds
+EndsBy kinds rewrite job name before after held holds errors_held errors_hold status =
+    EndsIf kinds (DidOrRefused rewrite job name before after held holds errors_held errors_hold status) before after held holds
     errors_held errors_hold status
 
 -- ---- files
@@ -130,25 +147,38 @@ DidFile job name held holds errors_held errors_hold status =
     × Did job name before after held holds errors_held errors_hold status)
     ⊎ ((status ≡ 3) × Keeps held holds × TellsLine errors_held errors_hold)
 
+-- the answers of the story in the file of this name were written into it, of whose bytes nothing is known; or it has a
+-- fault, and that is told as of a story that is filled in; or it stays as it is for another reason, of which the errors
+-- are told
+abbrev pub RewroteFile : (name : Text) → (held holds errors_held errors_hold : Option (List ℕ)) → ℕ → Type 0
+RewroteFile name held holds errors_held errors_hold status =
+    ((status ≡ 0) × Keeps held holds × Keeps errors_held errors_hold)
+    ⊎ (((before : Option (List ℕ)) × (after : Option (List ℕ))
+    × Did Fill name before after held holds errors_held errors_hold status)
+    ⊎ (((status ≡ 3) ⊎ (status ≡ 4)) × Keeps held holds × TellsLine errors_held errors_hold))
+
 -- a job over the file of this name; `-` names the standard input, which a file leaves as it is
-abbrev pub DidOver : Job → (name : Text) → (before after held holds errors_held errors_hold : Option (List ℕ)) → ℕ
-    → Type 0
-DidOver job name before after held holds errors_held errors_hold status =
-    MatchBool (bytes_eq name standard_name) (Did job name before after held holds errors_held errors_hold status)
-    (Keeps before after × DidFile job name held holds errors_held errors_hold status)
+abbrev pub DidOver : (rewrite : Bool) → Job → (name : Text)
+    → (before after held holds errors_held errors_hold : Option (List ℕ)) → ℕ → Type 0
+DidOver rewrite job name before after held holds errors_held errors_hold status =
+    MatchBool (bytes_eq name standard_name)
+    (DidOrRefused rewrite job name before after held holds errors_held errors_hold status)
+    (Keeps before after
+    × MatchBool rewrite (RewroteFile name held holds errors_held errors_hold status)
+    (DidFile job name held holds errors_held errors_hold status))
 
 -- the first of two statuses that isn't 0
 abbrev pub first_status : ℕ → ℕ → ℕ
 first_status first second = if first == 0 then second else first
 
 -- a job over each of these files in turn
-abbrev pub DidAll : Job → (names : List Text) → (before after held holds errors_held errors_hold : Option (List ℕ)) → ℕ
-    → Type 0
-DidAll job [] before after held holds errors_held errors_hold status =
+abbrev pub DidAll : (rewrite : Bool) → Job → (names : List Text)
+    → (before after held holds errors_held errors_hold : Option (List ℕ)) → ℕ → Type 0
+DidAll rewrite job [] before after held holds errors_held errors_hold status =
     (status ≡ 0) × (after ≡ before) × (holds ≡ held) × (errors_hold ≡ errors_held)
-DidAll job (name ∷ names) before after held holds errors_held errors_hold status =
+DidAll rewrite job (name ∷ names) before after held holds errors_held errors_hold status =
     (b : Option (List ℕ)) × (h : Option (List ℕ)) × (e : Option (List ℕ)) × (first : ℕ) × (more : ℕ)
-    × DidOver job name before b held h errors_held e first × DidAll job names b after h holds e errors_hold more
+    × DidOver rewrite job name before b held h errors_held e first × DidAll rewrite job names b after h holds e errors_hold more
     × (status ≡ first_status first more)
 
 -- the words of the program could not be had, for this reason: out of memory, or as one of them is no text, which
@@ -165,7 +195,8 @@ abbrev pub EndsOver : Result (List (List ℕ)) IoErrorKind
     → (before after held holds errors_held errors_hold : Option (List ℕ)) → ℕ → Type 0
 EndsOver (Ok words) before after held holds errors_held errors_hold status =
     EndsIf (refusals_of words)
-    (DidAll (job_of words) (inputs_of (files_of words)) before after held holds errors_held errors_hold status) before
+    (DidAll (rewrites words) (job_of words) (inputs_of (files_of words)) before after held holds errors_held errors_hold
+    status) before
     after held holds errors_held errors_hold status
 EndsOver (Err kind) before after held holds errors_held errors_hold status =
     Keeps before after × Keeps held holds × HadNoWords kind errors_held errors_hold status

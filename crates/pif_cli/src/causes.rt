@@ -1,142 +1,212 @@
 use crate::messages::Message;
+use crate::places::Place;
+use crate::rewriting::Unwritten;
 use crate::statuses::JobFault;
 use pif_cli_words::{Job, STANDARD_NAME};
-use pif_script::{CliFault, Notice};
+use pif_script::{CliFault, MOST_LINE, Notice};
 use pif_text::{Cause, Command, errno_name, errno_of, split_answer};
 use pif_text_errors::{SyntaxError, Wrong, call_form, read_command};
 use pif_types::Errno;
 use std::fmt::Write;
 use std::str::from_utf8;
 
+/// What a job was asked for, and what is known of its input.
+#[derive(Clone, Copy)]
+pub struct Given<'n, 's> {
+    /// The job.
+    pub job: Job,
+    /// The name of the input, `-` for the standard input.
+    pub name: &'n str,
+    /// The text of a story, if it was kept.
+    pub story: Option<&'s [u8]>,
+    /// Why a read of the input has failed, in the system's words, if there are such.
+    pub why: Option<&'static str>,
+}
+
 /// What a person is told of a fault of a job over an input of this name, `-` for the standard input. `notice` keeps the
-/// line that ended the job, if there is one.
+/// line that ended the job, if there is one. Of a story that is shown or traced, the line's number is not told.
 ///
 /// There is no error, and nothing is written. What has no room in a message is left out.
 pub fn message_of(job: Job, name: &str, fault: JobFault, notice: &Notice) -> Message {
+    let given = Given {
+        job,
+        name,
+        story: None,
+        why: None,
+    };
+    given.message(fault, notice)
+}
+
+impl<'n, 's> Given<'n, 's> {
+    /// What a person is told of a fault of the job. `notice` keeps the line that ended it, if there is one.
+    pub fn message(&self, fault: JobFault, notice: &Notice) -> Message {
+        match fault {
+            JobFault::Cli(CliFault::Read) => unread(self.name, self.why),
+            JobFault::Cli(CliFault::Script(number, cause)) => {
+                self.fault_message(number, cause, notice)
+            }
+            JobFault::Cli(CliFault::Differs(number)) => self.difference_message(number, notice),
+            JobFault::Cli(fault) => plain_message(fault),
+            JobFault::Threads => words_message("a thread cannot be started"),
+            JobFault::Unsettled => words_message("the desk does not settle with its clients"),
+            JobFault::Undecided(number) => {
+                let words = "too many states were made to decide it";
+                line_message(&self.place(number), words)
+            }
+        }
+    }
+
+    /// The line of this number, from 1, in the text that was given.
+    fn place(&self, number: u64) -> Place<'n, 's> {
+        Place::of_line(self.name, number, self.story)
+    }
+
+    /// Where the fault of this cause stands, at a line of this number. `show` and `trace` count the commands of a
+    /// story, unless it is too large.
+    fn place_of_fault(&self, number: u64, cause: Cause) -> Place<'n, 's> {
+        match (self.job, cause) {
+            (_, Cause::Size) => self.place(number),
+            (Job::Show(_) | Job::Trace, _) => Place::of_command(self.name, number, self.story),
+            _ => self.place(number),
+        }
+    }
+
+    /// What is told of the fault of this cause, at a line of this number.
+    fn fault_message(&self, number: u64, cause: Cause, notice: &Notice) -> Message {
+        let mut message = Message::empty();
+        let place = self.place_of_fault(number, cause);
+        match (self.job, cause) {
+            (Job::Judge(_), _) => {
+                let column = column_of(cause, b"");
+                say_line(&place, column, history_cause(cause), b"", &mut message)
+            }
+            (Job::Replay | Job::Migrate, Cause::Command) => {
+                no_traced(&place, number, notice, &mut message)
+            }
+            (Job::Run, Cause::Command) => no_command(&place, notice.line(), &mut message),
+            (_, Cause::Command) => no_row(&place, notice.line(), &mut message),
+            (Job::Check | Job::Strict | Job::Fill | Job::FillSeveral | Job::Picture(_), _) => {
+                let column = column_of(cause, b"");
+                say_line(&place, column, plain_cause(cause), b"", &mut message)
+            }
+            _ => {
+                let column = column_of(cause, notice.line());
+                say_line(
+                    &place,
+                    column,
+                    plain_cause(cause),
+                    notice.line(),
+                    &mut message,
+                )
+            }
+        }
+        message
+    }
+
+    /// What is told of a difference in the line of this number.
+    fn difference_message(&self, number: u64, notice: &Notice) -> Message {
+        let place = self.place(number);
+        match self.job {
+            Job::Check | Job::Strict | Job::Fill | Job::FillSeveral | Job::Picture(_) => {
+                line_message(&place, story_difference(notice))
+            }
+            Job::Judge(_) => {
+                let words = "no run of the POSIX machine shows the lines up to here";
+                line_message(&place, words)
+            }
+            _ => {
+                let mut message = Message::empty();
+                say_difference(&place, notice, &mut message);
+                message
+            }
+        }
+    }
+}
+
+/// What a person is told of an input of this name that cannot be read, with the reason in the system's words, if there
+/// are such.
+pub fn unread(name: &str, why: Option<&'static str>) -> Message {
     let mut message = Message::new();
-    say_fault(job, name, fault, notice, &mut message);
+    if name == STANDARD_NAME {
+        message.say("the input cannot be read");
+        if let Some(words) = why {
+            message.say(": ");
+            message.say(words);
+        }
+    } else {
+        message.show(name.as_bytes());
+        message.say(": ");
+        message.say(why.unwrap_or("cannot be read"));
+    }
     message
 }
 
-/// What a person is told of an input of this name that cannot be read.
-pub fn unread(name: &str) -> Message {
+/// What a person is told of a file of this name into which the answers of its story are not written.
+pub fn unwritten(name: &str, why: Unwritten) -> Message {
+    match why {
+        Unwritten::Unread(why) => unread(name, why),
+        Unwritten::NoMemory => plain_message(CliFault::NoMemory),
+        Unwritten::NoPlainFile => file_message(name, "is no plain file"),
+        Unwritten::Taken => {
+            let words = "stays as it is, since a file of its name with '.new' behind it is there";
+            file_message(name, words)
+        }
+        Unwritten::Refused => file_message(name, "cannot be written"),
+    }
+}
+
+/// What is told of the file of this name by these words.
+fn file_message(name: &str, words: &str) -> Message {
     let mut message = Message::new();
-    say_unread(name, &mut message);
+    message.show(name.as_bytes());
+    message.say(": ");
+    message.say(words);
     message
 }
 
 /// What a person is told of a fault by its own text alone.
 pub fn plain_message(fault: CliFault) -> Message {
     let mut message = Message::new();
-    say_plain(fault, &mut message);
+    let _ = write!(message, "{fault}");
     message
 }
 
-/// Says what a person is told of a fault of a job over an input of this name.
-fn say_fault(job: Job, name: &str, fault: JobFault, notice: &Notice, message: &mut Message) {
-    match fault {
-        JobFault::Cli(CliFault::Read) => say_unread(name, message),
-        JobFault::Cli(fault) => match job {
-            Job::Check | Job::Fill | Job::Picture(_) => say_story(name, fault, notice, message),
-            Job::Judge(_) => say_history(name, fault, message),
-            _ => say_text(job, fault, notice, message),
-        },
-        JobFault::Threads => message.say("a thread cannot be started"),
-        JobFault::Unsettled => message.say("the desk does not settle with its clients"),
-        JobFault::Undecided(number) => {
-            say_name(name, message);
-            say_line(
-                number,
-                "too many states were made to decide it",
-                b"",
-                message,
-            );
-        }
-    }
-}
-
-/// Says that the input of this name cannot be read.
-fn say_unread(name: &str, message: &mut Message) {
-    if name == STANDARD_NAME {
-        say_plain(CliFault::Read, message);
+/// How a story differs: `notice` keeps a command that is refused and has no answer.
+fn story_difference(notice: &Notice) -> &'static str {
+    if notice.line().is_empty() {
+        "the core gives another answer"
     } else {
-        message.show(name.as_bytes());
-        message.say(": cannot be read");
+        "a call is refused, and no answer stands beside it"
     }
 }
 
-/// Says a fault by its own text alone.
-fn say_plain(fault: CliFault, message: &mut Message) {
-    let _ = write!(message, "{fault}");
+/// What is told by these words alone.
+fn words_message(words: &str) -> Message {
+    let mut message = Message::new();
+    message.say(words);
+    message
 }
 
-/// Says a fault of a script or a trace: of a line its number, the cause, and its text.
-fn say_text(job: Job, fault: CliFault, notice: &Notice, message: &mut Message) {
-    match fault {
-        CliFault::Script(number, Cause::Command) => match job {
-            Job::Replay | Job::Migrate => no_traced(number, notice, message),
-            Job::Run => no_command(number, notice.line(), message),
-            _ => no_row(number, notice.line(), message),
-        },
-        CliFault::Script(number, cause) => {
-            say_line(number, plain_cause(cause), notice.line(), message)
-        }
-        CliFault::Differs(number) => difference(number, notice, message),
-        CliFault::Read | CliFault::Write | CliFault::NoMemory => say_plain(fault, message),
-    }
+/// What is told of a line by its place and these words.
+fn line_message(place: &Place<'_, '_>, words: &str) -> Message {
+    let mut message = Message::empty();
+    say_line(place, 1, words, b"", &mut message);
+    message
 }
 
-/// Says of the line of this number these words, and its text.
-fn say_line(number: u64, words: &str, line: &[u8], message: &mut Message) {
-    let _ = write!(message, "line {number}: {words}");
+/// Says of a column of a line these words, and its text.
+fn say_line(place: &Place<'_, '_>, column: usize, words: &str, line: &[u8], message: &mut Message) {
+    place.say(column, message);
+    message.say(words);
     show_line(line, message);
 }
 
-/// Says the name of an input, unless it is the standard input.
-fn say_name(name: &str, message: &mut Message) {
-    if name != STANDARD_NAME {
-        message.show(name.as_bytes());
-        message.say(": ");
-    }
-}
-
-/// Says a fault of a story of this name: of a line its number, what is wrong with it, and the text of one that is no
-/// command. The line of another fault, and of a difference, stands in the output of `check`.
-fn say_story(name: &str, fault: CliFault, notice: &Notice, message: &mut Message) {
-    match fault {
-        CliFault::Script(number, Cause::Command) => {
-            say_name(name, message);
-            no_row(number, notice.line(), message);
-        }
-        CliFault::Script(number, cause) => {
-            say_name(name, message);
-            say_line(number, plain_cause(cause), b"", message);
-        }
-        CliFault::Differs(number) => {
-            say_name(name, message);
-            say_line(number, "the core gives another answer", b"", message);
-        }
-        CliFault::Read | CliFault::Write | CliFault::NoMemory => say_plain(fault, message),
-    }
-}
-
-/// Says a fault of a history of this name: of a line its number and what is wrong with it.
-fn say_history(name: &str, fault: CliFault, message: &mut Message) {
-    match fault {
-        CliFault::Script(number, cause) => {
-            say_name(name, message);
-            say_line(number, history_cause(cause), b"", message);
-        }
-        CliFault::Differs(number) => {
-            say_name(name, message);
-            say_line(
-                number,
-                "no run of the POSIX machine shows the lines up to here",
-                b"",
-                message,
-            );
-        }
-        CliFault::Read | CliFault::Write | CliFault::NoMemory => say_plain(fault, message),
+/// In which column of a line a fault of this cause stands, which is none of a command.
+fn column_of(cause: Cause, line: &[u8]) -> usize {
+    match cause {
+        Cause::Long => MOST_LINE + 1,
+        Cause::Cut => line.len().saturating_add(1),
+        _ => 1,
     }
 }
 
@@ -157,12 +227,12 @@ fn show_line(line: &[u8], message: &mut Message) {
     }
 }
 
-/// Says how the line of this number differs.
-fn difference(number: u64, notice: &Notice, message: &mut Message) {
-    let _ = write!(message, "line {number}: recorded '");
-    if let Some((_, recorded)) = notice.parts() {
-        show_answer(recorded, message);
-    }
+/// Says how a line differs, at its answer.
+fn say_difference(place: &Place<'_, '_>, notice: &Notice, message: &mut Message) {
+    let (command, recorded) = notice.parts().unwrap_or((b"".as_slice(), b"".as_slice()));
+    place.say(command.len().saturating_add(4), message);
+    message.say("recorded '");
+    show_answer(recorded, message);
     message.say("', but the core gives '");
     show_answer(notice.given(), message);
     message.say("'");
@@ -198,15 +268,15 @@ fn plain_cause(cause: Cause) -> &'static str {
     }
 }
 
-/// Says what is wrong with the line of this number, behind the front of the message: its column, the syntax error, the
-/// nearest word, or else what is allowed, and the form of the command, if there are such, and the text of the line.
-fn say_syntax_error(number: u64, syntax_error: SyntaxError, line: &[u8], message: &mut Message) {
-    let _ = write!(message, "line {number}");
-    if syntax_error.wrong != Wrong::Empty {
-        let column = syntax_error.column;
-        let _ = write!(message, ", column {column}");
-    }
-    message.say(": ");
+/// Says what is wrong with a line: the place, the syntax error, the nearest word, or else what is allowed, and the form
+/// of the command, if there are such, and the text of the line.
+fn say_syntax_error(
+    place: &Place<'_, '_>,
+    syntax_error: SyntaxError,
+    line: &[u8],
+    message: &mut Message,
+) {
+    place.say(syntax_error.column, message);
     message.say(syntax_error.wrong.words());
     if syntax_error.near.is_none() {
         say_allowed(syntax_error, message);
@@ -242,12 +312,22 @@ fn say_hint(words: &str, hint: Option<&'static str>, message: &mut Message) {
     }
 }
 
-/// Says why a line of a story is no command there, behind the front of the message.
-fn no_row(number: u64, line: &[u8], message: &mut Message) {
+/// Says why a line of a story is no command there.
+fn no_row(place: &Place<'_, '_>, line: &[u8], message: &mut Message) {
     match wrong_mark(line) {
-        Some(words) => say_line(number, words, line, message),
-        None => no_command(number, line, message),
+        Some(words) => say_line(place, column_of_mark(line), words, line, message),
+        None => no_command(place, line, message),
     }
+}
+
+/// The column of the first `=` in a line.
+fn column_of_mark(line: &[u8]) -> usize {
+    for (place, byte) in line.iter().enumerate() {
+        if *byte == b'=' {
+            return place.saturating_add(1);
+        }
+    }
+    1
 }
 
 /// What is wrong with the `=` of a line of a story that is no command and has no ` = `, if there is one.
@@ -263,26 +343,26 @@ fn wrong_mark(line: &[u8]) -> Option<&'static str> {
     }
 }
 
-/// Says why a line of a script is no command there, behind the front of the message.
-fn no_command(number: u64, line: &[u8], message: &mut Message) {
+/// Says why a line of a script is no command there.
+fn no_command(place: &Place<'_, '_>, line: &[u8], message: &mut Message) {
     if line.starts_with(b"\xef\xbb\xbf") {
         let words = "the line begins with a byte order mark, which a script has not";
-        return say_line(number, words, line, message);
+        return say_line(place, 1, words, line, message);
     }
     if line.starts_with(b"pif-trace ") {
         let words = "a trace is no script: 'pif replay' takes it";
-        return say_line(number, words, line, message);
+        return say_line(place, 1, words, line, message);
     }
     if is_answered(line) {
         let words = "a story is no script: 'pif check' takes it";
-        return say_line(number, words, line, message);
+        return say_line(place, 1, words, line, message);
     }
     match read_command(line) {
         Ok(_) => {
             let words = "limits may stand on the first line only";
-            say_line(number, words, line, message)
+            say_line(place, 1, words, line, message)
         }
-        Err(syntax_error) => say_syntax_error(number, syntax_error, line, message),
+        Err(syntax_error) => say_syntax_error(place, syntax_error, line, message),
     }
 }
 
@@ -306,22 +386,28 @@ fn without_blanks(text: &[u8]) -> &[u8] {
     front
 }
 
-/// Says why a line of a trace is no command there, behind the front of the message.
-fn no_traced(number: u64, notice: &Notice, message: &mut Message) {
+/// Says why a line of a trace, of this number, is no command there.
+fn no_traced(place: &Place<'_, '_>, number: u64, notice: &Notice, message: &mut Message) {
     let line = notice.line();
     if line.ends_with(b"\r") {
-        return say_line(number, Wrong::CarriageReturn.words(), line, message);
+        return say_line(
+            place,
+            line.len(),
+            Wrong::CarriageReturn.words(),
+            line,
+            message,
+        );
     }
     if number == 1 {
-        return say_line(number, no_header(line), line, message);
+        return say_line(place, 1, no_header(line), line, message);
     }
     let Some((command, _)) = notice.parts() else {
         let words = "no ' = ' with an answer behind it";
-        return say_line(number, words, line, message);
+        return say_line(place, line.len().saturating_add(1), words, line, message);
     };
     match read_command(command) {
-        Ok(command) => say_line(number, not_traced(command), line, message),
-        Err(syntax_error) => say_syntax_error(number, syntax_error, line, message),
+        Ok(command) => say_line(place, 1, not_traced(command), line, message),
+        Err(syntax_error) => say_syntax_error(place, syntax_error, line, message),
     }
 }
 

@@ -1,3 +1,4 @@
+use crate::streams::Output;
 use std::alloc::Global;
 
 /// What a run of the program works with besides its input, lent to one job after the other. Each reference has a
@@ -13,9 +14,24 @@ pub struct Host<'p, 's, 'o, 'e, 'v, P, S, W, E, V> {
     /// Whether a person sits at the input, for whom a shell writes a prompt.
     pub is_terminal: bool,
     /// Where a job writes.
-    pub output: &'o mut W,
+    pub output: &'o mut Output<W>,
     /// What is told of faults.
     pub errors: &'e mut E,
     /// Who is told of each line of a history how many states were made for it.
     pub watch: &'v mut V,
+    /// Whether the errors were told that the output cannot be written.
+    pub told_of_output: bool,
+}
+
+/// What a job works with besides what it reads and writes.
+#[derive(Clone, Copy)]
+pub struct Means<'p, 's, P, S> {
+    /// Where memory comes from.
+    pub alloc: Global,
+    /// What starts threads.
+    pub process: &'p P,
+    /// Where a shell saves its stories.
+    pub shelf: &'s S,
+    /// Whether a person sits at the input, for whom a shell writes a prompt.
+    pub is_terminal: bool,
 }

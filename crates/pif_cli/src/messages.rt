@@ -24,11 +24,16 @@ impl Message {
 
     /// A message of the program, which begins with its name.
     pub(crate) fn new() -> Message {
-        let mut message = Message {
-            bytes: ArrayVec::new(),
-        };
+        let mut message = Message::empty();
         message.say("pif: ");
         message
+    }
+
+    /// A message that is to begin with a place.
+    pub(crate) fn empty() -> Message {
+        Message {
+            bytes: ArrayVec::new(),
+        }
     }
 
     /// Appends a byte, where it is printable.

@@ -5,8 +5,10 @@ ghost use Rattle.pif_cli.specs.Words.{EndsOver, HadNoWords};
 use crate::files::command_over_files;
 use crate::hosts::Host;
 use crate::messages::Message;
+use crate::progress::WatchFiles;
 use crate::shelves::FileShelf;
 use crate::statuses::Status;
+use crate::streams::{Input, Output};
 use crate::words::{fail, show};
 use pif_job_judge::{Unwatched, Watch};
 use pif_script::CliFault;
@@ -19,20 +21,21 @@ use std::{env, io};
 /// What is said if a word is no text.
 const NO_TEXT: &str = "error: a word is not UTF-8\n";
 
-/// The program over the words of a process, as `command_of_process` has it; if `is_terminal`, `input` is a terminal,
-/// and `pif shell` writes a prompt before each line that it reads. `watch` is told of each line of a history that `pif
-/// judge` judges how many states were made for it; what it tells a person is no part of what `errors` is told.
+/// The program over the words of a process, as `command_of_process` has it. If `is_terminal`, `input` is a terminal,
+/// and `pif shell` writes a prompt before each line that it reads. `watch` is told of each file that a job begins with.
+/// Of each line of a history that `pif judge` judges it is told how many states were made. What it tells a person is
+/// no part of what `errors` is told.
 pub fn command_at_terminal<
     P: Env + AllocGlobal + Files + Threads + Wait + Sync,
     R: Read,
     W: Write,
     E: Write,
-    V: Watch,
+    V: Watch + WatchFiles,
 >(
     process: &P,
     is_terminal: bool,
-    input: &mut R,
-    output: &mut W,
+    input: &mut Input<R>,
+    output: &mut Output<W>,
     errors: &mut E,
     watch: &mut V,
 ) -> Status
@@ -50,6 +53,7 @@ pub fn command_at_terminal<
                 output,
                 errors,
                 watch,
+                told_of_output: false,
             };
             Status::new(command_over_files(words.as_slice(), input, &mut host))
         }
@@ -72,7 +76,7 @@ pub fn command_of_process<
     R: Read,
     W: Write,
     E: Write,
->(process: &P, input: &mut R, output: &mut W, errors: &mut E) -> Status
+>(process: &P, input: &mut Input<R>, output: &mut Output<W>, errors: &mut E) -> Status
     ensures { (words : Result (List (List ℕ)) IoErrorKind) × EndsOver words (R.remaining input.old) (R.remaining input.new)
         (W.contents output.old) (W.contents output.new) (E.contents errors.old) (E.contents errors.new) result }
 {

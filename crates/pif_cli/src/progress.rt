@@ -1,11 +1,21 @@
 use crate::messages::Message;
-use pif_job_judge::Watch;
+use pif_job_judge::{Unwatched, Watch};
 use std::fmt::Write as _;
 use std::io::Write;
 use std::time::{Clock, Instant};
 
-/// How far judging a history has come, as a person at a terminal is told: a line each second after the first, with the
-/// line of the history and the states that were made for it.
+/// Who is told of each file that a job begins with.
+pub trait WatchFiles {
+    /// A job begins with a file behind which so many of `count` are done.
+    fn file(&mut self, done: usize, count: usize);
+}
+
+impl WatchFiles for Unwatched {
+    fn file(&mut self, _done: usize, _count: usize) {}
+}
+
+/// How far a job has come, as a person at a terminal is told: a line each second after the first. Of a job over several
+/// files it says how many are done, and of a history which line is judged and how many states were made for it.
 #[derive(Drop)]
 pub struct Progress<'c, 'e, C, E> {
     clock: &'c C,
@@ -13,7 +23,7 @@ pub struct Progress<'c, 'e, C, E> {
     is_terminal: bool,
     /// What is told.
     errors: &'e mut E,
-    /// When the first line was judged.
+    /// When the first file was begun, or the first line was judged.
     begun: Option<Instant>,
     /// In which second somebody was told last.
     second: u64,
@@ -31,13 +41,34 @@ impl<'c, 'e, C: Clock, E: Write> Progress<'c, 'e, C, E> {
         }
     }
 
-    /// Tells of a line, if it is judged in another second than the one that was told last.
-    fn tell(&mut self, line: usize, states: usize, now: Instant) {
+    /// Whether somebody is told at this time, since it is in another second than what was told last.
+    fn is_due(&mut self, now: Instant) -> bool {
         let begun = self.begun.unwrap_or(now);
         self.begun = Some(begun);
         let second = now.saturating_duration_since(begun).as_secs();
         if second > self.second {
             self.second = second;
+            true
+        } else {
+            false
+        }
+    }
+
+    /// Whether a person is told now.
+    fn is_told(&mut self) -> bool {
+        if !self.is_terminal {
+            return false;
+        }
+        match Instant::now(self.clock) {
+            Ok(now) => self.is_due(now),
+            Err(_) => false,
+        }
+    }
+}
+
+impl<C: Clock, E: Write> Watch for Progress<'_, '_, C, E> {
+    fn line(&mut self, line: usize, states: usize) {
+        if self.is_told() {
             let mut message = Message::new();
             let _ = write!(message, "line {line}: {states} states");
             message.tell(self.errors);
@@ -45,13 +76,12 @@ impl<'c, 'e, C: Clock, E: Write> Progress<'c, 'e, C, E> {
     }
 }
 
-impl<C: Clock, E: Write> Watch for Progress<'_, '_, C, E> {
-    fn line(&mut self, line: usize, states: usize) {
-        if !self.is_terminal {
-            return;
-        }
-        if let Ok(now) = Instant::now(self.clock) {
-            self.tell(line, states, now);
+impl<C: Clock, E: Write> WatchFiles for Progress<'_, '_, C, E> {
+    fn file(&mut self, done: usize, count: usize) {
+        if self.is_told() {
+            let mut message = Message::new();
+            let _ = write!(message, "{done} of {count} files are done");
+            message.tell(self.errors);
         }
     }
 }

@@ -1,4 +1,4 @@
-use crate::reasons::words_of;
+use crate::streams::{Input, words_of};
 use pif_job_shell::{LoadFault, SaveFault, Shelf};
 use pif_script::{CliFault, read_all};
 use std::alloc::Global;
@@ -64,14 +64,15 @@ impl<'a, P: Files> Shelf for FileShelf<'a, P> {
     }
 
     fn load(&self, alloc: Global, name: &str) -> Result<Vec<u8>, LoadFault> {
-        let mut file = match File::open(self.process, name) {
+        let file = match File::open(self.process, name) {
             Ok(file) => file,
             Err(error) => return Err(LoadFault::Unread(words_of(error.kind()))),
         };
-        match read_all(alloc, &mut file) {
+        let mut input = Input::new(file);
+        match read_all(alloc, &mut input) {
             Ok(text) => Ok(text),
             Err(CliFault::NoMemory) => Err(LoadFault::NoMemory),
-            Err(_) => Err(LoadFault::Unread(None)),
+            Err(_) => Err(LoadFault::Unread(input.why())),
         }
     }
 

@@ -1,6 +1,6 @@
 ghost use Rattle.std.specs.Prelude.{◌≡◌, ℕ};
 ghost use Rattle.std.specs.Process.{exit_status};
-ghost use Rattle.pif_cli.specs.Statuses.{fault_status, job_fault_status};
+ghost use Rattle.pif_cli.specs.Statuses.{fault_status, is_output, job_fault_status};
 
 use pif_script::CliFault;
 use std::marker::Model;
@@ -41,6 +41,16 @@ pub fn fault_status(fault: CliFault) -> u8
         CliFault::Read | CliFault::Write => 3,
         CliFault::NoMemory => 4,
         CliFault::Differs(_) => 5,
+    }
+}
+
+/// Whether this fault is that a write to the output has failed.
+pub fn is_output(fault: JobFault) -> bool
+    ensures { result ≡ is_output fault }
+{
+    match fault {
+        JobFault::Cli(CliFault::Write) => true,
+        _ => false,
     }
 }
 

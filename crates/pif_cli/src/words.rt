@@ -1,18 +1,20 @@
 ghost use Rattle.std.specs.Prelude.{◌≡◌, ◌⊎◌, None, Some, if◌then◌else◌, map, option_copied};
 ghost use Rattle.clap.specs.Words.{kind_of};
-ghost use Rattle.pif_cli_words.specs.Words.{refusals_of, job_of, name_of};
-ghost use Rattle.pif_cli.specs.Messages.{TellsAt, TellsLine};
+ghost use Rattle.pif_cli_words.specs.Words.{refusals_of, rewrites, job_of, name_of};
+ghost use Rattle.pif_cli.specs.Messages.{TellsAt, TellsFault, TellsLine};
 ghost use Rattle.pif_cli.specs.Statuses.{fault_status};
-ghost use Rattle.pif_cli.specs.Words.{Did, Does, JudgesNamed, as_job, as_judged, EndsBy, HadNoMemory, RefusedFor, Shows, ShowsHelp};
+ghost use Rattle.pif_cli.specs.Words.{Did, DidOrRefused, Does, JudgesNamed, as_job, as_judged, EndsBy, HadNoMemory, RefusedFor, RefusesInput, Shows, ShowsHelp};
 
-use crate::causes::{message_of, plain_message};
+use crate::causes::{Given, plain_message};
 use crate::drive::drive;
-use crate::hosts::Host;
+use crate::hosts::{Host, Means};
+use crate::messages::Message;
 use crate::random::write_random;
-use crate::statuses::{JobFault, fault_status, job_fault_status};
+use crate::statuses::{JobFault, fault_status, is_output, job_fault_status};
+use crate::streams::{Input, Output};
 use clap::error::ErrorKind;
 use pif_cli_words::{Job, first_name, near_command, read_words};
-use pif_job_check::{check_noting, fill_noting};
+use pif_job_check::{check_noting, check_strictly, fill_as_one_of_several, fill_noting};
 use pif_job_draw::write_picture;
 use pif_job_judge::{JudgeFault, Judging, Unwatched, Watch, judge};
 use pif_job_replay::{migrate_noting, replay_noting};
@@ -73,42 +75,110 @@ fn judge_input<R: Read, W: Write, V: Watch>(
     as_judged(judge(alloc, &judging, input, output, watch))
 }
 
-/// Does a job over an input of this name, and has `notice` keep the line that ends it. The errors are told nothing.
-fn do_job<P: Threads + Wait + Sync, S: Shelf, R: Read, W: Write, E: Write, V: Watch>(
+/// Does a job over an input of this name, and has `notice` keep the line that ends it.
+fn do_job<P: Threads + Wait + Sync, S: Shelf, R: Read, W: Write, V: Watch>(
     job: Job,
     name: &str,
+    means: &Means<P, S>,
     input: &mut R,
-    host: &mut Host<P, S, W, E, V>,
+    output: &mut W,
+    watch: &mut V,
     notice: &mut Notice,
 ) -> Result<(), JobFault>
-    ensures same_output { host.new.output.ghost_name ≡ host.old.output.ghost_name }
-    ensures same_errors { host.new.errors ≡ host.old.errors }
-    ensures does { Does job name.now (R.remaining input.old) (R.remaining input.new)
-        (W.contents host.old.output.now) (W.contents host.new.output.now) result }
+    ensures { Does job name.now (R.remaining input.old) (R.remaining input.new) (W.contents output.old) (W.contents output.new) result }
 {
-    let alloc = host.alloc;
+    let alloc = means.alloc;
     match job {
-        Job::Run => as_job(run_noting(alloc, input, host.output, notice)),
-        Job::Replay => as_job(replay_noting(alloc, input, host.output, notice)),
-        Job::Trace => as_job(trace_story(alloc, input, host.output, notice)),
-        Job::Migrate => as_job(migrate_noting(alloc, input, host.output, notice)),
-        Job::Show(detail) => as_job(show_story(detail, alloc, input, host.output, notice)),
-        Job::Picture(picture) => as_job(write_picture(picture, alloc, input, host.output, notice)),
-        Job::Shell => as_job(shell(alloc, host.shelf, host.is_terminal, input, host.output)),
-        Job::Check => as_job(check_noting(alloc, name.as_bytes(), input, host.output, notice)),
-        Job::Fill => as_job(fill_noting(alloc, name.as_bytes(), input, host.output, notice)),
-        Job::Judge(asked) => judge_input(alloc, asked, name, input, host.output, host.watch),
-        Job::Random(recipe) => write_random(alloc, recipe, host.output),
-        Job::Drive(clients) => drive(alloc, host.process, clients, host.output),
+        Job::Run => as_job(run_noting(alloc, input, output, notice)),
+        Job::Replay => as_job(replay_noting(alloc, input, output, notice)),
+        Job::Trace => as_job(trace_story(alloc, input, output, notice)),
+        Job::Migrate => as_job(migrate_noting(alloc, input, output, notice)),
+        Job::Show(detail) => as_job(show_story(detail, alloc, input, output, notice)),
+        Job::Picture(picture) => as_job(write_picture(picture, alloc, input, output, notice)),
+        Job::Shell => as_job(shell(alloc, means.shelf, means.is_terminal, input, output)),
+        Job::Check => as_job(check_noting(alloc, name.as_bytes(), input, output, notice)),
+        Job::Strict => as_job(check_strictly(alloc, name.as_bytes(), input, output, notice)),
+        Job::Fill => as_job(fill_noting(alloc, name.as_bytes(), input, output, notice)),
+        Job::FillSeveral => as_job(fill_as_one_of_several(
+            alloc,
+            name.as_bytes(),
+            input,
+            output,
+            notice,
+        )),
+        Job::Judge(asked) => judge_input(alloc, asked, name, input, output, watch),
+        Job::Random(recipe) => write_random(alloc, recipe, output),
+        Job::Drive(clients) => drive(alloc, means.process, clients, output),
     }
 }
 
-/// Does a job over an input of this name, and tells the errors of a fault. Answers the status, which is that of the job
-/// where the errors cannot be told, too.
+/// Whether the text that a job reads is kept, so that the place of a fault can be told: that of a story.
+fn keeps_text(job: Job) -> bool {
+    match job {
+        Job::Check | Job::Strict | Job::Fill | Job::FillSeveral => true,
+        Job::Picture(_) | Job::Show(_) | Job::Trace => true,
+        _ => false,
+    }
+}
+
+/// How a job has ended.
+#[derive(Drop)]
+struct Ended {
+    /// How it has ended.
+    done: Result<(), JobFault>,
+    /// What is told of its fault, if it has one.
+    message: Message,
+}
+
+/// Does a job over an input of this name.
+fn do_noting<P: Threads + Wait + Sync, S: Shelf, R: Read, W: Write, V: Watch>(
+    job: Job,
+    name: &str,
+    means: &Means<P, S>,
+    input: &mut Input<R>,
+    output: &mut Output<W>,
+    watch: &mut V,
+) -> Ended
+    ensures { Does job name.now (R.remaining input.old) (R.remaining input.new) (W.contents output.old) (W.contents output.new) result.done }
+{
+    let mut notice = Notice::new();
+    input.begin(means.alloc, keeps_text(job));
+    let done = do_job(job, name, means, &mut *input, output, watch, &mut notice);
+    let message = match done {
+        Ok(()) => Message::empty(),
+        Err(fault) => {
+            let given = Given {
+                job,
+                name,
+                story: input.text(),
+                why: input.why(),
+            };
+            given.message(fault, &notice)
+        }
+    };
+    Ended { done, message }
+}
+
+/// Tells the errors of a fault by this message; if `is_quiet`, not of an output that cannot be written.
+fn tell_fault<E: Write>(fault: JobFault, is_quiet: bool, message: Message, errors: &mut E)
+    ensures { TellsFault fault (E.contents errors.old) (E.contents errors.new) }
+{
+    if !is_output(fault) {
+        message.tell(errors);
+        return;
+    }
+    if !is_quiet {
+        message.tell(errors);
+    }
+}
+
+/// Does a job over an input of this name, and tells the errors of a fault. That the output cannot be written is told
+/// once, and not if nobody reads it any more. Answers the status, which is that of the job, also if the errors cannot
+/// be told.
 pub fn do_and_tell<P: Threads + Wait + Sync, S: Shelf, R: Read, W: Write, E: Write, V: Watch>(
     job: Job,
     name: &str,
-    input: &mut R,
+    input: &mut Input<R>,
     host: &mut Host<P, S, W, E, V>,
 ) -> u8
     ensures same_output { host.new.output.ghost_name ≡ host.old.output.ghost_name }
@@ -116,11 +186,19 @@ pub fn do_and_tell<P: Threads + Wait + Sync, S: Shelf, R: Read, W: Write, E: Wri
     ensures did { Did job name.now (R.remaining input.old) (R.remaining input.new) (W.contents host.old.output.now)
         (W.contents host.new.output.now) (E.contents host.old.errors.now) (E.contents host.new.errors.now) result }
 {
-    let mut notice = Notice::new();
-    match do_job(job, name, input, host, &mut notice) {
+    let means = Means {
+        alloc: host.alloc,
+        process: host.process,
+        shelf: host.shelf,
+        is_terminal: host.is_terminal,
+    };
+    let Ended { done, message } = do_noting(job, name, &means, input, host.output, host.watch);
+    match done {
         Ok(()) => 0,
         Err(fault) => {
-            message_of(job, name, fault, &notice).tell(host.errors);
+            let is_quiet = host.output.is_closed() || host.told_of_output;
+            tell_fault(fault, is_quiet, message, host.errors);
+            host.told_of_output = host.told_of_output || is_output(fault);
             job_fault_status(fault)
         }
     }
@@ -152,6 +230,37 @@ pub fn show<W: Write>(text: &str, shown: u8, writer: &mut W) -> u8
     match write_whole(writer, text.as_bytes()) {
         Ok(()) => shown,
         Err(_) => 3,
+    }
+}
+
+/// What is said if the answers of the standard input are to be written into its file.
+const NO_FILE: &str = "error: 'check --write' writes into files, and the standard input is none\n";
+
+/// Refuses to write into the standard input.
+fn refuse_input<E: Write>(errors: &mut E) -> u8
+    ensures { RefusesInput (E.contents errors.old) (E.contents errors.new) result }
+{
+    show(NO_FILE, 1, errors)
+}
+
+/// Does a job over an input of this name, and tells the errors of a fault, as `do_and_tell` does; or refuses the input,
+/// if what is made of it is to be written into its file. Answers the status.
+pub fn do_or_refuse<P: Threads + Wait + Sync, S: Shelf, R: Read, W: Write, E: Write, V: Watch>(
+    rewrite: bool,
+    job: Job,
+    name: &str,
+    input: &mut Input<R>,
+    host: &mut Host<P, S, W, E, V>,
+) -> u8
+    ensures same_output { host.new.output.ghost_name ≡ host.old.output.ghost_name }
+    ensures same_errors { host.new.errors.ghost_name ≡ host.old.errors.ghost_name }
+    ensures did { DidOrRefused rewrite job name.now (R.remaining input.old) (R.remaining input.new) (W.contents host.old.output.now)
+        (W.contents host.new.output.now) (E.contents host.old.errors.now) (E.contents host.new.errors.now) result }
+{
+    if rewrite {
+        refuse_input(host.errors)
+    } else {
+        do_and_tell(job, name, input, host)
     }
 }
 
@@ -201,42 +310,51 @@ pub fn refuse<W: Write, E: Write>(
     }
 }
 
-/// The program over its words, the program's name first. `pif run` reads a script from `input`, and writes what its
-/// lines are answered, and the line of a fault, to `output`. `pif show` reads a story or a script from `input`, and
-/// writes to `output` each command, its answer and what it has changed, as `show_story` does; with `--all` the state
-/// behind it; with `--json` or `--dot` it writes a picture of it, as `pif draw` does. `pif check` reads a story from
-/// `input`, and writes to `output` a line that says whether it is ok, as `check` does; with `--print` it writes it with
-/// its answers, as `fill` does. `pif judge` reads a history from `input`, and writes to `output` whether it is legal,
-/// as `judge` does. `pif shell` reads the lines of a person from `input`, and answers each to `output`, as `shell` does
-/// without a prompt; it saves no story, since no file is opened here. `pif replay` reads a trace from `input`, and
-/// writes to `output` what it comes to, as `replay` does. `pif trace` reads a story or a script from `input`, and
-/// writes its trace to `output`, as `trace_story` does, without the line of a fault. `pif migrate` reads a trace from
-/// `input`, and writes it to `output` as one of version 2, or the line of its fault, as `migrate` does. `pif random`
-/// reads nothing, and writes to `output` the random script that its options ask for. `pif drive N` lets N clients, 1 to
-/// 64, make their calls in threads of their own, as `rt` starts them. It reads nothing, and writes to `output` how many
-/// were answered, as `drive` does. A word behind all but `random` and `drive` names a file: no file is opened here, and
-/// `input` stands for the first.
+/// The program over its words, the program's name first. A word behind all commands but `random`, `drive` and `shell`
+/// names a file: no file is opened here, and `input` stands for the first. What a job makes goes to `output`:
 ///
-/// The status is 0 if the job was done, or help or the version was asked for, whose text goes to `output`; 1 if the
-/// words are refused, and the reason goes to `errors`; 2 for a fault of the script, story, history or trace; 3 if a
-/// read or a write fails; 4 if it ran out of memory; 5 if a story or a trace differs, or a history is illegal; 6 if a
-/// thread can't be started, or the desk of the clients doesn't settle; and 7 if a history stayed undecided. Nothing is
-/// read if no job is asked for.
+/// - `run` reads a script, and writes what its lines are answered, and the line of a fault, as `run` does.
+/// - `show` reads a story or a script, and writes each command, its answer and what it has changed, as `show_story`
+///   does; with `--all` the state behind it; with `--json` or `--dot` a picture of it.
+/// - `draw` reads a story or a script, and writes a drawing of it, as `write_picture` does.
+/// - `check` reads a story, and writes whether it is ok, as `check` does. With `--strict` it wants an answer beside
+///   each refusal. With `--print` it writes the story with its answers, as `fill` does. `--write` is refused, since
+///   `input` is no file.
+/// - `judge` reads a history, and writes whether it is legal, as `judge` does.
+/// - `shell` reads the lines of a person, and answers each, as `shell` does without a prompt. It saves and loads no
+///   story.
+/// - `replay` reads a trace, and writes what it comes to, as `replay` does.
+/// - `trace` reads a story or a script, and writes its trace, as `trace_story` does, without the line of a fault.
+/// - `migrate` reads a trace, and writes it as one of version 2, or the line of its fault, as `migrate` does.
+/// - `random` reads nothing, and writes the random script that its options ask for.
+/// - `drive N` reads nothing. It lets N clients, 1 to 64, make their calls in threads of their own, as `rt` starts
+///   them. It writes how many were answered, as `drive` does.
 ///
-/// At status 0 nothing goes to `errors`, and at 2 to 7 one line of printable ASCII, which says what went wrong; where
-/// that line cannot be written, the status stays. At 3 it is a part of the reason why the words are refused, where that
-/// is what could not be written. No memory is taken for the line.
+/// The status is 0 if the job was done, or help or the version was asked for, whose text goes to `output`. Else it is:
+///
+/// - 1 if the words are refused, and the reason goes to `errors`: nothing is read then;
+/// - 2 for a fault of the script, story, history or trace;
+/// - 3 if a read or a write fails;
+/// - 4 if it ran out of memory;
+/// - 5 if a story or a trace differs, or a history is illegal;
+/// - 6 if a thread can't be started, or the desk of the clients doesn't settle;
+/// - 7 if a history stayed undecided.
+///
+/// At status 0 nothing goes to `errors`, and at 2 to 7 one line of printable ASCII, which says what went wrong. If that
+/// line cannot be written, the status stays. At 3 it is a part of the reason why the words are refused, if that could
+/// not be written. It is nothing if nobody reads `output` any more. No memory is taken for the line, but a story is
+/// kept in memory for the place of its fault.
 pub fn command<T: Threads + Wait + Sync, S: AsStr, R: Read, W: Write, E: Write>(
     alloc: Global,
     rt: &T,
     words: &[S],
-    input: &mut R,
-    output: &mut W,
+    input: &mut Input<R>,
+    output: &mut Output<W>,
     errors: &mut E,
 ) -> u8
     ensures errors { TellsAt result (E.contents errors.old) (E.contents errors.new) }
-    ensures ends { EndsBy (refusals_of (map S.text words.now)) (job_of (map S.text words.now))
-        (name_of (map S.text words.now)) (R.remaining input.old) (R.remaining input.new)
+    ensures ends { EndsBy (refusals_of (map S.text words.now)) (rewrites (map S.text words.now))
+        (job_of (map S.text words.now)) (name_of (map S.text words.now)) (R.remaining input.old) (R.remaining input.new)
         (W.contents output.old) (W.contents output.new) (E.contents errors.old) (E.contents errors.new) result }
 {
     match read_words(alloc, words) {
@@ -250,8 +368,9 @@ pub fn command<T: Threads + Wait + Sync, S: AsStr, R: Read, W: Write, E: Write>(
                 output,
                 errors,
                 watch: &mut Unwatched,
+                told_of_output: false,
             };
-            do_and_tell(asked.job, name, input, &mut host)
+            do_or_refuse(asked.rewrites, asked.job, name, input, &mut host)
         }
         Err(error) => refuse(alloc, error, near_command(words), output, errors),
     }

@@ -1,5 +1,5 @@
 -- The job, the files and the refusals of words, by what a parse met.
-use Rattle.std.proofs.Common.{unwrap_or, ◌≡◌, ◌∙◌, ℕ, true, List, [], Option, Some, None, option_map, codes, Box, ap, refl, sym, subst}
+use Rattle.std.proofs.Common.{unwrap_or, ◌≡◌, ◌∙◌, ℕ, Bool, true, List, [], Option, Some, None, option_map, codes, Box, ap, refl, sym, subst}
 use Rattle.std.specs.Box.{box_value}
 use Rattle.std.specs.declared.alloc.Global.{Global}
 use Rattle.clap.specs.Words.{App, HasKind, fault_of, is_simple_and_free, HasMatchesOf, Row, Text, matched_of, raw_values, rows_of, subcommand_name_of, subcommand_of, subcommand_rows}
@@ -10,7 +10,7 @@ use Rattle.clap.specs.declared.parser.matches.Found.{Found}
 use Rattle.clap.specs.declared.parser.matches.SubCommand.{SubCommand}
 use Rattle.clap.proofs.WalkLemmas.{raw_values-rows}
 use Rattle.pif_cli_words.specs.declared.jobs.Job.{Job}
-use Rattle.pif_cli_words.specs.Words.{files_by, files_in, files_of, job_by, job_named, job_of, program, refusals_of}
+use Rattle.pif_cli_words.specs.Words.{files_by, files_in, files_of, job_by, job_named, job_of, program, refusals_of, rewrites, rewrites_by}
 
 -- words with which the program's commands were parsed have no refusal
 pub refusals-none : (pif : App) (words : List (List ℕ)) → pif ≡ program → (is_simple_and_free pif ≡ true → fault_of pif words ≡ []) → refusals_of words ≡ []
@@ -45,6 +45,10 @@ module _ (pif : App) (words : List (List ℕ)) (m : ArgMatches) (name : Text) (f
   -- and its files
   pub files_read : (files : List Text) → files ≡ files_in (rows_of found) → files ≡ files_of words
   files_read files f = f ∙ sym (ap files_by there)
+
+  -- and whether its files are to be written
+  pub rewrites_read : (rewrite : Bool) → rewrite ≡ rewrites_by (Some (name, rows_of found)) → rewrite ≡ rewrites words
+  rewrites_read rewrite f = f ∙ sym (ap rewrites_by there)
 
 -- the files that were found
 pub files_found : (o : Option (List Text)) (found : Found) → o ≡ option_map raw_values (matched_of found (codes "FILE"))

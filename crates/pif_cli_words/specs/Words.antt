@@ -1,5 +1,5 @@
 -- The words of the program: its commands, and the job, the files and the refusals of words.
-use Rattle.std.specs.Prelude.{ℕ, Bool, true, nat_lt, length, List, [], ◌∷◌, Option, Some, None, unwrap_or, codes, bytes_eq, if◌then◌else◌}
+use Rattle.std.specs.Prelude.{ℕ, Bool, true, false, ◌&&◌, nat_lt, length, List, [], ◌∷◌, Option, Some, None, unwrap_or, codes, bytes_eq, if◌then◌else◌}
 use Rattle.clap.specs.Lexer.{usize_max}
 use Rattle.clap.specs.Words.{App, Kinds, Row, Rule, Text, all_of, fault_of, first_of, new_app, new_rule, subcommand_of, with_rule, with_subcommand}
 use Rattle.clap.specs.declared.builder.value_parser.ValueParser.TheVariants.{Unsigned}
@@ -7,7 +7,7 @@ use Rattle.pif_script_model.specs.declared.details.Detail.TheVariants.{Changes, 
 use Rattle.pif_script_model.specs.declared.pictures.Picture.TheVariants.{Drawing, States, Graph}
 use Rattle.pif_cli_words.specs.declared.jobs.Judging.{Judging}
 use Rattle.pif_cli_words.specs.declared.jobs.Job.{Job}
-use Rattle.pif_cli_words.specs.declared.jobs.Job.TheVariants.{Run, Replay, Trace, Migrate, Show, Picture, Shell, Check, Fill, Judge, Random, Drive}
+use Rattle.pif_cli_words.specs.declared.jobs.Job.TheVariants.{Run, Replay, Trace, Migrate, Show, Picture, Shell, Check, Strict, Fill, FillSeveral, Judge, Random, Drive}
 use Rattle.pif_cli_words.specs.Options.{chosen_rule, flag_in, flag_rule, number_between}
 use Rattle.pif_cli_words.specs.Random.{random_app, recipe_in}
 
@@ -37,18 +37,20 @@ clients_rule = record (new_rule (codes "N")) { required = true; parser = Some (U
 abbrev pub drive_app : App
 drive_app = with_rule (new_app (codes "drive")) clients_rule
 
--- whether a story is to be filled in, and not checked
-abbrev pub print_rule : Rule
-print_rule = flag_rule (codes "print")
-
 -- the files of a command over any number of inputs
 abbrev pub files_rule : Rule
 files_rule =
     record (new_rule (codes "FILE")) { range = Some (record { start_inclusive = 0; end_inclusive = usize_max }) }
 
--- the command `check`
+-- the command `check`, with its flags: for an answer beside each refusal, and for stories that are filled in, and not
+-- checked
+abbrev pub checked_app : App
+checked_app =
+    with_rule (with_rule (with_rule (new_app (codes "check")) (flag_rule (codes "strict"))) (flag_rule (codes "print")))
+    (flag_rule (codes "write"))
+
 abbrev pub check_app : App
-check_app = with_rule (with_rule (new_app (codes "check")) print_rule) files_rule
+check_app = with_rule checked_app files_rule
 
 -- the command `judge`, with its flag for a run, and its option for how many states may be made for a line
 abbrev pub judged_app : App
@@ -114,6 +116,18 @@ judging_in rows = record {
   several = has_several rows;
 }
 
+-- how stories are filled in and printed: several are told apart
+abbrev pub filling_in : List Row → Job
+filling_in rows = if has_several rows then FillSeveral else Fill
+
+-- what is done with stories: those that are written into their files are filled in; of the other flags the first of
+-- `--print` and `--strict` counts
+abbrev pub checking_in : List Row → Job
+checking_in rows =
+    if flag_in (codes "write") rows then Fill
+    else (if flag_in (codes "print") rows then filling_in rows
+    else (if flag_in (codes "strict") rows then Strict else Check))
+
 -- the job of this name, with what was given to it
 abbrev pub job_named : Text → List Row → Job
 job_named name rows =
@@ -123,7 +137,7 @@ job_named name rows =
     else (if bytes_eq name (codes "show") then shown_in rows
     else (if bytes_eq name (codes "draw") then Picture Drawing
     else (if bytes_eq name (codes "shell") then Shell
-    else (if bytes_eq name (codes "check") then (if flag_in (codes "print") rows then Fill else Check)
+    else (if bytes_eq name (codes "check") then checking_in rows
     else (if bytes_eq name (codes "judge") then Judge (judging_in rows)
     else (if bytes_eq name (codes "random") then Random (recipe_in rows)
     else (if bytes_eq name (codes "drive") then Drive (number_between 1 64 (first_of (codes "N") rows)) else Run)))))))))
@@ -148,6 +162,15 @@ files_by None = []
 -- the files that the words name, in their order
 abbrev pub files_of : List (List ℕ) → List Text
 files_of words = files_by (subcommand_of program words)
+
+-- whether what is made of each file is to take its place
+abbrev pub rewrites_by : Option (Text × List Row) → Bool
+rewrites_by (Some command) = bytes_eq command.0 (codes "check") && flag_in (codes "write") command.1
+rewrites_by None = false
+
+-- whether the words ask for that
+abbrev pub rewrites : List (List ℕ) → Bool
+rewrites words = rewrites_by (subcommand_of program words)
 
 -- the name of the standard input
 abbrev pub standard_name : Text

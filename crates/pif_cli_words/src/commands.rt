@@ -9,10 +9,11 @@ ghost use Rattle.pif_cli_words.specs.Words.{bare_program, check_app, clients_rul
 use crate::helps::{
     ABOUT, ABOUT_ALL, ABOUT_CHECK, ABOUT_CLIENTS, ABOUT_DOT, ABOUT_DRAW, ABOUT_DRIVE, ABOUT_FILE,
     ABOUT_FILES, ABOUT_HISTORIES, ABOUT_JSON, ABOUT_JUDGE, ABOUT_MIGRATE, ABOUT_PRINT,
-    ABOUT_REPLAY, ABOUT_RUN, ABOUT_SHELL, ABOUT_SHOW, ABOUT_STATES, ABOUT_TRACE, ABOUT_WITNESS,
-    EXAMPLE, MORE_CHECK, MORE_DRAW, MORE_DRIVE, MORE_JUDGE, MORE_MIGRATE, MORE_REPLAY, MORE_RUN,
-    MORE_SHELL, MORE_SHOW, MORE_TRACE, USAGE_CHECK, USAGE_DRAW, USAGE_DRIVE, USAGE_JUDGE,
-    USAGE_MIGRATE, USAGE_REPLAY, USAGE_RUN, USAGE_SHELL, USAGE_SHOW, USAGE_TRACE, VERSION,
+    ABOUT_REPLAY, ABOUT_RUN, ABOUT_SHELL, ABOUT_SHOW, ABOUT_STATES, ABOUT_STRICT, ABOUT_TRACE,
+    ABOUT_WITNESS, ABOUT_WRITE, EXAMPLE, MORE_CHECK, MORE_DRAW, MORE_DRIVE, MORE_JUDGE,
+    MORE_MIGRATE, MORE_REPLAY, MORE_RUN, MORE_SHELL, MORE_SHOW, MORE_TRACE, USAGE_CHECK,
+    USAGE_DRAW, USAGE_DRIVE, USAGE_JUDGE, USAGE_MIGRATE, USAGE_REPLAY, USAGE_RUN, USAGE_SHELL,
+    USAGE_SHOW, USAGE_TRACE, VERSION,
 };
 use crate::options::flag_given;
 use crate::random::{random_command, with_chosen};
@@ -145,8 +146,10 @@ fn check_command<'a>(alloc: Global) -> Made<'a>
     ensures { IsApp check_app result }
 {
     let check = described(alloc, "check", ABOUT_CHECK, USAGE_CHECK, MORE_CHECK);
-    let print = with_flag(alloc, check, "print", ABOUT_PRINT);
-    with_arg(print, files_given(alloc, ABOUT_FILES))
+    let strict = with_flag(alloc, check, "strict", ABOUT_STRICT);
+    let print = with_flag(alloc, strict, "print", ABOUT_PRINT);
+    let write = with_flag(alloc, print, "write", ABOUT_WRITE);
+    with_arg(write, files_given(alloc, ABOUT_FILES))
 }
 
 /// The command `judge`.

@@ -58,11 +58,17 @@ pub const ABOUT_FILE: &str = "The file to read; '-' or none is the standard inpu
 /// What the files of `check` are.
 pub const ABOUT_FILES: &str = "The files to read, each a story; '-' or none is the standard input";
 
-/// What the flag of `check` does.
-pub const ABOUT_PRINT: &str = "Writes each story with its answers, and checks none";
+/// What the flag of `check` for refusals does.
+pub const ABOUT_STRICT: &str = "Wants an answer beside each refusal, too";
+
+/// What the flag of `check` for stories on standard output does.
+pub const ABOUT_PRINT: &str = "Prints each story with its answers, and checks none";
+
+/// What the flag of `check` for stories in their files does.
+pub const ABOUT_WRITE: &str = "Writes the answers of each story into its file, and checks none";
 
 /// How `check` is called.
-pub const USAGE_CHECK: &str = "pif check [--print] [FILE]...";
+pub const USAGE_CHECK: &str = "pif check [--strict | --print | --write] [FILE]...";
 
 /// How `judge` is called.
 pub const USAGE_JUDGE: &str = "pif judge [--witness] [--states N] [FILE]...";
@@ -344,19 +350,30 @@ it, with ' = ' and its answer behind it or without, as in 'thread 10   = t1'; or
 it is empty. More blanks, and tabs, do as one, and '#' begins a comment. The
 answer of an error may name it, as 'answer EDEADLK' or 'answer 35 EDEADLK'.
 
-For each story it prints one line:
+For a story that is ok it prints one line, else one for each flaw; behind the
+20th, one for all others:
   ok NAME N
     it has N commands, and each answer that stands in it is the core's
   NAME: differs L: C = W, but the core gives G
-    line L is the first with another answer, behind the command C
+    line L has another answer, behind the command C
+  NAME: refused L: C: R
+    with --strict: line L has no answer behind the command C, and the core
+    refuses it by R
   NAME: fault L CAUSE: C
     line L is the first that is a fault, with the command C
+  NAME: and K more
+    K flaws have no line of their own
 
 With --print it prints each story with the answers of all its commands, in one
-column, and in the form that they have there.
+column, and in the form that they have there. Of several stories each stands
+behind a line '# NAME'.
+
+With --write it does so in the file of each story: a new file, whose name ends
+in '.new', takes its place and has its mode. A story with a fault stays as it
+is, and so does what is no plain file.
 
 Status, of the first story that is not ok: 0 ok, 1 wrong words, 2 a fault,
-3 a read or write failed, 4 out of memory, 5 a difference.
+3 a read or write failed, 4 out of memory, 5 a difference or such a refusal.
 Standard error says what went wrong, and in which line.";
 
 /// The end of the help of `random`.

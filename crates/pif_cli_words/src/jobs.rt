@@ -1,7 +1,7 @@
 //! Jobs: what the words ask for, and over which files.
-ghost use Rattle.std.specs.Prelude.{◌≡◌, IfOk, map};
+ghost use Rattle.std.specs.Prelude.{◌≡◌, IfOk, Some, map};
 ghost use Rattle.clap.specs.Words.{FailsBy, found_of, rows_of};
-ghost use Rattle.pif_cli_words.specs.Words.{refusals_of, job_of, job_named, files_in, files_of, first_name, has_several, judging_in, shown_in};
+ghost use Rattle.pif_cli_words.specs.Words.{refusals_of, job_of, job_named, checking_in, filling_in, rewrites, rewrites_by, files_in, files_of, first_name, has_several, judging_in, shown_in};
 
 use crate::commands::program;
 use crate::options::{is_given, small_number_between};
@@ -44,8 +44,12 @@ pub enum Job {
     Shell,
     /// `check`: check a story.
     Check,
-    /// `check --print`: fill a story in.
+    /// `check --strict`: check a story, and want an answer beside each refusal.
+    Strict,
+    /// `check --print`, and `check --write` for what is written into the file: fill a story in.
     Fill,
+    /// `check --print` over several files: fill each story in, behind a comment with its name.
+    FillSeveral,
     /// `judge`: say whether a history is legal.
     Judge(Judging),
     /// `random`: write a random script.
@@ -61,6 +65,8 @@ pub struct Asked<'a> {
     pub job: Job,
     /// The files over which it is to be done, in their order; none where it is the standard input.
     pub files: Vec<&'a str>,
+    /// Whether what is made of each file is to take its place.
+    pub rewrites: bool,
 }
 
 /// The files that are given to a command.
@@ -78,18 +84,28 @@ pub fn read_words<'a, S: AsStr>(alloc: Global, words: &'a [S]) -> Result<Asked<'
     ensures refusals { FailsBy (refusals_of (map S.text words.now)) result }
     ensures job { IfOk result (λ asked. asked.job ≡ job_of (map S.text words.now)) }
     ensures files { IfOk result (λ asked. map (λ file. file.now) asked.files.items ≡ files_of (map S.text words.now)) }
+    ensures rewrites { IfOk result (λ asked. asked.rewrites ≡ rewrites (map S.text words.now)) }
 {
     let matches = program(alloc)?.try_get_matches_from(words)?;
     match matches.subcommand() {
         Some((name, given)) => Ok(Asked {
             job: job_named(name, given),
             files: files_in(alloc, given)?,
+            rewrites: rewrites(name, given),
         }),
         None => Ok(Asked {
             job: Job::Run,
             files: Vec::new(alloc),
+            rewrites: false,
         }),
     }
+}
+
+/// Whether what a command of this name makes of each file is to take its place, by what was given to it.
+fn rewrites(name: &str, given: &clap::ArgMatches) -> bool
+    ensures { result ≡ rewrites_by (Some (name.now, rows_of (found_of given.now))) }
+{
+    name == "check" && is_given(given, "write")
 }
 
 /// How `show` is to show a script: for a person, or as a picture that its flags name. Of several flags the first of
@@ -129,6 +145,33 @@ fn judging_in(given: &clap::ArgMatches) -> Judging
     }
 }
 
+/// What `check` does with its stories: those that are written into their files are filled in. Of the other flags the
+/// first of `--print` and `--strict` counts.
+fn checking_in(given: &clap::ArgMatches) -> Job
+    ensures { result ≡ checking_in (rows_of (found_of given.now)) }
+{
+    if is_given(given, "write") {
+        Job::Fill
+    } else if is_given(given, "print") {
+        filling_in(given)
+    } else if is_given(given, "strict") {
+        Job::Strict
+    } else {
+        Job::Check
+    }
+}
+
+/// How `check --print` fills its stories in.
+fn filling_in(given: &clap::ArgMatches) -> Job
+    ensures { result ≡ filling_in (rows_of (found_of given.now)) }
+{
+    if has_several(given) {
+        Job::FillSeveral
+    } else {
+        Job::Fill
+    }
+}
+
 /// The job of a command's name, with what was given to it.
 fn job_named(name: &str, given: &clap::ArgMatches) -> Job
     ensures { result ≡ job_named name.now (rows_of (found_of given.now)) }
@@ -146,11 +189,7 @@ fn job_named(name: &str, given: &clap::ArgMatches) -> Job
     } else if name == "shell" {
         Job::Shell
     } else if name == "check" {
-        if is_given(given, "print") {
-            Job::Fill
-        } else {
-            Job::Check
-        }
+        checking_in(given)
     } else if name == "judge" {
         Job::Judge(judging_in(given))
     } else if name == "random" {

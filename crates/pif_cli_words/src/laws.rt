@@ -2,16 +2,16 @@
 ghost use Rattle.std.specs.Prelude.{◌≡◌, ◌≤◌, ℕ, List, [], ◌∷◌, codes, true, false};
 ghost use Rattle.clap.specs.declared.error.kind.ErrorKind.TheVariants.{DisplayHelp, DisplayVersion, InvalidSubcommand, MissingRequiredArgument, MissingSubcommand, ValueValidation};
 ghost use Rattle.pif_cli_words.specs.Random.{plain_shape};
-ghost use Rattle.pif_cli_words.specs.Words.{refusals_of, job_of, files_of};
+ghost use Rattle.pif_cli_words.specs.Words.{refusals_of, job_of, files_of, rewrites};
 
 use crate::jobs::Job;
 use crate::random::Recipe;
 use pif_script_model::{Detail, Picture};
 
 /// Which words ask for which job: `run`, `show`, `draw`, `shell`, `replay`, `trace` and `migrate` alone, `show` with
-/// each of its flags, `run` with a file, `check` alone, with `--print` and with two files, `judge` alone, and with its
-/// options and two files, `random` with a seed and from 1 to 262,144 lines, and `drive` with a number from 1 to 64 do;
-/// no word, `--help` and `--version` don't.
+/// each of its flags, `run` with a file, `check` alone, with each of its flags and with two files, `judge` alone, and
+/// with its options and two files, `random` with a seed and from 1 to 262,144 lines, and `drive` with a number from 1
+/// to 64 do; no word, `--help` and `--version` don't.
 #[tactic(auto, unfolding(clap::proofs::OnLiterals::clap_on_literals))]
 pub fn words_of_the_program()
     ensures run { (name : List ℕ) → (refusals_of (name ∷ codes "run" ∷ []) ≡ []) × (job_of (name ∷ codes "run" ∷ []) ≡ Job.Run) }
@@ -32,6 +32,13 @@ pub fn words_of_the_program()
         × (job_of (name ∷ codes "check" ∷ []) ≡ Job.Check) }
     ensures fill { (name : List ℕ) → (refusals_of (name ∷ codes "check" ∷ codes "--print" ∷ []) ≡ [])
         × (job_of (name ∷ codes "check" ∷ codes "--print" ∷ []) ≡ Job.Fill) }
+    ensures fill_several { (name : List ℕ) → (refusals_of (name ∷ codes "check" ∷ codes "--print" ∷ codes "a" ∷ codes "b" ∷ []) ≡ [])
+        × (job_of (name ∷ codes "check" ∷ codes "--print" ∷ codes "a" ∷ codes "b" ∷ []) ≡ Job.FillSeveral) }
+    ensures strict { (name : List ℕ) → (refusals_of (name ∷ codes "check" ∷ codes "--strict" ∷ []) ≡ [])
+        × (job_of (name ∷ codes "check" ∷ codes "--strict" ∷ []) ≡ Job.Strict) }
+    ensures rewrite { (name : List ℕ) → (refusals_of (name ∷ codes "check" ∷ codes "--write" ∷ codes "a" ∷ []) ≡ [])
+        × (job_of (name ∷ codes "check" ∷ codes "--write" ∷ codes "a" ∷ []) ≡ Job.Fill)
+        × (rewrites (name ∷ codes "check" ∷ codes "--write" ∷ codes "a" ∷ []) ≡ true) }
     ensures judge { (name : List ℕ) → (refusals_of (name ∷ codes "judge" ∷ []) ≡ [])
         × (job_of (name ∷ codes "judge" ∷ []) ≡ Job.Judge (record { witness = false; states = 200000; several = false })) }
     ensures judges { (name : List ℕ) → (refusals_of (name ∷ codes "judge" ∷ codes "--witness" ∷ codes "--states=7" ∷ codes "a" ∷ codes "b" ∷ []) ≡ [])

@@ -103,7 +103,7 @@ impl Sink {
 impl Write for Sink {
     fn write(&mut self, buf: &[u8]) -> io::Result<usize> {
         if self.room == 0 {
-            return Err(io::Error::from(ErrorKind::BrokenPipe));
+            return Err(io::Error::from(ErrorKind::StorageFull));
         }
         let count = buf.len().min(self.room);
         self.room -= count;

@@ -3,12 +3,14 @@ mod files;
 mod messages;
 mod randoms;
 mod shows;
+mod terminals;
 mod texts;
 mod words_of_processes;
 
 use arrayvec::ArrayVec;
-use pif_cli::{Status, command, command_of_process};
+use pif_cli::{Input, Output, Status, command, command_of_process};
 use std::alloc::Global;
+use std::io::{Read, Write};
 use std::process::{Abort, ExitCode};
 use std::rt::{Env, Files};
 use std::sync::Wait;
@@ -28,17 +30,41 @@ const BOOSTED_ANSWERS: &str =
 /// What the errors are told where memory is refused.
 const NO_MEMORY: &str = "pif: out of memory\n";
 
+/// Asks the program for a job with these words over a reader. Answers the status.
+fn ask_over<R: Read, W: Write, E: Write>(
+    rt: &(impl Threads + Wait + Sync),
+    alloc: Global,
+    words: &[&str],
+    reader: &mut R,
+    output: &mut W,
+    errors: &mut E,
+) -> u8 {
+    let (mut input, mut output) = (Input::new(reader), Output::new(output));
+    command(alloc, rt, words, &mut input, &mut output, errors)
+}
+
 /// Asks the program for a job with these words over an input. Answers the status.
-fn ask(
+fn ask<W: Write, E: Write>(
     rt: &(impl Threads + Wait + Sync),
     alloc: Global,
     words: &[&str],
     input: &[u8],
-    output: &mut Kept,
-    errors: &mut Kept,
+    output: &mut W,
+    errors: &mut E,
 ) -> u8 {
     let mut bytes = input;
-    command(alloc, rt, words, &mut bytes, output, errors)
+    ask_over(rt, alloc, words, &mut bytes, output, errors)
+}
+
+/// Lets a process do what its words ask for over an input. Answers its status.
+fn ask_process<P: Env + AllocGlobal + Files + Threads + Wait + Sync, W: Write, E: Write>(
+    process: &P,
+    input: &str,
+    output: &mut W,
+    errors: &mut E,
+) -> Status {
+    let (mut input, mut output) = (Input::new(input.as_bytes()), Output::new(output));
+    command_of_process(process, &mut input, &mut output, errors)
 }
 
 /// A status, and whether the errors are told of nothing, are as expected for this text.
@@ -67,8 +93,7 @@ fn check_process<P: Env + AllocGlobal + Files + Threads + Wait + Sync>(
     errors: &str,
 ) {
     let (mut written, mut told) = (Kept::new(), Kept::new());
-    let mut bytes = input.as_bytes();
-    let ended = command_of_process(process, &mut bytes, &mut written, &mut told);
+    let ended = ask_process(process, input, &mut written, &mut told);
     check_status(rt, ended, status);
     check_bytes(rt, written.as_slice(), output.as_bytes(), "the output");
     check_bytes(rt, told.as_slice(), errors.as_bytes(), "the errors");
@@ -82,8 +107,7 @@ pub(crate) fn fill(
     text: &[u8],
     output: &mut ArrayVec<u8, 4>,
 ) -> u8 {
-    let mut input = text;
-    command(alloc, rt, words, &mut input, output, &mut Kept::new())
+    ask(rt, alloc, words, text, output, &mut Kept::new())
 }
 
 /// A job ends with status 3, and has written these bytes.

@@ -4,6 +4,7 @@ use std::alloc::Allocator;
 use std::env::FillError;
 use std::fs::{Metadata, OpenOptions};
 use std::io;
+use std::io::ErrorKind;
 use std::rt::{Env, Files};
 use std::sync::Wait;
 use std::thread::Threads;
@@ -15,12 +16,29 @@ pub struct Process<'a, R> {
     words: &'a [&'a str],
     last: Option<&'a [u8]>,
     rt: &'a R,
+    /// Whether it may open no file.
+    is_shut: bool,
 }
 
 impl<'a, R> Process<'a, R> {
     /// A process of these words, and of the last one.
     pub fn of(words: &'a [&'a str], last: Option<&'a [u8]>, rt: &'a R) -> Process<'a, R> {
-        Process { words, last, rt }
+        Process {
+            words,
+            last,
+            rt,
+            is_shut: false,
+        }
+    }
+
+    /// A process of these words that may open no file.
+    pub fn shut(words: &'a [&'a str], rt: &'a R) -> Process<'a, R> {
+        Process {
+            words,
+            last: None,
+            rt,
+            is_shut: true,
+        }
     }
 }
 
@@ -57,6 +75,9 @@ impl<'a, R: Files> Files for Process<'a, R> {
     type Dir = R::Dir;
 
     fn open_file(&self, how: &OpenOptions, path: &str) -> io::Result<R::File> {
+        if self.is_shut {
+            return Err(io::Error::from(ErrorKind::PermissionDenied));
+        }
         self.rt.open_file(how, path)
     }
 

@@ -2,14 +2,28 @@
 //! names a file of transcripts. Printed are the names that stand in it, what differs, and how many jobs were done.
 #![tactic(auto)]
 
-use pif_cli::command;
+use pif_cli::{Input, Output, command};
 use pif_test_blocks::{Block, Kept, Sink, Source};
 use std::alloc::Global;
+use std::io::{Read, Write};
 use std::rt::Files;
 use std::str::from_utf8;
 use std::sync::Wait;
 use std::thread::Threads;
 use std::{env, fs, io};
+
+/// Asks the program for a job with these words over an input. Answers the status.
+fn ask<R: Threads + Wait + Sync, I: Read, O: Write>(
+    rt: &R,
+    alloc: Global,
+    words: &[&str],
+    input: &mut I,
+    output: &mut O,
+    errors: &mut Kept,
+) -> u8 {
+    let (mut input, mut output) = (Input::new(input), Output::new(output));
+    command(alloc, rt, words, &mut input, &mut output, errors)
+}
 
 /// Does what a block asks for. Answers the status, and how many bytes of the input are left.
 fn do_job<R: Threads + Wait + Sync>(
@@ -19,10 +33,16 @@ fn do_job<R: Threads + Wait + Sync>(
     output: &mut Sink,
     errors: &mut Kept,
 ) -> (u8, usize) {
-    let mut input = Source::new(block.input.text(), block.each_read, block.breaks);
-    let words = block.words.as_slice();
-    let status = command(alloc, rt, words, &mut input, output, errors);
-    (status, input.left())
+    let mut source = Source::new(block.input.text(), block.each_read, block.breaks);
+    let status = ask(
+        rt,
+        alloc,
+        block.words.as_slice(),
+        &mut source,
+        output,
+        errors,
+    );
+    (status, source.left())
 }
 
 /// Prints what a job has written, if it is text.

@@ -1,7 +1,6 @@
 //! The command `drive`: clients in real threads.
-use super::{BOOSTED, Kept, check_bytes, check_cut, fill};
+use super::{BOOSTED, Kept, ask_over, check_bytes, check_cut, fill};
 use arrayvec::ArrayVec;
-use pif_cli::command;
 use std::alloc::Global;
 use std::process::Abort;
 use std::sync::Wait;
@@ -14,17 +13,11 @@ fn drive(
     clients: &str,
     output: &mut Kept,
 ) -> (u8, bool) {
-    let mut input = BOOSTED.as_bytes();
+    let mut bytes = BOOSTED.as_bytes();
     let words = ["pif", "drive", clients];
-    let status = command(
-        alloc,
-        rt,
-        words.as_slice(),
-        &mut input,
-        output,
-        &mut Kept::new(),
-    );
-    (status, input.len() == BOOSTED.len())
+    let errors = &mut Kept::new();
+    let status = ask_over(rt, alloc, words.as_slice(), &mut bytes, output, errors);
+    (status, bytes.len() == BOOSTED.len())
 }
 
 /// Checks the status of a drive of so many clients, and what it writes.

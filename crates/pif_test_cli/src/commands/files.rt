@@ -1,16 +1,26 @@
-use super::check_process;
+use super::{Kept, ask_process, check_bytes, check_process, check_status};
 use crate::processes::Process;
+use std::io;
+use std::io::{ErrorKind, Write};
+use std::process::Abort;
+use std::rt::{Env, Files};
+use std::sync::Wait;
+use std::thread::Threads;
 
 const STORY: &str = "thread 10 = t1\n";
 
-const UNREAD: &str = "pif: no/such: cannot be read\n";
+const UNREAD: &str = "pif: no/such: No such file or directory\n";
 
 /// A file that isn't there, and a story in place of a history.
-const UNREAD_AND_NO_HISTORY: &str = "pif: no/such: cannot be read\n\
-    pif: line 1: no line of a history, or limits behind another line\n";
+const UNREAD_AND_NO_HISTORY: &str = "pif: no/such: No such file or directory\n\
+    -:1:1: no line of a history, or limits behind another line\n";
+
+const NO_FILE: &str = "error: 'check --write' writes into files, and the standard input is none\n";
+
+const NO_PLAIN_FILE: &str = "pif: /: is no plain file\n";
 
 /// What is asked, the status, and what is written to the output and to the errors.
-const ASKED: [(&[&str], u8, (&str, &str)); 17] = [
+const ASKED: [(&[&str], u8, (&str, &str)); 22] = [
     (&["pif", "check"], 0, ("ok - 1\n", "")),
     (&["pif", "check", "-"], 0, ("ok - 1\n", "")),
     (&["pif", "check", "-", "-"], 0, ("ok - 1\nok - 0\n", "")),
@@ -26,6 +36,15 @@ const ASKED: [(&[&str], u8, (&str, &str)); 17] = [
         0,
         ("thread 10 = t1\n", ""),
     ),
+    (
+        &["pif", "check", "--print", "-", "/dev/null"],
+        0,
+        ("# -\nthread 10 = t1\n# /dev/null\n\n", ""),
+    ),
+    (&["pif", "check", "--write", "-"], 1, ("", NO_FILE)),
+    (&["pif", "check", "--write"], 1, ("", NO_FILE)),
+    (&["pif", "check", "--write", "no/such"], 3, ("", UNREAD)),
+    (&["pif", "check", "--write", "/"], 3, ("", NO_PLAIN_FILE)),
     (
         &["pif", "check", "-", "--print"],
         0,
@@ -52,11 +71,11 @@ const ASKED: [(&[&str], u8, (&str, &str)); 17] = [
     (&["pif", "trace", "no/such"], 3, ("", UNREAD)),
     (&["pif", "replay", "no/such"], 3, ("", UNREAD)),
     (&["pif", "migrate", "no/such"], 3, ("", UNREAD)),
-    (&["pif", "run", "/"], 3, ("", "pif: /: cannot be read\n")),
+    (&["pif", "run", "/"], 3, ("", "pif: /: Is a directory\n")),
     (
         &["pif", "check", "/", "/dev/null"],
         3,
-        ("ok /dev/null 0\n", "pif: /: cannot be read\n"),
+        ("ok /dev/null 0\n", "pif: /: Is a directory\n"),
     ),
 ];
 
@@ -66,5 +85,54 @@ fn files_are_read_in_turn(rt: HostRuntime) {
     for (words, status, written) in ASKED {
         let process = (Process::of(words, None, &rt), rt.alloc());
         check_process(&rt, &process, STORY, status, written.0, written.1);
+    }
+}
+
+/// An output of which each write fails so.
+#[derive(Clone, Copy)]
+struct Failing {
+    why: ErrorKind,
+}
+
+impl Write for Failing {
+    fn write(&mut self, _buf: &[u8]) -> io::Result<usize> {
+        Err(io::Error::from(self.why))
+    }
+
+    fn flush(&mut self) -> io::Result<()> {
+        Ok(())
+    }
+}
+
+/// Why each write fails, and what the errors are told.
+const FAILING: [(ErrorKind, &str); 2] = [
+    (
+        ErrorKind::StorageFull,
+        "pif: the output cannot be written\n",
+    ),
+    (ErrorKind::BrokenPipe, ""),
+];
+
+/// Checks three stories, and compares what is told of their output.
+fn check_failing<P: Env + AllocGlobal + Files + Threads + Wait + Sync>(
+    rt: &impl Abort,
+    process: &P,
+    why: ErrorKind,
+    told: &str,
+) {
+    let mut errors = Kept::new();
+    let mut output = Failing { why };
+    let ended = ask_process(process, STORY, &mut output, &mut errors);
+    check_status(rt, ended, 3);
+    check_bytes(rt, errors.as_slice(), told.as_bytes(), "the errors");
+}
+
+/// An output that cannot be written is told once, however many files there are, and one that nobody reads is not.
+#[test]
+fn an_output_that_fails_is_told_once(rt: HostRuntime) {
+    for (why, told) in FAILING {
+        let words = ["pif", "check", "-", "/dev/null", "-"];
+        let process = (Process::of(words.as_slice(), None, &rt), rt.alloc());
+        check_failing(&rt, &process, why, told);
     }
 }

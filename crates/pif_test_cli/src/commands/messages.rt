@@ -1,6 +1,6 @@
-use super::{Kept, check_bytes};
+use super::{Kept, ask, check_bytes};
 use arrayvec::ArrayVec;
-use pif_cli::{Cause, CliFault, Job, JobFault, command, message_of};
+use pif_cli::{Cause, CliFault, Job, JobFault, message_of};
 use pif_script::Notice;
 use std::alloc::Global;
 use std::process::Abort;
@@ -12,16 +12,20 @@ fn check_job(rt: &impl Abort, ended: u8, status: u8, message: &str) {
     assert_eq!(rt; ended, status, "{message:?}");
 }
 
-/// What is asked over a text, and its status.
-const FAULTS: [(&[&str], &str, u8); 2] = [
-    (&["pif", "run"], "pik\n", 2),
-    (&["pif", "replay"], "pif-trace 1\nthread 10 = t2\n", 5),
+/// What is asked over a text, its status, and what is written of the message.
+const FAULTS: [(&[&str], &str, (u8, &str)); 2] = [
+    (&["pif", "run"], "pik\n", (2, "-:1:")),
+    (
+        &["pif", "replay"],
+        "pif-trace 1\nthread 10 = t2\n",
+        (5, "-:2:"),
+    ),
 ];
 
 #[test]
 fn a_message_that_cannot_be_written_leaves_the_status(rt: HostRuntime) {
-    for (words, text, status) in FAULTS {
-        check_cut_message(&rt, rt.alloc(), words, text, status);
+    for (words, text, ended) in FAULTS {
+        check_cut_message(&rt, rt.alloc(), words, text, ended);
     }
 }
 
@@ -31,20 +35,21 @@ fn check_cut_message(
     alloc: Global,
     words: &[&str],
     text: &str,
-    status: u8,
+    wanted: (u8, &str),
 ) {
+    let (status, front) = wanted;
     let mut errors = ArrayVec::<u8, 4>::new();
-    let mut input = text.as_bytes();
-    let ended = command(alloc, rt, words, &mut input, &mut Kept::new(), &mut errors);
+    let input = text.as_bytes();
+    let ended = ask(rt, alloc, words, input, &mut Kept::new(), &mut errors);
     check_job(rt, ended, status, text);
-    check_bytes(rt, errors.as_slice(), b"pif:", text);
+    check_bytes(rt, errors.as_slice(), front.as_bytes(), text);
 }
 
 /// The faults, and what is told of them.
 const TOLD: [(JobFault, &str); 4] = [
     (
         JobFault::Cli(CliFault::Script(18_446_744_073_709_551_615, Cause::Size)),
-        "pif: line 18446744073709551615: the input has more than 16777216 bytes\n",
+        "-:18446744073709551615:1: the input has more than 16777216 bytes\n",
     ),
     (JobFault::Cli(CliFault::NoMemory), "pif: out of memory\n"),
     (JobFault::Threads, "pif: a thread cannot be started\n"),

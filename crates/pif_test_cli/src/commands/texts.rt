@@ -1,6 +1,5 @@
-use super::BOOSTED;
+use super::{BOOSTED, ask};
 use arrayvec::ArrayVec;
-use pif_cli::command;
 use std::alloc::Global;
 use std::process::Abort;
 use std::sync::Wait;
@@ -18,8 +17,8 @@ const UNWRITTEN: [(&[&str], usize); 3] = [
 fn cut(rt: &(impl Threads + Wait + Sync), alloc: Global, words: &[&str]) -> (u8, usize, usize) {
     let mut output = ArrayVec::<u8, 4>::new();
     let mut errors = ArrayVec::<u8, 4>::new();
-    let mut input = BOOSTED.as_bytes();
-    let status = command(alloc, rt, words, &mut input, &mut output, &mut errors);
+    let input = BOOSTED.as_bytes();
+    let status = ask(rt, alloc, words, input, &mut output, &mut errors);
     (status, output.len(), errors.len())
 }
 

@@ -1,7 +1,8 @@
-use super::{BOOSTED, BOOSTED_ANSWERS, Kept, check_bytes, check_process, check_status};
+use super::{
+    BOOSTED, BOOSTED_ANSWERS, Kept, ask_process, check_bytes, check_process, check_status,
+};
 use crate::processes::Process;
 use arrayvec::ArrayVec;
-use pif_cli::command_of_process;
 use std::process::{Abort, ExitCode, Termination};
 use std::str::from_utf8;
 use std::test::Fail;
@@ -20,8 +21,7 @@ fn each_word_of_a_process_counts(rt: HostRuntime) -> Result<(), Fail> {
     let third = Some(b"--fast".as_slice());
     let process = (Process::of(WORDS, third, &rt), rt.alloc());
     let (mut output, mut errors) = (Kept::new(), Kept::new());
-    let mut input = BOOSTED.as_bytes();
-    let ended = command_of_process(&process, &mut input, &mut output, &mut errors);
+    let ended = ask_process(&process, BOOSTED, &mut output, &mut errors);
     check_status(&rt, ended, 1);
     check_bytes(&rt, output.as_slice(), b"", "the output");
     is_told_of_fast(&rt, errors.as_slice())
@@ -37,7 +37,7 @@ fn is_told_of_fast(rt: &impl Abort, errors: &[u8]) -> Result<(), Fail> {
 fn a_word_of_a_process_may_name_a_file(rt: HostRuntime) {
     let third = Some(b"no/such file\x07".as_slice());
     let process = (Process::of(WORDS, third, &rt), rt.alloc());
-    let told = "pif: no/such file\\x07: cannot be read\n";
+    let told = "pif: no/such file\\x07: No such file or directory\n";
     check_process(&rt, &process, BOOSTED, 3, "", told);
 }
 
@@ -67,7 +67,6 @@ fn the_status_is_that_of_the_process(rt: HostRuntime) {
     let third = Some(b"\xff".as_slice());
     let process = (Process::of(WORDS, third, &rt), rt.alloc());
     let mut errors = ArrayVec::<u8, 4>::new();
-    let mut input = BOOSTED.as_bytes();
-    let ended = command_of_process(&process, &mut input, &mut Kept::new(), &mut errors);
+    let ended = ask_process(&process, BOOSTED, &mut Kept::new(), &mut errors);
     assert!(rt; ended.report(&rt) == ExitCode::from(3));
 }

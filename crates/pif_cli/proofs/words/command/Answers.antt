@@ -1,11 +1,13 @@
-use Rattle.std.proofs.Common.{◌≡◌, inl, inr, ℕ, ◌≤◌, List, Option, Result, Ok, Err, arith, rules, subst}
-use Rattle.clap.specs.Words.{kind_of}
+use Rattle.std.proofs.Common.{◌≡◌, inl, inr, ℕ, Bool, true, false, ◌≤◌, List, Option, Result, Ok, Err, arith, rules, subst}
+use Rattle.clap.specs.Words.{Text, kind_of}
 use Rattle.pif_script_model.specs.declared.faults.CliFault.{CliFault}
 use Rattle.pif_script_model.specs.declared.faults.CliFault.TheVariants.{Read, Write, NoMemory, Script, Differs}
 use Rattle.pif_cli.specs.declared.statuses.JobFault.{JobFault}
 use Rattle.pif_cli.specs.declared.statuses.JobFault.TheVariants.{Cli, Threads, Unsettled, Undecided}
-use Rattle.pif_cli.specs.Messages.{TellsAt, TellsLine, TellsOf}
+use Rattle.pif_cli.specs.Messages.{TellsAt, TellsFault, TellsLine, TellsOf}
 use Rattle.pif_cli.specs.Statuses.{fault_status, job_fault_status, job_status}
+use Rattle.pif_cli_words.specs.declared.jobs.Job.{Job}
+use Rattle.pif_cli.specs.Words.{DidOrRefused, RefusesInput, no_file_text}
 use Rattle.pif_cli.proofs.WordsLemmas.{EndsIf-refused, refusal_tells}
 use Rattle.pif_cli.proofs.words.command.Goals as goal
 
@@ -17,9 +19,13 @@ tells_line status given held holds low high is told =
 
 -- what a fault of a script or a trace tells the errors
 cli_fault_tells : (fault : CliFault) (status : ℕ) (held holds : Option (List ℕ)) → status ≡ fault_status fault
-    → TellsLine held holds → TellsAt status held holds
+    → TellsFault (Cli fault) held holds → TellsAt status held holds
 cli_fault_tells Read status held holds is told = tells_line status 3 held holds (omega arith) (omega arith) is told
-cli_fault_tells Write status held holds is told = tells_line status 3 held holds (omega arith) (omega arith) is told
+cli_fault_tells Write status held holds is told =
+    elim told [
+      | inl line ↦ tells_line status 3 held holds (omega arith) (omega arith) is line
+      | inr quiet ↦ inr (inr (inr (inr (is, quiet))))
+    ]
 cli_fault_tells NoMemory status held holds is told = tells_line status 4 held holds (omega arith) (omega arith) is told
 cli_fault_tells (Script line cause) status held holds is told =
     tells_line status 2 held holds (omega arith) (omega arith) is told
@@ -28,7 +34,7 @@ cli_fault_tells (Differs line) status held holds is told =
 
 -- what a fault of a job tells them
 fault_tells : (fault : JobFault) (status : ℕ) (held holds : Option (List ℕ)) → status ≡ job_fault_status fault
-    → TellsLine held holds → TellsAt status held holds
+    → TellsFault fault held holds → TellsAt status held holds
 fault_tells (Cli fault) status held holds is told = cli_fault_tells fault status held holds is told
 fault_tells Threads status held holds is told = tells_line status 6 held holds (omega arith) (omega arith) is told
 fault_tells Unsettled status held holds is told = tells_line status 6 held holds (omega arith) (omega arith) is told
@@ -40,11 +46,27 @@ job_tells : (result : Result (Unit {0}) JobFault) (status : ℕ) (held holds : O
 job_tells (Ok x) status held holds is told = inl (is, told)
 job_tells (Err fault) status held holds is told = fault_tells fault status held holds is told
 
+-- what refusing the standard input tells them
+input_tells : (status : ℕ) (held holds : Option (List ℕ)) → RefusesInput held holds status → TellsAt status held holds
+input_tells status held holds told =
+    elim told [
+      | inl t ↦ inr (inl (t.0, (no_file_text, t.1)))
+      | inr t ↦ inr (inr (inr (inl (t.0, (no_file_text, t.1)))))
+    ]
+
+-- what a job tells them, or the refusal of the standard input
+did_tells : (rewrite : Bool) (job : Job) (name : Text) (before after held holds errors_held errors_hold : Option (List ℕ))
+    (status : ℕ) → DidOrRefused rewrite job name before after held holds errors_held errors_hold status
+    → TellsAt status errors_held errors_hold
+did_tells true job name before after held holds errors_held errors_hold status did =
+    input_tells status errors_held errors_hold did.2
+did_tells false job name before after held holds errors_held errors_hold status did =
+    job_tells did.0 status errors_held errors_hold did.2 did.3
+
 pub returns-in-Ok-clause-errors : goal.returns-in-Ok-clause-errors
 returns-in-Ok-clause-errors g c =
-    let did = c.do_and_tell.ensures.did in
-    subst (λ errors. TellsAt c.do_and_tell.result (g.E.Write.contents c.args.errors.now) (g.E.Write.contents errors))
-    (search rules) (job_tells did.0 _ _ _ did.2 did.3)
+    subst (λ errors. TellsAt c.do_or_refuse.result (g.E.Write.contents c.args.errors.now) (g.E.Write.contents errors))
+    (search rules) (did_tells _ _ _ _ _ _ _ _ _ _ c.do_or_refuse.ensures.did)
 
 pub returns-in-Err-clause-errors : goal.returns-in-Err-clause-errors
 returns-in-Err-clause-errors g c = refusal_tells (kind_of c.in-Err.error) _ _ _ _ _ c.refuse.ensures

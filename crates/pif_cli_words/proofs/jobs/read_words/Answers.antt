@@ -2,7 +2,7 @@ use Rattle.std.proofs.Common.{map}
 use Rattle.clap.specs.Words.{found_of}
 use Rattle.clap.proofs.FaultLemmas.{failed_up}
 use Rattle.pif_cli_words.specs.Words.{refusals_of}
-use Rattle.pif_cli_words.proofs.WordsLemmas.{files_read, job_read, refusals-none, refusals-told}
+use Rattle.pif_cli_words.proofs.WordsLemmas.{files_read, job_read, refusals-none, refusals-told, rewrites_read}
 use Rattle.pif_cli_words.proofs.jobs.read_words.Goals as goal
 
 pub returns-in_err-matches-clause-refusals : goal.returns-in_err-matches-clause-refusals
@@ -23,3 +23,8 @@ pub returns-in-Some-clause-files : goal.returns-in-Some-clause-files
 returns-in-Some-clause-files g c =
     files_read _ _ c.in_ok-matches.matches c.in-Some.name.now (found_of c.in-Some.given.now) c.in_ok-program.ensures
     c.in_ok-matches.ensures.matches c.in-Some.ensures.name c.in-Some.ensures.rows _ c.in_ok-files_in-in-Some.ensures
+
+pub returns-in-Some-clause-rewrites : goal.returns-in-Some-clause-rewrites
+returns-in-Some-clause-rewrites g c =
+    rewrites_read _ _ c.in_ok-matches.matches c.in-Some.name.now (found_of c.in-Some.given.now) c.in_ok-program.ensures
+    c.in_ok-matches.ensures.matches c.in-Some.ensures.name c.in-Some.ensures.rows _ c.rewrites.ensures

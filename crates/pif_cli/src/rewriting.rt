@@ -1,0 +1,207 @@
+//! `check --write`: the answers of a story, written into its file.
+ghost use Rattle.std.specs.Prelude.{◌≡◌, ◌⊎◌};
+ghost use Rattle.std.specs.Io.KnownBytes.{Keeps};
+ghost use Rattle.pif_cli.specs.Messages.{TellsLine};
+ghost use Rattle.pif_cli.specs.Words.{RewroteFile};
+
+use crate::causes::unwritten;
+use crate::hosts::Host;
+use crate::streams::{Input, words_of};
+use crate::words::do_and_tell;
+use pif_cli_words::Job;
+use pif_job_check::fill;
+use pif_job_judge::Watch;
+use pif_job_shell::Shelf;
+use pif_script::{CliFault, read_all, write_whole};
+use std::alloc::{AllocError, Global};
+use std::fs::{File, OpenFile, Permissions};
+use std::io::{ErrorKind, Write};
+use std::rt::Files;
+use std::sync::Wait;
+use std::thread::Threads;
+use std::{fs, io};
+
+/// Why the answers of a story are not written into its file.
+#[derive(Clone, Copy)]
+pub enum Unwritten {
+    /// It is no plain file, but a folder, a link or a device.
+    NoPlainFile,
+    /// It can't be read, for this reason in the system's words, if there are such.
+    Unread(Option<&'static str>),
+    /// The new file beside it is there already.
+    Taken,
+    /// The new file can't be made or written, or can't take its place.
+    Refused,
+    /// Out of memory.
+    NoMemory,
+}
+
+/// A story as it stands in its file, and the mode of the file.
+type Stored = (Vec<u8>, Permissions);
+
+/// Reads the story in the plain file of this name.
+fn read_story<P: Files>(process: &P, alloc: Global, name: &str) -> Result<Stored, Unwritten> {
+    let metadata = match process.symlink_metadata(name) {
+        Ok(metadata) => metadata,
+        Err(error) => return Err(Unwritten::Unread(words_of(error.kind()))),
+    };
+    if !metadata.is_file() {
+        return Err(Unwritten::NoPlainFile);
+    }
+    let mut file = match fs::open(process, name) {
+        Ok(file) => file,
+        Err(error) => return Err(Unwritten::Unread(words_of(error.kind()))),
+    };
+    match read_all(alloc, &mut file) {
+        Ok(story) => Ok((story, metadata.permissions())),
+        Err(CliFault::NoMemory) => Err(Unwritten::NoMemory),
+        Err(_) => Err(Unwritten::Unread(None)),
+    }
+}
+
+/// The name of the new file beside the one of this name.
+fn name_beside(alloc: Global, name: &str) -> Result<String, AllocError> {
+    let mut beside = String::new(alloc);
+    beside.push_str(name)?;
+    beside.push_str(".new")?;
+    Ok(beside)
+}
+
+/// Writes a text to a file that was just made, and has the system keep it.
+fn write_file<F: OpenFile + Write>(
+    file: &mut F,
+    mode: Permissions,
+    text: &[u8],
+) -> Result<(), Unwritten> {
+    if file.set_permissions(mode).is_err() || write_whole(file, text).is_err() {
+        return Err(Unwritten::Refused);
+    }
+    match file.sync_all() {
+        Ok(()) => Ok(()),
+        Err(_) => Err(Unwritten::Refused),
+    }
+}
+
+/// Makes a new file of this name and mode with this text. If that fails, there is no such file.
+fn make_file<P: Files>(
+    process: &P,
+    beside: &str,
+    mode: Permissions,
+    text: &[u8],
+) -> Result<(), Unwritten> {
+    let made = match File::create_new(process, beside) {
+        Ok(mut file) => write_file(&mut file, mode, text),
+        Err(error) => {
+            return if error.kind() == ErrorKind::AlreadyExists {
+                Err(Unwritten::Taken)
+            } else {
+                Err(Unwritten::Refused)
+            };
+        }
+    };
+    if made.is_err() {
+        let _ = process.remove_file(beside);
+    }
+    made
+}
+
+/// Puts a text into the place of the file of this name, with this mode: a new file beside it takes its place. If that
+/// fails, the file stays as it is.
+fn replace_file<P: Files>(
+    process: &P,
+    alloc: Global,
+    name: &str,
+    mode: Permissions,
+    text: &[u8],
+) -> Result<(), Unwritten> {
+    let Ok(beside) = name_beside(alloc, name) else {
+        return Err(Unwritten::NoMemory);
+    };
+    make_file(process, beside.as_str(), mode, text)?;
+    if process.rename(beside.as_str(), name).is_err() {
+        let _ = process.remove_file(beside.as_str());
+        return Err(Unwritten::Refused);
+    }
+    Ok(())
+}
+
+/// Tells `errors` why the file of this name stays as it is. Answers the status: 4 if it is out of memory, else 3.
+fn tell_unwritten<E: Write>(name: &str, why: Unwritten, errors: &mut E) -> u8
+    ensures status { (result ≡ 3) ⊎ (result ≡ 4) }
+    ensures told { TellsLine (E.contents errors.old) (E.contents errors.new) }
+{
+    unwritten(name, why).tell(errors);
+    match why {
+        Unwritten::NoMemory => 4,
+        _ => 3,
+    }
+}
+
+/// A story that is filled in; `None` if it has a fault.
+fn filled(alloc: Global, name: &str, story: &[u8]) -> Result<Option<Vec<u8>>, Unwritten> {
+    let mut text = Vec::new(alloc);
+    let mut reader = story;
+    match fill(alloc, name.as_bytes(), &mut reader, &mut text) {
+        Ok(()) => Ok(Some(text)),
+        Err(CliFault::Script(..)) => Ok(None),
+        Err(_) => Err(Unwritten::NoMemory),
+    }
+}
+
+/// Writes a text into the file of this name and mode in place of this story, if they differ.
+fn put_in_place<P: Files>(
+    process: &P,
+    alloc: Global,
+    name: &str,
+    (story, mode): Stored,
+    text: &[u8],
+) -> Result<(), Unwritten> {
+    if story.as_slice() == text {
+        return Ok(());
+    }
+    replace_file(process, alloc, name, mode, text)
+}
+
+/// Tells of what was done with the file of this name. Answers the status.
+fn tell_written<E: Write>(name: &str, done: Result<(), Unwritten>, errors: &mut E) -> u8
+    ensures { ((result ≡ 0) × Keeps (E.contents errors.old) (E.contents errors.new))
+        ⊎ (((result ≡ 3) ⊎ (result ≡ 4)) × TellsLine (E.contents errors.old) (E.contents errors.new)) }
+{
+    match done {
+        Ok(()) => 0,
+        Err(why) => tell_unwritten(name, why, errors),
+    }
+}
+
+/// Writes the answers of the story in the plain file of this name into it: a new file beside it, whose name ends in
+/// `.new`, gets the story with its answers and the file's mode, and takes its place. Answers the status.
+///
+/// The file stays as it is if the story has a fault, which is told as `check --print` tells it; and if it is no plain
+/// file, can't be read, or can't be written, of which the errors are told in one line. It is not written if the answers
+/// are there.
+pub fn rewrite_file<P: Files + Threads + Wait + Sync, S: Shelf, W: Write, E: Write, V: Watch>(
+    name: &str,
+    host: &mut Host<P, S, W, E, V>,
+) -> u8
+    ensures same_output { host.new.output.ghost_name ≡ host.old.output.ghost_name }
+    ensures same_errors { host.new.errors.ghost_name ≡ host.old.errors.ghost_name }
+    ensures did { RewroteFile name.now (W.contents host.old.output.now) (W.contents host.new.output.now)
+        (E.contents host.old.errors.now) (E.contents host.new.errors.now) result }
+{
+    let (process, alloc) = (host.process, host.alloc);
+    let stored = match read_story(process, alloc, name) {
+        Ok(stored) => stored,
+        Err(why) => return tell_unwritten(name, why, host.errors),
+    };
+    match filled(alloc, name, stored.0.as_slice()) {
+        Ok(Some(text)) => {
+            let done = put_in_place(process, alloc, name, stored, text.as_slice());
+            tell_written(name, done, host.errors)
+        }
+        Ok(None) => {
+            let mut input = Input::new(stored.0.as_slice());
+            do_and_tell(Job::Fill, name, &mut input, host)
+        }
+        Err(why) => tell_unwritten(name, why, host.errors),
+    }
+}
