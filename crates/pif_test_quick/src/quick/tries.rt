@@ -18,11 +18,21 @@ const PAUSES: u32 = 64;
 
 /// The rounds of two passes.
 #[derive(Drop)]
-struct Course {
+pub(super) struct Course {
     /// The last round in which the first has locked the word.
-    begun: AtomicU32,
+    pub(super) begun: AtomicU32,
     /// The last round in which the second has unlocked it.
-    ended: AtomicU32,
+    pub(super) ended: AtomicU32,
+}
+
+impl Course {
+    /// No round has come.
+    pub(super) fn new() -> Course {
+        Course {
+            begun: AtomicU32::new(0),
+            ended: AtomicU32::new(0),
+        }
+    }
 }
 
 /// Waits until a round has come.
@@ -59,7 +69,7 @@ fn give_up<R: Wait>(rt: &R, quick: &Quick<u64>, pass: &mut Pass<u64>, course: &C
 }
 
 /// Comes for the word 0 while the other pass has it. Answers its value.
-fn come<R: Wait>(
+pub(super) fn come<R: Wait>(
     rt: &R,
     quick: &Quick<u64>,
     pass: &mut Pass<u64>,
@@ -132,10 +142,7 @@ fn run_last_two<R: Threads + Wait + Abort + Sync>(
     requires own { All (IsPassOf quick.now) passes.items × (0 < word_count quick.now) }
     requires idle { All IsIdle passes.items }
 {
-    let course = Course {
-        begun: AtomicU32::new(0),
-        ended: AtomicU32::new(0),
-    };
+    let course = Course::new();
     match (passes.pop(), passes.pop()) {
         (Some(two), Some(one)) => run_both(rt, quick, one, two, &course),
         _ => panic!(rt; "there are not two passes"),

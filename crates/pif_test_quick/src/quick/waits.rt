@@ -71,6 +71,17 @@ fn sign_all<R: Threads + Wait + Clock + Abort + Sync>(
     Ok(())
 }
 
+/// The passes with these numbers stand in the order of those that wait, and no other of the first four numbers.
+fn check_parked<R: Wait + Abort>(rt: &R, quick: &Quick<u64>, parked: [u8; 2]) {
+    for number in 1..=4u8 {
+        let is_expected = parked.contains(&number);
+        assert!(rt;
+            quick.is_parked(rt, number) == is_expected,
+            "of the pass {number}"
+        );
+    }
+}
+
 /// Hands the word over once both passes sleep.
 fn hand_to_sleepers<R: Wait + Clock + Abort>(
     rt: &R,
@@ -85,6 +96,7 @@ fn hand_to_sleepers<R: Wait + Clock + Abort>(
 {
     wait_for_sleep(rt, quick, row.first);
     wait_for_sleep(rt, quick, row.second);
+    check_parked(rt, quick, [row.first, row.second]);
     hand_over(rt, quick, pass, held);
 }
 
@@ -100,6 +112,7 @@ fn signed<R: Threads + Wait + Clock + Abort + Sync>(
     requires others { All (λ p. IsPassOf quick.now p × IsIdle p) others.items }
 {
     let mut one = one;
+    check_parked(rt, quick, [0, 0]);
     let held = try_it(rt, quick, &mut one);
     let (mut one, done) = join(
         rt,
@@ -116,6 +129,7 @@ fn signed<R: Threads + Wait + Clock + Abort + Sync>(
         { sign_all(rt, quick, others, row) },
     );
     done?;
+    check_parked(rt, quick, [0, 0]);
     let held = quick.lock(rt, &mut one, 0);
     Ok(*held.value())
 }
