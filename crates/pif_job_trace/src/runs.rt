@@ -5,7 +5,7 @@ use pif_script::{CliFault, Notice, read_script};
 use std::alloc::Global;
 use std::io::{Read, Write};
 
-/// Writes the trace of a script, of version 1: runs the script as `run` does, and writes in place of its answers the
+/// Writes the trace of a script, of version 2: runs the script as `run` does, and writes in place of its answers the
 /// header, the line of the limits, and a line for each entry that the script makes, in their order, with what the core
 /// answered. Those are the additions that were made, and each event, also a refused one; `call` and `finish` make the
 /// events of which they consist. Refused additions and questions make none. The line of a fault is not written: the

@@ -1,6 +1,9 @@
 mod failures;
+mod keeping;
+mod loading;
 mod saving;
 mod sessions;
+mod shelves;
 
 use pif_job_shell::{NoShelf, shell};
 use pif_test_streams::Stream;

@@ -1,5 +1,6 @@
 mod failures;
 mod faults;
+mod notices;
 mod shows;
 
 const BOOSTED: &str =

@@ -20,10 +20,10 @@ fn check_front(rt: &impl Abort, ended: Ended, output: &Stream<'_>, place: usize)
     );
 }
 
-/// Reads a part of the lines, behind which a read fails.
-fn read_so_far(rt: &impl Abort, alloc: Global, place: usize) {
+/// Reads a part of the lines, behind which a read fails by this error.
+fn read_so_far(rt: &impl Abort, alloc: Global, place: usize, failure: ErrorKind) {
     let (lines, text) = ([(LINES, 1)], [(TEXT, 1)]);
-    let mut input = Stream::failing(&lines, place, Some(ErrorKind::TimedOut));
+    let mut input = Stream::failing(&lines, place, Some(failure));
     let mut output = Stream::new(&text);
     let ended = do_job(
         Job::Talk,
@@ -35,11 +35,13 @@ fn read_so_far(rt: &impl Abort, alloc: Global, place: usize) {
     check_front(rt, ended, &output, place);
 }
 
-/// Whole lines are answered, and what stands behind the last is not.
+/// Whole lines are answered, and what stands behind the last is not. `Interrupted`, at which readers of std try again,
+/// is an error like the others.
 #[test]
 fn a_read_that_fails_ends_the_conversation(rt: HostRuntime) {
     for place in 0..LINES.len() {
-        read_so_far(&rt, rt.alloc(), place);
+        read_so_far(&rt, rt.alloc(), place, ErrorKind::TimedOut);
+        read_so_far(&rt, rt.alloc(), place, ErrorKind::Interrupted);
     }
 }
 

@@ -195,11 +195,49 @@ fn nothing_is_read_behind_a_difference(rt: HostRuntime) {
 /// The first parts of a trace.
 static TRACES: [&str; 3] = ["", "pif-trace 1\n", "pif-trace 1\nthread 10 = t1\ngo"];
 
+/// The first parts of a script, and the trace of the whole lines in each.
+static TRACED: [(&str, &str); 4] = [
+    ("", ""),
+    ("threa", ""),
+    (
+        "thread 10\n",
+        "pif-trace 2\nlimits 1024 1024 256 4294967295 = ok\nthread 10 = t1\n",
+    ),
+    (
+        "thread 10\npi",
+        "pif-trace 2\nlimits 1024 1024 256 4294967295 = ok\nthread 10 = t1\n",
+    ),
+];
+
+/// The errors of a read: `Interrupted`, at which readers of std try again, is one like the others.
+const ERRORS: [ErrorKind; 3] = [
+    ErrorKind::Interrupted,
+    ErrorKind::WouldBlock,
+    ErrorKind::UnexpectedEof,
+];
+
+/// Has a job done, of which this is written before a read fails, by each of the errors.
+fn stumble_by_each(rt: &impl Abort, alloc: Global, job: Job, texts: (&str, &str), written: &str) {
+    for failure in ERRORS {
+        stumble(rt, alloc, job, texts, failure, written);
+    }
+}
+
+/// A verdict and a trace that is migrated come behind all lines: nothing is written of some.
 #[test]
 fn a_failed_read_of_a_trace_is_not_tried_again(rt: HostRuntime) {
     for first in &TRACES {
         let texts = (*first, " t1 = refused idle\n");
-        let (job, failure) = (Job::Replay, ErrorKind::Interrupted);
-        stumble(&rt, rt.alloc(), job, texts, failure, "");
+        stumble_by_each(&rt, rt.alloc(), Job::Replay, texts, "");
+        stumble_by_each(&rt, rt.alloc(), Job::Migrate, texts, "");
+    }
+}
+
+/// The trace of a script is that of the whole lines that were read before.
+#[test]
+fn a_failed_read_of_a_traced_script_is_not_tried_again(rt: HostRuntime) {
+    for (first, written) in &TRACED {
+        let texts = (*first, "d 20\n");
+        stumble_by_each(&rt, rt.alloc(), Job::Trace, texts, written);
     }
 }
