@@ -1,3 +1,4 @@
+pub mod Beside
 pub mod Choices
 pub mod Results
 pub mod Shapes

@@ -4,6 +4,7 @@ ghost use Rattle.pif_model.specs.Posix.{with_waiter, without_waiter, with_hold_c
 ghost use Rattle.pif_model.specs.World.Progress.{Has};
 ghost use Rattle.pif_model.specs.Graph.{without};
 ghost use Rattle.pif_types.specs.Numbers.{number_of};
+ghost use Rattle.pif_rules_model.specs.Rules.{with_first_waiter};
 ghost use Rattle.pif_posix.specs.Shapes.{health_of, progress_of};
 
 use crate::parts::Task;
@@ -72,6 +73,16 @@ impl State {
         ensures { OnOk result (self.new ≡ with_waiter thread mutex self.old) }
     {
         match self.waiters.push((thread, mutex)) {
+            Ok(()) => Ok(()),
+            Err(_) => Err(Stop::NoMemory),
+        }
+    }
+
+    /// A thread before all other waiters, for a mutex.
+    pub(crate) fn put_first(&mut self, thread: u32, mutex: u32) -> Result<(), Stop>
+        ensures { OnOk result (self.new ≡ with_first_waiter thread mutex self.old) }
+    {
+        match self.waiters.insert(0, (thread, mutex)) {
             Ok(()) => Ok(()),
             Err(_) => Err(Stop::NoMemory),
         }

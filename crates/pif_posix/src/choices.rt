@@ -4,10 +4,9 @@ ghost use Rattle.pif_model.specs.Posix.{blocked_below, is_still_blocked, effecti
 ghost use Rattle.pif_posix_model.specs.Doing.{signalled, broadcast, chosen, all_blocked, found_left, woken};
 ghost use Rattle.pif_posix.specs.Choices.{wakings};
 
-use crate::lists::push;
 use crate::progress::Progress;
 use crate::state::State;
-use pif_search::Stop;
+use pif_search::{Stop, push};
 use pif_types::Request;
 use std::alloc::Global;
 
@@ -105,7 +104,7 @@ impl State {
     }
 
     /// The state once the signal of a thread wakes another.
-    fn woken(&self, alloc: Global, thread: usize, other: usize) -> Result<State, Stop>
+    pub(crate) fn woken(&self, alloc: Global, thread: usize, other: usize) -> Result<State, Stop>
         requires thread { thread < length self.now.threads }
         requires other { other < length self.now.threads }
         ensures { IfOk result (λ s. s ≡ woken thread other self.now) }
@@ -185,7 +184,7 @@ impl State {
     }
 
     /// The state once a thread is unblocked, if it was blocked.
-    fn with_awake(&self, alloc: Global, thread: usize) -> Result<State, Stop>
+    pub(crate) fn with_awake(&self, alloc: Global, thread: usize) -> Result<State, Stop>
         requires { thread < length self.now.threads }
         ensures { IfOk result (λ s. s ≡ with_call_by thread after_unblocking self.now) }
     {

@@ -1,9 +1,8 @@
 ghost use Rattle.std.specs.Prelude.{◌≡◌, IfOk};
 
-use crate::lists::push;
 use crate::parts::{Lockable, Signalled, Task};
 use crate::state::State;
-use pif_search::Stop;
+use pif_search::{Stop, push};
 use std::alloc::Global;
 
 /// What can be copied, if there is memory.

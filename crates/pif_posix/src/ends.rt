@@ -1,16 +1,15 @@
 ghost use Rattle.std.specs.Prelude.{◌≡◌, ◌<◌, ◌++◌, ℕ, length, IfOk, OnOk};
 ghost use Rattle.pif_posix_model.specs.Doing.{owns_robust, robust_of, passed_on_by_death, inherited, ended};
 
-use crate::lists::push;
 use crate::state::State;
-use pif_search::Stop;
+use pif_search::{Stop, push};
 use pif_types::Health;
 use std::alloc::Global;
 
 /// The end of a thread.
 impl State {
     /// Whether a thread owns a mutex, which is robust.
-    fn owns_robust(&self, thread: u32, mutex: usize) -> bool
+    pub(crate) fn owns_robust(&self, thread: u32, mutex: usize) -> bool
         requires { mutex < length self.now.mutexes }
         ensures { result ≡ owns_robust self.now thread mutex }
     {
@@ -31,7 +30,7 @@ impl State {
     }
 
     /// The number of mutexes' places, as a mutex's number.
-    fn mutexes_end(&self) -> Result<u32, Stop>
+    pub(crate) fn mutexes_end(&self) -> Result<u32, Stop>
         ensures { IfOk result (λ n. n ≡ length self.now.mutexes) }
     {
         match u32::try_from(self.mutex_count()) {

@@ -4,11 +4,10 @@ ghost use Rattle.pif_posix_model.specs.Once.{Enters};
 ghost use Rattle.pif_posix_model.specs.Doing.{thread_added, mutex_added, variable_added, begun, answered, ticked, happened, entered};
 ghost use Rattle.pif_posix.specs.Results.{if_done};
 
-use crate::lists::one;
 use crate::state::State;
 use pif_model::{Entry, Event, Seen};
 use pif_posix_model::HistoryLimits;
-use pif_search::Stop;
+use pif_search::{Stop, one};
 use pif_types::{Answer, CondId, Kind, MutexId, Prio, Request, Tid};
 use std::alloc::Global;
 

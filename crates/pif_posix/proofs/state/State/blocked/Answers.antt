@@ -5,7 +5,7 @@ use Rattle.pif_posix.proofs.state.State.blocked.Goals as goal
 
 pub loop-u-preserved-in-Continue-branch-2 : goal.loop-u-preserved-in-Continue-branch-2
 loop-u-preserved-in-Continue-branch-2 c =
-    blocked_found c.args.self.now c.args.variable c.loop-u.u (c.loop-u.u - 1) c.waits.result c.loop-u.all.items c.push.new.all.items
+    blocked_found c.args.self.now c.args.variable c.loop-u.u (c.loop-u.u - 1) c.waits.result c.loop-u.all.items c.push.new.items.items
     (blocked_below c.args.self.now c.args.variable (length c.args.self.now.threads)) (omega arith) (sym c.is_blocked_on.ensures ∙ c.if-is_blocked_on.true)
     c.waits.ensures c.in_ok-push.ensures c.loop-u.invariant
 
