@@ -16,7 +16,6 @@ mod exact;
 mod guide;
 mod judge;
 mod later;
-mod lists;
 mod machine;
 mod needs;
 mod plans;

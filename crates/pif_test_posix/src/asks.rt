@@ -1,6 +1,6 @@
 //! What the tables of the tests are made of, by numbers.
 use pif_posix::State;
-use pif_search::Stop;
+use pif_search::{Stop, push};
 use pif_types::{CondId, Kind, MutexId, Request, Tid};
 use rand_core::Rng;
 use rand_xoshiro::SplitMix64;
@@ -37,14 +37,6 @@ pub fn request(wish: Wish) -> Option<Request> {
         Wish::TimedLock(m, time) => Request::TimedLock(MutexId::new(m)?, time),
         Wish::TimedWait(c, m, time) => Request::TimedWait(CondId::new(c)?, MutexId::new(m)?, time),
     })
-}
-
-/// The item behind the others.
-pub fn push<T: Drop>(items: &mut Vec<T>, item: T) -> Result<(), Stop> {
-    match items.push(item) {
-        Ok(()) => Ok(()),
-        Err(_) => Err(Stop::NoMemory),
-    }
 }
 
 /// The state behind the others, unless it is among them.

@@ -1,9 +1,9 @@
 //! One history of two threads whose calls overlap, in which each answer is replaced by each other one. Verdicts and
 //! lines are worked out by hand.
-use super::asks::{ANSWERS, Wish, push, request};
+use super::asks::{ANSWERS, Wish, request};
 use pif_history::{Verdict, Watch, judge_lines};
 use pif_history_model::{HistoryLimits, Line};
-use pif_search::Stop;
+use pif_search::{Stop, push};
 use pif_types::{Kind, Request, Tid};
 use std::alloc::Global;
 use std::process::Abort;
