@@ -1,9 +1,9 @@
 //! Small programs, and their outcomes, which were worked out by hand.
-use super::programs::{Scene, Wish, call, plan_of, push, start_of};
+use super::programs::{Scene, Wish, call, plan_of, start_of};
 use pif_explore::{Outcome, explore};
 use pif_explore_model::{Fate, Point};
 use pif_reach::Unwatched;
-use pif_search::Stop;
+use pif_search::{Stop, push};
 use pif_types::{Health, Kind, Request};
 use std::alloc::Global;
 
@@ -172,10 +172,10 @@ fn hand_over(alloc: Global) -> Result<bool, Stop> {
         told(&[None, ZERO], &first_waits, &second),
         told(&[None, ZERO], &first_ended, &second),
         told(&[None, DIED], &first_ended, &by_second),
-        told(&[ZERO, DIED], &first_ended, &by_second),
+        told(&[ZERO, DIED], &THROUGH, &by_second),
         told(&[ZERO, None], &second_ended, &first),
         told(&[DIED, None], &second_ended, &by_first),
-        told(&[DIED, ZERO], &second_ended, &by_first),
+        told(&[DIED, ZERO], &THROUGH, &by_first),
     ];
     have(alloc, &scene, points, &rows)
 }

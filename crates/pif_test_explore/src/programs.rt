@@ -4,7 +4,7 @@ use pif_explore_model::Point;
 use pif_model::Entry;
 use pif_posix::State;
 use pif_posix_model::HistoryLimits;
-use pif_search::Stop;
+use pif_search::{Stop, push};
 use pif_types::{CondId, Kind, MutexId, Prio, Request, Tid};
 use std::alloc::Global;
 
@@ -47,14 +47,6 @@ fn request(wish: Wish) -> Option<Request> {
         Wish::Wait(c, m) => Request::Wait(CondId::new(c)?, MutexId::new(m)?),
         Wish::Signal(c) => Request::Signal(CondId::new(c)?),
     })
-}
-
-/// The item behind the others.
-pub fn push<T: Drop>(items: &mut Vec<T>, item: T) -> Result<(), Stop> {
-    match items.push(item) {
-        Ok(()) => Ok(()),
-        Err(_) => Err(Stop::NoMemory),
-    }
 }
 
 /// A call, and where its thread goes on.
