@@ -1,12 +1,12 @@
 -- Runs that are followed, and texts that tell them, step by step.
-use Rattle.std.proofs.Common.{◌≡◌, ℕ, suc, ◌+◌, ◌-◌, ◌<◌, ◌≤◌, true, List, [], ◌∷◌, ◌++◌, Option, Some, All, get_or, drop, length, Result, Ok, Err, IfOk, refl, sym, ap, ◌∙◌, subst, arith, append_assoc}
-use Rattle.std.proofs.lemmas.List.Elements.{All-nil, All-pop, All-push, All-same, All-weaker}
+use Rattle.std.proofs.Common.{◌≡◌, ℕ, suc, ◌+◌, List, [], ◌∷◌, ◌++◌, All, sym, ap, ◌∙◌, subst, arith, append_assoc}
+use Rattle.std.proofs.lemmas.List.Elements.{All-nil, All-push, All-same}
 use Rattle.pif_types.specs.Bounds.{Bounds}
 use Rattle.pif_model.specs.Posix.{World}
 use Rattle.pif_history_model.specs.declared.labels.Label.{Label}
-use Rattle.pif_history_model.specs.Searched.{Advances, Configuration, hides, start_of}
+use Rattle.pif_history_model.specs.Searched.{Advances, Configuration, start_of}
 use Rattle.pif_history_witness.specs.declared.following.Traced.{Traced}
-use Rattle.pif_history_witness.specs.Following.{AreBehind, AreTold}
+use Rattle.pif_history_witness.specs.Following.{AreTold}
 use Rattle.pif_history_witness.specs.Tellings.{IsTold, if_other, others_below, step_telling}
 use Rattle.pif_history_witness.specs.Tellings.IsTold.{start as told_start, then as told_then}
 
@@ -18,10 +18,6 @@ others-more moving n w v old mid new e f =
     f ∙ (ap (λ (l : List ℕ). l ++ if_other moving n w v) e
     ∙ (append_assoc old (others_below n moving w v) (if_other moving n w v)
     ∙ ap (λ (j : ℕ). old ++ others_below j moving w v) next))
-
--- the last one of a list, and those before it
-pub last_of : {X : Type 0} (P : X → Type 0) (xs : List X) (x : X) → All P (xs ++ x ∷ []) → All P xs × P x
-last_of P xs x h = All-pop P (xs ++ x ∷ []) xs (Some x) refl h
 
 -- nothing was followed yet
 pub AreTold-start : (l : Bounds) (old all : List Traced) (one : Traced) → all ≡ old ++ one ∷ [] → old ≡ []
@@ -41,21 +37,3 @@ AreTold-added l xs x s text old new one e f t a h =
     let P : Traced → Type 0 = λ t. IsTold l (x ∷ xs) t.position t.text.items in
     let told : P one = subst (λ (b : List ℕ). IsTold l (x ∷ xs) one.position b) (sym f) (told_then x one.position t a) in
     All-same P new (old ++ one ∷ []) e (All-push P old one h told)
-
--- the steps of those that were found with a label are hidden, and steps
-pub steps_of : (l : Bounds) (s : Configuration) (found : List (Label × Configuration))
-    → All (λ p. (hides p.0 ≡ true) × Advances l s p.0 p.1) found → All (λ p. Advances l s p.0 p.1) found
-steps_of l s found h =
-    All-weaker (λ p. (hides p.0 ≡ true) × Advances l s p.0 p.1) (λ p. Advances l s p.0 p.1) (λ p h. h.1) found h
-
--- one position more lies behind a step
-pub AreBehind-added : (l : Bounds) (s : Configuration) (x y : Label) (n : Configuration) (old new : List Configuration)
-    → new ≡ old ++ n ∷ [] → y ≡ x → Advances l s y n → AreBehind l s x old → AreBehind l s x new
-AreBehind-added l s x y n old new e same a h =
-    let P : Configuration → Type 0 = λ m. Advances l s x m in
-    All-same P new (old ++ n ∷ []) e (All-push P old n h (subst (λ (z : Label). Advances l s z n) same a))
-
--- what holds of a result holds by a weaker fact
-pub IfOk-weaker : {T E : Type 0} (P Q : T → Type 0) (r : Result T E) → ((x : T) → P x → Q x) → IfOk r P → IfOk r Q
-IfOk-weaker P Q (Ok x) f h = f x h
-IfOk-weaker P Q (Err e) f h = h

@@ -1,8 +1,8 @@
 -- What happens to a thread at a move that no line shows, in the words of a person: by how far its open call had come
 -- and has come.
-use Rattle.std.specs.Prelude.{ℕ, Bool, true, false, List, [], ◌++◌, Option, Some, None, codes, decimal}
+use Rattle.std.specs.Prelude.{ℕ, Bool, true, false, List, ◌++◌, Option, Some, None, codes, decimal}
 use Rattle.pif_types.specs.declared.requests.Request.{Request}
-use Rattle.pif_model.specs.Posix.{Progress, Call, named_by, variable_of}
+use Rattle.pif_model.specs.Posix.{Progress, named_by, variable_of}
 use Rattle.pif_model.specs.World.Progress.{Waiting, Stuck, Leaving, Has, Checked, Enlisted, Blocked, Reacquiring, Used}
 use Rattle.pif_text_model.specs.Replies.{thread_name, mutex_name, cond_name}
 use Rattle.pif_history_witness.specs.declared.deeds.Deed.{Deed}

@@ -2,14 +2,9 @@
 use Rattle.std.specs.Prelude.{List, All}
 use Rattle.pif_types.specs.Bounds.{Bounds}
 use Rattle.pif_history_model.specs.declared.labels.Label.{Label}
-use Rattle.pif_history_model.specs.Searched.{Configuration, Advances}
 use Rattle.pif_history_witness.specs.declared.following.Traced.{Traced}
 use Rattle.pif_history_witness.specs.Tellings.{IsTold}
 
 -- Each of these is where a run of these labels, newest first, has come, and its text tells the run.
 abbrev pub AreTold : Bounds → List Label → List Traced → Type 0
 AreTold l xs all = All (λ t. IsTold l xs t.position t.text.items) all
-
--- To each of these leads a step of this label.
-abbrev pub AreBehind : Bounds → Configuration → Label → List Configuration → Type 0
-AreBehind l s x all = All (λ n. Advances l s x n) all

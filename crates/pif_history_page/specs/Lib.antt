@@ -1,0 +1,4 @@
+pub mod Objects
+pub mod Pages
+pub mod Runs
+pub mod Verdicts

@@ -1,0 +1,326 @@
+/// A page behind its lines of JSON: what it does.
+pub const SCRIPT: &str = r#"</script>
+<script>
+'use strict';
+const LANE = 46, TOP = 34;
+const at = id => document.getElementById(id);
+const [verdict, ...lines] = at('lines').textContent.split('\n').filter(Boolean).map(line => JSON.parse(line));
+const view = at('view'), track = at('track'), svg = track.querySelector('svg');
+
+// A state: its threads, mutexes and condition variables by their names. A whole one takes the place of all.
+const empty = () => ({threads: new Map(), mutexes: new Map(), conds: new Map()});
+function change(state, by) {
+  for (const kind of ['threads', 'mutexes', 'conds']) {
+    if (by.whole) state[kind].clear();
+    for (const one of by[kind]) state[kind].set(one.name, one);
+  }
+}
+
+// The steps of the run, in order: each line of the history, behind the moves that come before it.
+const steps = [];
+for (const line of lines) {
+  for (const move of line.moves)
+    steps.push({kind: 'end' in move ? 'ends' : 'move', thread: move.move || move.end, line: line.line, by: move});
+  const words = line.text.split(' ');
+  const isOf = ['begin', 'answer', 'dying', 'end', 'rests', 'prio'].includes(words[0]);
+  steps.push({kind: words[0], thread: isOf ? words[1] : null, line: line.line, text: line.text, by: line});
+}
+
+// The state behind a step: from the last whole one on, each change.
+function stateAt(place) {
+  let from = place;
+  while (from > 0 && !steps[from].by.whole) from -= 1;
+  const state = empty();
+  for (let k = Math.max(from, 0); k <= place; k += 1) change(state, steps[k].by);
+  return state;
+}
+
+const callOf = thread => thread && thread.call ? thread.call.split(' ').slice(2) : null;
+const lastNamed = (words, letter) => (words || []).filter(word => word[0] === letter && /^.\d+$/.test(word)).pop() || null;
+function waitsFor(thread) {
+  const words = callOf(thread), how = thread.progress || '';
+  if (how.startsWith('waiting')) return lastNamed(words, 'm');
+  return how.startsWith('blocked') || how === 'enlisted' ? lastNamed(words, 'c') : null;
+}
+
+// What a step changes, in words.
+function mutexWords(old, now) {
+  const was = old ? old.owner : null, said = old ? [] : [now.name + ' is there'];
+  if (now.owner !== was) {
+    if (now.owner === null) said.push(was + ' frees ' + now.name);
+    else said.push(now.owner + (was === null ? ' takes ' : ' is handed ') + now.name);
+  } else if (old && now.count !== old.count) said.push(now.owner + ' holds ' + now.name + ' ' + now.count + ' times');
+  if (old && now.health !== old.health) said.push(now.name + ' is ' + now.health);
+  return said;
+}
+const PROGRESS = {'fresh': ' begins', 'checked': ' may wait on C', 'enlisted': ' joins those blocked on C',
+  'enlisted and unblocked': ' is unblocked', 'blocked': ' is blocked on C', 'blocked and told': ' is told to wait on C',
+  'reacquiring': ' has to lock M again', 'used': ' uses C', 'waiting': ' waits for M', 'waiting for good': ' waits for M for good',
+  'leaving': ' has to leave M'};
+function progressWords(now) {
+  if (now.progress.startsWith('answer ')) return now.name + ' comes to ' + now.progress;
+  const words = callOf(now), known = PROGRESS[now.progress];
+  return known ? now.name + known.replace('C', lastNamed(words, 'c')).replace('M', lastNamed(words, 'm')) : '';
+}
+function threadWords(old, now) {
+  const said = [];
+  if (!old) said.push(now.name + ' is there');
+  if (old && old.living && !now.living) said.push(now.name + ' ends');
+  if (now.progress && (!old || old.progress !== now.progress)) said.push(progressWords(now));
+  if (old && old.call && !now.call && now.living) said.push(now.name + ' returns');
+  if (old && now.living && old.priority !== now.priority) said.push(now.name + ' has priority ' + now.priority);
+  return said;
+}
+const isNew = (old, now) => JSON.stringify(old) !== JSON.stringify(now);
+function wordsOf(before, by) {
+  const changed = kind => by[kind].filter(now => isNew(before[kind].get(now.name), now));
+  return [...changed('mutexes').flatMap(now => mutexWords(before.mutexes.get(now.name), now)),
+    ...changed('threads').flatMap(now => threadWords(before.threads.get(now.name), now))].filter(Boolean);
+}
+
+const ERRORS = {1: 'EPERM', 3: 'ESRCH', 11: 'EAGAIN', 14: 'EFAULT', 16: 'EBUSY', 22: 'EINVAL', 35: 'EDEADLK', 75: 'EOVERFLOW',
+  110: 'ETIMEDOUT', 130: 'EOWNERDEAD', 131: 'ENOTRECOVERABLE'};
+const named = answer => answer in ERRORS ? answer + ' ' + ERRORS[answer] : answer;
+
+// One way through all steps: the call of each, the calls that are open behind it, and the mutexes that are owned.
+const bars = [], binding = new Map();
+function barsOf() {
+  const open = new Map(), latest = new Map(), now = empty();
+  const close = (thread, end, answer) => {
+    const bar = open.get(thread);
+    if (bar) { bar.end = end; bar.answer = answer; open.delete(thread); }
+  };
+  const begin = (thread, words, from) => {
+    const bar = {thread, words, from, end: steps.length, next: steps.length, answer: null};
+    if (latest.has(thread)) latest.get(thread).next = from;
+    open.set(thread, bar);
+    latest.set(thread, bar);
+    bars.push(bar);
+  };
+  const whole = steps.findIndex(step => step.by.whole);
+  steps.forEach((step, place) => {
+    if (step.kind === 'begin') begin(step.thread, step.text.split(' ').slice(2), place);
+    change(now, step.by);
+    if (place === whole)
+      for (const thread of now.threads.values())
+        if (thread.call && !open.has(thread.name)) begin(thread.name, callOf(thread), -1);
+    const bar = open.get(step.thread);
+    step.words = bar ? bar.words : [];
+    if (step.kind === 'answer') close(step.thread, place, named(step.text.split(' ')[2]));
+    if (step.kind === 'end' || step.kind === 'ends') close(step.thread, place, null);
+    step.open = [...open.values()].map(one => one.words);
+    step.owned = [...now.mutexes.values()].filter(mutex => mutex.owner !== null).map(mutex => mutex.name);
+  });
+  for (const cond of now.conds.values()) binding.set(cond.name, cond.mutex);
+  return now;
+}
+const last = barsOf();
+
+// WHAT IS CONCERNED, of an illegal history
+
+function mutexesOf(words) {
+  return words.map(word => binding.get(word) || word).filter(word => /^m\d+$/.test(word));
+}
+function concerned() {
+  const words = verdict.text.split(' '), thread = words[1];
+  const own = verdict.began ? verdict.began.text.split(' ').slice(2) : words[0] === 'begin' ? words.slice(2) : [];
+  const found = new Set(mutexesOf(own));
+  const owned = name => { for (const mutex of last.mutexes.values()) if (mutex.owner === name) found.add(mutex.name); };
+  if (words[0] === 'prio' || !found.size) owned(thread);
+  if (!found.size) for (const bar of bars) if (bar.thread === thread) { found.clear(); mutexesOf(bar.words).forEach(m => found.add(m)); }
+  for (const mutex of found)
+    for (const other of last.threads.values()) if (waitsFor(other) === mutex) owned(other.name);
+  for (const [cond, mutex] of binding) if (found.has(mutex)) found.add(cond);
+  return found;
+}
+function chosenSteps() {
+  const every = steps.map((step, place) => place);
+  if (verdict.verdict !== 'illegal' || at('all').checked) return every;
+  const names = concerned(), touches = words => words.some(word => names.has(word));
+  if (!names.size) return every;
+  const isFree = step => !step.open.some(touches) && !step.owned.some(name => names.has(name));
+  const from = steps.map(isFree).lastIndexOf(true);
+  const kept = every.filter(place => place > from);
+  const threads = new Set(kept.filter(place => touches(steps[place].words)).map(place => steps[place].thread));
+  threads.add(verdict.text.split(' ')[1]);
+  const ofThread = ['dying', 'end', 'ends', 'rests', 'prio'];
+  return kept.filter(place => touches(steps[place].words) || steps[place].kind === 'tick'
+    || (ofThread.includes(steps[place].kind) && threads.has(steps[place].thread)));
+}
+
+// THE DRAWING: of what is in sight alone
+
+let shown = [], column = new Map(), lanes = [], chosen = -1, width = 30;
+function layOut() {
+  shown = chosenSteps();
+  column = new Map(shown.map((place, k) => [place, k]));
+  const isAll = shown.length === steps.length;
+  const names = isAll ? [...last.threads.keys()] : [...new Set(shown.map(place => steps[place].thread).filter(Boolean))];
+  const wrong = verdict.verdict === 'illegal' ? verdict.text.split(' ')[1] : null;
+  if (wrong && /^t\d+$/.test(wrong) && !names.includes(wrong)) names.push(wrong);
+  lanes = names.sort((a, b) => Number(a.slice(1)) - Number(b.slice(1)));
+  at('names').style.paddingTop = TOP + 'px';
+  at('names').replaceChildren(...lanes.map(name => {
+    const lane = document.createElement('div');
+    lane.textContent = name;
+    lane.style.height = LANE + 'px';
+    return lane;
+  }));
+  draw();
+}
+const isHidden = step => step.kind === 'move' || step.kind === 'ends';
+const middle = k => (k + 1) * width;
+const laneOf = thread => TOP + lanes.indexOf(thread) * LANE + LANE / 2;
+function columnBehind(place) {
+  let low = 0, high = shown.length;
+  while (low < high) { const mid = (low + high) >> 1; if (shown[mid] < place) low = mid + 1; else high = mid; }
+  return low;
+}
+function add(name, values, text) {
+  const made = document.createElementNS('http://www.w3.org/2000/svg', name);
+  for (const key of Object.keys(values)) made.setAttribute(key, values[key]);
+  if (text !== undefined) made.textContent = text;
+  svg.append(made);
+  return made;
+}
+const cut = (text, room) => text.length * 6.6 > room ? text.slice(0, Math.max(Math.floor(room / 6.6) - 1, 1)) + '\u2026' : text;
+function drawBar(bar, first, end) {
+  if (!lanes.includes(bar.thread) || (bar.from >= 0 && !column.has(bar.from))) return;
+  const from = bar.from < 0 ? -1 : column.get(bar.from), to = columnBehind(bar.end);
+  if (to < first || from > end) return;
+  const x = Math.max(middle(from), -40), right = middle(to), y = laneOf(bar.thread) - 13, isOpen = bar.answer === null;
+  add('rect', {class: isOpen ? 'bar open' : 'bar', x, y, width: Math.max(right - x, 4), height: 26, rx: 4});
+  const start = Math.max(x, view.scrollLeft), room = middle(columnBehind(bar.next)) - start - 8;
+  if (right > start + 8 && room > 24) add('text', {x: start + 7, y: y - 2}, cut(bar.words.join(' ') + (isOpen ? '' : ' = ' + bar.answer), room));
+}
+function drawMark(place, x) {
+  const step = steps[place], y = step.thread ? laneOf(step.thread) : TOP - 8;
+  const mark = {'data-step': place, class: 'step ' + (isHidden(step) ? step.kind : 'line')};
+  if (step.kind === 'tick') add('line', {class: 'tick', x1: x, x2: x, y1: TOP - 12, y2: TOP + lanes.length * LANE});
+  if (step.kind === 'tick') add('text', {class: 'faint', x: x + 3, y: TOP - 12}, step.text);
+  let made;
+  if (step.kind === 'ends' || step.kind === 'end') {
+    made = add('path', {...mark, d: 'M' + (x - 5) + ' ' + (y - 5) + 'l10 10m0 -10l-10 10'});
+  } else made = add('circle', {...mark, cx: x, cy: y, r: step.kind === 'move' ? 4.5 : 5});
+  if (['dying', 'rests', 'prio'].includes(step.kind)) add('text', {class: 'faint', x: x - 8, y: y + 20}, step.text.split(' ').filter((w, k) => k !== 1).join(' '));
+  if (!isHidden(step) && width > 18) add('text', {class: 'faint', x: x - 8, y: 12}, step.line);
+  made.append(Object.assign(document.createElementNS('http://www.w3.org/2000/svg', 'title'), {textContent: titleOf(place)}));
+}
+const titleOf = place => steps[place].text ? 'line ' + steps[place].line + ': ' + steps[place].text
+  : steps[place].thread + (steps[place].kind === 'ends' ? ' ends' : ' goes on') + ', before line ' + steps[place].line;
+function drawWrong() {
+  const x = middle(shown.length), thread = verdict.text.split(' ')[1], y = lanes.includes(thread) ? laneOf(thread) : TOP;
+  add('line', {class: 'wrong', id: 'wrong', x1: x, x2: x, y1: 16, y2: TOP + lanes.length * LANE});
+  add('path', {class: 'wrong', d: 'M' + (x - 6) + ' ' + (y - 6) + 'l12 12m0 -12l-12 12'});
+  add('text', {class: 'wrong', x: x - 6, y: 12}, verdict.line + ': ' + verdict.text);
+}
+function draw() {
+  const total = middle(shown.length) + 220, height = TOP + lanes.length * LANE + 6, sight = view.clientWidth || 1000;
+  track.style.width = total + 'px';
+  track.style.height = height + 'px';
+  const left = Math.max(view.scrollLeft - 60, 0), right = Math.min(view.scrollLeft + sight + 60, total);
+  svg.style.left = left + 'px';
+  svg.setAttribute('width', right - left);
+  svg.setAttribute('height', height);
+  svg.setAttribute('viewBox', [left, 0, right - left, height].join(' '));
+  svg.replaceChildren();
+  const first = Math.max(Math.floor(left / width) - 2, 0), end = Math.min(Math.ceil(right / width) + 1, shown.length);
+  lanes.forEach(name => add('line', {class: 'lane', x1: left, x2: right, y1: laneOf(name), y2: laneOf(name)}));
+  if (column.has(chosen)) add('rect', {class: 'chosen', x: middle(column.get(chosen)) - 9, y: 0, width: 18, height});
+  for (const bar of bars) drawBar(bar, first, end);
+  const moves = [];
+  for (let k = Math.max(first - 200, 0); k < Math.min(end + 200, shown.length); k += 1)
+    if (isHidden(steps[shown[k]])) moves.push(middle(k) + ',' + laneOf(steps[shown[k]].thread));
+  add('polyline', {class: 'run', points: moves.join(' ')});
+  for (let k = first; k < end; k += 1) drawMark(shown[k], middle(k));
+  if (verdict.verdict === 'illegal') drawWrong();
+}
+
+// THE STATE BEHIND A STEP
+
+function table(id, heads, rows, lit) {
+  const made = document.createElement('table');
+  made.id = id;
+  const head = made.createTHead().insertRow();
+  for (const text of heads) head.append(Object.assign(document.createElement('th'), {textContent: text}));
+  const body = made.createTBody();
+  for (const cells of rows) {
+    const row = body.insertRow();
+    if (lit.has(cells[0])) row.className = 'lit';
+    for (const cell of cells) row.insertCell().textContent = cell;
+  }
+  return made;
+}
+function choose(place) {
+  if (place < 0 || place >= steps.length) return;
+  chosen = place;
+  const step = steps[place], before = place ? stateAt(place - 1) : empty(), state = stateAt(place);
+  const said = wordsOf(before, step.by);
+  const lit = new Set(step.by.whole ? [] : [...step.by.threads, ...step.by.mutexes].map(one => one.name));
+  at('where').textContent = 'Behind ' + titleOf(place);
+  at('words').textContent = said.length ? said.join('; ') : place && !step.by.whole ? 'nothing changes' : 'the whole state';
+  const owns = name => [...state.mutexes.values()].filter(mutex => mutex.owner === name).map(mutex => mutex.name).join(' ');
+  const threads = [...state.threads.values()].map(t => [t.name, t.living ? 'lives' : 'ended', String(t.priority), owns(t.name),
+    waitsFor(t) || '', t.rests ? 'rests' : '', (callOf(t) || []).join(' '), t.progress || '']);
+  const mutexes = [...state.mutexes.values()].map(m => [m.name, m.owner || '', m.owner ? String(m.count) : '', m.health,
+    [...state.threads.values()].filter(t => waitsFor(t) === m.name).map(t => t.name).join(' ')]);
+  const conds = [...state.conds.values()].map(c => [c.name, c.mutex,
+    [...state.threads.values()].filter(t => waitsFor(t) === c.name).map(t => t.name).join(' ')]);
+  at('state').replaceChildren(
+    table('threads', ['thread', '', 'priority', 'owns', 'waits for', 'rests', 'call', 'how far'], threads, lit),
+    table('mutexes', ['mutex', 'owner', 'times', 'health', 'waiters'], mutexes, lit),
+    table('conds', ['variable', 'mutex', 'blocked'], conds, lit));
+  draw();
+}
+function reveal(place) {
+  if (!column.has(place)) { at('all').checked = true; layOut(); }
+  const x = middle(column.get(place));
+  if (x < view.scrollLeft + 60 || x > view.scrollLeft + view.clientWidth - 120) view.scrollLeft = x - view.clientWidth / 2;
+  draw();
+}
+function go(by) {
+  const k = column.has(chosen) ? column.get(chosen) + by : columnBehind(chosen);
+  if (shown[k] !== undefined) { choose(shown[k]); reveal(shown[k]); }
+}
+
+// THE VERDICT
+
+function tell() {
+  const says = {legal: () => 'legal: a run shows all lines', illegal: () => 'illegal at ' + verdict.line + ': ' + verdict.text,
+    undecided: () => 'undecided at ' + verdict.line + ': too many states'};
+  at('verdict').textContent = says[verdict.verdict]();
+  at('verdict').className = verdict.verdict;
+  const why = [];
+  if (verdict.refused) why.push('refused ' + verdict.refused + ', whatever was answered');
+  if (verdict.possible) why.push('possible there: ' + (verdict.possible.join(' ') || 'none'));
+  if (verdict.possible === null) why.push('possible there: undecided');
+  if (verdict.began) why.push('its call began at ' + verdict.began.line + ': ' + verdict.began.text);
+  if (verdict.verdict !== 'legal') why.push('The run shows the lines before it.');
+  if (verdict.left_out) why.push('The first ' + verdict.left_out + ' lines of the history are left out.');
+  at('why').replaceChildren(...why.map(text => Object.assign(document.createElement('p'), {textContent: text})));
+  at('switch').hidden = verdict.verdict !== 'illegal';
+}
+svg.addEventListener('click', event => {
+  const mark = event.target.closest('[data-step]');
+  if (mark) choose(Number(mark.dataset.step));
+});
+view.addEventListener('scroll', () => draw());
+window.addEventListener('resize', () => draw());
+at('all').addEventListener('change', () => { layOut(); if (chosen >= 0) reveal(chosen); });
+at('width').addEventListener('input', () => { width = Number(at('width').value); draw(); });
+document.addEventListener('keydown', event => {
+  if (event.target.tagName !== 'INPUT' && event.key === 'ArrowLeft') { event.preventDefault(); go(-1); }
+  if (event.target.tagName !== 'INPUT' && event.key === 'ArrowRight') { event.preventDefault(); go(1); }
+});
+tell();
+layOut();
+width = Math.min(64, Math.max(30, Math.floor(view.clientWidth / (shown.length + 5))));
+at('width').value = width;
+draw();
+if (steps.length) {
+  const place = verdict.verdict === 'illegal' ? shown[shown.length - 1] : shown[0];
+  if (verdict.verdict !== 'legal') view.scrollLeft = middle(shown.length);
+  choose(place === undefined ? steps.length - 1 : place);
+}
+</script></body></html>
+"#;
