@@ -33,9 +33,9 @@ mod verdicts;
 
 pub use comparing::{compare, count_commands};
 pub use filling::filled_text;
-pub use lines::line_at_end;
+pub use lines::{commentless, line_at_end, row_of, split_line, without_mark, without_return};
 pub use pairing::answered_rows;
-pub use plain::plain_story;
+pub use plain::{append_plain, plain_story};
 pub use reading::{MOST, read_script_of_story};
 pub use scripts::script_of;
 pub use titles::titled_story;
