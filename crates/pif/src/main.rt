@@ -3,6 +3,7 @@
 
 use pif_cli::{Input, Output, Progress, Status, WatchFiles, command_at_terminal};
 use pif_job_judge::Watch;
+use pif_watch::WatchSteps;
 use std::io::{IsTerminal, Read, Write};
 use std::rt::{Env, Files};
 use std::sync::Wait;
@@ -14,7 +15,7 @@ fn answer<
     R: Read,
     W: Write,
     E: Write,
-    V: Watch + WatchFiles,
+    V: Watch + WatchFiles + WatchSteps,
 >(
     process: &P,
     is_terminal: bool,

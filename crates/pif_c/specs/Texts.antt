@@ -1,7 +1,9 @@
 -- Bytes in, bytes out: what a job prints, handed out into memory of the caller's.
-use Rattle.std.specs.Prelude.{ℕ, ◌≡◌, ◌++◌, ◌≤◌, ◌<◌, List, [], length, drop, Option, Some, Result, Ok, Err}
+use Rattle.std.specs.Prelude.{ℕ, ◌≡◌, ◌++◌, ◌≤◌, ◌<◌, Bool, List, [], length, drop, Option, Some, Result, Ok, Err, if◌then◌else◌}
 use Rattle.pif_script_model.specs.declared.faults.CliFault.{CliFault}
 use Rattle.pif_script_model.specs.declared.faults.CliFault.TheVariants.{Read, Write, NoMemory, Script, Differs}
+use Rattle.pif_job_judge.specs.declared.forms.Form.{Form}
+use Rattle.pif_job_judge.specs.declared.forms.Form.TheVariants as form
 use Rattle.pif_job_judge.specs.Judging.{JudgesTo}
 use Rattle.pif_job_judge.specs.declared.faults.JudgeFault.{JudgeFault}
 use Rattle.pif_job_judge.specs.declared.faults.JudgeFault.TheVariants.{Cli, Undecided}
@@ -29,9 +31,13 @@ judged_number (Err (Undecided n)) = 6
 abbrev pub Job : Type 0 → Type 1
 Job E = Option (List ℕ) → Option (List ℕ) → Option (List ℕ) → Option (List ℕ) → Result (Unit {0}) E → Type 0
 
--- judging a history with no name in front of what is told
-abbrev pub JudgesAlone : Job JudgeFault
-JudgesAlone before left held holds done = JudgesTo before left held holds [] done
+-- the form in which a verdict is told: in lines, with a run of a legal history if that is wanted
+abbrev pub form_of : (witness : Bool) → Form
+form_of witness = if witness then form.Witness else form.Text
+
+-- judging a history in a form, with no name in front of what is told
+abbrev pub JudgesAlone : Form → Job JudgeFault
+JudgesAlone told before left held holds done = JudgesTo told before left held holds [] done
 
 -- a job read from these bytes, and wrote this text into an empty writer
 abbrev pub Wholly : {E : Type 0} → Job E → List ℕ → List ℕ → Result (Unit {0}) E → Type 0

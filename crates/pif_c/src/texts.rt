@@ -4,9 +4,9 @@ ghost use Rattle.pif_script_model.specs.Traces.{ReplaysTo};
 ghost use Rattle.pif_script_model.specs.declared.faults.CliFault.{CliFault};
 ghost use Rattle.pif_story_model.specs.Checks.{TellsTo, check_telling};
 ghost use Rattle.pif_job_judge.specs.declared.faults.JudgeFault.{JudgeFault};
-ghost use Rattle.pif_c.specs.Texts.{fault_number, ended_number, judged_number, JudgesAlone, Wholly, HandsOut, IsHandedOut};
+ghost use Rattle.pif_c.specs.Texts.{fault_number, ended_number, judged_number, form_of, JudgesAlone, Wholly, HandsOut, IsHandedOut};
 
-use pif_job_judge::{JudgeFault, Judging, Unwatched};
+use pif_job_judge::{Form, JudgeFault, Judging, Unwatched};
 use pif_script_model::CliFault;
 use std::alloc::Global;
 
@@ -95,6 +95,13 @@ fn check_whole(alloc: Global, name: &[u8], story: &[u8]) -> (Vec<u8>, Result<(),
     (text, done)
 }
 
+/// The form in which a verdict is told.
+fn form_of(witness: bool) -> Form
+    ensures { result ≡ form_of witness }
+{
+    if witness { Form::Witness } else { Form::Text }
+}
+
 /// Judges a history into memory of its own.
 fn judge_whole(
     alloc: Global,
@@ -102,7 +109,7 @@ fn judge_whole(
     history: &[u8],
 ) -> (Vec<u8>, Result<(), JudgeFault>)
     requires { asked.now.name ≡ None }
-    ensures { Wholly JudgesAlone history.now result.0.items result.1 }
+    ensures { Wholly (JudgesAlone asked.now.form) history.now result.0.items result.1 }
 {
     let mut reader = history;
     let mut text = Vec::new(alloc);
@@ -151,11 +158,11 @@ pub extern "C" fn pif_judge(
     witness: bool,
     out: &mut [u8],
 ) -> PifText
-    ensures { HandsOut JudgesAlone judged_number history.now out.old out.new result }
+    ensures { HandsOut (JudgesAlone (form_of witness)) judged_number history.now out.old out.new result }
 {
     let asked = Judging {
         name: None,
-        witness,
+        form: form_of(witness),
         states,
     };
     let (text, done) = judge_whole(alloc, &asked, history);

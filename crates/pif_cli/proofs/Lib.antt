@@ -1,3 +1,4 @@
 pub mod Driving
 pub mod FilesLemmas
+pub mod NotesLemmas
 pub mod WordsLemmas

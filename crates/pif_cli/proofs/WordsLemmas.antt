@@ -1,10 +1,11 @@
 -- How words that are refused end the program.
-use Rattle.std.proofs.Common.{◌≡◌, ◌⊎◌, inl, inr, ℕ, List, [], ◌∷◌, Option, arith}
+use Rattle.std.proofs.Common.{◌≡◌, ◌⊎◌, inl, inr, ℕ, List, [], ◌∷◌, Option, Some, None, arith, append-nil, sym, ◌∙◌}
+use Rattle.std.specs.Io.KnownBytes.{Keeps}
 use Rattle.std.proofs.KnownBytes.{Keeps-refl}
 use Rattle.clap.specs.Words.{IsAmong, Kinds}
 use Rattle.clap.specs.declared.error.kind.ErrorKind.{ErrorKind}
 use Rattle.clap.specs.declared.error.kind.ErrorKind.TheVariants.{DisplayHelp, DisplayVersion, OutOfMemory}
-use Rattle.pif_cli.specs.Messages.{TellsAt}
+use Rattle.pif_cli.specs.Messages.{TellsAt, TellsNotes}
 use Rattle.pif_cli.specs.Words.{EndsIf, HadNoMemory, Refused, RefusedFor, ShowedHelp}
 
 pub EndsIf-refused : (kinds : Kinds) (done : Type 0) (k : ErrorKind)
@@ -25,12 +26,18 @@ EndsIf-refused (x ∷ xs) done k read held holds errors_held errors_hold status 
   ],
 )
 
+-- nothing was told, which are no notes
+no_notes : (held holds : Option (List ℕ)) → Keeps held holds → (notes : List ℕ) × TellsNotes notes held holds
+no_notes None holds kept = ([], inl tt)
+no_notes (Some xs) None kept = absurd kept
+no_notes (Some xs) (Some ys) kept = ([], inl (kept ∙ sym (append-nil xs)))
+
 -- what help tells the errors
 help_tells : (held holds errors_held errors_hold : Option (List ℕ)) (status : ℕ)
     → ShowedHelp held holds errors_held errors_hold status → TellsAt status errors_held errors_hold
 help_tells held holds errors_held errors_hold status shown =
     elim shown.1 [
-      | inl s ↦ inl (s.0, s.2)
+      | inl s ↦ inl (s.0, no_notes errors_held errors_hold s.2)
       | inr s ↦ inr (inr (inl (omega (arith, s.0), omega (arith, s.0), s.2)))
     ]
 

@@ -1,4 +1,4 @@
--- What the standard error gets where a run fails: one line.
+-- What the standard error gets: one line of what has failed, or the notes of what was done.
 use Rattle.std.specs.Prelude.{ℕ, ◌≡◌, ◌≤◌, ◌⊎◌, ◌&&◌, nat_le, Bool, true, MatchBool, List, [], ◌∷◌, ◌++◌, Option, Result, Ok, Err}
 use Rattle.std.specs.List.{list_all}
 use Rattle.std.specs.Io.KnownBytes.{Appends, Keeps}
@@ -24,16 +24,20 @@ TellsLine held holds =
 abbrev pub TellsFault : JobFault → (held holds : Option (List ℕ)) → Type 0
 TellsFault fault held holds = MatchBool (is_output fault) (TellsLine held holds ⊎ Keeps held holds) (TellsLine held holds)
 
--- what is told of a job that ended so: nothing where it was done, else what is told of its fault
-abbrev pub TellsOf : Result (Unit {0}) JobFault → (held holds : Option (List ℕ)) → Type 0
-TellsOf (Ok x) held holds = Keeps held holds
-TellsOf (Err e) held holds = TellsFault e held holds
+-- notes were told, all of them and nothing else; or a proper part of them, where a write failed
+abbrev pub TellsNotes : (notes : List ℕ) → (held holds : Option (List ℕ)) → Type 0
+TellsNotes notes held holds = Appends held holds notes ⊎ WritesPart held holds notes
 
--- what is told at a status of the program: nothing at 0; a text at 1; one line at 2 to 7; and at 3, where the text of 1
--- could not be written, a proper part of that, and nothing of an output that nobody reads any more
+-- what is told of a job that ended so: its notes where it was done, else what is told of its fault
+abbrev pub TellsOf : (notes : List ℕ) → Result (Unit {0}) JobFault → (held holds : Option (List ℕ)) → Type 0
+TellsOf notes (Ok x) held holds = TellsNotes notes held holds
+TellsOf notes (Err e) held holds = TellsFault e held holds
+
+-- what is told at a status of the program: at 0 the notes of what was done; a text at 1; one line at 2 to 7; and at 3,
+-- where the text of 1 could not be written, a proper part of that, and nothing of an output that nobody reads any more
 abbrev pub TellsAt : ℕ → (held holds : Option (List ℕ)) → Type 0
 TellsAt status held holds =
-    ((status ≡ 0) × Keeps held holds)
+    ((status ≡ 0) × ((notes : List ℕ) × TellsNotes notes held holds))
     ⊎ (((status ≡ 1) × ((text : List ℕ) × Appends held holds text))
     ⊎ (((2 ≤ status) × (status ≤ 7) × TellsLine held holds)
     ⊎ (((status ≡ 3) × ((text : List ℕ) × WritesPart held holds text))

@@ -1,5 +1,5 @@
 -- What the program does by its words, what is written, and its status.
-use Rattle.std.specs.Prelude.{ℕ, ◌≡◌, ◌⊎◌, ◌==◌, MatchBool, Bool, List, [], ◌∷◌, Option, Some, None, Result, Ok, Err, codes, bytes_eq, if◌then◌else◌}
+use Rattle.std.specs.Prelude.{ℕ, ◌≡◌, ◌⊎◌, ◌==◌, MatchBool, OnOk, Bool, List, [], ◌∷◌, Option, Some, None, Result, Ok, Err, codes, bytes_eq, if◌then◌else◌}
 use Rattle.std.specs.Io.KnownBytes.{Appends, Keeps}
 use Rattle.clap.specs.Words.{IsAmong, Kinds, Text}
 use Rattle.clap.specs.declared.error.kind.ErrorKind.{ErrorKind}
@@ -13,14 +13,17 @@ use Rattle.pif_script_model.specs.Traces.{ReplaysTo}
 use Rattle.pif_script_model.specs.Runs.{WritesPart}
 use Rattle.pif_story_model.specs.Showing.{ShowsStoryTo, TracesStoryTo}
 use Rattle.pif_story_model.specs.Checks.{TellsTo, check_telling, fill_telling, strict_telling, titled_telling}
-use Rattle.pif_job_draw.specs.Pictures.{PicturesTo}
+use Rattle.pif_story_notes.specs.Notes.{ShowsNoting, TellsNoting}
+use Rattle.pif_job_draw.specs.Pictures.{DrawsTo, PicturesTo}
 use Rattle.pif_job_judge.specs.declared.faults.JudgeFault.{JudgeFault}
 use Rattle.pif_job_judge.specs.declared.faults.JudgeFault.TheVariants as judge_fault
+use Rattle.pif_job_judge.specs.declared.forms.Form.{Form}
+use Rattle.pif_job_judge.specs.declared.forms.Form.TheVariants as form
 use Rattle.pif_job_judge.specs.Judging.{JudgesTo, front_of}
 use Rattle.pif_job_shell.specs.Talks.{TalksTo}
 use Rattle.pif_cli_words.specs.declared.jobs.Judging.{Judging}
 use Rattle.pif_cli_words.specs.declared.jobs.Job.{Job}
-use Rattle.pif_cli_words.specs.declared.jobs.Job.TheVariants.{Run, Replay, Trace, Migrate, Show, Picture, Shell, Check, Strict, Fill, FillSeveral, Judge, Random, Drive}
+use Rattle.pif_cli_words.specs.declared.jobs.Job.TheVariants.{Run, Replay, Trace, Migrate, Show, Picture, Draw, Shell, Check, Strict, Fill, FillSeveral, Judge, Random, Drive}
 use Rattle.pif_cli_words.specs.Words.{files_of, inputs_of, job_of, refusals_of, rewrites, standard_name}
 use Rattle.pif_cli.specs.declared.statuses.JobFault.{JobFault}
 use Rattle.pif_cli.specs.declared.statuses.JobFault.TheVariants.{Cli, Undecided}
@@ -48,12 +51,18 @@ as_judged (Ok x) = Ok x
 as_judged (Err (judge_fault.Cli e)) = Err (Cli e)
 as_judged (Err (judge_fault.Undecided line)) = Err (Undecided line)
 
+-- the form in which a verdict is told
+abbrev pub form_of : Judging → Form
+form_of asked =
+    if asked.html then form.Page else (if asked.json then form.Json else (if asked.witness then form.Witness else form.Text))
+
 -- a history of this name was judged; its name is told if there are several
 abbrev pub JudgesNamed : Judging → (name : Text) → (before after held holds : Option (List ℕ))
     → Result (Unit {0}) JobFault → Type 0
 JudgesNamed asked name before after held holds result =
     (done : Result (Unit {0}) JudgeFault)
-    × JudgesTo before after held holds (front_of (if asked.several then Some name else None)) done
+    × JudgesTo (form_of asked) before after held holds
+    (front_of (if asked.several then Some name else None) (form_of asked)) done
     × (result ≡ as_judged done)
 
 -- a job over an input of this name, by the bytes that were read and written; `random` and `drive` read nothing
@@ -64,7 +73,8 @@ Does Replay name before after held holds result = EndsAsCli (ReplaysTo before af
 Does Trace name before after held holds result = EndsAsCli (TracesStoryTo before after held holds) result
 Does Migrate name before after held holds result = EndsAsCli (MigratesTo before after held holds) result
 Does (Show detail) name before after held holds result = EndsAsCli (ShowsStoryTo before after held holds) result
-Does (Picture picture) name before after held holds result = EndsAsCli (PicturesTo before after held holds) result
+Does (Picture picture) name before after held holds result = EndsAsCli (PicturesTo picture before after held holds) result
+Does (Draw drawn) name before after held holds result = EndsAsCli (DrawsTo drawn.html before after held holds) result
 Does Shell name before after held holds result = EndsAsCli (TalksTo before after held holds) result
 Does Check name before after held holds result = EndsAsCli (TellsTo (check_telling name) before after held holds) result
 Does Strict name before after held holds result = EndsAsCli (TellsTo (strict_telling name) before after held holds) result
@@ -76,11 +86,20 @@ Does (Random recipe) name before after held holds result =
     Keeps before after × WritesRandom recipe.lines held holds result
 Does (Drive clients) name before after held holds result = Keeps before after × Drives clients held holds result
 
+-- the notes of a job that was done over an input of this name: those on the story that was checked, or shown; other
+-- jobs have none. A strict check that is done has none either, since each refusal has its answer
+abbrev pub HasNotes : Job → (name : Text) → (before after held holds : Option (List ℕ)) → (notes : List ℕ) → Type 0
+HasNotes Check name before after held holds notes =
+    TellsNoting name (check_telling name) before after held holds (Ok notes)
+HasNotes (Show detail) name before after held holds notes = ShowsNoting name before after held holds (Ok notes)
+HasNotes job name before after held holds notes = notes ≡ []
+
 -- the job was done, and the errors were told how it ended
 abbrev pub Did : Job → (name : Text) → (before after held holds errors_held errors_hold : Option (List ℕ)) → ℕ → Type 0
 Did job name before after held holds errors_held errors_hold status =
-    (result : Result (Unit {0}) JobFault) × Does job name before after held holds result × (status ≡ job_status result)
-    × TellsOf result errors_held errors_hold
+    (result : Result (Unit {0}) JobFault) × (notes : List ℕ) × Does job name before after held holds result
+    × OnOk result (HasNotes job name before after held holds notes) × (status ≡ job_status result)
+    × TellsOf notes result errors_held errors_hold
 
 -- the standard input is no file into which something can be written, which is said
 abbrev pub no_file_text : List ℕ

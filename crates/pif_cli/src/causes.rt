@@ -3,7 +3,7 @@ use crate::places::Place;
 use crate::rewriting::Unwritten;
 use crate::statuses::JobFault;
 use pif_cli_words::{Job, STANDARD_NAME};
-use pif_script::{CliFault, MOST_LINE, Notice};
+use pif_script::{CliFault, MOST_BYTES, MOST_LINE, Notice};
 use pif_text::{Cause, Command, errno_name, errno_of, split_answer};
 use pif_text_errors::{SyntaxError, Wrong, call_form, read_command};
 use pif_types::Errno;
@@ -85,7 +85,18 @@ impl<'n, 's> Given<'n, 's> {
             }
             (Job::Run, Cause::Command) => no_command(&place, notice.line(), &mut message),
             (_, Cause::Command) => no_row(&place, notice.line(), &mut message),
-            (Job::Check | Job::Strict | Job::Fill | Job::FillSeveral | Job::Picture(_), _) => {
+            (Job::Draw(_), Cause::Size) => {
+                say_line(&place, 1, size_of_drawing(self.story), b"", &mut message)
+            }
+            (
+                Job::Check
+                | Job::Strict
+                | Job::Fill
+                | Job::FillSeveral
+                | Job::Picture(_)
+                | Job::Draw(_),
+                _,
+            ) => {
                 let column = column_of(cause, b"");
                 say_line(&place, column, plain_cause(cause), b"", &mut message)
             }
@@ -107,9 +118,12 @@ impl<'n, 's> Given<'n, 's> {
     fn difference_message(&self, number: u64, notice: &Notice) -> Message {
         let place = self.place(number);
         match self.job {
-            Job::Check | Job::Strict | Job::Fill | Job::FillSeveral | Job::Picture(_) => {
-                line_message(&place, story_difference(notice))
-            }
+            Job::Check
+            | Job::Strict
+            | Job::Fill
+            | Job::FillSeveral
+            | Job::Picture(_)
+            | Job::Draw(_) => { line_message(&place, story_difference(notice)) }
             Job::Judge(_) => {
                 let words = "no run of the POSIX machine shows the lines up to here";
                 line_message(&place, words)
@@ -252,6 +266,15 @@ fn show_answer(answer: &[u8], message: &mut Message) {
 fn error_in(answer: &[u8]) -> Option<Errno> {
     let text = from_utf8(answer).ok()?;
     errno_of(text.strip_prefix("answer ")?.parse::<u32>().ok()?)
+}
+
+/// What is said of a story that is too large to be drawn: it has too many bytes, or else too many commands.
+fn size_of_drawing(story: Option<&[u8]>) -> &'static str {
+    match story {
+        Some(text) if text.len() > MOST_BYTES as usize => plain_cause(Cause::Size),
+        _ =>
+            "no browser opens a drawing of more than 5000 commands; choose lines by --from and --to",
+    }
 }
 
 /// The words of a cause, where it has just these.

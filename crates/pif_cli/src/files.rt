@@ -12,6 +12,7 @@ use crate::words::{do_and_tell, do_or_refuse, refuse};
 use pif_cli_words::{Job, STANDARD_NAME, near_command, read_words};
 use pif_job_judge::Watch;
 use pif_job_shell::Shelf;
+use pif_watch::WatchSteps;
 use std::convert::AsStr;
 use std::fs;
 use std::io::{ErrorKind, Read, Write};
@@ -32,7 +33,7 @@ fn fail_to_open<E: Write>(name: &str, why: ErrorKind, errors: &mut E) -> u8
 }
 
 /// Does a job over the file of this name. Answers the status.
-fn do_file<P: Files + Threads + Wait + Sync, S: Shelf, W: Write, E: Write, V: Watch>(
+fn do_file<P: Files + Threads + Wait + Sync, S: Shelf, W: Write, E: Write, V: Watch + WatchSteps>(
     job: Job,
     name: &str,
     host: &mut Host<P, S, W, E, V>,
@@ -49,7 +50,7 @@ fn do_file<P: Files + Threads + Wait + Sync, S: Shelf, W: Write, E: Write, V: Wa
 }
 
 /// Does a job over the file of this name, or writes what it makes into the file.
-fn do_named<P: Files + Threads + Wait + Sync, S: Shelf, W: Write, E: Write, V: Watch>(
+fn do_named<P: Files + Threads + Wait + Sync, S: Shelf, W: Write, E: Write, V: Watch + WatchSteps>(
     rewrite: bool,
     job: Job,
     name: &str,
@@ -71,13 +72,14 @@ fn do_named<P: Files + Threads + Wait + Sync, S: Shelf, W: Write, E: Write, V: W
 }
 
 /// Does a job over the file of this name, or over `input` if it is that of the standard input. Answers the status.
-fn do_over<P: Files + Threads + Wait + Sync, S: Shelf, R: Read, W: Write, E: Write, V: Watch>(
-    rewrite: bool,
-    job: Job,
-    name: &str,
-    input: &mut Input<R>,
-    host: &mut Host<P, S, W, E, V>,
-) -> u8
+fn do_over<
+    P: Files + Threads + Wait + Sync,
+    S: Shelf,
+    R: Read,
+    W: Write,
+    E: Write,
+    V: Watch + WatchSteps,
+>(rewrite: bool, job: Job, name: &str, input: &mut Input<R>, host: &mut Host<P, S, W, E, V>) -> u8
     ensures same_output { host.new.output.ghost_name ≡ host.old.output.ghost_name }
     ensures same_errors { host.new.errors.ghost_name ≡ host.old.errors.ghost_name }
     ensures did { DidOver rewrite job name.now (R.remaining input.old) (R.remaining input.new) (W.contents host.old.output.now)
@@ -105,7 +107,7 @@ fn do_all<
     R: Read,
     W: Write,
     E: Write,
-    V: Watch + WatchFiles,
+    V: Watch + WatchFiles + WatchSteps,
 >(
     rewrite: bool,
     job: Job,
@@ -148,7 +150,7 @@ pub fn command_over_files<
     R: Read,
     W: Write,
     E: Write,
-    V: Watch + WatchFiles,
+    V: Watch + WatchFiles + WatchSteps,
 >(words: &[T], input: &mut Input<R>, host: &mut Host<P, S, W, E, V>) -> u8
     ensures same_output { host.new.output.ghost_name ≡ host.old.output.ghost_name }
     ensures same_errors { host.new.errors.ghost_name ≡ host.old.errors.ghost_name }

@@ -5,13 +5,14 @@ ghost use Rattle.pif_cli.specs.Words.{EndsOver, HadNoWords};
 use crate::files::command_over_files;
 use crate::hosts::Host;
 use crate::messages::Message;
-use crate::progress::WatchFiles;
+use crate::progress::{Unwatched, WatchFiles};
 use crate::shelves::FileShelf;
 use crate::statuses::Status;
 use crate::streams::{Input, Output};
 use crate::words::{fail, show};
-use pif_job_judge::{Unwatched, Watch};
+use pif_job_judge::Watch;
 use pif_script::CliFault;
+use pif_watch::WatchSteps;
 use std::io::{ErrorKind, Read, Write};
 use std::rt::{Env, Files};
 use std::sync::Wait;
@@ -23,14 +24,14 @@ const NO_TEXT: &str = "error: a word is not UTF-8\n";
 
 /// The program over the words of a process, as `command_of_process` has it. If `is_terminal`, `input` is a terminal,
 /// and `pif shell` writes a prompt before each line that it reads. `watch` is told of each file that a job begins with.
-/// Of each line of a history that `pif judge` judges it is told how many states were made. What it tells a person is
-/// no part of what `errors` is told.
+/// Of each line of a history that `pif judge` judges it is told how many states were made, and of each line of `pif
+/// random` and each command of `pif draw` that it is made. What it tells a person is no part of what `errors` is told.
 pub fn command_at_terminal<
     P: Env + AllocGlobal + Files + Threads + Wait + Sync,
     R: Read,
     W: Write,
     E: Write,
-    V: Watch + WatchFiles,
+    V: Watch + WatchFiles + WatchSteps,
 >(
     process: &P,
     is_terminal: bool,

@@ -1,5 +1,6 @@
 use crate::messages::Message;
-use pif_job_judge::{Unwatched, Watch};
+use pif_job_judge::Watch;
+use pif_watch::WatchSteps;
 use std::fmt::Write as _;
 use std::io::Write;
 use std::time::{Clock, Instant};
@@ -10,12 +11,25 @@ pub trait WatchFiles {
     fn file(&mut self, done: usize, count: usize);
 }
 
+/// Nobody is told of anything.
+#[derive(Drop)]
+pub struct Unwatched;
+
+impl Watch for Unwatched {
+    fn line(&mut self, _line: usize, _states: usize) {}
+}
+
 impl WatchFiles for Unwatched {
     fn file(&mut self, _done: usize, _count: usize) {}
 }
 
+impl WatchSteps for Unwatched {
+    fn step(&mut self, _done: usize, _count: usize) {}
+}
+
 /// How far a job has come, as a person at a terminal is told: a line each second after the first. Of a job over several
-/// files it says how many are done, and of a history which line is judged and how many states were made for it.
+/// files it says how many are done, of a history which line is judged and how many states were made for it, and of a
+/// drawing or a random script how much of it is done.
 #[derive(Drop)]
 pub struct Progress<'c, 'e, C, E> {
     clock: &'c C,
@@ -81,6 +95,26 @@ impl<C: Clock, E: Write> WatchFiles for Progress<'_, '_, C, E> {
         if self.is_told() {
             let mut message = Message::new();
             let _ = write!(message, "{done} of {count} files are done");
+            message.tell(self.errors);
+        }
+    }
+}
+
+/// How much is done, in percent, if so many of `count` steps are done.
+fn percent(done: usize, count: usize) -> usize {
+    if count == 0 {
+        100
+    } else {
+        done.saturating_mul(100) / count
+    }
+}
+
+impl<C: Clock, E: Write> WatchSteps for Progress<'_, '_, C, E> {
+    fn step(&mut self, done: usize, count: usize) {
+        if self.is_told() {
+            let part = percent(done, count);
+            let mut message = Message::new();
+            let _ = write!(message, "{part} % is done");
             message.tell(self.errors);
         }
     }

@@ -5,18 +5,24 @@ use crate::statuses::JobFault;
 use pif_cli_words::Recipe;
 use pif_job_random::random_script;
 use pif_script::{CliFault, write_whole};
+use pif_watch::WatchSteps;
 use std::alloc::Global;
 use std::io::Write;
 
-/// `pif random`: writes the random script of a recipe, once all of it is made.
+/// `pif random`: writes the random script of a recipe, once all of it is made. `watch` is told of each line.
 ///
 /// # Errors
 ///
 /// `Cli(NoMemory)`, with nothing written, if memory is refused; `Cli(Write)` if the script can't be written.
-pub fn write_random<W: Write>(alloc: Global, recipe: Recipe, output: &mut W) -> Result<(), JobFault>
+pub fn write_random<W: Write, V: WatchSteps>(
+    alloc: Global,
+    recipe: Recipe,
+    output: &mut W,
+    watch: &mut V,
+) -> Result<(), JobFault>
     ensures { WritesRandom recipe.lines (W.contents output.old) (W.contents output.new) result }
 {
-    let Ok(script) = random_script(alloc, recipe.seed, recipe.lines, recipe.shape) else {
+    let Ok(script) = random_script(alloc, recipe.seed, recipe.lines, recipe.shape, watch) else {
         return Err(JobFault::Cli(CliFault::NoMemory));
     };
     match write_whole(output, script.as_slice()) {

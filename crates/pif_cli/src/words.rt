@@ -1,27 +1,34 @@
-ghost use Rattle.std.specs.Prelude.{◌≡◌, ◌⊎◌, None, Some, if◌then◌else◌, map, option_copied};
+ghost use Rattle.std.specs.Prelude.{◌≡◌, ◌⊎◌, [], None, Some, Ok, OnOk, if◌then◌else◌, map, option_copied};
 ghost use Rattle.clap.specs.Words.{kind_of};
 ghost use Rattle.pif_cli_words.specs.Words.{refusals_of, rewrites, job_of, name_of};
-ghost use Rattle.pif_cli.specs.Messages.{TellsAt, TellsFault, TellsLine};
+ghost use Rattle.pif_story_model.specs.Checks.{TellsTo, check_telling};
+ghost use Rattle.pif_story_model.specs.Showing.{ShowsStoryTo};
+ghost use Rattle.pif_story_notes.specs.Notes.{ShowsNoting, TellsNoting};
+ghost use Rattle.pif_job_draw.specs.Pictures.{DrawsTo};
+ghost use Rattle.pif_cli.specs.Messages.{TellsAt, TellsFault, TellsLine, TellsNotes};
 ghost use Rattle.pif_cli.specs.Statuses.{fault_status};
-ghost use Rattle.pif_cli.specs.Words.{Did, DidOrRefused, Does, JudgesNamed, as_job, as_judged, EndsBy, HadNoMemory, RefusedFor, RefusesInput, Shows, ShowsHelp};
+ghost use Rattle.pif_cli.specs.Words.{Did, DidOrRefused, Does, EndsAsCli, HasNotes, JudgesNamed, as_job, as_judged, form_of, EndsBy, HadNoMemory, RefusedFor, RefusesInput, Shows, ShowsHelp};
 
 use crate::causes::{Given, plain_message};
 use crate::drive::drive;
 use crate::hosts::{Host, Means};
 use crate::messages::Message;
+use crate::progress::Unwatched;
 use crate::random::write_random;
 use crate::statuses::{JobFault, fault_status, is_output, job_fault_status};
 use crate::streams::{Input, Output};
 use clap::error::ErrorKind;
 use pif_cli_words::{Job, first_name, near_command, read_words};
 use pif_job_check::{check_noting, check_strictly, fill_as_one_of_several, fill_noting};
-use pif_job_draw::write_picture;
-use pif_job_judge::{JudgeFault, Judging, Unwatched, Watch, judge};
+use pif_job_draw::{Drawn, write_drawn, write_picture};
+use pif_job_judge::{Form, JudgeFault, Judging, Watch, judge};
 use pif_job_replay::{migrate_noting, replay_noting};
 use pif_job_shell::{NoShelf, Shelf, shell};
-use pif_job_show::show_story;
+use pif_job_show::show_noting;
 use pif_job_trace::trace_story;
 use pif_script::{CliFault, Notice, run_noting, write_whole};
+use pif_script_model::Detail;
+use pif_watch::WatchSteps;
 use std::alloc::{AllocError, Global};
 use std::convert::AsStr;
 use std::io::{Read, Write};
@@ -56,6 +63,21 @@ fn told_name(several: bool, name: &str) -> Option<&[u8]>
     if several { Some(name.as_bytes()) } else { None }
 }
 
+/// The form in which a verdict is told.
+fn form_of(asked: pif_cli_words::Judging) -> Form
+    ensures { result ≡ form_of asked }
+{
+    if asked.html {
+        Form::Page
+    } else if asked.json {
+        Form::Json
+    } else if asked.witness {
+        Form::Witness
+    } else {
+        Form::Text
+    }
+}
+
 /// Judges the history of this name.
 fn judge_input<R: Read, W: Write, V: Watch>(
     alloc: Global,
@@ -69,14 +91,76 @@ fn judge_input<R: Read, W: Write, V: Watch>(
 {
     let judging = Judging {
         name: told_name(asked.several, name),
-        witness: asked.witness,
+        form: form_of(asked),
         states: asked.states,
     };
     as_judged(judge(alloc, &judging, input, output, watch))
 }
 
-/// Does a job over an input of this name, and has `notice` keep the line that ends it.
-fn do_job<P: Threads + Wait + Sync, S: Shelf, R: Read, W: Write, V: Watch>(
+/// Draws a story.
+fn draw_input<R: Read, W: Write, V: WatchSteps>(
+    alloc: Global,
+    asked: pif_cli_words::Drawn,
+    input: &mut R,
+    output: &mut W,
+    notice: &mut Notice,
+    watch: &mut V,
+) -> Result<(), JobFault>
+    ensures { EndsAsCli (DrawsTo asked.html (R.remaining input.old) (R.remaining input.new) (W.contents output.old) (W.contents output.new)) result }
+{
+    let drawn = Drawn {
+        page: asked.html,
+        from: asked.from,
+        to: asked.to,
+    };
+    as_job(write_drawn(drawn, alloc, input, output, notice, watch))
+}
+
+/// Checks the story of this name, and keeps the notes on it.
+fn check_input<R: Read, W: Write>(
+    alloc: Global,
+    name: &str,
+    input: &mut R,
+    output: &mut W,
+    notice: &mut Notice,
+    notes: &mut Vec<u8>,
+) -> Result<(), JobFault>
+    ensures did { EndsAsCli (TellsTo (check_telling name.now) (R.remaining input.old) (R.remaining input.new) (W.contents output.old) (W.contents output.new)) result }
+    ensures noted { OnOk result (TellsNoting name.now (check_telling name.now) (R.remaining input.old) (R.remaining input.new) (W.contents output.old) (W.contents output.new) (Ok notes.new.items)) }
+{
+    match check_noting(alloc, name.as_bytes(), input, output, notice) {
+        Ok(text) => {
+            *notes = text;
+            Ok(())
+        }
+        Err(fault) => Err(JobFault::Cli(fault)),
+    }
+}
+
+/// Shows the story of this name, and keeps the notes on it.
+fn show_input<R: Read, W: Write>(
+    alloc: Global,
+    detail: Detail,
+    name: &str,
+    input: &mut R,
+    output: &mut W,
+    notice: &mut Notice,
+    notes: &mut Vec<u8>,
+) -> Result<(), JobFault>
+    ensures did { EndsAsCli (ShowsStoryTo (R.remaining input.old) (R.remaining input.new) (W.contents output.old) (W.contents output.new)) result }
+    ensures noted { OnOk result (ShowsNoting name.now (R.remaining input.old) (R.remaining input.new) (W.contents output.old) (W.contents output.new) (Ok notes.new.items)) }
+{
+    match show_noting(detail, alloc, name.as_bytes(), input, output, notice) {
+        Ok(text) => {
+            *notes = text;
+            Ok(())
+        }
+        Err(fault) => Err(JobFault::Cli(fault)),
+    }
+}
+
+/// Does a job over an input of this name, and has `notice` keep the line that ends it, and `notes` those of the job.
+fn do_job<P: Threads + Wait + Sync, S: Shelf, R: Read, W: Write, V: Watch + WatchSteps>(
     job: Job,
     name: &str,
     means: &Means<P, S>,
@@ -84,8 +168,11 @@ fn do_job<P: Threads + Wait + Sync, S: Shelf, R: Read, W: Write, V: Watch>(
     output: &mut W,
     watch: &mut V,
     notice: &mut Notice,
+    notes: &mut Vec<u8>,
 ) -> Result<(), JobFault>
-    ensures { Does job name.now (R.remaining input.old) (R.remaining input.new) (W.contents output.old) (W.contents output.new) result }
+    requires { notes.old.items ≡ [] }
+    ensures did { Does job name.now (R.remaining input.old) (R.remaining input.new) (W.contents output.old) (W.contents output.new) result }
+    ensures noted { OnOk result (HasNotes job name.now (R.remaining input.old) (R.remaining input.new) (W.contents output.old) (W.contents output.new) notes.new.items) }
 {
     let alloc = means.alloc;
     match job {
@@ -93,10 +180,11 @@ fn do_job<P: Threads + Wait + Sync, S: Shelf, R: Read, W: Write, V: Watch>(
         Job::Replay => as_job(replay_noting(alloc, input, output, notice)),
         Job::Trace => as_job(trace_story(alloc, input, output, notice)),
         Job::Migrate => as_job(migrate_noting(alloc, input, output, notice)),
-        Job::Show(detail) => as_job(show_story(detail, alloc, input, output, notice)),
+        Job::Show(detail) => show_input(alloc, detail, name, input, output, notice, notes),
         Job::Picture(picture) => as_job(write_picture(picture, alloc, input, output, notice)),
+        Job::Draw(asked) => draw_input(alloc, asked, input, output, notice, watch),
         Job::Shell => as_job(shell(alloc, means.shelf, means.is_terminal, input, output)),
-        Job::Check => as_job(check_noting(alloc, name.as_bytes(), input, output, notice)),
+        Job::Check => check_input(alloc, name, input, output, notice, notes),
         Job::Strict => as_job(check_strictly(alloc, name.as_bytes(), input, output, notice)),
         Job::Fill => as_job(fill_noting(alloc, name.as_bytes(), input, output, notice)),
         Job::FillSeveral => as_job(fill_as_one_of_several(
@@ -107,7 +195,7 @@ fn do_job<P: Threads + Wait + Sync, S: Shelf, R: Read, W: Write, V: Watch>(
             notice,
         )),
         Job::Judge(asked) => judge_input(alloc, asked, name, input, output, watch),
-        Job::Random(recipe) => write_random(alloc, recipe, output),
+        Job::Random(recipe) => write_random(alloc, recipe, output, watch),
         Job::Drive(clients) => drive(alloc, means.process, clients, output),
     }
 }
@@ -116,7 +204,7 @@ fn do_job<P: Threads + Wait + Sync, S: Shelf, R: Read, W: Write, V: Watch>(
 fn keeps_text(job: Job) -> bool {
     match job {
         Job::Check | Job::Strict | Job::Fill | Job::FillSeveral => true,
-        Job::Picture(_) | Job::Show(_) | Job::Trace => true,
+        Job::Picture(_) | Job::Draw(_) | Job::Show(_) | Job::Trace => true,
         _ => false,
     }
 }
@@ -128,10 +216,12 @@ struct Ended {
     done: Result<(), JobFault>,
     /// What is told of its fault, if it has one.
     message: Message,
+    /// What is told if it was done.
+    notes: Vec<u8>,
 }
 
 /// Does a job over an input of this name.
-fn do_noting<P: Threads + Wait + Sync, S: Shelf, R: Read, W: Write, V: Watch>(
+fn do_noting<P: Threads + Wait + Sync, S: Shelf, R: Read, W: Write, V: Watch + WatchSteps>(
     job: Job,
     name: &str,
     means: &Means<P, S>,
@@ -139,11 +229,22 @@ fn do_noting<P: Threads + Wait + Sync, S: Shelf, R: Read, W: Write, V: Watch>(
     output: &mut Output<W>,
     watch: &mut V,
 ) -> Ended
-    ensures { Does job name.now (R.remaining input.old) (R.remaining input.new) (W.contents output.old) (W.contents output.new) result.done }
+    ensures did { Does job name.now (R.remaining input.old) (R.remaining input.new) (W.contents output.old) (W.contents output.new) result.done }
+    ensures noted { OnOk result.done (HasNotes job name.now (R.remaining input.old) (R.remaining input.new) (W.contents output.old) (W.contents output.new) result.notes.items) }
 {
     let mut notice = Notice::new();
+    let mut notes = Vec::new(means.alloc);
     input.begin(means.alloc, keeps_text(job));
-    let done = do_job(job, name, means, &mut *input, output, watch, &mut notice);
+    let done = do_job(
+        job,
+        name,
+        means,
+        &mut *input,
+        output,
+        watch,
+        &mut notice,
+        &mut notes,
+    );
     let message = match done {
         Ok(()) => Message::empty(),
         Err(fault) => {
@@ -156,7 +257,18 @@ fn do_noting<P: Threads + Wait + Sync, S: Shelf, R: Read, W: Write, V: Watch>(
             given.message(fault, &notice)
         }
     };
-    Ended { done, message }
+    Ended {
+        done,
+        message,
+        notes,
+    }
+}
+
+/// Tells the errors the notes of a job that was done. A failed write is passed over, since there is nobody left to tell.
+fn tell_notes<E: Write>(notes: &[u8], errors: &mut E)
+    ensures { TellsNotes notes.now (E.contents errors.old) (E.contents errors.new) }
+{
+    let _ = write_whole(errors, notes);
 }
 
 /// Tells the errors of a fault by this message; if `is_quiet`, not of an output that cannot be written.
@@ -172,15 +284,17 @@ fn tell_fault<E: Write>(fault: JobFault, is_quiet: bool, message: Message, error
     }
 }
 
-/// Does a job over an input of this name, and tells the errors of a fault. That the output cannot be written is told
-/// once, and not if nobody reads it any more. Answers the status, which is that of the job, also if the errors cannot
-/// be told.
-pub fn do_and_tell<P: Threads + Wait + Sync, S: Shelf, R: Read, W: Write, E: Write, V: Watch>(
-    job: Job,
-    name: &str,
-    input: &mut Input<R>,
-    host: &mut Host<P, S, W, E, V>,
-) -> u8
+/// Does a job over an input of this name. Standard error gets the notes of the job, or is told of its fault. That the
+/// output cannot be written is told once, and not if nobody reads it any more. Answers the status, which is that of the
+/// job, also if standard error cannot be written.
+pub fn do_and_tell<
+    P: Threads + Wait + Sync,
+    S: Shelf,
+    R: Read,
+    W: Write,
+    E: Write,
+    V: Watch + WatchSteps,
+>(job: Job, name: &str, input: &mut Input<R>, host: &mut Host<P, S, W, E, V>) -> u8
     ensures same_output { host.new.output.ghost_name ≡ host.old.output.ghost_name }
     ensures same_errors { host.new.errors.ghost_name ≡ host.old.errors.ghost_name }
     ensures did { Did job name.now (R.remaining input.old) (R.remaining input.new) (W.contents host.old.output.now)
@@ -192,9 +306,16 @@ pub fn do_and_tell<P: Threads + Wait + Sync, S: Shelf, R: Read, W: Write, E: Wri
         shelf: host.shelf,
         is_terminal: host.is_terminal,
     };
-    let Ended { done, message } = do_noting(job, name, &means, input, host.output, host.watch);
+    let Ended {
+        done,
+        message,
+        notes,
+    } = do_noting(job, name, &means, input, host.output, host.watch);
     match done {
-        Ok(()) => 0,
+        Ok(()) => {
+            tell_notes(notes.as_slice(), host.errors);
+            0
+        }
         Err(fault) => {
             let is_quiet = host.output.is_closed() || host.told_of_output;
             tell_fault(fault, is_quiet, message, host.errors);
@@ -245,13 +366,14 @@ fn refuse_input<E: Write>(errors: &mut E) -> u8
 
 /// Does a job over an input of this name, and tells the errors of a fault, as `do_and_tell` does; or refuses the input,
 /// if what is made of it is to be written into its file. Answers the status.
-pub fn do_or_refuse<P: Threads + Wait + Sync, S: Shelf, R: Read, W: Write, E: Write, V: Watch>(
-    rewrite: bool,
-    job: Job,
-    name: &str,
-    input: &mut Input<R>,
-    host: &mut Host<P, S, W, E, V>,
-) -> u8
+pub fn do_or_refuse<
+    P: Threads + Wait + Sync,
+    S: Shelf,
+    R: Read,
+    W: Write,
+    E: Write,
+    V: Watch + WatchSteps,
+>(rewrite: bool, job: Job, name: &str, input: &mut Input<R>, host: &mut Host<P, S, W, E, V>) -> u8
     ensures same_output { host.new.output.ghost_name ≡ host.old.output.ghost_name }
     ensures same_errors { host.new.errors.ghost_name ≡ host.old.errors.ghost_name }
     ensures did { DidOrRefused rewrite job name.now (R.remaining input.old) (R.remaining input.new) (W.contents host.old.output.now)
@@ -320,7 +442,7 @@ pub fn refuse<W: Write, E: Write>(
 /// - `check` reads a story, and writes whether it is ok, as `check` does. With `--strict` it wants an answer beside
 ///   each refusal. With `--print` it writes the story with its answers, as `fill` does. `--write` is refused, since
 ///   `input` is no file.
-/// - `judge` reads a history, and writes whether it is legal, as `judge` does.
+/// - `judge` reads a history, and writes whether it is legal, as `judge` does in the form that its flags name.
 /// - `shell` reads the lines of a person, and answers each, as `shell` does without a prompt. It saves and loads no
 ///   story.
 /// - `replay` reads a trace, and writes what it comes to, as `replay` does.
@@ -340,10 +462,10 @@ pub fn refuse<W: Write, E: Write>(
 /// - 6 if a thread can't be started, or the desk of the clients doesn't settle;
 /// - 7 if a history stayed undecided.
 ///
-/// At status 0 nothing goes to `errors`, and at 2 to 7 one line of printable ASCII, which says what went wrong. If that
-/// line cannot be written, the status stays. At 3 it is a part of the reason why the words are refused, if that could
-/// not be written. It is nothing if nobody reads `output` any more. No memory is taken for the line, but a story is
-/// kept in memory for the place of its fault.
+/// At status 0 the notes of `check` and `show` go to `errors`, as `story_notes` has them, and at 2 to 7 one line of
+/// printable ASCII, which says what went wrong. If these cannot be written, the status stays. At 3 it is a part of the
+/// reason why the words are refused, if that could not be written. It is nothing if nobody reads `output` any more. No
+/// memory is taken for the line, but a story is kept in memory for the place of its fault.
 pub fn command<T: Threads + Wait + Sync, S: AsStr, R: Read, W: Write, E: Write>(
     alloc: Global,
     rt: &T,

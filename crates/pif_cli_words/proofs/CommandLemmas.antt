@@ -3,7 +3,6 @@ use Rattle.std.proofs.Common.{◌≡◌, ◌∙◌, ◌||◌, Bool, true, false,
 use Rattle.clap.specs.Words.{AddsArg, AddsSubcommand, App, app_of, rule_of, shape_of, with_rule, with_subcommand}
 use Rattle.clap.specs.declared.builder.arg.Arg.{Arg}
 use Rattle.clap.specs.declared.builder.command.Command.{Command}
-use Rattle.clap.specs.declared.builder.command.Command.TheViews.{out-Command}
 use Rattle.pif_cli_words.specs.Commands.{IsApp, IsCommand}
 
 nothing_more : (a b : Bool) → a ≡ false → b ≡ false → (a || b) ≡ false

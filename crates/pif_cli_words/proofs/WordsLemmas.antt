@@ -2,23 +2,30 @@
 use Rattle.std.proofs.Common.{unwrap_or, ◌≡◌, ◌∙◌, ℕ, Bool, true, List, [], Option, Some, None, option_map, codes, Box, ap, refl, sym, subst}
 use Rattle.std.specs.Box.{box_value}
 use Rattle.std.specs.declared.alloc.Global.{Global}
-use Rattle.clap.specs.Words.{App, HasKind, fault_of, is_simple_and_free, HasMatchesOf, Row, Text, matched_of, raw_values, rows_of, subcommand_name_of, subcommand_of, subcommand_rows}
+use Rattle.clap.specs.Kinds.{or_else}
+use Rattle.clap.specs.Values.{kind_of}
+use Rattle.clap.specs.Words.{App, HasKind, Kinds, fault_of, is_simple_and_free, HasMatchesOf, Row, Text, matched_of, raw_values, rows_of, subcommand_name_of, subcommand_of, subcommand_rows}
 use Rattle.clap.specs.declared.error.Error.{Error}
 use Rattle.clap.specs.declared.parser.matches.ArgMatches.{ArgMatches}
 use Rattle.clap.specs.declared.parser.matches.ArgMatches.TheViews.{out-ArgMatches, out-SubCommand}
 use Rattle.clap.specs.declared.parser.matches.Found.{Found}
 use Rattle.clap.specs.declared.parser.matches.SubCommand.{SubCommand}
+use Rattle.clap.proofs.FaultLemmas.{first_fails}
 use Rattle.clap.proofs.WalkLemmas.{raw_values-rows}
+use Rattle.pif_cli_words.specs.declared.clashes.Clash.{Clash}
 use Rattle.pif_cli_words.specs.declared.jobs.Job.{Job}
-use Rattle.pif_cli_words.specs.Words.{files_by, files_in, files_of, job_by, job_named, job_of, program, refusals_of, rewrites, rewrites_by}
+use Rattle.pif_cli_words.specs.Words.{clash_by, clash_kinds, files_by, files_in, files_of, job_by, job_named, job_of, program, refusals_of, rewrites, rewrites_by}
 
--- words with which the program's commands were parsed have no refusal
-pub refusals-none : (pif : App) (words : List (List ℕ)) → pif ≡ program → (is_simple_and_free pif ≡ true → fault_of pif words ≡ []) → refusals_of words ≡ []
-refusals-none pif words e k = subst (λ a. (is_simple_and_free a ≡ true → fault_of a words ≡ []) → fault_of program words ≡ []) (sym e) (λ f. f refl) k
+-- words with which the program's commands were parsed have no refusal by a parse
+pub unrefused : (pif : App) (words : List (List ℕ)) → pif ≡ program → (is_simple_and_free pif ≡ true → fault_of pif words ≡ []) → fault_of program words ≡ []
+unrefused pif words e k = subst (λ a. (is_simple_and_free a ≡ true → fault_of a words ≡ []) → fault_of program words ≡ []) (sym e) (λ f. f refl) k
 
 -- words with which they were not parsed are refused for the reason that was given
 pub refusals-told : (pif : App) (words : List (List ℕ)) (e : Error) → pif ≡ program → (is_simple_and_free pif ≡ true → HasKind (fault_of pif words) e) → HasKind (refusals_of words) e
-refusals-told pif words e same k = subst (λ a. (is_simple_and_free a ≡ true → HasKind (fault_of a words) e) → HasKind (fault_of program words) e) (sym same) (λ f. f refl) k
+refusals-told pif words e same k =
+    let told : HasKind (fault_of program words) e =
+    subst (λ a. (is_simple_and_free a ≡ true → HasKind (fault_of a words) e) → HasKind (fault_of program words) e) (sym same) (λ f. f refl) k in
+    first_fails (fault_of program words) (clash_kinds (clash_by (subcommand_of program words))) (kind_of e) told
 
 -- the subcommand that a parse met, by its name and its rows
 met : (o : Option (Box SubCommand Global)) (name : Text) (rows : List Row)
@@ -49,6 +56,14 @@ module _ (pif : App) (words : List (List ℕ)) (m : ArgMatches) (name : Text) (f
   -- and whether its files are to be written
   pub rewrites_read : (rewrite : Bool) → rewrite ≡ rewrites_by (Some (name, rows_of found)) → rewrite ≡ rewrites words
   rewrites_read rewrite f = f ∙ sym (ap rewrites_by there)
+
+  -- and how its words clash
+  pub clash_read : (clash : Option Clash) → clash ≡ clash_by (Some (name, rows_of found)) → fault_of program words ≡ []
+      → refusals_of words ≡ clash_kinds clash
+  clash_read clash c none =
+      ap (λ (k : Kinds). or_else k (clash_kinds (clash_by (subcommand_of program words)))) none
+      ∙ (ap (λ (command : Option (Text × List Row)). clash_kinds (clash_by command)) there
+      ∙ ap (λ (o : Option Clash). clash_kinds o) (sym c))
 
 -- the files that were found
 pub files_found : (o : Option (List Text)) (found : Found) → o ≡ option_map raw_values (matched_of found (codes "FILE"))

@@ -1,14 +1,19 @@
 -- The words of the program: its commands, and the job, the files and the refusals of words.
-use Rattle.std.specs.Prelude.{ℕ, Bool, true, false, ◌&&◌, nat_lt, length, List, [], ◌∷◌, Option, Some, None, unwrap_or, codes, bytes_eq, if◌then◌else◌}
+use Rattle.std.specs.Prelude.{ℕ, Bool, true, false, ◌&&◌, ◌||◌, nat_lt, length, List, [], ◌∷◌, Option, Some, None, unwrap_or, codes, bytes_eq, if◌then◌else◌}
+use Rattle.clap.specs.Kinds.{or_else}
 use Rattle.clap.specs.Lexer.{usize_max}
 use Rattle.clap.specs.Words.{App, Kinds, Row, Rule, Text, all_of, fault_of, first_of, new_app, new_rule, subcommand_of, with_rule, with_subcommand}
 use Rattle.clap.specs.declared.builder.value_parser.ValueParser.TheVariants.{Unsigned}
+use Rattle.clap.specs.declared.error.kind.ErrorKind.TheVariants.{ArgumentConflict, TooManyValues}
 use Rattle.pif_script_model.specs.declared.details.Detail.TheVariants.{Changes, All}
-use Rattle.pif_script_model.specs.declared.pictures.Picture.TheVariants.{Drawing, States, Graph}
+use Rattle.pif_script_model.specs.declared.pictures.Picture.TheVariants.{States, Graph}
+use Rattle.pif_cli_words.specs.declared.clashes.Clash.{Clash}
+use Rattle.pif_cli_words.specs.declared.clashes.Clash.TheVariants.{Forms, Files}
+use Rattle.pif_cli_words.specs.declared.jobs.Drawn.{Drawn}
 use Rattle.pif_cli_words.specs.declared.jobs.Judging.{Judging}
 use Rattle.pif_cli_words.specs.declared.jobs.Job.{Job}
-use Rattle.pif_cli_words.specs.declared.jobs.Job.TheVariants.{Run, Replay, Trace, Migrate, Show, Picture, Shell, Check, Strict, Fill, FillSeveral, Judge, Random, Drive}
-use Rattle.pif_cli_words.specs.Options.{chosen_rule, flag_in, flag_rule, number_between}
+use Rattle.pif_cli_words.specs.declared.jobs.Job.TheVariants.{Run, Replay, Trace, Migrate, Show, Picture, Draw, Shell, Check, Strict, Fill, FillSeveral, Judge, Random, Drive}
+use Rattle.pif_cli_words.specs.Options.{chosen_rule, flag_in, flag_rule, number_between, number_rule}
 use Rattle.pif_cli_words.specs.Random.{random_app, recipe_in}
 
 -- the file of a command over one input, which may be left out
@@ -52,11 +57,12 @@ checked_app =
 abbrev pub check_app : App
 check_app = with_rule checked_app files_rule
 
--- the command `judge`, with its flag for a run, and its option for how many states may be made for a line
+-- the command `judge` for a person or, by a flag, for programs or with a page, and its option for how many states may be
+-- made for a line
 abbrev pub judged_app : App
 judged_app =
-    with_rule (with_rule (new_app (codes "judge")) (flag_rule (codes "witness")))
-    (chosen_rule (codes "states") 1 16777216 (codes "200000"))
+    with_rule (with_rule (with_rule (with_rule (new_app (codes "judge")) (flag_rule (codes "witness"))) (flag_rule (codes "json")))
+    (flag_rule (codes "html"))) (chosen_rule (codes "states") 1 16777216 (codes "200000"))
 
 abbrev pub judge_app : App
 judge_app = with_rule judged_app files_rule
@@ -69,13 +75,19 @@ shown_app = with_rule (new_app (codes "show")) (flag_rule (codes "all"))
 abbrev pub show_app : App
 show_app = with_rule (with_rule (with_rule shown_app (flag_rule (codes "json"))) (flag_rule (codes "dot"))) file_rule
 
+-- the command `draw`, with its flag for a page, and its options for the lines of the story that are drawn
+abbrev pub draw_app : App
+draw_app =
+    with_rule (with_rule (with_rule (with_rule (new_app (codes "draw")) (flag_rule (codes "html")))
+    (number_rule (codes "from") 1 4294967295)) (number_rule (codes "to") 1 4294967295)) file_rule
+
 -- the command `shell`, which takes no words
 abbrev pub shell_app : App
 shell_app = new_app (codes "shell")
 
 -- a program with the commands that run a script and show its states: `run`, `show` and `draw`
 abbrev pub with_states : App → App
-with_states pif = with_job (with_subcommand (with_job pif (codes "run")) show_app.top) (codes "draw")
+with_states pif = with_subcommand (with_subcommand (with_job pif (codes "run")) show_app.top) draw_app.top
 
 -- a program with the commands over scripts, stories and histories that show answers: these, `shell`, `check` and
 -- `judge`
@@ -92,10 +104,6 @@ with_traces pif = with_job (with_job (with_job pif (codes "replay")) (codes "tra
 abbrev pub program : App
 program = with_subcommand (with_subcommand (with_traces (with_runs bare_program)) random_app.top) drive_app.top
 
--- why the words are refused, the program's name first; none where they ask for a job
-abbrev pub refusals_of : List (List ℕ) → Kinds
-refusals_of words = fault_of program words
-
 -- how a script is shown: for a person, with what changes or with all there is, or as a picture that a flag names; of
 -- several flags the first of `--json`, `--dot` and `--all` counts
 abbrev pub shown_in : List Row → Job
@@ -103,6 +111,14 @@ shown_in rows =
     if flag_in (codes "json") rows then Picture States
     else (if flag_in (codes "dot") rows then Picture Graph
     else (if flag_in (codes "all") rows then Show All else Show Changes))
+
+-- what of a story is drawn, and how; 0 stands for a line that isn't named
+abbrev pub drawn_in : List Row → Drawn
+drawn_in rows = record {
+  html = flag_in (codes "html") rows;
+  from = number_between 1 4294967295 (first_of (codes "from") rows);
+  to = number_between 1 4294967295 (first_of (codes "to") rows);
+}
 
 -- whether several files are given to a command
 abbrev pub has_several : List Row → Bool
@@ -112,9 +128,33 @@ has_several rows = nat_lt 1 (length (unwrap_or (all_of (codes "FILE") rows) []))
 abbrev pub judging_in : List Row → Judging
 judging_in rows = record {
   witness = flag_in (codes "witness") rows;
+  json = flag_in (codes "json") rows;
+  html = flag_in (codes "html") rows;
   states = number_between 1 16777216 (first_of (codes "states") rows);
   several = has_several rows;
 }
+
+-- how `judge` clashes: a page holds the lines of JSON and a run, so that nothing else is written beside it, and it is one
+-- of one history
+abbrev pub judging_clash : List Row → Option Clash
+judging_clash rows =
+    if flag_in (codes "html") rows then (if flag_in (codes "json") rows || flag_in (codes "witness") rows then Some Forms
+    else (if has_several rows then Some Files else None)) else None
+
+-- the kind of error of a clash, if there is one
+abbrev pub clash_kinds : Option Clash → Kinds
+clash_kinds None = []
+clash_kinds (Some Forms) = ArgumentConflict ∷ []
+clash_kinds (Some Files) = TooManyValues ∷ []
+
+-- how words of a command clash, by its name and what was given to it
+abbrev pub clash_by : Option (Text × List Row) → Option Clash
+clash_by (Some command) = if bytes_eq command.0 (codes "judge") then judging_clash command.1 else None
+clash_by None = None
+
+-- why the words are refused, the program's name first; none where they ask for a job
+abbrev pub refusals_of : List (List ℕ) → Kinds
+refusals_of words = or_else (fault_of program words) (clash_kinds (clash_by (subcommand_of program words)))
 
 -- how stories are filled in and printed: several are told apart
 abbrev pub filling_in : List Row → Job
@@ -135,7 +175,7 @@ job_named name rows =
     else (if bytes_eq name (codes "trace") then Trace
     else (if bytes_eq name (codes "migrate") then Migrate
     else (if bytes_eq name (codes "show") then shown_in rows
-    else (if bytes_eq name (codes "draw") then Picture Drawing
+    else (if bytes_eq name (codes "draw") then Draw (drawn_in rows)
     else (if bytes_eq name (codes "shell") then Shell
     else (if bytes_eq name (codes "check") then checking_in rows
     else (if bytes_eq name (codes "judge") then Judge (judging_in rows)

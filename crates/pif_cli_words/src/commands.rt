@@ -3,19 +3,19 @@
 ghost use Rattle.std.specs.Prelude.{◌≡◌, IfOk, false};
 ghost use Rattle.clap.specs.Words.{App, app_of, new_app, rule_of, with_rule, with_subcommand};
 ghost use Rattle.pif_cli_words.specs.Commands.{IsApp, IsCommand};
-ghost use Rattle.pif_cli_words.specs.Options.{flag_rule};
-ghost use Rattle.pif_cli_words.specs.Words.{bare_program, check_app, clients_rule, drive_app, file_rule, files_rule, judge_app, program, show_app, with_job, with_runs, with_states, with_traces};
+ghost use Rattle.pif_cli_words.specs.Options.{flag_rule, number_rule};
+ghost use Rattle.pif_cli_words.specs.Words.{bare_program, check_app, clients_rule, draw_app, drive_app, file_rule, files_rule, judge_app, program, show_app, with_job, with_runs, with_states, with_traces};
 
 use crate::helps::{
     ABOUT, ABOUT_ALL, ABOUT_CHECK, ABOUT_CLIENTS, ABOUT_DOT, ABOUT_DRAW, ABOUT_DRIVE, ABOUT_FILE,
-    ABOUT_FILES, ABOUT_HISTORIES, ABOUT_JSON, ABOUT_JUDGE, ABOUT_MIGRATE, ABOUT_PRINT,
-    ABOUT_REPLAY, ABOUT_RUN, ABOUT_SHELL, ABOUT_SHOW, ABOUT_STATES, ABOUT_STRICT, ABOUT_TRACE,
-    ABOUT_WITNESS, ABOUT_WRITE, EXAMPLE, MORE_CHECK, MORE_DRAW, MORE_DRIVE, MORE_JUDGE,
-    MORE_MIGRATE, MORE_REPLAY, MORE_RUN, MORE_SHELL, MORE_SHOW, MORE_TRACE, USAGE_CHECK,
-    USAGE_DRAW, USAGE_DRIVE, USAGE_JUDGE, USAGE_MIGRATE, USAGE_REPLAY, USAGE_RUN, USAGE_SHELL,
-    USAGE_SHOW, USAGE_TRACE, VERSION,
+    ABOUT_FILES, ABOUT_FROM, ABOUT_HISTORIES, ABOUT_HTML, ABOUT_JSON, ABOUT_JUDGE, ABOUT_MIGRATE,
+    ABOUT_PRINT, ABOUT_REPLAY, ABOUT_RUN, ABOUT_RUN_HTML, ABOUT_RUN_JSON, ABOUT_SHELL, ABOUT_SHOW,
+    ABOUT_STATES, ABOUT_STRICT, ABOUT_TO, ABOUT_TRACE, ABOUT_WITNESS, ABOUT_WRITE, EXAMPLE,
+    MORE_CHECK, MORE_DRAW, MORE_DRIVE, MORE_JUDGE, MORE_MIGRATE, MORE_REPLAY, MORE_RUN, MORE_SHELL,
+    MORE_SHOW, MORE_TRACE, USAGE_CHECK, USAGE_DRAW, USAGE_DRIVE, USAGE_JUDGE, USAGE_MIGRATE,
+    USAGE_REPLAY, USAGE_RUN, USAGE_SHELL, USAGE_SHOW, USAGE_TRACE, VERSION,
 };
-use crate::options::flag_given;
+use crate::options::{flag_given, number_given};
 use crate::random::{random_command, with_chosen};
 use clap::builder::ValueParser;
 use std::alloc::{AllocError, Global};
@@ -141,6 +141,24 @@ fn show_command<'a>(alloc: Global) -> Made<'a>
     with_file(alloc, dot)
 }
 
+/// A command with an option for a line of the story.
+fn with_line<'a>(alloc: Global, made: Made<'a>, name: &'a str, help: &'a str) -> Made<'a>
+    ensures { (app : App) → IsApp app made.entry → IsApp (with_rule app (number_rule name.now 1 4294967295)) result }
+{
+    with_arg(made, number_given(alloc, name, "L", 1, 4_294_967_295, help))
+}
+
+/// The command `draw`.
+fn draw_command<'a>(alloc: Global) -> Made<'a>
+    ensures { IsApp draw_app result }
+{
+    let draw = described(alloc, "draw", ABOUT_DRAW, USAGE_DRAW, MORE_DRAW);
+    let html = with_flag(alloc, draw, "html", ABOUT_HTML);
+    let from = with_line(alloc, html, "from", ABOUT_FROM);
+    let to = with_line(alloc, from, "to", ABOUT_TO);
+    with_file(alloc, to)
+}
+
 /// The command `check`.
 fn check_command<'a>(alloc: Global) -> Made<'a>
     ensures { IsApp check_app result }
@@ -158,9 +176,11 @@ fn judge_command<'a>(alloc: Global) -> Made<'a>
 {
     let judge = described(alloc, "judge", ABOUT_JUDGE, USAGE_JUDGE, MORE_JUDGE);
     let witness = with_flag(alloc, judge, "witness", ABOUT_WITNESS);
+    let json = with_flag(alloc, witness, "json", ABOUT_RUN_JSON);
+    let html = with_flag(alloc, json, "html", ABOUT_RUN_HTML);
     let states = with_chosen(
         alloc,
-        witness,
+        html,
         "states",
         "N",
         1,
@@ -177,7 +197,7 @@ fn with_states<'a>(alloc: Global, pif: Made<'a>) -> Made<'a>
 {
     let run = with_job(alloc, pif, "run", ABOUT_RUN, USAGE_RUN, MORE_RUN);
     let show = with_command(run, show_command(alloc));
-    with_job(alloc, show, "draw", ABOUT_DRAW, USAGE_DRAW, MORE_DRAW)
+    with_command(show, draw_command(alloc))
 }
 
 /// The program with the commands over scripts and stories that show answers.

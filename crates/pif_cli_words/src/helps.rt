@@ -24,6 +24,15 @@ pub const ABOUT_SHOW: &str = "Reads a story or a script, and shows each answer a
 /// What `draw` does.
 pub const ABOUT_DRAW: &str = "Reads a story or a script, and draws it as an SVG image";
 
+/// What the flag of `draw` for a page does.
+pub const ABOUT_HTML: &str = "Writes a page with the state behind each command";
+
+/// What the first line of `draw` is.
+pub const ABOUT_FROM: &str = "The first line of the story that is drawn";
+
+/// What the last line of `draw` is.
+pub const ABOUT_TO: &str = "The last line of the story that is drawn";
+
 /// What the flag of `show` for all there is does.
 pub const ABOUT_ALL: &str = "Prints all there is behind each line, not just what has changed";
 
@@ -43,8 +52,14 @@ pub const ABOUT_CHECK: &str = "Reads stories, and says whether the core gives th
 pub const ABOUT_JUDGE: &str =
     "Reads histories of an implementation, and says whether they are legal";
 
-/// What the flag of `judge` does.
+/// What the flag of `judge` for a person does.
 pub const ABOUT_WITNESS: &str = "Writes a run of each legal history, too";
+
+/// What the flag of `judge` for JSON does.
+pub const ABOUT_RUN_JSON: &str = "Writes the verdict and a run as lines of JSON";
+
+/// What the flag of `judge` for a page does.
+pub const ABOUT_RUN_HTML: &str = "Writes a page that shows the verdict and a run; of one file";
 
 /// What the option of `judge` does.
 pub const ABOUT_STATES: &str = "The most states for a line, 1 to 16777216";
@@ -71,7 +86,7 @@ pub const ABOUT_WRITE: &str = "Writes the answers of each story into its file, a
 pub const USAGE_CHECK: &str = "pif check [--strict | --print | --write] [FILE]...";
 
 /// How `judge` is called.
-pub const USAGE_JUDGE: &str = "pif judge [--witness] [--states N] [FILE]...";
+pub const USAGE_JUDGE: &str = "pif judge [--witness | --json | --html] [--states N] [FILE]...";
 
 /// How `run` is called.
 pub const USAGE_RUN: &str = "pif run [FILE]";
@@ -89,7 +104,7 @@ pub const USAGE_MIGRATE: &str = "pif migrate [FILE]";
 pub const USAGE_SHOW: &str = "pif show [--all | --json | --dot] [FILE]";
 
 /// How `draw` is called.
-pub const USAGE_DRAW: &str = "pif draw [FILE]";
+pub const USAGE_DRAW: &str = "pif draw [--html] [--from L] [--to L] [FILE]";
 
 /// How `shell` is called.
 pub const USAGE_SHELL: &str = "pif shell";
@@ -251,8 +266,9 @@ has changed; with --all, all of them:
   chain          who waits for which mutex, who holds it, and for which that one
                  waits
 What is empty is left out; if a line has emptied the run queue, or ended the
-last chain, 'none' stands there. This text is for reading, and may change; 'pif
-run' prints for programs.
+last chain, 'none' stands there. A comment '# t1: low' gives t1 the name low,
+which then stands behind it. This text is for reading, and may change; 'pif run'
+prints for programs.
 
 With --json or --dot it prints nothing of a story with a fault. docs/FORMATS.md
 says what they print. Of several flags the first of --json, --dot and --all
@@ -260,8 +276,9 @@ counts.
 
 Status: 0 done, 1 wrong words, 2 a fault, 3 a read or write failed, 4 out of
 memory.
-Standard error says what went wrong, and in which line. Without --json and
---dot only commands are counted as lines, from 1.
+Standard error says what went wrong, and in which line; without --json and
+--dot, at status 0, which names nobody has. Without --json and --dot only
+commands are counted as lines, from 1.
 
 Example:
   pif show --json examples/unusable_mutex.story | tools/perfetto > trace.json";
@@ -274,9 +291,13 @@ or 'pif run' takes it. Answers that stand in it are not compared.
 The image has a column for each command and a lane for each thread: whether it
 runs, is ready, waits or is parked; its priority, with a boost filled in; and
 the mutexes that it holds. Arrows are hand-overs and signals. It has no scripts,
-and a browser shows what each part is under the pointer.
+and a browser shows what each part is under the pointer. With --html it stands
+in a page, which needs nothing else, above the state behind a command that one
+chooses. A comment '# t1: low' gives t1 the name low.
 
-All is read first, and nothing is printed of a story with a fault.
+At most 5000 commands are drawn, since browsers open no wider image. Of a longer
+story --from and --to choose the lines; with --html all commands count. All is
+read first, and nothing is printed of a story with a fault.
 
 Status: 0 done, 1 wrong words, 2 a fault of the story, 3 a read or write failed,
 4 out of memory.
@@ -334,6 +355,11 @@ For each history it prints:
     more states than --states were made for line L
   fault L CAUSE
     line L is the first that is a fault
+With --json it prints an object for the verdict, and one for each line of a run
+with the moves before it: of a run that shows the history, or the lines before
+line L. With --html they stand in a page, which needs nothing from elsewhere: a
+lane for each thread, and a click on a step shows the state behind it. A fault
+has no object and no page.
 
 Example:
   printf 'thread 10\\nmutex normal\\nbegin t1 lock m1\\nanswer t1 0\\n' | pif judge
@@ -374,7 +400,8 @@ is, and so does what is no plain file.
 
 Status, of the first story that is not ok: 0 ok, 1 wrong words, 2 a fault,
 3 a read or write failed, 4 out of memory, 5 a difference or such a refusal.
-Standard error says what went wrong, and in which line.";
+Standard error says what went wrong, and in which line; of a story that is ok,
+which names in it nobody has.";
 
 /// The end of the help of `random`.
 pub const MORE_RANDOM: &str =

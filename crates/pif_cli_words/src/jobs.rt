@@ -1,10 +1,11 @@
 //! Jobs: what the words ask for, and over which files.
 ghost use Rattle.std.specs.Prelude.{◌≡◌, IfOk, Some, map};
 ghost use Rattle.clap.specs.Words.{FailsBy, found_of, rows_of};
-ghost use Rattle.pif_cli_words.specs.Words.{refusals_of, job_of, job_named, checking_in, filling_in, rewrites, rewrites_by, files_in, files_of, first_name, has_several, judging_in, shown_in};
+ghost use Rattle.pif_cli_words.specs.Words.{refusals_of, job_of, job_named, checking_in, filling_in, rewrites, rewrites_by, files_in, files_of, first_name, drawn_in, judging_in, shown_in};
 
+use crate::clashes::clash_in;
 use crate::commands::program;
-use crate::options::{is_given, small_number_between};
+use crate::options::{has_several, is_given, small_number_between};
 use crate::random::{Recipe, recipe_in};
 use pif_script_model::{Detail, Picture};
 use std::alloc::{AllocError, Global};
@@ -16,12 +17,27 @@ pub const STANDARD_NAME: &str = "-";
 /// How histories are judged.
 #[derive(Clone, Copy)]
 pub struct Judging {
-    /// Whether a run of a legal history is written.
+    /// Whether a run of a legal history is written for a person.
     pub witness: bool,
+    /// Whether lines of JSON are written.
+    pub json: bool,
+    /// Whether a page is written.
+    pub html: bool,
     /// How many states may be made for a line.
     pub states: u32,
     /// Whether there are several files, so that the name of each is told.
     pub several: bool,
+}
+
+/// What of a story is drawn, and how.
+#[derive(Clone, Copy)]
+pub struct Drawn {
+    /// Whether it is a page with the states behind the commands, and not an image alone.
+    pub html: bool,
+    /// The first line whose command is drawn; 0 if none is named, and then it is the first of all.
+    pub from: u32,
+    /// The last one; 0 if none is named, and then it is the last of all.
+    pub to: u32,
 }
 
 /// What the words ask the program to do.
@@ -38,8 +54,10 @@ pub enum Job {
     /// `show`: run a script or a story, and show it to a person, with what changes by each line, or by `--all` with all
     /// there is.
     Show(Detail),
-    /// `draw`, `show --json` and `show --dot`: make a picture of a story.
+    /// `show --json` and `show --dot`: make a picture of a story.
     Picture(Picture),
+    /// `draw`: draw a story.
+    Draw(Drawn),
     /// `shell`: answer a script while a person types it.
     Shell,
     /// `check`: check a story.
@@ -88,11 +106,14 @@ pub fn read_words<'a, S: AsStr>(alloc: Global, words: &'a [S]) -> Result<Asked<'
 {
     let matches = program(alloc)?.try_get_matches_from(words)?;
     match matches.subcommand() {
-        Some((name, given)) => Ok(Asked {
-            job: job_named(name, given),
-            files: files_in(alloc, given)?,
-            rewrites: rewrites(name, given),
-        }),
+        Some((name, given)) => match clash_in(name, given) {
+            Some(clash) => Err(clash.error(alloc)),
+            None => Ok(Asked {
+                job: job_named(name, given),
+                files: files_in(alloc, given)?,
+                rewrites: rewrites(name, given),
+            }),
+        },
         None => Ok(Asked {
             job: Job::Run,
             files: Vec::new(alloc),
@@ -124,24 +145,27 @@ fn shown_in(given: &clap::ArgMatches) -> Job
     }
 }
 
-/// Whether several files are given to a command.
-fn has_several(given: &clap::ArgMatches) -> bool
-    ensures { result ≡ has_several (rows_of (found_of given.now)) }
-{
-    match given.get_strs("FILE") {
-        Some(files) => files.len() > 1,
-        None => false,
-    }
-}
-
 /// How `judge` is to judge its histories.
 fn judging_in(given: &clap::ArgMatches) -> Judging
     ensures { result ≡ judging_in (rows_of (found_of given.now)) }
 {
     Judging {
         witness: is_given(given, "witness"),
+        json: is_given(given, "json"),
+        html: is_given(given, "html"),
         states: small_number_between(given, "states", 1, 16_777_216),
         several: has_several(given),
+    }
+}
+
+/// What `draw` is to draw.
+fn drawn_in(given: &clap::ArgMatches) -> Drawn
+    ensures { result ≡ drawn_in (rows_of (found_of given.now)) }
+{
+    Drawn {
+        html: is_given(given, "html"),
+        from: small_number_between(given, "from", 1, u32::MAX),
+        to: small_number_between(given, "to", 1, u32::MAX),
     }
 }
 
@@ -185,7 +209,7 @@ fn job_named(name: &str, given: &clap::ArgMatches) -> Job
     } else if name == "show" {
         shown_in(given)
     } else if name == "draw" {
-        Job::Picture(Picture::Drawing)
+        Job::Draw(drawn_in(given))
     } else if name == "shell" {
         Job::Shell
     } else if name == "check" {

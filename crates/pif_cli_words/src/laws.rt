@@ -1,6 +1,6 @@
 //! Laws on words: which job they ask for, and why they are refused.
 ghost use Rattle.std.specs.Prelude.{◌≡◌, ◌≤◌, ℕ, List, [], ◌∷◌, codes, true, false};
-ghost use Rattle.clap.specs.declared.error.kind.ErrorKind.TheVariants.{DisplayHelp, DisplayVersion, InvalidSubcommand, MissingRequiredArgument, MissingSubcommand, ValueValidation};
+ghost use Rattle.clap.specs.declared.error.kind.ErrorKind.TheVariants.{ArgumentConflict, DisplayHelp, DisplayVersion, InvalidSubcommand, MissingRequiredArgument, MissingSubcommand, TooManyValues, ValueValidation};
 ghost use Rattle.pif_cli_words.specs.Random.{plain_shape};
 ghost use Rattle.pif_cli_words.specs.Words.{refusals_of, job_of, files_of, rewrites};
 
@@ -9,9 +9,10 @@ use crate::random::Recipe;
 use pif_script_model::{Detail, Picture};
 
 /// Which words ask for which job: `run`, `show`, `draw`, `shell`, `replay`, `trace` and `migrate` alone, `show` with
-/// each of its flags, `run` with a file, `check` alone, with each of its flags and with two files, `judge` alone, and
-/// with its options and two files, `random` with a seed and from 1 to 262,144 lines, and `drive` with a number from 1
-/// to 64 do; no word, `--help` and `--version` don't.
+/// each of its flags, `draw` with all of its options, `run` with a file, `check` alone, with each of its flags and with
+/// two files, `judge` alone, with its options and two files, and with `--html` and one, `random` with a seed and from 1
+/// to 262,144 lines, and `drive` with a number from 1 to 64 do; no word, `--help`, `--version`, and `judge --html` with
+/// another form or two files don't.
 #[tactic(auto, unfolding(clap::proofs::OnLiterals::clap_on_literals))]
 pub fn words_of_the_program()
     ensures run { (name : List ℕ) → (refusals_of (name ∷ codes "run" ∷ []) ≡ []) × (job_of (name ∷ codes "run" ∷ []) ≡ Job.Run) }
@@ -22,7 +23,10 @@ pub fn words_of_the_program()
     ensures all { (name : List ℕ) → (refusals_of (name ∷ codes "show" ∷ codes "--all" ∷ []) ≡ [])
         × (job_of (name ∷ codes "show" ∷ codes "--all" ∷ []) ≡ Job.Show Detail.All) }
     ensures draw { (name : List ℕ) → (refusals_of (name ∷ codes "draw" ∷ []) ≡ [])
-        × (job_of (name ∷ codes "draw" ∷ []) ≡ Job.Picture Picture.Drawing) }
+        × (job_of (name ∷ codes "draw" ∷ []) ≡ Job.Draw (record { html = false; from = 0; to = 0 })) }
+    ensures page { (name : List ℕ) → (refusals_of (name ∷ codes "draw" ∷ codes "--html" ∷ codes "--from=3" ∷ codes "--to=9" ∷ []) ≡ [])
+        × (job_of (name ∷ codes "draw" ∷ codes "--html" ∷ codes "--from=3" ∷ codes "--to=9" ∷ [])
+        ≡ Job.Draw (record { html = true; from = 3; to = 9 })) }
     ensures json { (name : List ℕ) → (refusals_of (name ∷ codes "show" ∷ codes "--json" ∷ []) ≡ [])
         × (job_of (name ∷ codes "show" ∷ codes "--json" ∷ []) ≡ Job.Picture Picture.States) }
     ensures dot { (name : List ℕ) → (refusals_of (name ∷ codes "show" ∷ codes "--dot" ∷ []) ≡ [])
@@ -40,10 +44,19 @@ pub fn words_of_the_program()
         × (job_of (name ∷ codes "check" ∷ codes "--write" ∷ codes "a" ∷ []) ≡ Job.Fill)
         × (rewrites (name ∷ codes "check" ∷ codes "--write" ∷ codes "a" ∷ []) ≡ true) }
     ensures judge { (name : List ℕ) → (refusals_of (name ∷ codes "judge" ∷ []) ≡ [])
-        × (job_of (name ∷ codes "judge" ∷ []) ≡ Job.Judge (record { witness = false; states = 200000; several = false })) }
+        × (job_of (name ∷ codes "judge" ∷ []) ≡ Job.Judge (record { witness = false; json = false; html = false; states = 200000; several = false })) }
     ensures judges { (name : List ℕ) → (refusals_of (name ∷ codes "judge" ∷ codes "--witness" ∷ codes "--states=7" ∷ codes "a" ∷ codes "b" ∷ []) ≡ [])
         × (job_of (name ∷ codes "judge" ∷ codes "--witness" ∷ codes "--states=7" ∷ codes "a" ∷ codes "b" ∷ [])
-        ≡ Job.Judge (record { witness = true; states = 7; several = true })) }
+        ≡ Job.Judge (record { witness = true; json = false; html = false; states = 7; several = true })) }
+    ensures objects { (name : List ℕ) → (refusals_of (name ∷ codes "judge" ∷ codes "--json" ∷ codes "a" ∷ codes "b" ∷ []) ≡ [])
+        × (job_of (name ∷ codes "judge" ∷ codes "--json" ∷ codes "a" ∷ codes "b" ∷ [])
+        ≡ Job.Judge (record { witness = false; json = true; html = false; states = 200000; several = true })) }
+    ensures judge_page { (name : List ℕ) → (refusals_of (name ∷ codes "judge" ∷ codes "--html" ∷ codes "a" ∷ []) ≡ [])
+        × (job_of (name ∷ codes "judge" ∷ codes "--html" ∷ codes "a" ∷ [])
+        ≡ Job.Judge (record { witness = false; json = false; html = true; states = 200000; several = false })) }
+    ensures page_or_json { (name : List ℕ) → refusals_of (name ∷ codes "judge" ∷ codes "--html" ∷ codes "--json" ∷ []) ≡ ArgumentConflict ∷ [] }
+    ensures page_or_witness { (name : List ℕ) → refusals_of (name ∷ codes "judge" ∷ codes "--html" ∷ codes "--witness" ∷ []) ≡ ArgumentConflict ∷ [] }
+    ensures page_of_one { (name : List ℕ) → refusals_of (name ∷ codes "judge" ∷ codes "--html" ∷ codes "a" ∷ codes "b" ∷ []) ≡ TooManyValues ∷ [] }
     ensures no_states { (name : List ℕ) → refusals_of (name ∷ codes "judge" ∷ codes "--states=0" ∷ []) ≡ ValueValidation ∷ [] }
     ensures too_many_states { (name : List ℕ) → refusals_of (name ∷ codes "judge" ∷ codes "--states=16777217" ∷ []) ≡ ValueValidation ∷ [] }
     ensures file { (name : List ℕ) → (refusals_of (name ∷ codes "run" ∷ codes "a" ∷ []) ≡ [])

@@ -6,12 +6,14 @@
 //! | `jobs` | words as a job and its files |
 //! | `commands` | the commands, as `clap` takes them |
 //! | `random` | the command `random`, and the script that it asks for |
-//! | `options` | flags and numbers |
+//! | `options` | flags, numbers and files |
+//! | `clashes` | words that ask for what cannot be had together |
 //! | `helps` | the texts of help |
 //! | `near` | the command that is meant where there is none of its name |
 //! | `laws` | which words ask for which job |
 #![tactic(auto)]
 
+mod clashes;
 mod commands;
 mod helps;
 mod jobs;
@@ -20,7 +22,7 @@ mod near;
 mod options;
 mod random;
 
-pub use jobs::{Asked, Job, Judging, STANDARD_NAME, first_name, read_words};
+pub use jobs::{Asked, Drawn, Job, Judging, STANDARD_NAME, first_name, read_words};
 pub use laws::{random_lines_have_a_bound, words_of_the_program};
 pub use near::near_command;
 pub use random::Recipe;

@@ -1,6 +1,7 @@
 ghost use Rattle.std.specs.Prelude.{◌≡◌, ◌≤◌, false, option_map};
 ghost use Rattle.clap.specs.Words.{first_of, found_of, rows_of, rule_of};
 ghost use Rattle.pif_cli_words.specs.Options.{flag_in, flag_rule, number_between, number_rule};
+ghost use Rattle.pif_cli_words.specs.Words.{has_several};
 
 use clap::ArgAction;
 use clap::builder::ValueParser;
@@ -84,4 +85,14 @@ pub fn small_number_between(given: &clap::ArgMatches, name: &str, low: u32, high
     ensures { result ≡ number_between low high (first_of name.now (rows_of (found_of given.now))) }
 {
     number_between(given, name, u64::from(low), u64::from(high)) as u32
+}
+
+/// Whether several files are given to a command.
+pub fn has_several(given: &clap::ArgMatches) -> bool
+    ensures { result ≡ has_several (rows_of (found_of given.now)) }
+{
+    match given.get_strs("FILE") {
+        Some(files) => files.len() > 1,
+        None => false,
+    }
 }

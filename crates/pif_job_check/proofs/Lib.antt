@@ -1,1 +1,2 @@
+pub mod NotingLemmas
 pub mod RowLemmas

@@ -1,16 +1,18 @@
-ghost use Rattle.std.specs.Prelude.{◌≡◌, ◌≤◌, ◌∷◌, [], true, false, IfErr, IfOk, length, option_copied};
-ghost use Rattle.pif_story_model.specs.Checks.{IsUntold, OkExactly, StrictExactly, TellsTo, WritesTelling, check_end, check_telling, checked_telling, fill_telling, flaws_beside, flaws_telling, script_fault, strict_telling, text_of_run, title_telling, titled_telling};
+ghost use Rattle.std.specs.Prelude.{◌≡◌, ◌≤◌, ◌∷◌, [], true, false, Err, Ok, IfErr, IfOk, length, option_copied};
+ghost use Rattle.pif_story_model.specs.Checks.{IsUntold, OkExactly, StrictExactly, TellsTo, WritesTelling, check_end, check_telling, checked_telling, fill_telling, flaws_beside, flaws_telling, script_fault, strict_telling, title_telling, titled_telling};
 ghost use Rattle.pif_story_model.specs.Lines.{lines, lines_behind, plain_lines};
-ghost use Rattle.pif_story_model.specs.Stories.{count_in, rows_from, script_by, script_of};
+ghost use Rattle.pif_story_model.specs.Stories.{count_in, script_of};
 ghost use Rattle.pif_story_model.specs.Verdicts.{faulty, flaws_of};
+ghost use Rattle.pif_story_notes.specs.Notes.{TellsNoting, story_notes};
 ghost use Rattle.pif_text_model.specs.declared.replies.Cause.TheVariants.{Size};
 
-use pif_script::{CliFault, Notice, read_all, run, write_whole};
+use pif_script::{CliFault, Notice, read_all, write_whole};
 use pif_story::{
     MOST, compare, count_commands, filled_text, line_at_end, plain_story, script_of, titled_story,
     verdict_text,
 };
 use pif_story_model::Flaw;
+use pif_story_notes::{notes_text, run_story};
 use pif_text::Cause;
 use std::alloc::{AllocError, Global};
 use std::io::{Read, Write};
@@ -18,8 +20,8 @@ use std::io::{Read, Write};
 /// What is written for a story, and how that ends.
 type Telling = (Vec<u8>, Result<(), CliFault>);
 
-/// What is printed for a script, and its first fault.
-type Ran = (Vec<u8>, Option<(u64, Cause)>);
+/// What a check tells of a story, and the notes on it.
+type Noted = (Telling, Vec<u8>);
 
 /// A story with nothing but its words.
 ///
@@ -34,29 +36,6 @@ fn words_of(alloc: Global, story: &[u8]) -> Result<Vec<u8>, CliFault>
     match plain_story(alloc, story) {
         Ok(plain) => Ok(plain),
         Err(_) => Err(CliFault::NoMemory),
-    }
-}
-
-/// Runs the script of a story, of which nothing but its words is given. Answers what is printed for it, and its first
-/// fault, if it has one.
-///
-/// # Errors
-///
-/// `NoMemory`.
-fn run_story(alloc: Global, plain: &[u8]) -> Result<Ran, CliFault>
-    ensures printed { IfOk result (λ ran. ran.0.items ≡ text_of_run (script_by (rows_from 1 (lines plain.now)))) }
-    ensures fault { IfOk result (λ ran. ran.1 ≡ script_fault (script_by (rows_from 1 (lines plain.now)))) }
-    ensures failed { IfErr result IsUntold }
-{
-    let Ok(script) = script_of(alloc, plain) else {
-        return Err(CliFault::NoMemory);
-    };
-    let mut output = Vec::new(alloc);
-    match run(alloc, &mut script.as_slice(), &mut output) {
-        Ok(()) => Ok((output, None)),
-        Err(CliFault::Script(line, cause)) => Ok((output, Some((line, cause)))),
-        Err(CliFault::Write) => Err(CliFault::NoMemory),
-        Err(fault) => Err(fault),
     }
 }
 
@@ -142,16 +121,17 @@ pub fn judge<'a>(
     compare(alloc, strict, plain, answers, fault)
 }
 
-/// What a check tells of a story of this name.
-#[tactic(auto, unfolding(pif_story_model::specs::Checks::checked_telling, pif_story_model::specs::Checks::story_flaws, pif_story_model::specs::Stories::script_of))]
+/// What a check tells of a story of this name, and the notes on it.
+#[tactic(auto, unfolding(pif_story_model::specs::Checks::checked_telling, pif_story_model::specs::Checks::story_flaws, pif_story_model::specs::Stories::script_of, pif_story_notes::specs::Notes::story_notes))]
 fn check_text(
     alloc: Global,
     strict: bool,
     name: &[u8],
     story: &[u8],
     notice: &mut Notice,
-) -> Result<Telling, CliFault>
-    ensures told { IfOk result (λ telling. (telling.0.items, telling.1) ≡ checked_telling strict name.now story.now) }
+) -> Result<Noted, CliFault>
+    ensures told { IfOk result (λ noted. (noted.0.0.items, noted.0.1) ≡ checked_telling strict name.now story.now) }
+    ensures notes { IfOk result (λ noted. noted.1.items ≡ story_notes name.now story.now) }
     ensures failed { IfErr result IsUntold }
 {
     let plain = words_of(alloc, story)?;
@@ -160,7 +140,11 @@ fn check_text(
     let Ok(flaws) = judge(alloc, strict, story, words, Some(output.as_slice()), fault) else {
         return Err(CliFault::NoMemory);
     };
-    tell(alloc, name, count_commands(words), flaws.as_slice(), notice)
+    let Ok(notes) = notes_text(alloc, name, story, words, output.as_slice()) else {
+        return Err(CliFault::NoMemory);
+    };
+    let telling = tell(alloc, name, count_commands(words), flaws.as_slice(), notice)?;
+    Ok((telling, notes))
 }
 
 /// What is told of a story of this name that is filled in.
@@ -220,11 +204,12 @@ pub fn check<R: Read, W: Write>(
     ensures { TellsTo (check_telling name.now) (R.remaining reader.old) (R.remaining reader.new)
         (W.contents writer.old) (W.contents writer.new) result }
 {
-    check_noting(alloc, name, reader, writer, &mut Notice::new())
+    check_noting(alloc, name, reader, writer, &mut Notice::new())?;
+    Ok(())
 }
 
-/// Checks a story as `check` does, and has `notice` keep the command of the first flaw if that is a fault; else
-/// `notice` is left as it is.
+/// Checks a story as `check` does, and answers the notes on it, a line for each, as `story_notes` does. `notice` keeps
+/// the command of the first flaw if that is a fault; else it is left as it is.
 ///
 /// # Errors
 ///
@@ -235,13 +220,16 @@ pub fn check_noting<R: Read, W: Write>(
     reader: &mut R,
     writer: &mut W,
     notice: &mut Notice,
-) -> Result<(), CliFault>
-    ensures { TellsTo (check_telling name.now) (R.remaining reader.old) (R.remaining reader.new)
-        (W.contents writer.old) (W.contents writer.new) result }
+) -> Result<Vec<u8>, CliFault>
+    ensures noted { IfOk result (λ notes. TellsNoting name.now (check_telling name.now) (R.remaining reader.old) (R.remaining reader.new)
+        (W.contents writer.old) (W.contents writer.new) (Ok notes.items)) }
+    ensures failed { IfErr result (λ fault. TellsNoting name.now (check_telling name.now) (R.remaining reader.old) (R.remaining reader.new)
+        (W.contents writer.old) (W.contents writer.new) (Err fault)) }
 {
     let story = read_all(alloc, reader)?;
-    let telling = check_text(alloc, false, name, story.as_slice(), notice)?;
-    write_telling(telling, writer)
+    let (telling, notes) = check_text(alloc, false, name, story.as_slice(), notice)?;
+    write_telling(telling, writer)?;
+    Ok(notes)
 }
 
 /// Checks a story as `check` does, and finds a flaw, too, if a command has no answer behind it and the core refuses it:
@@ -262,7 +250,7 @@ pub fn check_strictly<R: Read, W: Write>(
         (W.contents writer.old) (W.contents writer.new) result }
 {
     let story = read_all(alloc, reader)?;
-    let telling = check_text(alloc, true, name, story.as_slice(), notice)?;
+    let (telling, _) = check_text(alloc, true, name, story.as_slice(), notice)?;
     write_telling(telling, writer)
 }
 

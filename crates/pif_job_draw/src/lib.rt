@@ -7,6 +7,10 @@
 //! is written whole.
 #![tactic(auto)]
 
+mod drawings;
+mod pages;
 mod pictures;
+mod texts;
 
+pub use drawings::{Drawn, MOST_COMMANDS, write_drawn};
 pub use pictures::{draw, write_graph, write_picture, write_states};

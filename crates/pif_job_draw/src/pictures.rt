@@ -1,11 +1,9 @@
-ghost use Rattle.pif_job_check.specs.Rows.{FillsRows};
+ghost use Rattle.pif_script_model.specs.declared.pictures.Picture.{Picture};
 ghost use Rattle.pif_job_draw.specs.Pictures.{PicturesTo};
 
-use pif_job_check::fill_rows;
+use crate::texts::picture_text;
 use pif_script::{CliFault, Notice, read_all, write_whole};
 use pif_script_model::Picture;
-use pif_story_drawing::picture_of;
-use pif_types::NoMemory;
 use std::alloc::Global;
 use std::io::{Read, Write};
 
@@ -25,7 +23,7 @@ pub fn draw<R: Read, W: Write>(
     writer: &mut W,
     notice: &mut Notice,
 ) -> Result<(), CliFault>
-    ensures { PicturesTo (R.remaining reader.old) (R.remaining reader.new) (W.contents writer.old) (W.contents writer.new) result }
+    ensures { PicturesTo Picture.Drawing (R.remaining reader.old) (R.remaining reader.new) (W.contents writer.old) (W.contents writer.new) result }
 {
     write_picture(Picture::Drawing, alloc, reader, writer, notice)
 }
@@ -43,7 +41,7 @@ pub fn write_states<R: Read, W: Write>(
     writer: &mut W,
     notice: &mut Notice,
 ) -> Result<(), CliFault>
-    ensures { PicturesTo (R.remaining reader.old) (R.remaining reader.new) (W.contents writer.old) (W.contents writer.new) result }
+    ensures { PicturesTo Picture.States (R.remaining reader.old) (R.remaining reader.new) (W.contents writer.old) (W.contents writer.new) result }
 {
     write_picture(Picture::States, alloc, reader, writer, notice)
 }
@@ -61,7 +59,7 @@ pub fn write_graph<R: Read, W: Write>(
     writer: &mut W,
     notice: &mut Notice,
 ) -> Result<(), CliFault>
-    ensures { PicturesTo (R.remaining reader.old) (R.remaining reader.new) (W.contents writer.old) (W.contents writer.new) result }
+    ensures { PicturesTo Picture.Graph (R.remaining reader.old) (R.remaining reader.new) (W.contents writer.old) (W.contents writer.new) result }
 {
     write_picture(Picture::Graph, alloc, reader, writer, notice)
 }
@@ -79,30 +77,9 @@ pub fn write_picture<R: Read, W: Write>(
     writer: &mut W,
     notice: &mut Notice,
 ) -> Result<(), CliFault>
-    ensures { PicturesTo (R.remaining reader.old) (R.remaining reader.new) (W.contents writer.old) (W.contents writer.new) result }
+    ensures { PicturesTo picture (R.remaining reader.old) (R.remaining reader.new) (W.contents writer.old) (W.contents writer.new) result }
 {
     let story = read_all(alloc, reader)?;
     let text = picture_text(picture, alloc, story.as_slice(), notice)?;
-    write_whole(writer, text.as_bytes())
-}
-
-/// This picture of a story that is in memory; `notice` keeps the command that is a fault.
-///
-/// # Errors
-///
-/// Those of `fill_rows`.
-fn picture_text(
-    picture: Picture,
-    alloc: Global,
-    story: &[u8],
-    notice: &mut Notice,
-) -> Result<String, CliFault>
-    ensures { FillsRows story.now result }
-{
-    let filled = fill_rows(alloc, story, notice)?;
-    let (plain, rows) = filled;
-    match picture_of(alloc, picture, plain.as_slice(), rows.as_slice()) {
-        Ok(text) => Ok(text),
-        Err(NoMemory) => Err(CliFault::NoMemory),
-    }
+    write_whole(writer, text.as_slice())
 }

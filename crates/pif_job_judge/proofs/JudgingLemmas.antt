@@ -1,7 +1,8 @@
 -- What is told of a history, put together.
-use Rattle.std.proofs.Common.{◌≡◌, ℕ, ◌-◌, ◌+◌, ◌<◌, ◌≤◌, inr, arith, List, [], ◌∷◌, ◌++◌, Vec, Global, Option, None, Some, IfSome, length, get_or, reverse, take, sym, Result, Ok, Err, refl, ap, ◌∙◌, subst, append_assoc}
+use Rattle.std.proofs.Common.{◌≡◌, ℕ, ◌-◌, ◌+◌, ◌<◌, ◌≤◌, ◌⊎◌, inl, inr, arith, List, [], ◌∷◌, ◌++◌, Vec, Global, Option, None, Some, IfSome, length, get_or, reverse, take, sym, Result, Ok, Err, IfOk, refl, ap, ◌∙◌, subst, append_assoc}
 use Rattle.std.specs.Prelude.{slice_get}
 use Rattle.std.proofs.lemmas.List.{reverse-append, take_more}
+use Rattle.pif_script_model.specs.declared.faults.CliFault.{CliFault}
 use Rattle.pif_script_model.specs.declared.faults.CliFault.TheVariants.{Differs}
 use Rattle.pif_types.specs.Bounds.{Bounds}
 use Rattle.pif_history_model.specs.declared.lines.Line.{Line}
@@ -14,14 +15,20 @@ use Rattle.pif_history.specs.declared.verdicts.Verdict.TheVariants.{Illegal, Und
 use Rattle.pif_history.specs.Verdicts.{IsRefusalThere, IsVerdictOf}
 use Rattle.pif_history_text.specs.Histories.{Heard, limits_of}
 use Rattle.pif_history_text.specs.Verdicts.{illegal_line, legal_line, undecided_line}
-use Rattle.pif_job_judge.specs.declared.known.Began.{Began}
-use Rattle.pif_job_judge.specs.declared.known.Known.{Known}
-use Rattle.pif_job_judge.specs.declared.known.Known.TheVariants.{Numbers}
+use Rattle.pif_history_page.specs.Pages.{IsPageOf}
+use Rattle.pif_history_page.specs.declared.verdicts.Began.{Began}
+use Rattle.pif_history_page.specs.declared.verdicts.Known.{Known}
+use Rattle.pif_history_page.specs.declared.verdicts.Known.TheVariants.{Numbers}
 use Rattle.pif_job_judge.specs.declared.telling.Says.{Says}
 use Rattle.pif_job_judge.specs.declared.faults.JudgeFault.{JudgeFault}
 use Rattle.pif_job_judge.specs.declared.faults.JudgeFault.TheVariants as fault
-use Rattle.pif_job_judge.specs.Judging.{AppendsTold, ArePossible, IsKnown, IsNumbered, Judges, TellsIllegal, TellsVerdict, WritesText, has_number, open_behind, open_call, open_of, said_of, why_text}
-use Rattle.pif_job_judge.specs.Judging.IsTold.{legal, illegal, undecided}
+use Rattle.pif_job_judge.specs.declared.forms.Form.{Form}
+use Rattle.pif_job_judge.specs.declared.forms.Form.TheVariants.{Text, Witness, Json, Page}
+use Rattle.pif_job_judge.specs.Judging.{AppendsTold, Judges, WritesText}
+use Rattle.pif_job_judge.specs.Lines.{AppendsLines, TellsIllegal, TellsVerdict, why_text}
+use Rattle.pif_job_judge.specs.Lines.IsTold.{legal, illegal, undecided}
+use Rattle.pif_job_judge.specs.Objects.{AppendsObjects, AreObjects}
+use Rattle.pif_job_judge.specs.Why.{ArePossible, IsKnown, IsNumbered, has_number, open_behind, open_call, open_of, said_of}
 
 -- the lines of an illegal history
 pub tells_illegal : (h : Heard) (n : ℕ) (old mid new : List ℕ) (number : ℕ) (line : Line) (known : Known)
@@ -41,25 +48,54 @@ tells_illegal h n old mid new number line known began there numbered is began_is
     )
 
 -- a history of each verdict
-pub told_legal : (h : Heard) (v : Verdict) (witness old new : List ℕ) → IsVerdictOf (limits_of h) h.shown v
-    → TellsVerdict (limits_of h) v witness → new ≡ old ++ (legal_line h.count ++ witness) → AppendsTold h (Ok tt) old new
-told_legal h v witness old new is told e = (_, legal v witness is told refl refl, e)
+pub told_legal : (form : Form) (h : Heard) (v : Verdict) (witness old new : List ℕ) → IsVerdictOf (limits_of h) h.shown v
+    → TellsVerdict form (limits_of h) v witness → new ≡ old ++ (legal_line h.count ++ witness)
+    → AppendsLines form h (Ok tt) old new
+told_legal form h v witness old new is told e = (_, legal v witness is told refl refl, e)
 
-pub told_illegal : (h : Heard) (n : ℕ) (old new : List ℕ) (end : JudgeFault)
-    → IsVerdictOf (limits_of h) h.shown (Illegal n) → TellsIllegal h n old new end → AppendsTold h (Err end) old new
-told_illegal h n old new end is t =
+pub told_illegal : (form : Form) (h : Heard) (n : ℕ) (old new : List ℕ) (end : JudgeFault)
+    → IsVerdictOf (limits_of h) h.shown (Illegal n) → TellsIllegal h n old new end → AppendsLines form h (Err end) old new
+told_illegal form h n old new end is t =
     (_, illegal n t.0 t.1 t.2 is t.3 t.4 t.5 refl (ap (λ (e : JudgeFault). Err e) t.7), t.6)
 
-pub told_undecided : (h : Heard) (n number : ℕ) (old new : List ℕ) → IsVerdictOf (limits_of h) h.shown (Undecided n)
-    → IsNumbered h n number → new ≡ old ++ undecided_line number
-    → AppendsTold h (Err (fault.Undecided number)) old new
-told_undecided h n number old new is numbered e = (_, undecided n number is numbered refl refl, e)
+pub told_undecided : (form : Form) (h : Heard) (n number : ℕ) (old new : List ℕ)
+    → IsVerdictOf (limits_of h) h.shown (Undecided n) → IsNumbered h n number → new ≡ old ++ undecided_line number
+    → AppendsLines form h (Err (fault.Undecided number)) old new
+told_undecided form h n number old new is numbered e = (_, undecided n number is numbered refl refl, e)
+
+-- what is told in each form
+pub lines_told : (form : Form) (h : Heard) (r : Result (Result (Unit {0}) JudgeFault) CliFault) (old new : List ℕ)
+    → (form ≡ Text) ⊎ (form ≡ Witness) → IfOk r (λ end. AppendsLines form h end old new)
+    → IfOk r (λ end. AppendsTold form h end old new)
+lines_told form h r old new (inl e) told =
+    subst (λ (f : Form). IfOk r (λ end. AppendsTold f h end old new)) (sym e)
+    (subst (λ (f : Form). IfOk r (λ end. AppendsLines f h end old new)) e told)
+lines_told form h r old new (inr e) told =
+    subst (λ (f : Form). IfOk r (λ end. AppendsTold f h end old new)) (sym e)
+    (subst (λ (f : Form). IfOk r (λ end. AppendsLines f h end old new)) e told)
+
+pub objects_told : (form : Form) (h : Heard) (r : Result (Result (Unit {0}) JudgeFault) CliFault) (old new : List ℕ)
+    → form ≡ Json → IfOk r (λ end. AppendsObjects form h end old new) → IfOk r (λ end. AppendsTold form h end old new)
+objects_told form h r old new e told =
+    subst (λ (f : Form). IfOk r (λ end. AppendsTold f h end old new)) (sym e)
+    (subst (λ (f : Form). IfOk r (λ end. AppendsObjects f h end old new)) e told)
+
+pub page_told : (form : Form) (h : Heard) (end : Result (Unit {0}) JudgeFault) (start lines slice old new : List ℕ)
+    → form ≡ Page → start ≡ [] → slice ≡ lines → AppendsObjects form h end start lines → IsPageOf slice old new
+    → AppendsTold form h end old new
+page_told form h end start lines slice old new page empty same told framed =
+    let text = told.0 in
+    let objects = subst (λ (f : Form). AreObjects f h text end) page told.1 in
+    let all : slice ≡ text = same ∙ (told.2 ∙ ap (λ (l : List ℕ). l ++ text) empty) in
+    let parts = subst (λ (l : List ℕ). IsPageOf l old new) all framed in
+    subst (λ (f : Form). AppendsTold f h end old new) (sym page)
+    (parts.0 ++ text ++ parts.1, (text, objects, (parts.0, parts.1, refl)), parts.2)
 
 -- what is told of a history was written, behind its front
-pub judged : (h : Heard) (held holds : Option (List ℕ)) (front old new : List ℕ) (end result : Result (Unit {0}) JudgeFault)
-    → old ≡ front → AppendsTold h end old new → WritesText held holds new end result
-    → Judges (Ok h) held holds front result
-judged h held holds front old new end result e told w =
+pub judged : (form : Form) (h : Heard) (held holds : Option (List ℕ)) (front old new : List ℕ)
+    (end result : Result (Unit {0}) JudgeFault) → old ≡ front → AppendsTold form h end old new
+    → WritesText held holds new end result → Judges form (Ok h) held holds front result
+judged form h held holds front old new end result e told w =
     inr (
       told.0,
       end,

@@ -1,1 +1,2 @@
 mod JudgingLemmas
+mod ObjectLemmas

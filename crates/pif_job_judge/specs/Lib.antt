@@ -1,1 +1,4 @@
 pub mod Judging
+pub mod Lines
+pub mod Objects
+pub mod Why

@@ -2,36 +2,14 @@ ghost use Rattle.std.specs.Prelude.{◌≡◌, ◌≤◌, IfErr, IfOk, None, tak
 ghost use Rattle.pif_history.specs.Verdicts.{IsRefusalThere};
 ghost use Rattle.pif_history_text.specs.Histories.{limits_of};
 ghost use Rattle.pif_history_text.specs.Reading.{heard_of};
-ghost use Rattle.pif_job_judge.specs.Judging.{IsKnown};
+ghost use Rattle.pif_job_judge.specs.Why.{IsKnown};
 
 use pif_history::{possible_answers, possible_priorities, refusal};
-use pif_history_model::{Line, LineRefusal};
+use pif_history_model::Line;
+use pif_history_page::Known;
 use pif_history_text::History;
 use pif_script_model::CliFault;
-use pif_types::{Request, Tid};
 use std::alloc::Global;
-
-/// What is known of a line up to which there is no run.
-#[derive(Drop)]
-pub enum Known {
-    /// No run has it, whatever was answered, for this reason.
-    Refused(LineRefusal),
-    /// Exactly these numbers may stand in it, if the search for them was not given up.
-    Numbers(Option<Vec<u32>>),
-    /// Nothing more.
-    Nothing,
-}
-
-/// The begin of a call that is open.
-#[derive(Clone, Copy)]
-pub struct Began {
-    /// The number of its line, from 1.
-    pub number: u32,
-    /// The thread.
-    pub thread: Tid,
-    /// The call.
-    pub request: Request,
-}
 
 /// What is known of the line behind the first `before` lines of a history, if it isn't refused.
 fn numbers_of(

@@ -1,19 +1,27 @@
-//! `pif judge`: whether a history of an implementation is legal, told in lines.
+//! `pif judge`: whether a history of an implementation is legal, told in lines, in lines of JSON or as a page.
 //!
 //! | Module | What it has |
 //! |---|---|
 //! | `faults` | why a history was not found to be legal |
+//! | `forms` | how a history is judged, and in which form that is told |
 //! | `known` | what is known of an illegal line |
-//! | `telling` | what is told of a legal history, and of an illegal line |
+//! | `places` | the lines of a history, and their numbers |
+//! | `telling` | what is told in lines of an illegal line |
+//! | `lines` | verdicts in lines for a person |
+//! | `objects` | verdicts in lines of JSON |
 //! | `judging` | a history, read and judged |
 #![tactic(auto)]
 
 mod faults;
+mod forms;
 mod judging;
 mod known;
+mod lines;
+mod objects;
+mod places;
 mod telling;
 
 pub use faults::JudgeFault;
-pub use judging::{Judging, judge};
-pub use known::{Began, Known};
+pub use forms::{Form, Judging};
+pub use judging::judge;
 pub use pif_history::{Unwatched, Watch};

@@ -3,10 +3,11 @@ ghost use Rattle.std.specs.Prelude.{◌≡◌, ◌≤◌, ◌++◌, OnOk, Some, 
 ghost use Rattle.pif_history_model.specs.Lines.{thread_of};
 ghost use Rattle.pif_history_text.specs.Reading.{IsPaired, heard_of};
 ghost use Rattle.pif_history_text.specs.Verdicts.{legal_line};
-ghost use Rattle.pif_job_judge.specs.Judging.{began_text, known_text, open_of, said_of, why_text};
+ghost use Rattle.pif_job_judge.specs.Lines.{began_text, known_text, why_text};
+ghost use Rattle.pif_job_judge.specs.Why.{open_of, said_of};
 
-use crate::{Began, Known};
 use pif_history_model::Line;
+use pif_history_page::{Began, Known};
 use pif_history_text::{
     History, push_began, push_legal, push_possible, push_possible_undecided, push_refused,
 };

@@ -8,22 +8,24 @@ use crate::player::Player;
 use crate::written::see_written;
 use pif_text::{Command, Text, command_text};
 use pif_types::NoMemory;
+use pif_watch::WatchSteps;
 use std::alloc::Global;
 
 /// The most lines of a script for which it is promised that a run of it has no fault: a script has at most 16 MiB.
 pub const MOST_LINES: u32 = 262_144;
 
 /// A random script of so many lines, each a command, the same for the same seed, lines and shape. Which commands it has
-/// is not promised.
+/// is not promised. `watch` is told of each line.
 ///
 /// # Errors
 ///
 /// A growth of memory was refused.
-pub fn random_script(
+pub fn random_script<V: WatchSteps>(
     alloc: Global,
     seed: u64,
     lines: u32,
     shape: Shape,
+    watch: &mut V,
 ) -> Result<Vec<u8>, NoMemory>
     ensures commands { IfOk result (λ script. IsOfCommands lines script.items) }
     ensures no_fault { lines ≤ 262144 → IfOk result (λ script. HasNoFault script.items) }
@@ -31,15 +33,21 @@ pub fn random_script(
     commands_have_no_fault();
     let mut player = Player::new(alloc, seed, shape)?;
     let mut script = Vec::new(alloc);
-    append_lines(lines, &mut player, &mut script)?;
+    append_lines(lines, &mut player, &mut script, watch)?;
     Ok(script)
 }
 
-// Appends so many lines.
-fn append_lines(lines: u32, player: &mut Player, script: &mut Vec<u8>) -> Result<(), NoMemory>
+// Appends so many lines, each of which `watch` is told.
+fn append_lines<V: WatchSteps>(
+    lines: u32,
+    player: &mut Player,
+    script: &mut Vec<u8>,
+    watch: &mut V,
+) -> Result<(), NoMemory>
     ensures lines { OnOk result (AddsLines lines script.old.items script.new.items) }
 {
-    for _line in 0..lines {
+    for line in 0..lines {
+        watch.step(line as usize, lines as usize);
         let command = player.next_command();
         let played = command;
         player.play(played);

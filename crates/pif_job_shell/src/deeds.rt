@@ -3,6 +3,7 @@ ghost use Rattle.pif_text_model.specs.Extends.{Stays};
 
 use crate::helps::help_of;
 use crate::loads::load;
+use crate::notes::{note_on, note_on_line};
 use crate::remarks::{
     Remark, not_redone_words, say_not_undone, say_refusal, say_unsaved, too_many,
 };
@@ -10,7 +11,7 @@ use crate::replies::reply_line;
 use crate::sessions::Session;
 use crate::shelves::Shelf;
 use crate::stories::story_of;
-use crate::telling::{tell, tell_words, write_text};
+use crate::telling::{tell, tell_if, tell_words, write_text};
 use crate::wishes::{Wish, count_of, name_of, wish_of};
 use pif_text::{Command, Text, command_text};
 use pif_text_core::{Unwritten, write_state};
@@ -37,12 +38,15 @@ fn help<W: Write>(word: &[u8], writer: &mut W) -> Result<(), Unwritten>
     write_text(help_of(word).as_bytes(), writer)
 }
 
+/// The names of threads, of which a session knows none.
+const NO_NAMES: [&str; 0] = [];
+
 /// Writes the state of the core.
 fn show_state<W: Write>(session: &Session, writer: &mut W) -> Result<(), Unwritten>
     ensures { Stays (W.contents writer.old) (W.contents writer.new) }
 {
     match session.core() {
-        Some(core) => write_state(core, writer),
+        Some(core) => write_state(NO_NAMES.as_slice(), core, writer),
         None => tell_words("nothing was added yet", writer),
     }
 }
@@ -91,10 +95,13 @@ fn redo<W: Write>(alloc: Global, session: &mut Session, writer: &mut W) -> Resul
     match session.redo(alloc) {
         Ok((command, reply)) => {
             let mut remark = Remark::new();
+            let again = command;
             remark.say("again: ");
             say_command(command, &mut remark);
             tell(remark, writer)?;
+            let answered = reply;
             write_text(reply_line(reply).as_slice(), writer)?;
+            tell_if(note_on(alloc, session, again, answered), writer)?;
             Ok(Done::Changed)
         }
         Err(why) => {
@@ -198,7 +205,8 @@ fn begin_with<S: Shelf>(
     }
 }
 
-/// Has a line answered by the session, and writes the answer or why there is none.
+/// Has a line answered by the session, and writes the answer, with what the line names that isn't there, or why there is
+/// none.
 fn play<W: Write>(
     alloc: Global,
     session: &mut Session,
@@ -209,7 +217,9 @@ fn play<W: Write>(
 {
     match session.take(alloc, line) {
         Ok(reply) => {
+            let answered = reply;
             write_text(reply_line(reply).as_slice(), writer)?;
+            tell_if(note_on_line(alloc, session, line, answered), writer)?;
             Ok(Done::Changed)
         }
         Err(refusal) => {

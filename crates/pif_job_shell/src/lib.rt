@@ -11,6 +11,7 @@
 //! | `replies` | the answer to a command, with what it changed |
 //! | `stories`, `shelves` | the session as a story, and where it is saved |
 //! | `loads` | a session with the commands of a story |
+//! | `notes` | what is said of a command that names what isn't there |
 //! | `keeping` | the story in which a session at a terminal is kept as it goes on |
 //! | `deeds`, `telling` | what a line asks for, done, and what is said of it |
 //! | `shells` | the talk: line by line, to the end of the input |
@@ -22,6 +23,7 @@ mod helps;
 mod keeping;
 mod lines;
 mod loads;
+mod notes;
 mod remarks;
 mod replies;
 mod sessions;

@@ -1,1 +1,2 @@
 pub mod ShowLemmas
+pub mod StoryLemmas

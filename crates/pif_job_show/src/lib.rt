@@ -12,4 +12,4 @@ mod showing;
 mod shown;
 mod stories;
 
-pub use stories::show_story;
+pub use stories::{show_noting, show_story};

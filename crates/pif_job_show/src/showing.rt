@@ -22,13 +22,22 @@ use std::io::Write;
 /// The most bytes in which a line is told, with what stands before it and its LF.
 const LINE_ROOM: usize = MOST_LINE + 3;
 
+/// How a script is shown.
+#[derive(Clone, Copy)]
+pub struct Look<'n> {
+    /// Whether all of the core is told behind each line, or what has changed.
+    pub detail: Detail,
+    /// The names of threads for a person, that of t1 first; one that is empty is none.
+    pub names: &'n [&'n str],
+}
+
 /// Runs the script that a text in memory is, and shows it as `show_story` says.
 ///
 /// # Errors
 ///
 /// Those of `run`, for the same bytes. At `NoMemory` nothing was written.
 pub fn show_script<W: Write>(
-    detail: Detail,
+    look: &Look<'_>,
     alloc: Global,
     text: &[u8],
     writer: &mut W,
@@ -38,21 +47,13 @@ pub fn show_script<W: Write>(
 {
     let mut scanner = Scanner::<Shown>::new();
     let mut output = Output::new();
-    feed(
-        detail,
-        alloc,
-        &mut scanner,
-        text,
-        &mut output,
-        writer,
-        notice,
-    )?;
+    feed(look, alloc, &mut scanner, text, &mut output, writer, notice)?;
     close(&scanner, &mut output, writer, notice)
 }
 
 /// Reads bytes, and shows their lines.
 fn feed<W: Write>(
-    detail: Detail,
+    look: &Look<'_>,
     alloc: Global,
     scanner: &mut Scanner<Shown>,
     bytes: &[u8],
@@ -71,7 +72,7 @@ fn feed<W: Write>(
             Err(Stop::Ended(end)) => return Err(stop_showing(end, scanner, output, writer, notice)),
             Err(Stop::NoMemory) => return Err(CliFault::NoMemory),
         }
-        if end_line(*byte, detail, scanner, output, writer).is_err() {
+        if end_line(*byte, look, scanner, output, writer).is_err() {
             return Err(CliFault::Write);
         }
     }
@@ -114,7 +115,7 @@ fn printable(byte: u8) -> u8 {
 /// Writes what was told of the line that this byte ended, if it ended one, and what is told of the core behind it.
 fn end_line<W: Write>(
     byte: u8,
-    detail: Detail,
+    look: &Look<'_>,
     scanner: &Scanner<Shown>,
     output: &mut Output,
     writer: &mut W,
@@ -123,14 +124,14 @@ fn end_line<W: Write>(
     ensures silent { (scan_of scanner.now).listener ≡ None → Keeps (W.contents writer.old) (W.contents writer.new) }
 {
     match scanner.listener() {
-        Some(shown) if byte == b'\n' => write_line(detail, shown, output, writer),
+        Some(shown) if byte == b'\n' => write_line(look, shown, output, writer),
         _ => Ok(()),
     }
 }
 
 /// Writes what was told of a line, and what is told of the core behind it.
 fn write_line<W: Write>(
-    detail: Detail,
+    look: &Look<'_>,
     shown: &Shown,
     output: &mut Output,
     writer: &mut W,
@@ -141,7 +142,7 @@ fn write_line<W: Write>(
         name_error(error, output);
     }
     match write_whole(writer, output.as_slice()) {
-        Ok(()) => write_core(detail, shown, writer),
+        Ok(()) => write_core(look, shown, writer),
         Err(_) => Err(Unwritten),
     }
 }
@@ -155,12 +156,14 @@ fn name_error(error: Errno, output: &mut Output) {
 }
 
 /// Writes what has changed in a core, or all of it if that is asked for, or if there is nothing from before.
-fn write_core<W: Write>(detail: Detail, shown: &Shown, writer: &mut W) -> Result<(), Unwritten>
+fn write_core<W: Write>(look: &Look<'_>, shown: &Shown, writer: &mut W) -> Result<(), Unwritten>
     ensures { Stays (W.contents writer.old) (W.contents writer.new) }
 {
     match shown.before() {
-        Some(before) if detail == Detail::Changes => write_changes(before, shown.core(), writer),
-        _ => write_state(shown.core(), writer),
+        Some(before) if look.detail == Detail::Changes => {
+            write_changes(look.names, before, shown.core(), writer)
+        }
+        _ => write_state(look.names, shown.core(), writer),
     }
 }
 

@@ -5,23 +5,26 @@ use crate::pages::Page;
 use crate::plans::{MOST_SLOTS, Moment, Plan};
 use crate::sheets::Sheet;
 use pif_core::Core;
-use pif_types::{MutexId, Tid};
+use pif_types::{Health, MutexId, Tid};
+use pif_word::owner_died;
 
-/// Who was last seen to hold a mutex, since when, and where that is drawn in the lane.
+/// Who was last seen to hold a mutex, with what health, since when, and where that is drawn in the lane.
 #[derive(Clone, Copy)]
 pub struct Bar {
     mutex: MutexId,
     owner: Option<Tid>,
+    health: Health,
     since: Moment,
     slot: u32,
 }
 
 impl Bar {
-    /// The bar of a mutex that this thread holds, or nobody.
+    /// The bar of a mutex that this thread holds, or nobody; its state is fine.
     pub fn new(mutex: MutexId, owner: Option<Tid>, since: Moment) -> Bar {
         Bar {
             mutex,
             owner,
+            health: Health::Fine,
             since,
             slot: 0,
         }
@@ -41,12 +44,52 @@ impl Bar {
     /// drawn in this place.
     fn see(&mut self, core: &Core, slot: u32, moment: Moment, plan: &Plan, sheet: &mut Sheet) {
         let owner = self.owner_now(core);
+        let health = health_of(core, self.mutex);
         if owner != self.owner {
             self.close(moment, plan, sheet);
             self.draw_given(owner, slot, moment, plan, &mut sheet.arrows);
-            self.owner = owner;
-            self.since = moment;
-            self.slot = slot;
+            self.draw_loss(health, moment, plan, &mut sheet.arrows);
+            self.hold(owner, health, slot, moment);
+        } else if health != self.health {
+            self.close(moment, plan, sheet);
+            self.hold(owner, health, self.slot, moment);
+        }
+    }
+
+    /// Looks at who holds the mutex behind a command, and draws nothing.
+    fn follow(&mut self, core: &Core, slot: u32, moment: Moment) {
+        let owner = self.owner_now(core);
+        let health = health_of(core, self.mutex);
+        if owner != self.owner {
+            self.hold(owner, health, slot, moment);
+        } else if health != self.health {
+            self.hold(owner, health, self.slot, moment);
+        }
+    }
+
+    /// From now on this thread holds the mutex, or nobody does, and it has this health.
+    fn hold(&mut self, owner: Option<Tid>, health: Health, slot: u32, moment: Moment) {
+        self.owner = owner;
+        self.health = health;
+        self.since = moment;
+        self.slot = slot;
+    }
+
+    /// Draws that the mutex became unusable; nothing if it was so before, or isn't.
+    fn draw_loss(&self, health: Health, moment: Moment, plan: &Plan, out: &mut Page) {
+        if let (Some(owner), Health::Unusable) = (self.owner, health) {
+            out.fill(
+                "<g transform=\"translate({} {})\">",
+                &[plan.x(moment.column), plan.bar(owner, self.slot)],
+            );
+            out.fill(
+                "<title>m{} is unusable, line {}</title>",
+                &[self.mutex.get(), moment.line],
+            );
+            out.fill(
+                "<text class=\"number hot\" x=\"4\" y=\"8\">m{} unusable</text></g>\n",
+                &[self.mutex.get()],
+            );
         }
     }
 
@@ -85,18 +128,23 @@ impl Bar {
                 plan.bar(owner, self.slot),
             ],
         );
-        out.fill(
-            "<title>t{} holds m{}, lines {} to {}</title>",
-            &[owner.get(), mutex, since.line, until.line],
-        );
+        let is_inconsistent = self.health == Health::Inconsistent;
+        out.fill("<title>t{} holds m{}", &[owner.get(), mutex]);
+        out.words(if is_inconsistent {
+            ", inconsistent"
+        } else {
+            ""
+        });
+        out.fill(", lines {} to {}</title>", &[since.line, until.line]);
         out.fill(
             "<rect class=\"bar\" width=\"{}\" height=\"10\" rx=\"2\"/>",
             &[width],
         );
-        out.fill(
-            "<text class=\"on-bar\" x=\"5\" y=\"8\">m{}</text></g>\n",
-            &[mutex],
-        );
+        out.fill("<text class=\"on-bar\" x=\"5\" y=\"8\">m{}", &[mutex]);
+        if is_inconsistent {
+            out.words(if width >= 80 { " inconsistent" } else { " !" });
+        }
+        out.words("</text></g>\n");
     }
 }
 
@@ -106,6 +154,31 @@ pub fn see_bars(bars: &mut [Bar], core: &Core, moment: Moment, plan: &Plan, shee
         let owner = bars[place].owner_now(core);
         let slot = free_slot(bars, owner);
         bars[place].see(core, slot, moment, plan, sheet);
+    }
+}
+
+/// Looks at who holds the mutexes, and draws nothing.
+pub fn follow_bars(bars: &mut [Bar], core: &Core, moment: Moment) {
+    for place in 0..bars.len() {
+        let owner = bars[place].owner_now(core);
+        let slot = free_slot(bars, owner);
+        bars[place].follow(core, slot, moment);
+    }
+}
+
+/// The health of a mutex as POSIX has it: once the owner of a robust one has ended it is inconsistent, though its
+/// health word is written only when a thread takes it over.
+fn health_of(core: &Core, mutex: MutexId) -> Health {
+    match (core.kind(mutex), core.health(mutex)) {
+        (Some((_, true)), Some(Health::Fine)) => {
+            if owner_died(core.word(mutex).unwrap_or(0)) {
+                Health::Inconsistent
+            } else {
+                Health::Fine
+            }
+        }
+        (_, Some(health)) => health,
+        _ => Health::Fine,
     }
 }
 

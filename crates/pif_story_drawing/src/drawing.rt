@@ -1,21 +1,24 @@
 use crate::arrows::{draw_actor, write_line};
-use crate::bars::{Bar, close_bars, see_bars};
+use crate::bars::{Bar, close_bars, follow_bars, see_bars};
 use crate::heads::write_drawing;
-use crate::lanes::{Lane, close_lanes, see_lanes};
+use crate::lanes::{Lane, close_lanes, follow_lanes, see_lanes};
 use crate::looks::Look;
 use crate::pages::Page;
 use crate::plans::{Moment, Plan, plan_of};
 use crate::plays::{Watch, play};
 use crate::rows::{Row, write_reply};
 use crate::sheets::Sheet;
+use crate::spans::Span;
 use pif_core::Core;
 use pif_story_model::AnsweredRow;
 use pif_types::{MutexId, NoMemory, Tid};
+use pif_watch::WatchSteps;
 use std::alloc::{AllocError, Global};
 
 /// A drawing while it is made.
 #[derive(Drop)]
 struct Drawing {
+    span: Span,
     plan: Plan,
     lanes: Vec<Lane>,
     bars: Vec<Bar>,
@@ -23,21 +26,30 @@ struct Drawing {
     now: Moment,
 }
 
-/// The drawing of a story.
+/// The drawing of these lines of a story, whose threads have the names that these comments give. `told` is told of each
+/// command of the story twice, as a step: before anything is drawn, and while that is done.
 ///
 /// # Errors
 ///
 /// A growth of memory was refused.
-pub fn drawing_of(alloc: Global, story: &[u8], rows: &[AnsweredRow]) -> Result<String, NoMemory> {
-    let plan = plan_of(alloc, story, rows)?;
-    let mut drawing = Drawing::new(alloc, plan);
-    drawing.draw(alloc, story, rows)
+pub fn drawing_of<V: WatchSteps>(
+    alloc: Global,
+    span: &Span,
+    names: &[u8],
+    story: &[u8],
+    rows: &[AnsweredRow],
+    told: &mut V,
+) -> Result<String, NoMemory> {
+    let plan = plan_of(alloc, span, names, story, rows, told)?;
+    let mut drawing = Drawing::new(alloc, *span, plan);
+    drawing.draw(alloc, names, story, rows, told)
 }
 
 impl Drawing {
     /// A drawing of nothing yet.
-    fn new(alloc: Global, plan: Plan) -> Drawing {
+    fn new(alloc: Global, span: Span, plan: Plan) -> Drawing {
         Drawing {
+            span,
             plan,
             lanes: Vec::new(alloc),
             bars: Vec::new(alloc),
@@ -46,19 +58,21 @@ impl Drawing {
         }
     }
 
-    /// Plays the commands of a story, and draws them.
-    fn draw(
+    /// Plays the commands of a story, and draws them, in the second half of the steps.
+    fn draw<V: WatchSteps>(
         &mut self,
         alloc: Global,
+        names: &[u8],
         story: &[u8],
         rows: &[AnsweredRow],
+        told: &mut V,
     ) -> Result<String, NoMemory> {
         if self.add_lanes().is_err() || self.add_bars().is_err() {
             return Err(NoMemory);
         }
-        play(alloc, story, rows, self)?;
+        play(alloc, story, rows, self, rows.len(), told)?;
         let mut page = Page::new(alloc);
-        write_drawing(&self.plan, &self.sheet, &mut page);
+        write_drawing(&self.plan, names, &self.sheet, &mut page);
         page.text()
     }
 
@@ -85,9 +99,17 @@ impl Drawing {
 }
 
 impl Watch for Drawing {
-    /// Draws what a command changed.
+    /// Draws what a command changed; of one before the lines that are drawn, only what it left is kept.
     fn see(&mut self, row: &Row<'_>, core: &Core) {
+        if self.span.is_before(row.line) {
+            return;
+        }
         self.now.line = row.line;
+        if !self.span.has(row.line) {
+            follow_lanes(&mut self.lanes, core, self.now);
+            follow_bars(&mut self.bars, core, self.now);
+            return;
+        }
         draw_column(row, self.now, &self.plan, &mut self.sheet.columns);
         see_lanes(
             &mut self.lanes,

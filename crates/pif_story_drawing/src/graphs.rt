@@ -6,6 +6,7 @@ use crate::rows::Row;
 use pif_core::{Core, Status};
 use pif_story_model::AnsweredRow;
 use pif_types::{CondId, MutexId, NoMemory, Tid};
+use pif_watch::Unwatched;
 use std::alloc::Global;
 
 /// Who waits for whom behind the commands that were played.
@@ -23,7 +24,7 @@ pub fn graph_of(alloc: Global, story: &[u8], rows: &[AnsweredRow]) -> Result<Str
     let mut graph = Graph {
         page: Page::new(alloc),
     };
-    play(alloc, story, rows, &mut graph)?;
+    play(alloc, story, rows, &mut graph, 0, &mut Unwatched)?;
     graph.page.text()
 }
 

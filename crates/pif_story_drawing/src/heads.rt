@@ -2,18 +2,20 @@ use crate::pages::Page;
 use crate::plans::Plan;
 use crate::sheets::Sheet;
 use crate::styles::{LEGEND, STYLE};
+use pif_story_names::name_of;
 use pif_types::Tid;
+use std::str::from_utf8;
 
 /// After how many columns the names of the lanes are shown again.
 const REPEAT: u32 = 24;
 
 /// Writes a drawing: what it is, the legend, the lanes, and what was drawn in them.
-pub fn write_drawing(plan: &Plan, sheet: &Sheet, out: &mut Page) {
+pub fn write_drawing(plan: &Plan, names: &[u8], sheet: &Sheet, out: &mut Page) {
     write_head(plan, out);
     out.words(STYLE);
     out.words("<rect class=\"page\" width=\"100%\" height=\"100%\"/>\n");
     out.words(LEGEND);
-    write_lanes(plan, out);
+    write_lanes(plan, names, out);
     write_names(plan, out);
     out.copy(&sheet.columns);
     out.copy(&sheet.bands);
@@ -38,16 +40,16 @@ fn write_head(plan: &Plan, out: &mut Page) {
 }
 
 /// Draws the lanes of all threads, with their names.
-fn write_lanes(plan: &Plan, out: &mut Page) {
+fn write_lanes(plan: &Plan, names: &[u8], out: &mut Page) {
     for number in 1..=plan.threads {
         if let Some(thread) = Tid::new(number) {
-            write_lane(thread, plan, out);
+            write_lane(thread, plan, names, out);
         }
     }
 }
 
 /// Draws the lane of a thread, with its name.
-fn write_lane(thread: Tid, plan: &Plan, out: &mut Page) {
+fn write_lane(thread: Tid, plan: &Plan, names: &[u8], out: &mut Page) {
     let number = thread.get();
     out.words(if number % 2 == 0 {
         "<rect class=\"even\""
@@ -64,9 +66,23 @@ fn write_lane(thread: Tid, plan: &Plan, out: &mut Page) {
         ],
     );
     out.fill(
-        "<text class=\"name\" x=\"10\" y=\"{}\">t{}</text>\n",
+        "<text class=\"name\" x=\"10\" y=\"{}\">t{}</text>",
         &[plan.band(thread).saturating_add(13), number],
     );
+    write_name(thread, plan, names, out);
+    out.words("\n");
+}
+
+/// Writes the name that a story gives a thread, if it gives it one, above its number.
+fn write_name(thread: Tid, plan: &Plan, names: &[u8], out: &mut Page) {
+    if let Some(name) = name_of(names, thread) {
+        out.fill(
+            "<text class=\"again\" x=\"10\" y=\"{}\">",
+            &[plan.band(thread).saturating_sub(8)],
+        );
+        out.words(from_utf8(name).unwrap_or(""));
+        out.words("</text>");
+    }
 }
 
 /// Writes the names of the lanes again above some of the columns, if there are many columns.

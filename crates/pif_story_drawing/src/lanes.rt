@@ -55,6 +55,20 @@ impl Lane {
         }
     }
 
+    /// Looks at the thread behind a command, and draws nothing.
+    fn follow(&mut self, core: &Core, moment: Moment) {
+        let look = look_of(core, self.thread);
+        if look != self.look {
+            self.look = look;
+            self.look_since = moment;
+        }
+        let level = level_of(core, self.thread);
+        if level != self.level {
+            self.level = level;
+            self.level_since = moment;
+        }
+    }
+
     /// Draws what the thread did up to a moment.
     pub fn close(&self, moment: Moment, plan: &Plan, sheet: &mut Sheet) {
         self.end_look(moment, plan, sheet);
@@ -124,6 +138,13 @@ pub fn see_lanes(
 ) {
     for place in 0..lanes.len() {
         lanes[place].see(row, core, moment, plan, sheet);
+    }
+}
+
+/// Looks at all threads behind a command, and draws nothing.
+pub fn follow_lanes(lanes: &mut [Lane], core: &Core, moment: Moment) {
+    for place in 0..lanes.len() {
+        lanes[place].follow(core, moment);
     }
 }
 

@@ -1,5 +1,4 @@
-//! Pictures of stories as texts: a drawing for people, and the states after each line and a graph of who waits for whom
-//! for programs.
+//! Pictures of stories as texts: a drawing for people, and a graph of who waits for whom for programs.
 //!
 //! The commands of a story come with their answers, and so the story has no fault. A core plays its commands again, one
 //! by one, and what it shows behind each is written down. Each picture is kept in memory.
@@ -7,22 +6,21 @@
 
 mod arrows;
 mod bars;
-mod chains;
 mod drawing;
 mod graphs;
 mod heads;
 mod lanes;
 mod levels;
 mod looks;
-mod objects;
 mod owners;
 mod pages;
-mod pictures;
 mod plans;
 mod plays;
 mod rows;
 mod sheets;
-mod states;
+mod spans;
 mod styles;
 
-pub use pictures::picture_of;
+pub use drawing::drawing_of;
+pub use graphs::graph_of;
+pub use spans::Span;

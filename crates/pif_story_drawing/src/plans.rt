@@ -1,14 +1,17 @@
 use crate::owners::owner_of;
 use crate::plays::{Watch, play};
 use crate::rows::{Row, letters_of};
+use crate::spans::Span;
 use pif_core::Core;
 use pif_model::Event;
 use pif_story_model::AnsweredRow;
+use pif_story_names::name_of;
 use pif_text::{Addition, Command};
 use pif_types::{MutexId, NoMemory, Request, Tid};
+use pif_watch::WatchSteps;
 use std::alloc::{AllocError, Global};
 
-/// Where the first column begins.
+/// Where the first column begins, if threads have no names.
 const LEFT: u32 = 48;
 /// Where the first lane begins.
 const TOP: u32 = 88;
@@ -35,6 +38,8 @@ pub struct Plan {
     pub threads: u32,
     /// How many mutexes are drawn.
     pub mutexes: u32,
+    // Where the first column begins.
+    left: u32,
     // The most mutexes that one thread holds at once.
     held: u32,
     // The least and the greatest priority, and the length of the longest command with its answer.
@@ -43,24 +48,35 @@ pub struct Plan {
     letters: u32,
 }
 
-/// The plan of a drawing of a story.
+/// The plan of a drawing of a story, in the first half of its steps.
 ///
 /// # Errors
 ///
 /// A growth of memory was refused.
-pub fn plan_of(alloc: Global, story: &[u8], rows: &[AnsweredRow]) -> Result<Plan, NoMemory> {
+pub fn plan_of<V: WatchSteps>(
+    alloc: Global,
+    span: &Span,
+    names: &[u8],
+    story: &[u8],
+    rows: &[AnsweredRow],
+    told: &mut V,
+) -> Result<Plan, NoMemory> {
     let mut planner = Planner {
         plan: Plan::new(),
+        span: *span,
         counts: Vec::new(alloc),
         failed: false,
     };
-    planner.make(alloc, story, rows)
+    let mut plan = planner.make(alloc, story, rows, told)?;
+    plan.left = left_of(names, plan.threads);
+    Ok(plan)
 }
 
 /// Makes a plan while the commands of a story are played.
 #[derive(Drop)]
 struct Planner {
     plan: Plan,
+    span: Span,
     // How many mutexes each thread holds.
     counts: Vec<u32>,
     // Whether memory was refused.
@@ -69,13 +85,14 @@ struct Planner {
 
 impl Planner {
     /// Plays the commands of a story, and makes the plan.
-    fn make(
+    fn make<V: WatchSteps>(
         &mut self,
         alloc: Global,
         story: &[u8],
         rows: &[AnsweredRow],
+        told: &mut V,
     ) -> Result<Plan, NoMemory> {
-        play(alloc, story, rows, self)?;
+        play(alloc, story, rows, self, 0, told)?;
         if self.failed {
             Err(NoMemory)
         } else {
@@ -86,17 +103,22 @@ impl Planner {
 
 impl Watch for Planner {
     fn see(&mut self, row: &Row<'_>, core: &Core) {
-        self.plan.take(row);
+        if self.span.is_before(row.line) {
+            return;
+        }
+        if self.span.has(row.line) {
+            self.plan.take(row);
+        }
+        self.plan.take_priority(row);
+        self.plan.threads = core.threads();
+        self.plan.mutexes = core.mutexes();
         match count_held(core, &mut self.counts) {
             Ok(most) => self.plan.held = self.plan.held.max(most),
             Err(_) => self.failed = true,
         }
     }
 
-    fn end(&mut self, core: &Core) {
-        self.plan.threads = core.threads();
-        self.plan.mutexes = core.mutexes();
-    }
+    fn end(&mut self, _core: &Core) {}
 }
 
 /// Counts the mutexes that each thread holds, and answers the most that one holds.
@@ -128,6 +150,24 @@ fn owner_place(core: &Core, number: u32) -> Option<usize> {
     Some((owner.get() - 1) as usize)
 }
 
+/// Where the first column begins, so that the longest name of so many threads has room before it.
+fn left_of(names: &[u8], threads: u32) -> u32 {
+    let mut left = LEFT;
+    for number in 1..=threads {
+        if let Some(thread) = Tid::new(number) {
+            if let Some(name) = name_of(names, thread) {
+                left = left.max(
+                    u32::try_from(name.len())
+                        .unwrap_or(0)
+                        .saturating_mul(7)
+                        .saturating_add(22),
+                );
+            }
+        }
+    }
+    left
+}
+
 impl Plan {
     /// The plan of a drawing of nothing.
     fn new() -> Plan {
@@ -135,6 +175,7 @@ impl Plan {
             columns: 0,
             threads: 0,
             mutexes: 0,
+            left: LEFT,
             held: 0,
             least: 99,
             greatest: 1,
@@ -148,6 +189,10 @@ impl Plan {
         self.letters = self
             .letters
             .max(u32::try_from(letters_of(row)).unwrap_or(0));
+    }
+
+    /// Makes room for the priority that a command gives to a thread.
+    fn take_priority(&mut self, row: &Row<'_>) {
         if let Some(priority) = named_priority(row.command) {
             self.least = self.least.min(priority);
             self.greatest = self.greatest.max(priority);
@@ -156,7 +201,7 @@ impl Plan {
 
     /// Where a column begins.
     pub fn x(&self, column: u32) -> u32 {
-        column.saturating_mul(COLUMN).saturating_add(LEFT)
+        column.saturating_mul(COLUMN).saturating_add(self.left)
     }
 
     /// The length of so many columns.

@@ -4,6 +4,7 @@ use pif_model::Event;
 use pif_story_model::AnsweredRow;
 use pif_text::{Addition, Command};
 use pif_types::{Limits, NoMemory, Request, Tid};
+use pif_watch::WatchSteps;
 use std::alloc::Global;
 
 /// What looks on while the commands of a story are played.
@@ -16,20 +17,23 @@ pub trait Watch {
 }
 
 /// Plays the commands of a story, by a core to which nothing was added, under the limits that the story begins with, or
-/// else those of scripts.
+/// else those of scripts. For a drawing all are played twice: `told` is told of each as a step, behind so many that are
+/// done.
 ///
 /// # Errors
 ///
 /// A growth of memory was refused, and nothing was played.
-pub fn play<W: Watch>(
+pub fn play<W: Watch, V: WatchSteps>(
     alloc: Global,
     story: &[u8],
     rows: &[AnsweredRow],
     watch: &mut W,
+    done: usize,
+    told: &mut V,
 ) -> Result<(), NoMemory> {
     match Core::new(alloc, limits_of(rows)) {
         Ok(mut core) => {
-            play_rows(&mut core, story, rows, watch);
+            play_rows(&mut core, story, rows, watch, done, told);
             Ok(())
         }
         Err(_) => Err(NoMemory),
@@ -37,8 +41,17 @@ pub fn play<W: Watch>(
 }
 
 /// Plays the commands of a story.
-fn play_rows<W: Watch>(core: &mut Core, story: &[u8], rows: &[AnsweredRow], watch: &mut W) {
-    for answered in rows {
+fn play_rows<W: Watch, V: WatchSteps>(
+    core: &mut Core,
+    story: &[u8],
+    rows: &[AnsweredRow],
+    watch: &mut W,
+    done: usize,
+    told: &mut V,
+) {
+    let count = rows.len().saturating_mul(2);
+    for (place, answered) in rows.iter().enumerate() {
+        told.step(done.saturating_add(place), count);
         if let Some(row) = row_of(answered, story) {
             obey(core, row.command);
             watch.see(&row, core);

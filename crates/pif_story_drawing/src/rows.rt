@@ -1,8 +1,8 @@
 use crate::pages::Page;
-use pif_model::Event;
+use pif_model::{Event, Seen};
 use pif_story_model::AnsweredRow;
-use pif_text::{Command, Reply, Text, reply_text};
-use pif_types::Tid;
+use pif_text::{Command, Reply, Text, errno_name, errno_of, reply_text};
+use pif_types::{Errno, Tid};
 use std::str::from_utf8;
 
 /// A command of a story, with its words.
@@ -48,16 +48,34 @@ pub fn row_of<'a>(answered: &AnsweredRow, story: &'a [u8]) -> Option<Row<'a>> {
     })
 }
 
-/// Writes what a core answers a command.
-pub fn write_reply(reply: Reply, out: &mut Page) {
+/// What a core answers a command, an error with its name.
+fn answer_text(reply: Reply) -> Text {
+    let error = error_of(&reply);
     let mut text = Text::new();
     reply_text(reply, &mut text);
+    if let Some(errno) = error {
+        let _ = text.try_extend_from_slice(b" ");
+        let _ = text.try_extend_from_slice(errno_name(errno).as_bytes());
+    }
+    text
+}
+
+/// The error that a call is answered.
+fn error_of(reply: &Reply) -> Option<Errno> {
+    match reply {
+        Reply::Seen(Seen::Answered(number)) => errno_of(*number),
+        _ => None,
+    }
+}
+
+/// Writes what a core answers a command, an error with its name.
+pub fn write_reply(reply: Reply, out: &mut Page) {
+    let text = answer_text(reply);
     out.words(from_utf8(text.as_slice()).unwrap_or(""));
 }
 
 /// How many bytes a command has, with what it is answered.
 pub fn letters_of(row: &Row<'_>) -> usize {
-    let mut text = Text::new();
-    reply_text(row.reply, &mut text);
+    let text = answer_text(row.reply);
     row.words.len().saturating_add(text.len())
 }

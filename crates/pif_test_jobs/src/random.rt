@@ -2,6 +2,7 @@
 use pif_job_random::{Shape, random_script};
 use pif_script::{CliFault, run};
 use pif_types::NoMemory;
+use pif_watch::Unwatched;
 use std::alloc::Global;
 use std::process::Abort;
 use std::str::from_utf8;
@@ -82,20 +83,20 @@ fn has_all(rt: &impl Abort, script: &str) {
 
 #[test]
 fn a_script_has_every_command(rt: HostRuntime) -> Result<(), Fail> {
-    let script = random_script(rt.alloc(), 1, 2000, ALL)?;
+    let script = random_script(rt.alloc(), 1, 2000, ALL, &mut Unwatched)?;
     has_all(&rt, from_utf8(script.as_slice())?);
     Ok(())
 }
 
 // Whether a seed gives this script.
 fn gives(alloc: Global, seed: u64, script: &[u8]) -> Result<bool, NoMemory> {
-    let given = random_script(alloc, seed, 300, ALL)?;
+    let given = random_script(alloc, seed, 300, ALL, &mut Unwatched)?;
     Ok(given.as_slice() == script)
 }
 
 #[test]
 fn a_seed_gives_one_script(rt: HostRuntime) -> Result<(), Fail> {
-    let script = random_script(rt.alloc(), 7, 300, ALL)?;
+    let script = random_script(rt.alloc(), 7, 300, ALL, &mut Unwatched)?;
     let same = gives(rt.alloc(), 7, script.as_slice());
     let other = gives(rt.alloc(), 8, script.as_slice());
     assert!(rt; same == Ok(true) && other == Ok(false));
@@ -113,14 +114,14 @@ fn check_plain(rt: &impl Abort, script: &str) {
 
 #[test]
 fn only_what_was_asked_for_is_there(rt: HostRuntime) -> Result<(), Fail> {
-    let script = random_script(rt.alloc(), 3, 500, PLAIN)?;
+    let script = random_script(rt.alloc(), 3, 500, PLAIN, &mut Unwatched)?;
     check_plain(&rt, from_utf8(script.as_slice())?);
     Ok(())
 }
 
 /// Runs a random script of 500 lines.
 fn run_script(alloc: Global, shape: Shape, output: &mut Vec<u8>) -> Result<(), CliFault> {
-    let Ok(script) = random_script(alloc, 5, 500, shape) else {
+    let Ok(script) = random_script(alloc, 5, 500, shape, &mut Unwatched) else {
         return Err(CliFault::NoMemory);
     };
     run(alloc, &mut script.as_slice(), output)
@@ -155,7 +156,7 @@ fn check_added(rt: &impl Abort, script: &str) {
 
 #[test]
 fn lost_mutexes_are_followed_by_others(rt: HostRuntime) -> Result<(), Fail> {
-    let script = random_script(rt.alloc(), 2, 1500, ENDING)?;
+    let script = random_script(rt.alloc(), 2, 1500, ENDING, &mut Unwatched)?;
     check_added(&rt, from_utf8(script.as_slice())?);
     Ok(())
 }

@@ -5,7 +5,7 @@ use pif_types::{CondId, MutexId, Request, Tid};
 use std::io::Write;
 
 /// Writes that a thread is in this call, which stands there as in a script.
-pub fn show_call<W: Write>(request: Request, page: &mut Page, writer: &mut W)
+pub fn show_call<W: Write>(request: Request, page: &mut Page<'_>, writer: &mut W)
     ensures { Stays (W.contents writer.old) (W.contents writer.new) }
 {
     match request {
@@ -25,7 +25,7 @@ pub fn show_call<W: Write>(request: Request, page: &mut Page, writer: &mut W)
 }
 
 /// Writes that a thread is in a wait.
-fn show_cond_wait<W: Write>(cond: CondId, mutex: MutexId, page: &mut Page, writer: &mut W)
+fn show_cond_wait<W: Write>(cond: CondId, mutex: MutexId, page: &mut Page<'_>, writer: &mut W)
     ensures { Stays (W.contents writer.old) (W.contents writer.new) }
 {
     page.cond("; in wait ", cond, writer);
@@ -33,7 +33,7 @@ fn show_cond_wait<W: Write>(cond: CondId, mutex: MutexId, page: &mut Page, write
 }
 
 /// Writes that a thread is in a lock with a deadline.
-fn show_timed_lock<W: Write>(mutex: MutexId, deadline: u32, page: &mut Page, writer: &mut W)
+fn show_timed_lock<W: Write>(mutex: MutexId, deadline: u32, page: &mut Page<'_>, writer: &mut W)
     ensures { Stays (W.contents writer.old) (W.contents writer.new) }
 {
     page.mutex("; in timedlock ", mutex, writer);
@@ -45,7 +45,7 @@ fn show_timed_wait<W: Write>(
     cond: CondId,
     mutex: MutexId,
     deadline: u32,
-    page: &mut Page,
+    page: &mut Page<'_>,
     writer: &mut W,
 )
     ensures { Stays (W.contents writer.old) (W.contents writer.new) }
@@ -56,9 +56,9 @@ fn show_timed_wait<W: Write>(
 }
 
 /// Writes that a thread is about to set a priority.
-fn show_setting<W: Write>(thread: Tid, priority: u32, page: &mut Page, writer: &mut W)
+fn show_setting<W: Write>(thread: Tid, priority: u32, page: &mut Page<'_>, writer: &mut W)
     ensures { Stays (W.contents writer.old) (W.contents writer.new) }
 {
-    page.thread("; in setprio ", thread, writer);
+    page.number("; in setprio t", thread.get(), writer);
     page.number(" ", priority, writer);
 }

@@ -9,7 +9,12 @@ use std::io::Write;
 
 /// Writes a line for each chain of waiting, from a thread that waits and for which nobody waits. If there is a core
 /// from before, only chains are written that weren't there, and that there are none if the last ones are gone.
-pub fn show_chains<W: Write>(before: Option<&Core>, core: &Core, page: &mut Page, writer: &mut W)
+pub fn show_chains<W: Write>(
+    before: Option<&Core>,
+    core: &Core,
+    page: &mut Page<'_>,
+    writer: &mut W,
+)
     ensures { Stays (W.contents writer.old) (W.contents writer.new) }
 {
     for number in 1..=core.threads() {
@@ -87,7 +92,7 @@ fn link_of(core: &Core, thread: Tid) -> Option<Link> {
 }
 
 /// Writes the chain that begins with this thread.
-fn show_chain<W: Write>(core: &Core, thread: Tid, page: &mut Page, writer: &mut W)
+fn show_chain<W: Write>(core: &Core, thread: Tid, page: &mut Page<'_>, writer: &mut W)
     ensures { Stays (W.contents writer.old) (W.contents writer.new) }
 {
     page.thread("  chain: ", thread, writer);
@@ -96,7 +101,7 @@ fn show_chain<W: Write>(core: &Core, thread: Tid, page: &mut Page, writer: &mut 
 }
 
 /// Writes for which mutex each of these threads waits and who holds it; nothing for one that waits for none.
-fn show_links<W: Write>(core: &Core, path: &[Tid], page: &mut Page, writer: &mut W)
+fn show_links<W: Write>(core: &Core, path: &[Tid], page: &mut Page<'_>, writer: &mut W)
     ensures { Stays (W.contents writer.old) (W.contents writer.new) }
 {
     for thread in path {

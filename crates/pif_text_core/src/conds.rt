@@ -9,7 +9,7 @@ use std::io::Write;
 
 /// Writes a line for each condition variable, or if there is a core from before, for each of which the line has
 /// changed.
-pub fn show_conds<W: Write>(before: Option<&Core>, core: &Core, page: &mut Page, writer: &mut W)
+pub fn show_conds<W: Write>(before: Option<&Core>, core: &Core, page: &mut Page<'_>, writer: &mut W)
     ensures { Stays (W.contents writer.old) (W.contents writer.new) }
 {
     for number in 1..=core.conds() {
@@ -22,7 +22,7 @@ pub fn show_conds<W: Write>(before: Option<&Core>, core: &Core, page: &mut Page,
 }
 
 /// Writes the line of a condition variable.
-fn show_cond<W: Write>(core: &Core, cond: CondId, page: &mut Page, writer: &mut W)
+fn show_cond<W: Write>(core: &Core, cond: CondId, page: &mut Page<'_>, writer: &mut W)
     ensures { Stays (W.contents writer.old) (W.contents writer.new) }
 {
     page.cond("  ", cond, writer);
@@ -33,7 +33,7 @@ fn show_cond<W: Write>(core: &Core, cond: CondId, page: &mut Page, writer: &mut 
 }
 
 /// Writes the mutex to which a condition variable is bound.
-fn show_bound<W: Write>(core: &Core, cond: CondId, page: &mut Page, writer: &mut W)
+fn show_bound<W: Write>(core: &Core, cond: CondId, page: &mut Page<'_>, writer: &mut W)
     ensures { Stays (W.contents writer.old) (W.contents writer.new) }
 {
     if let Some(mutex) = core.bound(cond) {

@@ -9,12 +9,17 @@ use crate::queues::show_queue;
 use crate::threads::show_holder;
 use pif_core::{Core, Order};
 use pif_text::kind_word;
-use pif_types::{Health, MutexId, Tid};
+use pif_types::{Health, MutexId};
 use pif_word::{has_waiters, number, owner_died};
 use std::io::Write;
 
 /// Writes a line for each mutex, or if there is a core from before, for each of which the line has changed.
-pub fn show_mutexes<W: Write>(before: Option<&Core>, core: &Core, page: &mut Page, writer: &mut W)
+pub fn show_mutexes<W: Write>(
+    before: Option<&Core>,
+    core: &Core,
+    page: &mut Page<'_>,
+    writer: &mut W,
+)
     ensures { Stays (W.contents writer.old) (W.contents writer.new) }
 {
     for number in 1..=core.mutexes() {
@@ -33,7 +38,7 @@ const SAME_LINE: &str = "; word ";
 const NEXT_LINE: &str = "\n      word ";
 
 /// Writes the line of a mutex. If the health word of a robust one lags behind its state, there are two lines.
-fn show_mutex<W: Write>(core: &Core, mutex: MutexId, page: &mut Page, writer: &mut W)
+fn show_mutex<W: Write>(core: &Core, mutex: MutexId, page: &mut Page<'_>, writer: &mut W)
     ensures { Stays (W.contents writer.old) (W.contents writer.new) }
 {
     let word = core.word(mutex).unwrap_or(0);
@@ -50,7 +55,7 @@ fn show_kind<W: Write>(
     core: &Core,
     mutex: MutexId,
     word: u32,
-    page: &mut Page,
+    page: &mut Page<'_>,
     writer: &mut W,
 ) -> &'static str
     ensures { Stays (W.contents writer.old) (W.contents writer.new) }
@@ -68,7 +73,12 @@ fn show_kind<W: Write>(
 
 /// Writes the state of a robust mutex by POSIX, and what the health word says if that is something else. Gives what
 /// stands before its word then.
-fn show_state<W: Write>(health: Health, word: u32, page: &mut Page, writer: &mut W) -> &'static str
+fn show_state<W: Write>(
+    health: Health,
+    word: u32,
+    page: &mut Page<'_>,
+    writer: &mut W,
+) -> &'static str
     ensures { Stays (W.contents writer.old) (W.contents writer.new) }
 {
     let state = state_of(health, word);
@@ -104,14 +114,22 @@ fn health_words(health: Health) -> &'static str {
     }
 }
 
-/// Writes the parts of the word of a mutex behind what stands before it.
-fn show_word<W: Write>(front: &str, word: u32, page: &mut Page, writer: &mut W)
+/// Writes the number in the word of a mutex behind what stands before it.
+fn show_number<W: Write>(front: &str, word: u32, page: &mut Page<'_>, writer: &mut W)
     ensures { Stays (W.contents writer.old) (W.contents writer.new) }
 {
-    match Tid::new(number(word)) {
-        Some(thread) => page.thread(front, thread, writer),
-        None => page.number(front, 0, writer),
+    page.words(front, writer);
+    match number(word) {
+        0 => page.words("0", writer),
+        thread => page.number("t", thread, writer),
     }
+}
+
+/// Writes the parts of the word of a mutex behind what stands before it.
+fn show_word<W: Write>(front: &str, word: u32, page: &mut Page<'_>, writer: &mut W)
+    ensures { Stays (W.contents writer.old) (W.contents writer.new) }
+{
+    show_number(front, word, page, writer);
     if has_waiters(word) {
         page.words(" + WAITERS", writer);
     }
@@ -121,7 +139,7 @@ fn show_word<W: Write>(front: &str, word: u32, page: &mut Page, writer: &mut W)
 }
 
 /// Writes the owner of a mutex, and how often it holds the mutex; nothing where nobody owns it.
-fn show_ownership<W: Write>(core: &Core, mutex: MutexId, page: &mut Page, writer: &mut W)
+fn show_ownership<W: Write>(core: &Core, mutex: MutexId, page: &mut Page<'_>, writer: &mut W)
     ensures { Stays (W.contents writer.old) (W.contents writer.new) }
 {
     if let Some(holder) = holder_of(core, mutex) {

@@ -16,15 +16,18 @@ const PAGE_ROOM: usize = 1024;
 
 /// A text on its way to a writer, which gets it in parts. Once a write has failed nothing more is written.
 #[derive(Drop)]
-pub struct Page {
+pub struct Page<'n> {
+    // The names of threads for a person, that of t1 first.
+    names: &'n [&'n str],
     kept: ArrayVec<u8, PAGE_ROOM>,
     failed: bool,
 }
 
-impl Page {
-    /// A page with no text.
-    pub fn new() -> Page {
+impl<'n> Page<'n> {
+    /// A page with no text, on which threads have these names: that of t1 is the first, and an empty one is none.
+    pub fn new(names: &'n [&'n str]) -> Page<'n> {
         Page {
+            names,
             kept: ArrayVec::new(),
             failed: false,
         }
@@ -46,12 +49,16 @@ impl Page {
         self.bytes(buffer.format(number).as_bytes(), writer);
     }
 
-    /// Appends words and the name of a thread, as `t1`.
+    /// Appends words and a thread as commands name it, as `t1`, with its name for a person behind it, if it has one.
     pub fn thread<W: Write>(&mut self, before: &str, thread: Tid, writer: &mut W)
         ensures { Stays (W.contents writer.old) (W.contents writer.new) }
     {
         self.words(before, writer);
         self.number("t", thread.get(), writer);
+        if let Some(name) = name_in(self.names, thread) {
+            self.words(" ", writer);
+            self.words(name, writer);
+        }
     }
 
     /// Appends words and the name of a mutex, as `m1`.
@@ -102,6 +109,16 @@ impl Page {
             self.failed = write_whole(writer, self.kept.as_slice()).is_err();
         }
         self.kept.clear();
+    }
+}
+
+/// The name of a thread in a list, in which that of t1 is the first; none if it is empty.
+fn name_in<'n>(names: &'n [&'n str], thread: Tid) -> Option<&'n str> {
+    let place = (thread.get() - 1) as usize;
+    if place < names.len() && !names[place].is_empty() {
+        Some(names[place])
+    } else {
+        None
     }
 }
 

@@ -6,7 +6,13 @@ use pif_types::Tid;
 use std::io::Write;
 
 /// Writes the threads of an order with `head` before the first; nothing where there is none.
-pub fn show_queue<W: Write>(core: &Core, order: &Order, head: &str, page: &mut Page, writer: &mut W)
+pub fn show_queue<W: Write>(
+    core: &Core,
+    order: &Order,
+    head: &str,
+    page: &mut Page<'_>,
+    writer: &mut W,
+)
     ensures { Stays (W.contents writer.old) (W.contents writer.new) }
 {
     for place in 0..core.threads() {
@@ -18,7 +24,7 @@ pub fn show_queue<W: Write>(core: &Core, order: &Order, head: &str, page: &mut P
 }
 
 /// Writes a thread of an order before which `place` others stand.
-fn show_place<W: Write>(place: u32, thread: Tid, head: &str, page: &mut Page, writer: &mut W)
+fn show_place<W: Write>(place: u32, thread: Tid, head: &str, page: &mut Page<'_>, writer: &mut W)
     ensures { Stays (W.contents writer.old) (W.contents writer.new) }
 {
     if place == 0 {
@@ -44,7 +50,12 @@ pub fn is_same_queue(before: &Core, core: &Core, order: &Order) -> bool {
 
 /// Writes the line of the run queue; nothing if no thread is ready. If there is a core from before, it is written only
 /// if it has changed, and then also if no thread is ready.
-pub fn show_run_queue<W: Write>(before: Option<&Core>, core: &Core, page: &mut Page, writer: &mut W)
+pub fn show_run_queue<W: Write>(
+    before: Option<&Core>,
+    core: &Core,
+    page: &mut Page<'_>,
+    writer: &mut W,
+)
     ensures { Stays (W.contents writer.old) (W.contents writer.new) }
 {
     match before {
@@ -58,7 +69,7 @@ pub fn show_run_queue<W: Write>(before: Option<&Core>, core: &Core, page: &mut P
 }
 
 /// Writes the line of the run queue, or these words if no thread is ready.
-fn show_ready<W: Write>(core: &Core, empty: &str, page: &mut Page, writer: &mut W)
+fn show_ready<W: Write>(core: &Core, empty: &str, page: &mut Page<'_>, writer: &mut W)
     ensures { Stays (W.contents writer.old) (W.contents writer.new) }
 {
     if core.pick().is_some() {

@@ -8,7 +8,12 @@ use pif_types::{CondId, MutexId, Tid};
 use std::io::Write;
 
 /// Writes a line for each thread, or if there is a core from before, for each of which the line has changed.
-pub fn show_threads<W: Write>(before: Option<&Core>, core: &Core, page: &mut Page, writer: &mut W)
+pub fn show_threads<W: Write>(
+    before: Option<&Core>,
+    core: &Core,
+    page: &mut Page<'_>,
+    writer: &mut W,
+)
     ensures { Stays (W.contents writer.old) (W.contents writer.new) }
 {
     for number in 1..=core.threads() {
@@ -21,7 +26,7 @@ pub fn show_threads<W: Write>(before: Option<&Core>, core: &Core, page: &mut Pag
 }
 
 /// Writes the line of a thread.
-fn show_thread<W: Write>(core: &Core, thread: Tid, page: &mut Page, writer: &mut W)
+fn show_thread<W: Write>(core: &Core, thread: Tid, page: &mut Page<'_>, writer: &mut W)
     ensures { Stays (W.contents writer.old) (W.contents writer.new) }
 {
     page.thread("  ", thread, writer);
@@ -34,7 +39,7 @@ fn show_thread<W: Write>(core: &Core, thread: Tid, page: &mut Page, writer: &mut
 }
 
 /// Writes the effective priority of a thread, and its base priority where that differs; nothing where it has ended.
-fn show_priority<W: Write>(core: &Core, thread: Tid, page: &mut Page, writer: &mut W)
+fn show_priority<W: Write>(core: &Core, thread: Tid, page: &mut Page<'_>, writer: &mut W)
     ensures { Stays (W.contents writer.old) (W.contents writer.new) }
 {
     let (Some(effective), Some(base)) = (core.effective(thread), core.base(thread)) else {
@@ -49,7 +54,7 @@ fn show_priority<W: Write>(core: &Core, thread: Tid, page: &mut Page, writer: &m
 }
 
 /// Writes what a thread does.
-fn show_doing<W: Write>(core: &Core, thread: Tid, page: &mut Page, writer: &mut W)
+fn show_doing<W: Write>(core: &Core, thread: Tid, page: &mut Page<'_>, writer: &mut W)
     ensures { Stays (W.contents writer.old) (W.contents writer.new) }
 {
     if let Some(status) = core.status(thread) {
@@ -58,7 +63,7 @@ fn show_doing<W: Write>(core: &Core, thread: Tid, page: &mut Page, writer: &mut 
 }
 
 /// Writes the call that a thread has open; nothing where it has none.
-fn show_open_call<W: Write>(core: &Core, thread: Tid, page: &mut Page, writer: &mut W)
+fn show_open_call<W: Write>(core: &Core, thread: Tid, page: &mut Page<'_>, writer: &mut W)
     ensures { Stays (W.contents writer.old) (W.contents writer.new) }
 {
     if let Some(request) = core.open_call(thread) {
@@ -67,7 +72,7 @@ fn show_open_call<W: Write>(core: &Core, thread: Tid, page: &mut Page, writer: &
 }
 
 /// Writes what a thread of this status does.
-fn show_status<W: Write>(core: &Core, status: Status, page: &mut Page, writer: &mut W)
+fn show_status<W: Write>(core: &Core, status: Status, page: &mut Page<'_>, writer: &mut W)
     ensures { Stays (W.contents writer.old) (W.contents writer.new) }
 {
     match status {
@@ -80,7 +85,7 @@ fn show_status<W: Write>(core: &Core, status: Status, page: &mut Page, writer: &
 }
 
 /// Writes that a thread waits for a mutex, and who holds it.
-fn show_wait<W: Write>(mutex: MutexId, holder: Option<Holder>, page: &mut Page, writer: &mut W)
+fn show_wait<W: Write>(mutex: MutexId, holder: Option<Holder>, page: &mut Page<'_>, writer: &mut W)
     ensures { Stays (W.contents writer.old) (W.contents writer.new) }
 {
     page.mutex("waits for ", mutex, writer);
@@ -90,7 +95,7 @@ fn show_wait<W: Write>(mutex: MutexId, holder: Option<Holder>, page: &mut Page, 
 }
 
 /// Writes that a thread is parked on a condition variable, and for which mutex.
-fn show_parking<W: Write>(core: &Core, cond: CondId, page: &mut Page, writer: &mut W)
+fn show_parking<W: Write>(core: &Core, cond: CondId, page: &mut Page<'_>, writer: &mut W)
     ensures { Stays (W.contents writer.old) (W.contents writer.new) }
 {
     page.cond("parked on ", cond, writer);
@@ -100,7 +105,7 @@ fn show_parking<W: Write>(core: &Core, cond: CondId, page: &mut Page, writer: &m
 }
 
 /// Writes the owner of a mutex, and marks it if it has ended.
-pub fn show_holder<W: Write>(words: &str, holder: Holder, page: &mut Page, writer: &mut W)
+pub fn show_holder<W: Write>(words: &str, holder: Holder, page: &mut Page<'_>, writer: &mut W)
     ensures { Stays (W.contents writer.old) (W.contents writer.new) }
 {
     page.thread(words, holder.owner, writer);
@@ -110,7 +115,7 @@ pub fn show_holder<W: Write>(words: &str, holder: Holder, page: &mut Page, write
 }
 
 /// Writes which mutexes a thread holds; nothing where it holds none.
-fn show_held<W: Write>(core: &Core, thread: Tid, page: &mut Page, writer: &mut W)
+fn show_held<W: Write>(core: &Core, thread: Tid, page: &mut Page<'_>, writer: &mut W)
     ensures { Stays (W.contents writer.old) (W.contents writer.new) }
 {
     let mut held = 0u32;
@@ -127,7 +132,7 @@ fn show_holding<W: Write>(
     has_other: bool,
     mutex: MutexId,
     count: u32,
-    page: &mut Page,
+    page: &mut Page<'_>,
     writer: &mut W,
 )
     ensures { Stays (W.contents writer.old) (W.contents writer.new) }

@@ -3,6 +3,7 @@ use super::{Kept, check_bytes, check_status};
 use crate::processes::Process;
 use pif_cli::{Input, Output, Progress, Status, WatchFiles, command_at_terminal};
 use pif_job_judge::Watch;
+use pif_watch::WatchSteps;
 use std::io::Write;
 use std::process::Abort;
 use std::rt::{Env, Files};
@@ -24,7 +25,7 @@ fn ask_at_terminal<
     P: Env + AllocGlobal + Files + Threads + Wait + Sync,
     W: Write,
     E: Write,
-    V: Watch + WatchFiles,
+    V: Watch + WatchFiles + WatchSteps,
 >(process: &P, is_terminal: bool, output: &mut W, errors: &mut E, watch: &mut V) -> Status {
     let (mut input, mut output) = (Input::new(b"pick\n".as_slice()), Output::new(output));
     command_at_terminal(process, is_terminal, &mut input, &mut output, errors, watch)

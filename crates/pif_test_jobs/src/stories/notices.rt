@@ -21,6 +21,17 @@ enum Noting {
     Show,
 }
 
+/// How a check ends, whatever is noted.
+fn check_story(
+    alloc: Global,
+    reader: &mut Stream<'_>,
+    writer: &mut Stream<'_>,
+    notice: &mut Notice,
+) -> Ended {
+    check_noting(alloc, b"story", reader, writer, notice)?;
+    Ok(())
+}
+
 /// Does it.
 fn note(
     noting: Noting,
@@ -30,7 +41,7 @@ fn note(
     notice: &mut Notice,
 ) -> Ended {
     match noting {
-        Noting::Check => check_noting(alloc, b"story", reader, writer, notice),
+        Noting::Check => check_story(alloc, reader, writer, notice),
         Noting::Strict => check_strictly(alloc, b"story", reader, writer, notice),
         Noting::Fill => fill_noting(alloc, b"story", reader, writer, notice),
         Noting::FillSeveral => fill_as_one_of_several(alloc, b"story", reader, writer, notice),

@@ -41,10 +41,10 @@ fault_tells Unsettled status held holds is told = tells_line status 6 held holds
 fault_tells (Undecided line) status held holds is told = tells_line status 7 held holds (omega arith) (omega arith) is told
 
 -- what a job tells them
-job_tells : (result : Result (Unit {0}) JobFault) (status : ℕ) (held holds : Option (List ℕ))
-    → status ≡ job_status result → TellsOf result held holds → TellsAt status held holds
-job_tells (Ok x) status held holds is told = inl (is, told)
-job_tells (Err fault) status held holds is told = fault_tells fault status held holds is told
+job_tells : (notes : List ℕ) (result : Result (Unit {0}) JobFault) (status : ℕ) (held holds : Option (List ℕ))
+    → status ≡ job_status result → TellsOf notes result held holds → TellsAt status held holds
+job_tells notes (Ok x) status held holds is told = inl (is, (notes, told))
+job_tells notes (Err fault) status held holds is told = fault_tells fault status held holds is told
 
 -- what refusing the standard input tells them
 input_tells : (status : ℕ) (held holds : Option (List ℕ)) → RefusesInput held holds status → TellsAt status held holds
@@ -61,7 +61,7 @@ did_tells : (rewrite : Bool) (job : Job) (name : Text) (before after held holds 
 did_tells true job name before after held holds errors_held errors_hold status did =
     input_tells status errors_held errors_hold did.2
 did_tells false job name before after held holds errors_held errors_hold status did =
-    job_tells did.0 status errors_held errors_hold did.2 did.3
+    job_tells did.1 did.0 status errors_held errors_hold did.4 did.5
 
 pub returns-in-Ok-clause-errors : goal.returns-in-Ok-clause-errors
 returns-in-Ok-clause-errors g c =

@@ -10,4 +10,6 @@ with_arg-requires c = c.files_given.ensures.local
 pub returns : goal.returns
 returns c =
     subst (λ (r : Rule). IsApp (with_rule judged_app r) c.with_arg.result) c.files_given.ensures.rule
-    (c.with_arg.ensures _ (c.with_chosen-states.ensures _ (c.with_flag-witness.ensures _ c.described-judge.ensures)))
+    (c.with_arg.ensures _
+    (c.with_chosen-states.ensures _
+    (c.with_flag-html.ensures _ (c.with_flag-json.ensures _ (c.with_flag-witness.ensures _ c.described-judge.ensures)))))

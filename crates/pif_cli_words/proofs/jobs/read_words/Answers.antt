@@ -1,8 +1,8 @@
-use Rattle.std.proofs.Common.{map}
-use Rattle.clap.specs.Words.{found_of}
+use Rattle.std.proofs.Common.{◌∙◌, None, Some, map, sym, subst}
+use Rattle.clap.specs.Words.{HasKind, Kinds, found_of}
 use Rattle.clap.proofs.FaultLemmas.{failed_up}
 use Rattle.pif_cli_words.specs.Words.{refusals_of}
-use Rattle.pif_cli_words.proofs.WordsLemmas.{files_read, job_read, refusals-none, refusals-told, rewrites_read}
+use Rattle.pif_cli_words.proofs.WordsLemmas.{clash_read, files_read, job_read, refusals-told, rewrites_read, unrefused}
 use Rattle.pif_cli_words.proofs.jobs.read_words.Goals as goal
 
 pub returns-in_err-matches-clause-refusals : goal.returns-in_err-matches-clause-refusals
@@ -12,7 +12,18 @@ returns-in_err-matches-clause-refusals g c =
     (refusals-told _ _ c.in_err-matches.field-0.0 c.in_ok-program.ensures c.in_err-matches.ensures.kinds)
 
 pub returns-in-Some-clause-refusals : goal.returns-in-Some-clause-refusals
-returns-in-Some-clause-refusals g c = refusals-none _ _ c.in_ok-program.ensures c.in_ok-matches.ensures.kinds
+returns-in-Some-clause-refusals g c =
+    clash_read _ _ c.in_ok-matches.matches c.in-Some.name.now (found_of c.in-Some.given.now) c.in_ok-program.ensures
+    c.in_ok-matches.ensures.matches c.in-Some.ensures.name c.in-Some.ensures.rows None
+    (sym c.in-None-clash_in.is ∙ c.clash_in.ensures) (unrefused _ _ c.in_ok-program.ensures c.in_ok-matches.ensures.kinds)
+
+pub returns-in-Some-clash_in-clause-refusals : goal.returns-in-Some-clash_in-clause-refusals
+returns-in-Some-clash_in-clause-refusals g c =
+    subst (λ (k : Kinds). HasKind k c.error.result)
+    (sym (clash_read _ _ c.in_ok-matches.matches c.in-Some.name.now (found_of c.in-Some.given.now) c.in_ok-program.ensures
+    c.in_ok-matches.ensures.matches c.in-Some.ensures.name c.in-Some.ensures.rows (Some c.in-Some-clash_in.clash)
+    (sym c.in-Some-clash_in.is ∙ c.clash_in.ensures) (unrefused _ _ c.in_ok-program.ensures c.in_ok-matches.ensures.kinds)))
+    c.error.ensures
 
 pub returns-in-Some-clause-job : goal.returns-in-Some-clause-job
 returns-in-Some-clause-job g c =
@@ -22,7 +33,8 @@ returns-in-Some-clause-job g c =
 pub returns-in-Some-clause-files : goal.returns-in-Some-clause-files
 returns-in-Some-clause-files g c =
     files_read _ _ c.in_ok-matches.matches c.in-Some.name.now (found_of c.in-Some.given.now) c.in_ok-program.ensures
-    c.in_ok-matches.ensures.matches c.in-Some.ensures.name c.in-Some.ensures.rows _ c.in_ok-files_in-in-Some.ensures
+    c.in_ok-matches.ensures.matches c.in-Some.ensures.name c.in-Some.ensures.rows _
+    c.in_ok-files_in-in-None-clash_in.ensures
 
 pub returns-in-Some-clause-rewrites : goal.returns-in-Some-clause-rewrites
 returns-in-Some-clause-rewrites g c =

@@ -11,5 +11,5 @@ returns-in-Ok-tell g c =
     let holds = g.W.Write.contents c.write_told.new.writer in
     let written = subst (λ (l : List ℕ). WritesText held holds l c.in-Ok-tell.end c.write_told.result)
     c.as_slice.ensures.value c.write_told.ensures in
-    judged (heard_of c.args.history.now) held holds (front_of (option_copied c.args.asked.now.name)) c.in-Ok.out.items
+    judged c.args.asked.now.form (heard_of c.args.history.now) held holds (front_of (option_copied c.args.asked.now.name) c.args.asked.now.form) c.in-Ok.out.items
     c.tell.new.out.items c.in-Ok-tell.end c.write_told.result c.in-Ok.ensures c.in-Ok-tell.ensures.told written

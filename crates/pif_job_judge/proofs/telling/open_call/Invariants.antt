@@ -1,6 +1,6 @@
 use Rattle.std.proofs.Common.{◌≡◌, ◌≤◌, Some}
 use Rattle.pif_history_text.specs.Reading.{heard_of}
-use Rattle.pif_job_judge.specs.Judging.{open_of}
+use Rattle.pif_job_judge.specs.Why.{open_of}
 use Rattle.pif_job_judge.proofs.telling.open_call.Given as goal
 
 abbrev pub invariant-loop-left : goal.invariant-loop-left

@@ -1,17 +1,12 @@
-use Rattle.std.proofs.Common.{[], Err, Ok, Some, refl}
-use Rattle.std.proofs.KnownBytes.{Keeps-refl}
+use Rattle.std.proofs.Common.{[]}
 use Rattle.std.proofs.lemmas.Result.{err_from_is_err_and}
+use Rattle.pif_job_show.proofs.StoryLemmas.{shown_of_failed, shown_of_noted}
 use Rattle.pif_job_show.proofs.stories.show_story.Goals as goal
 
-pub returns-in_err-script : goal.returns-in_err-script
-returns-in_err-script g c =
-    let p = err_from_is_err_and c.from_residual.result c.from_residual.ensures.1 in (
-      Err c.in_err-script.field-0.0,
-      c.in_err-script.ensures.failed,
-      (rw (p.1, p.2) refl, Keeps-refl (g.W.Write.contents c.args.writer.now)),
-    )
+pub returns-in_err-show_noting : goal.returns-in_err-show_noting
+returns-in_err-show_noting g c =
+    let p = err_from_is_err_and c.from_residual.result c.from_residual.ensures.1 in
+    rw (p.1, p.2) (shown_of_failed [] _ _ _ _ _ c.in_err-show_noting.ensures.failed)
 
 pub returns : goal.returns
-returns g c =
-    let done = rw c.as_slice.ensures.value at c.show_script.ensures in
-    (Ok c.in_ok-script.script.items, c.in_ok-script.ensures.left, (Some [], done))
+returns g c = shown_of_noted _ _ _ _ _ _ c.in_ok-show_noting.ensures.noted

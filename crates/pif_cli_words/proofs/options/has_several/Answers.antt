@@ -1,8 +1,8 @@
-use Rattle.std.proofs.Common.{◌∙◌, ℕ, List, Some, None, ap, length, map, nat_lt, sym}
+use Rattle.std.proofs.Common.{◌∙◌, List, Some, None, ap, length, map, nat_lt, sym}
 use Rattle.std.proofs.lemmas.List.{length-map}
 use Rattle.clap.specs.Words.{Text, found_of}
 use Rattle.pif_cli_words.proofs.WordsLemmas.{files_found}
-use Rattle.pif_cli_words.proofs.jobs.has_several.Goals as goal
+use Rattle.pif_cli_words.proofs.options.has_several.Goals as goal
 
 pub returns-in-Some : goal.returns-in-Some
 returns-in-Some c =

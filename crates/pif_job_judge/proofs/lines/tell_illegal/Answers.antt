@@ -1,6 +1,6 @@
 use Rattle.pif_history_text.specs.Reading.{heard_of}
 use Rattle.pif_job_judge.proofs.JudgingLemmas.{tells_illegal}
-use Rattle.pif_job_judge.proofs.judging.tell_illegal.Goals as goal
+use Rattle.pif_job_judge.proofs.lines.tell_illegal.Goals as goal
 
 pub returns-in-Ok-tell_why-clause-told : goal.returns-in-Ok-tell_why-clause-told
 returns-in-Ok-tell_why-clause-told c =

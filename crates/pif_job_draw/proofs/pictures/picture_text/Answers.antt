@@ -1,7 +1,0 @@
-use Rattle.std.proofs.lemmas.Result.{err_from_is_err_and}
-use Rattle.pif_job_draw.proofs.pictures.picture_text.Goals as goal
-
-pub returns-in_err-filled : goal.returns-in_err-filled
-returns-in_err-filled c =
-    let p = err_from_is_err_and c.from_residual.result c.from_residual.ensures.1 in
-    rw (p.1, p.2) c.in_err-filled.ensures

@@ -1,0 +1,149 @@
+ghost use Rattle.std.specs.Prelude.{◌≡◌, IfOk, true};
+ghost use Rattle.pif_job_draw.specs.Pictures.{DrawsTo, FillsOrLarge, IsDrawn};
+
+use crate::pages::page_of;
+use crate::texts::{drawing_text, states_text};
+use pif_job_check::fill_rows;
+use pif_script::{CliFault, Notice, read_all, write_whole};
+use pif_story_drawing::Span;
+use pif_story_model::AnsweredRow;
+use pif_text::Cause;
+use pif_types::NoMemory;
+use pif_watch::WatchSteps;
+use std::alloc::Global;
+use std::io::{Read, Write};
+
+/// How many commands are drawn at most: browsers open no wider image.
+pub const MOST_COMMANDS: u32 = 5000;
+
+/// What of a story is drawn, and how.
+#[derive(Clone, Copy)]
+pub struct Drawn {
+    /// Whether it is a page with the states behind the commands, and not an image alone.
+    pub page: bool,
+    /// The first line of the story whose command is drawn.
+    pub from: u32,
+    /// The last one; 0 for the last of all.
+    pub to: u32,
+}
+
+/// The line of the first command that is too many to be drawn. A page has the states behind all commands, and so all
+/// are counted.
+fn line_too_far(page: bool, span: &Span, rows: &[AnsweredRow]) -> Option<u32> {
+    let mut left = MOST_COMMANDS;
+    for row in rows {
+        if page || span.has(row.line) {
+            if left == 0 {
+                return Some(row.line);
+            }
+            left -= 1;
+        }
+    }
+    None
+}
+
+/// The page of a story without a fault.
+///
+/// # Errors
+///
+/// `NoMemory`.
+fn page_text<V: WatchSteps>(
+    alloc: Global,
+    span: &Span,
+    story: &[u8],
+    plain: &[u8],
+    rows: &[AnsweredRow],
+    watch: &mut V,
+) -> Result<Vec<u8>, NoMemory>
+    ensures { IfOk result (λ text. IsDrawn true story.now text.items) }
+{
+    let drawing = drawing_text(alloc, span, story, plain, rows, watch)?;
+    let states = states_text(alloc, story)?;
+    match page_of(alloc, drawing.as_slice(), states.as_slice()) {
+        Ok(page) => Ok(page),
+        Err(_) => Err(NoMemory),
+    }
+}
+
+/// The drawing of a story without a fault, or the page.
+///
+/// # Errors
+///
+/// `NoMemory`.
+fn text_of<V: WatchSteps>(
+    page: bool,
+    alloc: Global,
+    span: &Span,
+    story: &[u8],
+    plain: &[u8],
+    rows: &[AnsweredRow],
+    watch: &mut V,
+) -> Result<Vec<u8>, NoMemory>
+    ensures { IfOk result (λ text. IsDrawn page story.now text.items) }
+{
+    if page {
+        page_text(alloc, span, story, plain, rows, watch)
+    } else {
+        drawing_text(alloc, span, story, plain, rows, watch)
+    }
+}
+
+/// The drawing of a story that is in memory, or the page; `notice` keeps the command that is a fault.
+///
+/// # Errors
+///
+/// Those of `fill_rows`; and `Script` with the line of the first command that is too many, and the cause `Size`.
+fn drawn_text<V: WatchSteps>(
+    drawn: Drawn,
+    alloc: Global,
+    story: &[u8],
+    notice: &mut Notice,
+    watch: &mut V,
+) -> Result<Vec<u8>, CliFault>
+    ensures filled { FillsOrLarge story.now result }
+    ensures shown { IfOk result (λ text. IsDrawn drawn.page story.now text.items) }
+{
+    let span = Span::new(drawn.from, drawn.to);
+    let filled = fill_rows(alloc, story, notice)?;
+    let (plain, rows) = filled;
+    if let Some(line) = line_too_far(drawn.page, &span, rows.as_slice()) {
+        return Err(CliFault::Script(u64::from(line), Cause::Size));
+    }
+    match text_of(
+        drawn.page,
+        alloc,
+        &span,
+        story,
+        plain.as_slice(),
+        rows.as_slice(),
+        watch,
+    ) {
+        Ok(text) => Ok(text),
+        Err(NoMemory) => Err(CliFault::NoMemory),
+    }
+}
+
+/// Draws a story, or a script, as an SVG image, or as a page of HTML that needs nothing else: the image, and the state
+/// behind a command that one chooses. Of the commands those are drawn that stand in the lines named. The story is read
+/// to its end before anything is written, and it and the drawing are kept in memory. `notice` keeps the command that is
+/// a fault; if there is none, it is left as it is. `watch` is told of the commands that are played for the drawing.
+///
+/// # Errors
+///
+/// `Script` with the line of the first fault, as of `fill`; or if more than 5,000 commands are to be drawn, with the
+/// line of the first that is too many, and the cause `Size`; `Read`, if the reader fails; and `NoMemory`: nothing was
+/// written then. `Write`, if the writer fails or takes no byte.
+pub fn write_drawn<R: Read, W: Write, V: WatchSteps>(
+    drawn: Drawn,
+    alloc: Global,
+    reader: &mut R,
+    writer: &mut W,
+    notice: &mut Notice,
+    watch: &mut V,
+) -> Result<(), CliFault>
+    ensures { DrawsTo drawn.page (R.remaining reader.old) (R.remaining reader.new) (W.contents writer.old) (W.contents writer.new) result }
+{
+    let story = read_all(alloc, reader)?;
+    let text = drawn_text(drawn, alloc, story.as_slice(), notice, watch)?;
+    write_whole(writer, text.as_slice())
+}

@@ -1,0 +1,106 @@
+ghost use Rattle.std.specs.Prelude.{◌≡◌, IfOk, string_bytes};
+ghost use Rattle.pif_script_model.specs.declared.pictures.Picture.{Picture};
+ghost use Rattle.pif_job_check.specs.Rows.{FillsRows};
+ghost use Rattle.pif_story_states.specs.States.{states_text};
+ghost use Rattle.pif_job_draw.specs.Pictures.{IsPictureOf};
+
+use pif_job_check::fill_rows;
+use pif_script::{CliFault, Notice};
+use pif_script_model::Picture;
+use pif_story::plain_story;
+use pif_story_drawing::{Span, drawing_of, graph_of};
+use pif_story_model::AnsweredRow;
+use pif_story_names::names_in;
+use pif_story_states::states_of;
+use pif_types::NoMemory;
+use pif_watch::{Unwatched, WatchSteps};
+use std::alloc::Global;
+
+/// The states behind the commands of a story, as lines of JSON.
+///
+/// # Errors
+///
+/// `NoMemory`.
+#[tactic(auto, unfolding(pif_story_states::specs::States::states_text))]
+pub fn states_text(alloc: Global, story: &[u8]) -> Result<Vec<u8>, NoMemory>
+    ensures { IfOk result (λ text. text.items ≡ states_text story.now) }
+{
+    let Ok(plain) = plain_story(alloc, story) else {
+        return Err(NoMemory);
+    };
+    let Ok(names) = names_in(alloc, story) else {
+        return Err(NoMemory);
+    };
+    match states_of(alloc, names.as_slice(), plain.as_slice()) {
+        Ok(text) => Ok(text),
+        Err(_) => Err(NoMemory),
+    }
+}
+
+/// The drawing of these lines of a story without a fault, whose commands stand there in `plain` and are answered so.
+/// `watch` is told how far it has come.
+///
+/// # Errors
+///
+/// `NoMemory`.
+pub fn drawing_text<V: WatchSteps>(
+    alloc: Global,
+    span: &Span,
+    story: &[u8],
+    plain: &[u8],
+    rows: &[AnsweredRow],
+    watch: &mut V,
+) -> Result<Vec<u8>, NoMemory> {
+    match names_in(alloc, story) {
+        Ok(names) => {
+            let drawing = drawing_of(alloc, span, names.as_slice(), plain, rows, watch)?;
+            Ok(drawing.into_bytes())
+        }
+        Err(_) => Err(NoMemory),
+    }
+}
+
+/// This picture of a story without a fault, whose commands stand there in `plain` and are answered so.
+///
+/// # Errors
+///
+/// `NoMemory`.
+fn text_of(
+    picture: Picture,
+    alloc: Global,
+    story: &[u8],
+    plain: &[u8],
+    rows: &[AnsweredRow],
+) -> Result<Vec<u8>, NoMemory>
+    ensures { IfOk result (λ text. IsPictureOf picture story.now text.items) }
+{
+    match picture {
+        Picture::Drawing => {
+            drawing_text(alloc, &Span::all(), story, plain, rows, &mut Unwatched)
+        }
+        Picture::States => states_text(alloc, story),
+        Picture::Graph => Ok(graph_of(alloc, plain, rows)?.into_bytes()),
+    }
+}
+
+/// This picture of a story that is in memory; `notice` keeps the command that is a fault.
+///
+/// # Errors
+///
+/// Those of `fill_rows`.
+pub fn picture_text(
+    picture: Picture,
+    alloc: Global,
+    story: &[u8],
+    notice: &mut Notice,
+) -> Result<Vec<u8>, CliFault>
+    ensures filled { FillsRows story.now result }
+    ensures shown { IfOk result (λ text. IsPictureOf picture story.now text.items) }
+{
+    let filled = fill_rows(alloc, story, notice)?;
+    let (plain, rows) = filled;
+    match text_of(picture, alloc, story, plain.as_slice(), rows.as_slice()) {
+        Ok(text) => Ok(text),
+        Err(NoMemory) => Err(CliFault::NoMemory),
+    }
+}

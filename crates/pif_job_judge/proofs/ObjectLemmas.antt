@@ -1,0 +1,83 @@
+-- What is told of a history in lines of JSON, put together.
+use Rattle.std.proofs.Common.{◌≡◌, ◌∙◌, ℕ, ◌-◌, inr, List, ◌++◌, Option, Some, length, take, Result, Ok, Err, OnOk, refl, ap, subst, append_assoc}
+use Rattle.std.specs.Prelude.{slice_get}
+use Rattle.pif_script_model.specs.declared.faults.CliFault.TheVariants.{Differs}
+use Rattle.pif_types.specs.Bounds.{Bounds}
+use Rattle.pif_history_model.specs.declared.labels.Label.{Label}
+use Rattle.pif_history_model.specs.declared.lines.Line.{Line}
+use Rattle.pif_history_model.specs.Lines.{thread_of}
+use Rattle.pif_history_model.specs.Verdicts.{IsLegalBy}
+use Rattle.pif_history.specs.declared.verdicts.Verdict.TheVariants.{Illegal, Undecided}
+use Rattle.pif_history.specs.Verdicts.{IsVerdictOf}
+use Rattle.pif_history_text.specs.Histories.{Heard, limits_of}
+use Rattle.pif_history_page.specs.declared.verdicts.Began.{Began}
+use Rattle.pif_history_page.specs.declared.verdicts.Known.{Known}
+use Rattle.pif_history_page.specs.Verdicts.{illegal_object, legal_object, undecided_object}
+use Rattle.pif_job_judge.specs.declared.forms.Form.{Form}
+use Rattle.pif_job_judge.specs.declared.faults.JudgeFault.TheVariants as fault
+use Rattle.pif_job_judge.specs.Objects.{AppendsBefore, AppendsObjects, AppendsSteps, began_with, left_out_of}
+use Rattle.pif_job_judge.specs.Objects.AreObjects.{legal, illegal, undecided}
+use Rattle.pif_job_judge.specs.Why.{IsKnown, IsNumbered, open_of}
+
+-- what follows from what holds behind a call that ended well
+pub on_ok : {T E : Type 0} (r : Result T E) (P Q : Type 0) → (P → Q) → OnOk r P → OnOk r Q
+on_ok (Ok x) P Q f holds = f holds
+on_ok (Err e) P Q f holds = tt
+
+-- the lines of a run that shows the first lines of a history
+pub before_told : (h : Heard) (before left_out : ℕ) (l : Bounds) (lines : List Line) (labels given : List Label)
+    (old new : List ℕ) → l ≡ limits_of h → lines ≡ take before h.shown → given ≡ labels → IsLegalBy l lines labels
+    → AppendsSteps h left_out given old new → AppendsBefore h before left_out old new
+before_told h before left_out l lines labels given old new limits are same_labels by told =
+    let one = subst (λ (k : Bounds). IsLegalBy k lines labels) limits by in
+    let two = subst (λ (ls : List Line). IsLegalBy (limits_of h) ls labels) are one in
+    let steps = subst (λ (xs : List Label). AppendsSteps h left_out xs old new) same_labels told in
+    (steps.0, inr (labels, two, steps.1), steps.2)
+
+-- two texts, one behind the other
+pub both : (old mid new one two : List ℕ) → mid ≡ old ++ one → new ≡ mid ++ two → new ≡ old ++ (one ++ two)
+both old mid new one two first second =
+    second ∙ ap (λ (l : List ℕ). l ++ two) first ∙ append_assoc old one two
+
+-- a history of each verdict
+pub legal_told : (form : Form) (h : Heard) (labels : List Label) (left n : ℕ) (old mid new : List ℕ)
+    → left ≡ left_out_of form (length h.shown) → n ≡ left → IsLegalBy (limits_of h) h.shown labels
+    → mid ≡ old ++ legal_object h.count n → AppendsSteps h left labels mid new → AppendsObjects form h (Ok tt) old new
+legal_told form h labels left n old mid new out written by first told =
+    let all : ℕ = left_out_of form (length h.shown) in
+    let number = ap (λ (k : ℕ). legal_object h.count k) (written ∙ out) in
+    let steps = subst (λ (k : ℕ). AppendsSteps h k labels mid new) out told in (
+      legal_object h.count all ++ steps.0,
+      legal labels steps.0 by steps.1 refl refl,
+      both old mid new (legal_object h.count all) steps.0 (first ∙ ap (λ (l : List ℕ). old ++ l) number) steps.2,
+    )
+
+pub illegal_told : (form : Form) (h : Heard) (n number : ℕ) (line : Line) (known : Known) (began : Option Began) (left m : ℕ)
+    (old mid new : List ℕ) → IsVerdictOf (limits_of h) h.shown (Illegal n) → slice_get h.shown (n - 1) ≡ Some line
+    → IsNumbered h n number → IsKnown h (n - 1) line known
+    → began ≡ began_with known (open_of (thread_of line) h (n - 1)) → left ≡ left_out_of form (n - 1) → m ≡ left
+    → mid ≡ old ++ illegal_object number line known began m → AppendsBefore h (n - 1) left mid new
+    → AppendsObjects form h (Err (fault.Cli (Differs number))) old new
+illegal_told form h n number line known began left m old mid new is there numbered why call out written first told =
+    let open_there : Option Began = began_with known (open_of (thread_of line) h (n - 1)) in
+    let object : List ℕ = illegal_object number line known open_there (left_out_of form (n - 1)) in
+    let number_is = ap (λ (k : ℕ). illegal_object number line known began k) (written ∙ out)
+    ∙ ap (λ (o : Option Began). illegal_object number line known o (left_out_of form (n - 1))) call in
+    let run = subst (λ (k : ℕ). AppendsBefore h (n - 1) k mid new) out told in (
+      object ++ run.0,
+      illegal n number line known run.0 is there numbered why run.1 refl refl,
+      both old mid new object run.0 (first ∙ ap (λ (l : List ℕ). old ++ l) number_is) run.2,
+    )
+
+pub undecided_told : (form : Form) (h : Heard) (n number left m : ℕ) (old mid new : List ℕ)
+    → IsVerdictOf (limits_of h) h.shown (Undecided n) → IsNumbered h n number → left ≡ left_out_of form (n - 1) → m ≡ left
+    → mid ≡ old ++ undecided_object number m → AppendsBefore h (n - 1) left mid new
+    → AppendsObjects form h (Err (fault.Undecided number)) old new
+undecided_told form h n number left m old mid new is numbered out written first told =
+    let object : List ℕ = undecided_object number (left_out_of form (n - 1)) in
+    let number_is = ap (λ (k : ℕ). undecided_object number k) (written ∙ out) in
+    let run = subst (λ (k : ℕ). AppendsBefore h (n - 1) k mid new) out told in (
+      object ++ run.0,
+      undecided n number run.0 is numbered run.1 refl refl,
+      both old mid new object run.0 (first ∙ ap (λ (l : List ℕ). old ++ l) number_is) run.2,
+    )

@@ -1,0 +1,85 @@
+-- What is told of a history in lines for a person.
+use Rattle.std.specs.Prelude.{ℕ, ◌≡◌, ◌-◌, ◌⊎◌, List, [], ◌++◌, slice_get, Option, Some, None, Result, Ok, Err}
+use Rattle.pif_script_model.specs.declared.faults.CliFault.TheVariants.{Differs}
+use Rattle.pif_types.specs.Bounds.{Bounds}
+use Rattle.pif_history_model.specs.declared.labels.Label.{Label}
+use Rattle.pif_history_model.specs.declared.lines.Line.{Line}
+use Rattle.pif_history.specs.declared.verdicts.Verdict.{Verdict}
+use Rattle.pif_history.specs.declared.verdicts.Verdict.TheVariants.{Legal, Illegal, Undecided}
+use Rattle.pif_history.specs.Verdicts.{IsVerdictOf}
+use Rattle.pif_history_model.specs.Lines.{thread_of}
+use Rattle.pif_history_model.specs.Searched.{Configuration}
+use Rattle.pif_history_text.specs.Histories.{Heard, limits_of}
+use Rattle.pif_history_text.specs.Verdicts.{began_line, illegal_line, legal_line, possible_line, refused_line, undecided_line}
+use Rattle.pif_history_witness.specs.Tellings.{IsTold as IsRunTold}
+use Rattle.pif_history_page.specs.declared.verdicts.Began.{Began}
+use Rattle.pif_history_page.specs.declared.verdicts.Known.{Known}
+use Rattle.pif_history_page.specs.declared.verdicts.Known.TheVariants.{Refused, Numbers, Nothing}
+use Rattle.pif_job_judge.specs.declared.forms.Form.{Form}
+use Rattle.pif_job_judge.specs.declared.forms.Form.TheVariants.{Witness}
+use Rattle.pif_job_judge.specs.declared.faults.JudgeFault.{JudgeFault}
+use Rattle.pif_job_judge.specs.declared.faults.JudgeFault.TheVariants as fault
+use Rattle.pif_job_judge.specs.Why.{IsKnown, IsNumbered, open_of}
+
+-- The line that says what is known of a line.
+abbrev pub known_text : Known → List ℕ
+known_text (Refused why) = refused_line why
+known_text (Numbers (Some numbers)) = possible_line (Some numbers.items)
+known_text (Numbers None) = possible_line None
+known_text Nothing = []
+
+-- The line that says where an open call began, if there is one.
+abbrev pub began_text : Option Began → List ℕ
+began_text (Some b) = began_line b.number b.thread b.request
+began_text None = []
+
+-- What is told of a line by what is known of it, and by the open call of its thread, which is left out where the line
+-- is refused.
+abbrev pub why_text : Known → Option Began → List ℕ
+why_text (Refused why) began = refused_line why
+why_text (Numbers numbers) began = known_text (Numbers numbers) ++ began_text began
+why_text Nothing began = began_text began
+
+-- What is told of the line behind the first `before` lines of a history, up to which there is no run.
+abbrev pub TellsWhy : (h : Heard) → (before : ℕ) → Line → (text : List ℕ) → Type 0
+TellsWhy h before line text =
+    (known : Known) × IsKnown h before line known × (text ≡ why_text known (open_of (thread_of line) h before))
+
+-- A text tells nothing; or, if the witness is wanted, perhaps a run whose steps have these labels, newest first.
+abbrev pub TellsRun : Form → Bounds → List Label → (text : List ℕ) → Type 0
+TellsRun Witness l labels text = (text ≡ []) ⊎ ((last : Configuration) × IsRunTold l labels last text)
+TellsRun form l labels text = text ≡ []
+
+-- A verdict that there is a run, which a text tells, or which isn't told.
+abbrev pub TellsVerdict : Form → Bounds → Verdict → (text : List ℕ) → Type 0
+TellsVerdict form l (Legal witness) text = TellsRun form l witness.items text
+TellsVerdict form l (Illegal n) text = ⊥
+TellsVerdict form l (Undecided n) text = ⊥
+
+-- What is told of a history in lines, and how that ends. Behind the line of a legal one its witness may be told.
+pub data IsTold (form : Form) (h : Heard) (text : List ℕ) (end : Result (Unit {0}) JudgeFault) : Type 0 where
+  legal : (v : Verdict) (witness : List ℕ) → IsVerdictOf (limits_of h) h.shown v
+      → TellsVerdict form (limits_of h) v witness → text ≡ legal_line h.count ++ witness → end ≡ Ok tt
+      → IsTold form h text end
+  illegal : (n number : ℕ) (line : Line) (why : List ℕ) → IsVerdictOf (limits_of h) h.shown (Illegal n)
+      → slice_get h.shown (n - 1) ≡ Some line → IsNumbered h n number → TellsWhy h (n - 1) line why
+      → text ≡ illegal_line number line ++ why → end ≡ Err (fault.Cli (Differs number)) → IsTold form h text end
+  undecided : (n number : ℕ) → IsVerdictOf (limits_of h) h.shown (Undecided n) → IsNumbered h n number
+      → text ≡ undecided_line number → end ≡ Err (fault.Undecided number) → IsTold form h text end
+
+-- Bytes grew by what is told in lines of a history that ends so.
+abbrev pub AppendsLines : Form → Heard → (end : Result (Unit {0}) JudgeFault) → (old new : List ℕ) → Type 0
+AppendsLines form h end old new = (text : List ℕ) × IsTold form h text end × (new ≡ old ++ text)
+
+-- Bytes grew by the line of a legal history, and by what is told of the run whose steps have these labels.
+abbrev pub TellsLegal : Form → Heard → List Label → (old new : List ℕ) → Type 0
+TellsLegal form h labels old new =
+    (witness : List ℕ) × TellsRun form (limits_of h) labels witness × (new ≡ old ++ (legal_line h.count ++ witness))
+
+-- Bytes grew by what is told of a history whose nth line is the first up to which there is no run, and this is how it
+-- ends.
+abbrev pub TellsIllegal : Heard → (n : ℕ) → (old new : List ℕ) → JudgeFault → Type 0
+TellsIllegal h n old new end =
+    (number : ℕ) × (line : Line) × (why : List ℕ) × (slice_get h.shown (n - 1) ≡ Some line) × IsNumbered h n number
+    × TellsWhy h (n - 1) line why × (new ≡ old ++ (illegal_line number line ++ why))
+    × (end ≡ fault.Cli (Differs number))

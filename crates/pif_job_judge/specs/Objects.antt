@@ -1,0 +1,83 @@
+-- What is told of a history in lines of JSON.
+use Rattle.std.specs.Prelude.{ℕ, ◌≡◌, ◌-◌, ◌⊎◌, List, [], ◌++◌, length, take, slice_get, Option, Some, None, Result, Ok, Err}
+use Rattle.pif_script_model.specs.declared.faults.CliFault.TheVariants.{Differs}
+use Rattle.pif_history_model.specs.declared.labels.Label.{Label}
+use Rattle.pif_history_model.specs.declared.lines.Line.{Line}
+use Rattle.pif_history_model.specs.Lines.{thread_of}
+use Rattle.pif_history_model.specs.Searched.{Configuration}
+use Rattle.pif_history_model.specs.Verdicts.{IsLegalBy}
+use Rattle.pif_history.specs.declared.verdicts.Verdict.TheVariants.{Illegal, Undecided}
+use Rattle.pif_history.specs.Verdicts.{IsVerdictOf}
+use Rattle.pif_history_text.specs.Histories.{Heard, limits_of}
+use Rattle.pif_history_page.specs.declared.verdicts.Began.{Began}
+use Rattle.pif_history_page.specs.declared.verdicts.Known.{Known}
+use Rattle.pif_history_page.specs.declared.verdicts.Known.TheVariants.{Refused, Numbers, Nothing}
+use Rattle.pif_history_page.specs.Runs.{Telling}
+use Rattle.pif_history_page.specs.Runs.{IsTold as IsRunTold}
+use Rattle.pif_history_page.specs.Verdicts.{illegal_object, legal_object, undecided_object}
+use Rattle.pif_job_judge.specs.declared.forms.Form.{Form}
+use Rattle.pif_job_judge.specs.declared.forms.Form.TheVariants.{Page}
+use Rattle.pif_job_judge.specs.declared.faults.JudgeFault.{JudgeFault}
+use Rattle.pif_job_judge.specs.declared.faults.JudgeFault.TheVariants as fault
+use Rattle.pif_job_judge.specs.Why.{IsKnown, IsNumbered, open_of}
+
+-- How many lines of a history a page shows at most.
+abbrev pub page_lines : ℕ
+page_lines = 10000
+
+-- How many lines are left out of a run that shows so many: none, but in a page all before the last ones.
+abbrev pub left_out_of : Form → (lines : ℕ) → ℕ
+left_out_of Page lines = lines - page_lines
+left_out_of form lines = 0
+
+-- A text tells nothing, or a run whose steps have these labels, newest first. So many of its lines are left out.
+abbrev pub TellsSteps : Heard → (left_out : ℕ) → List Label → (text : List ℕ) → Type 0
+TellsSteps h left_out labels text =
+    (text ≡ [])
+    ⊎ ((last : Configuration) × (told : Telling) × IsRunTold (limits_of h) h.numbers left_out labels last told
+    × (text ≡ told.done))
+
+-- A text tells nothing, or a run that shows the first `before` lines of a history.
+abbrev pub TellsBefore : Heard → (before left_out : ℕ) → (text : List ℕ) → Type 0
+TellsBefore h before left_out text =
+    (text ≡ [])
+    ⊎ ((labels : List Label) × IsLegalBy (limits_of h) (take before h.shown) labels × TellsSteps h left_out labels text)
+
+-- The open call that is told with what is known of an illegal line: none, if the line is refused.
+abbrev pub began_with : Known → Option Began → Option Began
+began_with (Refused why) began = None
+began_with (Numbers numbers) began = began
+began_with Nothing began = began
+
+-- What is told of a history in lines of JSON, and how that ends: the verdict, and behind it a run that shows all lines,
+-- or those before the line of the verdict.
+pub data AreObjects (form : Form) (h : Heard) (text : List ℕ) (end : Result (Unit {0}) JudgeFault) : Type 0 where
+  legal : (labels : List Label) (run : List ℕ) → IsLegalBy (limits_of h) h.shown labels
+      → TellsSteps h (left_out_of form (length h.shown)) labels run
+      → text ≡ legal_object h.count (left_out_of form (length h.shown)) ++ run → end ≡ Ok tt
+      → AreObjects form h text end
+  illegal : (n number : ℕ) (line : Line) (known : Known) (run : List ℕ) → IsVerdictOf (limits_of h) h.shown (Illegal n)
+      → slice_get h.shown (n - 1) ≡ Some line → IsNumbered h n number → IsKnown h (n - 1) line known
+      → TellsBefore h (n - 1) (left_out_of form (n - 1)) run
+      → text
+      ≡ illegal_object number line known (began_with known (open_of (thread_of line) h (n - 1))) (left_out_of form (n - 1))
+      ++ run
+      → end ≡ Err (fault.Cli (Differs number)) → AreObjects form h text end
+  undecided : (n number : ℕ) (run : List ℕ) → IsVerdictOf (limits_of h) h.shown (Undecided n) → IsNumbered h n number
+      → TellsBefore h (n - 1) (left_out_of form (n - 1)) run
+      → text ≡ undecided_object number (left_out_of form (n - 1)) ++ run → end ≡ Err (fault.Undecided number)
+      → AreObjects form h text end
+
+-- Bytes grew by what is told in lines of JSON of a history that ends so.
+abbrev pub AppendsObjects : Form → Heard → (end : Result (Unit {0}) JudgeFault) → (old new : List ℕ) → Type 0
+AppendsObjects form h end old new = (text : List ℕ) × AreObjects form h text end × (new ≡ old ++ text)
+
+-- Bytes grew by a run whose steps have these labels, or by nothing.
+abbrev pub AppendsSteps : Heard → (left_out : ℕ) → List Label → (old new : List ℕ) → Type 0
+AppendsSteps h left_out labels old new =
+    (text : List ℕ) × TellsSteps h left_out labels text × (new ≡ old ++ text)
+
+-- Bytes grew by a run that shows the first `before` lines of a history, or by nothing.
+abbrev pub AppendsBefore : Heard → (before left_out : ℕ) → (old new : List ℕ) → Type 0
+AppendsBefore h before left_out old new =
+    (text : List ℕ) × TellsBefore h before left_out text × (new ≡ old ++ text)

@@ -1,0 +1,24 @@
+/// In which form a verdict on a history is told.
+#[derive(Clone, Copy, Debug, PartialEq, Eq)]
+pub enum Form {
+    /// In lines for a person.
+    Text,
+    /// In these lines, and behind that of a legal history comes a run that shows it, for a person.
+    Witness,
+    /// In lines of JSON. Behind the verdict comes a run: one that shows all lines, or those before the line of the
+    /// verdict.
+    Json,
+    /// As a page that shows these lines of JSON. Of a long history it has the last lines of the run.
+    Page,
+}
+
+/// How a history is judged.
+#[derive(Clone, Copy)]
+pub struct Judging<'a> {
+    /// The name that stands in front of what is told in lines for a person, if there are several histories.
+    pub name: Option<&'a [u8]>,
+    /// The form in which the verdict is told.
+    pub form: Form,
+    /// How many states may be made for one line.
+    pub states: u32,
+}

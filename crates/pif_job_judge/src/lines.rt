@@ -1,0 +1,137 @@
+ghost use Rattle.std.specs.Prelude.{◌≡◌, ◌≤◌, IfErr, IfOk, OnOk, vec_len};
+ghost use Rattle.pif_history.specs.Verdicts.{IsVerdictOf};
+ghost use Rattle.pif_history_text.specs.Histories.{limits_of};
+ghost use Rattle.pif_history_text.specs.Reading.{IsPaired, heard_of};
+ghost use Rattle.pif_job_judge.specs.Lines.{AppendsLines, TellsIllegal, TellsLegal, TellsRun};
+
+use crate::faults::JudgeFault;
+use crate::forms::{Form, Judging};
+use crate::known::known_of;
+use crate::places::{line_at, number_at};
+use crate::telling::{began_before, tell_legal, tell_why};
+use pif_history::Verdict;
+use pif_history_model::{HistoryLimits, Label};
+use pif_history_text::{History, push_illegal, push_undecided};
+use pif_history_witness::witness_text;
+use pif_script_model::CliFault;
+use std::alloc::Global;
+
+/// What is told of a run whose steps have these labels, newest first: nothing, if there is no such run.
+fn told_witness(
+    alloc: Global,
+    limits: HistoryLimits,
+    witness: &[Label],
+) -> Result<Vec<u8>, CliFault>
+    ensures told { IfOk result (λ text. TellsRun Form.Witness limits witness.now text.items) }
+    ensures failed { IfErr result (λ fault. fault ≡ CliFault.NoMemory) }
+{
+    match witness_text(alloc, limits, witness) {
+        Ok(Some(text)) => Ok(text),
+        Ok(None) => Ok(Vec::new(alloc)),
+        Err(_) => Err(CliFault::NoMemory),
+    }
+}
+
+/// What is told of a run that shows a history, by the labels of its steps, newest first: nothing if that is not asked
+/// for.
+fn told_run(
+    alloc: Global,
+    form: Form,
+    limits: HistoryLimits,
+    witness: &[Label],
+) -> Result<Vec<u8>, CliFault>
+    ensures told { IfOk result (λ text. TellsRun form limits witness.now text.items) }
+    ensures failed { IfErr result (λ fault. fault ≡ CliFault.NoMemory) }
+{
+    match form {
+        Form::Witness => told_witness(alloc, limits, witness),
+        Form::Text | Form::Json | Form::Page => Ok(Vec::new(alloc)),
+    }
+}
+
+/// Appends what is told of a legal history, and of a run that shows it.
+fn tell_verdict_legal(
+    alloc: Global,
+    asked: &Judging<'_>,
+    history: &History,
+    witness: &[Label],
+    out: &mut Vec<u8>,
+) -> Result<(), CliFault>
+    ensures told { OnOk result (TellsLegal asked.now.form (heard_of history.now) witness.now out.old.items out.new.items) }
+    ensures failed { IfErr result (λ fault. fault ≡ CliFault.NoMemory) }
+{
+    let more = told_run(alloc, asked.form, history.limits(), witness)?;
+    match tell_legal(history.count, more.as_slice(), out) {
+        Ok(()) => Ok(()),
+        Err(_) => Err(CliFault::NoMemory),
+    }
+}
+
+/// Appends what is told of a history whose nth line is the first up to which there is no run. Answers how that ends.
+fn tell_illegal(
+    alloc: Global,
+    asked: &Judging<'_>,
+    history: &History,
+    count: usize,
+    out: &mut Vec<u8>,
+) -> Result<JudgeFault, CliFault>
+    requires paired { IsPaired history.now }
+    requires within { (1 ≤ count) × (count ≤ vec_len history.now.shown) }
+    ensures told { IfOk result (TellsIllegal (heard_of history.now) count out.old.items out.new.items) }
+    ensures failed { IfErr result (λ fault. fault ≡ CliFault.NoMemory) }
+{
+    let number = number_at(history, count);
+    let line = line_at(history, count);
+    let known = known_of(alloc, asked.states as usize, history, count - 1, &line)?;
+    let began = began_before(history, count - 1, &line);
+    match push_illegal(out, number, line) {
+        Ok(()) => {}
+        Err(_) => return Err(CliFault::NoMemory),
+    }
+    match tell_why(&known, began, out) {
+        Ok(()) => Ok(JudgeFault::Cli(CliFault::Differs(u64::from(number)))),
+        Err(_) => Err(CliFault::NoMemory),
+    }
+}
+
+/// Appends what is told in lines of a history with this verdict. Answers how that ends.
+///
+/// # Errors
+///
+/// `NoMemory`.
+pub fn tell_lines(
+    alloc: Global,
+    asked: &Judging<'_>,
+    history: &History,
+    verdict: Verdict,
+    out: &mut Vec<u8>,
+) -> Result<Result<(), JudgeFault>, CliFault>
+    requires paired { IsPaired history.now }
+    requires verdict { IsVerdictOf (limits_of (heard_of history.now)) history.now.shown.items verdict }
+    ensures told { IfOk result (λ end. AppendsLines asked.now.form (heard_of history.now) end out.old.items out.new.items) }
+    ensures failed { IfErr result (λ fault. fault ≡ CliFault.NoMemory) }
+{
+    match verdict {
+        Verdict::Legal(witness) => match tell_verdict_legal(
+            alloc,
+            asked,
+            history,
+            witness.as_slice(),
+            out,
+        ) {
+            Ok(()) => Ok(Ok(())),
+            Err(fault) => Err(fault),
+        },
+        Verdict::Illegal(count) => match tell_illegal(alloc, asked, history, count, out) {
+            Ok(end) => Ok(Err(end)),
+            Err(fault) => Err(fault),
+        },
+        Verdict::Undecided(count) => {
+            let number = number_at(history, count);
+            match push_undecided(out, number) {
+                Ok(()) => Ok(Err(JudgeFault::Undecided(u64::from(number)))),
+                Err(_) => Err(CliFault::NoMemory),
+            }
+        }
+    }
+}

@@ -1,0 +1,209 @@
+ghost use Rattle.std.specs.Prelude.{◌≡◌, ◌≤◌, ◌-◌, Err, IfErr, IfOk, Ok, OnOk, vec_len};
+ghost use Rattle.pif_history.specs.declared.verdicts.Verdict.TheVariants.{Illegal, Undecided};
+ghost use Rattle.pif_history.specs.Verdicts.{IsVerdictOf};
+ghost use Rattle.pif_history_model.specs.Verdicts.{IsLegalBy};
+ghost use Rattle.pif_history_text.specs.Histories.{limits_of};
+ghost use Rattle.pif_history_text.specs.Reading.{IsPaired, heard_of};
+ghost use Rattle.pif_job_judge.specs.Objects.{AppendsBefore, AppendsObjects, AppendsSteps, began_with, left_out_of};
+
+use crate::faults::JudgeFault;
+use crate::forms::{Form, Judging};
+use crate::known::known_of;
+use crate::places::{line_at, number_at};
+use crate::telling::began_before;
+use pif_history::{Unwatched, Verdict, judge_lines};
+use pif_history_model::Label;
+use pif_history_page::{
+    Began, Known, append_illegal, append_legal, append_undecided, first_shown, run_text,
+};
+use pif_history_text::History;
+use pif_script_model::CliFault;
+use std::alloc::Global;
+
+/// How many lines are left out of a run that shows so many, in this form.
+fn left_out(form: Form, lines: usize) -> usize
+    ensures { result ≡ left_out_of form lines }
+{
+    match form {
+        Form::Page => first_shown(lines),
+        Form::Text | Form::Witness | Form::Json => 0,
+    }
+}
+
+/// A number of lines, as it is written.
+fn written(lines: usize) -> Result<u32, CliFault>
+    ensures is { IfOk result (λ n. n ≡ lines) }
+    ensures failed { IfErr result (λ fault. fault ≡ CliFault.NoMemory) }
+{
+    match u32::try_from(lines) {
+        Ok(number) => Ok(number),
+        Err(_) => Err(CliFault::NoMemory),
+    }
+}
+
+/// The open call that is told with what is known of an illegal line.
+fn began_with(known: &Known, began: Option<Began>) -> Option<Began>
+    ensures { result ≡ began_with known.now began }
+{
+    match known {
+        Known::Refused(_) => None,
+        Known::Numbers(_) | Known::Nothing => began,
+    }
+}
+
+/// Appends the lines of a run whose steps have these labels, newest first, but for so many of its first lines; nothing,
+/// if there is no such run.
+fn append_steps(
+    alloc: Global,
+    history: &History,
+    left_out: usize,
+    labels: &[Label],
+    out: &mut Vec<u8>,
+) -> Result<(), CliFault>
+    ensures told { OnOk result (AppendsSteps (heard_of history.now) left_out labels.now out.old.items out.new.items) }
+    ensures failed { IfErr result (λ fault. fault ≡ CliFault.NoMemory) }
+{
+    match run_text(
+        alloc,
+        history.limits(),
+        history.numbers.as_slice(),
+        left_out,
+        labels,
+    ) {
+        Ok(Some(lines)) => match out.extend_from_slice(lines.as_slice()) {
+            Ok(()) => Ok(()),
+            Err(_) => Err(CliFault::NoMemory),
+        },
+        Ok(None) => Ok(()),
+        Err(_) => Err(CliFault::NoMemory),
+    }
+}
+
+/// Appends the lines of a run that shows the first `before` lines of a history, but for so many of its first lines;
+/// nothing, if no run was found.
+fn append_before(
+    alloc: Global,
+    states: usize,
+    history: &History,
+    before: usize,
+    left_out: usize,
+    out: &mut Vec<u8>,
+) -> Result<(), CliFault>
+    requires { before ≤ vec_len history.now.shown }
+    ensures told { OnOk result (AppendsBefore (heard_of history.now) before left_out out.old.items out.new.items) }
+    ensures failed { IfErr result (λ fault. fault ≡ CliFault.NoMemory) }
+{
+    let lines = &history.shown.as_slice()[..before];
+    match judge_lines(alloc, history.limits(), lines, states, &mut Unwatched) {
+        Ok(Verdict::Legal(witness)) => {
+            append_steps(alloc, history, left_out, witness.as_slice(), out)
+        }
+        Ok(Verdict::Illegal(_) | Verdict::Undecided(_)) => Ok(()),
+        Err(_) => Err(CliFault::NoMemory),
+    }
+}
+
+/// Appends what is told of a legal history, and of a run that shows it.
+fn append_legal_history(
+    alloc: Global,
+    form: Form,
+    history: &History,
+    labels: &[Label],
+    out: &mut Vec<u8>,
+) -> Result<(), CliFault>
+    requires { IsLegalBy (limits_of (heard_of history.now)) history.now.shown.items labels.now }
+    ensures told { OnOk result (AppendsObjects form (heard_of history.now) (Ok tt) out.old.items out.new.items) }
+    ensures failed { IfErr result (λ fault. fault ≡ CliFault.NoMemory) }
+{
+    let left = left_out(form, history.shown.len());
+    match append_legal(history.count, written(left)?, out) {
+        Ok(()) => {}
+        Err(_) => return Err(CliFault::NoMemory),
+    }
+    append_steps(alloc, history, left, labels, out)
+}
+
+/// Appends what is told of a history whose nth line is the first up to which there is no run, and of a run that shows
+/// the lines before it. Answers how that ends.
+fn append_illegal_history(
+    alloc: Global,
+    asked: &Judging<'_>,
+    history: &History,
+    count: usize,
+    out: &mut Vec<u8>,
+) -> Result<JudgeFault, CliFault>
+    requires paired { IsPaired history.now }
+    requires verdict { IsVerdictOf (limits_of (heard_of history.now)) history.now.shown.items (Illegal count) }
+    ensures told { IfOk result (λ end. AppendsObjects asked.now.form (heard_of history.now) (Err end) out.old.items out.new.items) }
+    ensures failed { IfErr result (λ fault. fault ≡ CliFault.NoMemory) }
+{
+    let states = asked.states as usize;
+    let number = number_at(history, count);
+    let line = line_at(history, count);
+    let known = known_of(alloc, states, history, count - 1, &line)?;
+    let began = began_with(&known, began_before(history, count - 1, &line));
+    let left = left_out(asked.form, count - 1);
+    match append_illegal(number, &line, &known, began, written(left)?, out) {
+        Ok(()) => {}
+        Err(_) => return Err(CliFault::NoMemory),
+    }
+    append_before(alloc, states, history, count - 1, left, out)?;
+    Ok(JudgeFault::Cli(CliFault::Differs(u64::from(number))))
+}
+
+/// Appends what is told of a history that was given up at its nth line, and of a run that shows the lines before it.
+/// Answers how that ends.
+fn append_undecided_history(
+    alloc: Global,
+    asked: &Judging<'_>,
+    history: &History,
+    count: usize,
+    out: &mut Vec<u8>,
+) -> Result<JudgeFault, CliFault>
+    requires paired { IsPaired history.now }
+    requires verdict { IsVerdictOf (limits_of (heard_of history.now)) history.now.shown.items (Undecided count) }
+    ensures told { IfOk result (λ end. AppendsObjects asked.now.form (heard_of history.now) (Err end) out.old.items out.new.items) }
+    ensures failed { IfErr result (λ fault. fault ≡ CliFault.NoMemory) }
+{
+    let number = number_at(history, count);
+    let left = left_out(asked.form, count - 1);
+    match append_undecided(number, written(left)?, out) {
+        Ok(()) => {}
+        Err(_) => return Err(CliFault::NoMemory),
+    }
+    append_before(alloc, asked.states as usize, history, count - 1, left, out)?;
+    Ok(JudgeFault::Undecided(u64::from(number)))
+}
+
+/// Appends what is told in lines of JSON of a history with this verdict. Answers how that ends.
+///
+/// # Errors
+///
+/// `NoMemory`.
+pub fn tell_objects(
+    alloc: Global,
+    asked: &Judging<'_>,
+    history: &History,
+    verdict: Verdict,
+    out: &mut Vec<u8>,
+) -> Result<Result<(), JudgeFault>, CliFault>
+    requires paired { IsPaired history.now }
+    requires verdict { IsVerdictOf (limits_of (heard_of history.now)) history.now.shown.items verdict }
+    ensures told { IfOk result (λ end. AppendsObjects asked.now.form (heard_of history.now) end out.old.items out.new.items) }
+    ensures failed { IfErr result (λ fault. fault ≡ CliFault.NoMemory) }
+{
+    match verdict {
+        Verdict::Legal(witness) => {
+            append_legal_history(alloc, asked.form, history, witness.as_slice(), out)?;
+            Ok(Ok(()))
+        }
+        Verdict::Illegal(count) => {
+            let end = append_illegal_history(alloc, asked, history, count, out)?;
+            Ok(Err(end))
+        }
+        Verdict::Undecided(count) => {
+            let end = append_undecided_history(alloc, asked, history, count, out)?;
+            Ok(Err(end))
+        }
+    }
+}
