@@ -1,13 +1,14 @@
 //! What the tests have done between two streams.
 
 use pif_job_check::{check, check_strictly, fill, fill_as_one_of_several};
-use pif_job_draw::{draw, write_graph, write_states};
+use pif_job_draw::{Drawn, draw, write_drawn, write_graph, write_states};
 use pif_job_shell::{NoShelf, shell};
 use pif_job_show::show_story;
 use pif_job_trace::trace_story;
 use pif_script::Notice;
 use pif_script_model::Detail;
 use pif_test_streams::{Ended, Part, Stream, Task};
+use pif_watch::Unwatched;
 use std::alloc::Global;
 use std::process::Abort;
 
@@ -31,11 +32,20 @@ pub enum Job {
     ShowAll,
     Tell(Telling),
     Draw,
+    /// Draws all of a story as a page.
+    Page,
     States,
     Graph,
     /// Talks with a shell that has no prompt and saves nothing.
     Talk,
 }
+
+/// A page of a whole story.
+pub const PAGE: Drawn = Drawn {
+    page: true,
+    from: 1,
+    to: 0,
+};
 
 /// Shows a story in this detail, or writes its trace.
 fn tell(
@@ -68,6 +78,7 @@ pub fn do_job(
         Job::ShowAll => show_story(Detail::All, alloc, reader, writer, notice),
         Job::Tell(telling) => tell(telling, alloc, reader, writer, notice),
         Job::Draw => draw(alloc, reader, writer, notice),
+        Job::Page => write_drawn(PAGE, alloc, reader, writer, notice, &mut Unwatched),
         Job::States => write_states(alloc, reader, writer, notice),
         Job::Graph => write_graph(alloc, reader, writer, notice),
         Job::Talk => shell(alloc, &NoShelf, false, reader, writer),

@@ -160,3 +160,30 @@ fn lost_mutexes_are_followed_by_others(rt: HostRuntime) -> Result<(), Fail> {
     check_added(&rt, from_utf8(script.as_slice())?);
     Ok(())
 }
+
+/// How often a thread is added behind an end, and how many ends there are before the last line.
+fn followed(script: &str) -> (usize, usize) {
+    let (mut followed, mut ends) = (0_usize, 0_usize);
+    let mut was_end = false;
+    for line in script.lines() {
+        if was_end {
+            ends = ends.saturating_add(1);
+            followed = followed.saturating_add(usize::from(line.starts_with("thread ")));
+        }
+        was_end = line.starts_with("end ");
+    }
+    (followed, ends)
+}
+
+/// Checks that there are ends, and that another thread follows each.
+fn check_followed(rt: &impl Abort, script: &str) {
+    let (followed, ends) = followed(script);
+    assert!(rt; ends > 0 && followed == ends, "{followed} of {ends}");
+}
+
+#[test]
+fn a_thread_that_ends_is_followed_by_another(rt: HostRuntime) -> Result<(), Fail> {
+    let script = random_script(rt.alloc(), 2, 1500, ENDING, &mut Unwatched)?;
+    check_followed(&rt, from_utf8(script.as_slice())?);
+    Ok(())
+}

@@ -1,9 +1,9 @@
-//! Where a write or a growth of memory fails: what is written then.
+//! Where a read, a write or a growth of memory fails: what is written then.
 
 use super::BOOSTED;
 use crate::jobs::{Job, do_job};
 use pif_script::{CliFault, Notice};
-use pif_test_streams::{Ended, Stream, check_memory, check_write};
+use pif_test_streams::{Ended, Stream, check_memory, check_read, check_write};
 use std::alloc::Global;
 use std::io::ErrorKind;
 use std::process::Abort;
@@ -12,6 +12,17 @@ use std::process::Abort;
 const GRAPH: &str = "digraph waiting {\n  rankdir=LR\n  node [fontname=\"sans-serif\"]\n\
     \x20 t1 [label=\"t1\\npriority 10\"]\n  t2 [label=\"t2\\npriority 50\"]\n\
     \x20 m1 [shape=box]\n  m1 -> t2 [label=\"held by\"]\n}\n";
+
+/// The reads fail behind each byte of a story in turn.
+#[test]
+fn where_a_read_fails_nothing_is_drawn(rt: HostRuntime) {
+    for place in 0..BOOSTED.len() {
+        for job in [Job::Draw, Job::Page, Job::States, Job::Graph] {
+            let (alloc, late) = (rt.alloc(), ErrorKind::TimedOut);
+            check_read(&rt, alloc, job, BOOSTED, place, late, "");
+        }
+    }
+}
 
 /// The writes fail behind each byte of a graph in turn.
 #[test]

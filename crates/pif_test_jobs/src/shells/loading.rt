@@ -36,6 +36,9 @@ const REPLACED: &[Deed] = &[
     ),
 ];
 
+/// What was taken back is given again behind a load that fails.
+const UNDONE: &[Deed] = &[Deed::Load("a", Err(LoadFault::Unread(None)))];
+
 /// A name with bytes that are no printable ASCII: it goes to the shelf as it is, and is shown with a question mark for
 /// each.
 const NAMED: &[Deed] = &[
@@ -47,7 +50,7 @@ const NAMED: &[Deed] = &[
     ),
 ];
 
-static TALKS: [Talk; 9] = [
+static TALKS: [Talk; 10] = [
     (
         "load a story\nsave b\nundo\nprio t1\n",
         WHOLE,
@@ -95,6 +98,11 @@ static TALKS: [Talk; 9] = [
         "thread 3\nsave a\u{1b}[2Jb\nsave \u{fc}\u{7f}\n",
         NAMED,
         "t1\nsaved a?[2Jb\n??? cannot be made\n",
+    ),
+    (
+        "thread 3\nundo\nload a\nredo\n",
+        UNDONE,
+        "t1\nundone: thread 3\na cannot be read\nagain: thread 3\nt1\n",
     ),
 ];
 

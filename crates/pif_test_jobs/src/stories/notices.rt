@@ -1,11 +1,14 @@
-//! What a notice keeps of a story that is checked, filled in, traced or shown.
+//! What a notice keeps of a story that is checked, filled in, traced, shown or drawn.
 
+use crate::jobs::PAGE;
 use pif_job_check::{check_noting, check_strictly, fill_as_one_of_several, fill_noting};
+use pif_job_draw::{write_drawn, write_picture};
 use pif_job_show::show_story;
 use pif_job_trace::{trace_noting, trace_story};
 use pif_script::Notice;
-use pif_script_model::Detail;
+use pif_script_model::{Detail, Picture};
 use pif_test_streams::{Ended, Stream};
+use pif_watch::Unwatched;
 use std::alloc::Global;
 use std::process::Abort;
 
@@ -19,6 +22,8 @@ enum Noting {
     Trace,
     TraceScript,
     Show,
+    Page,
+    States,
 }
 
 /// How a check ends, whatever is noted.
@@ -48,6 +53,8 @@ fn note(
         Noting::Trace => trace_story(alloc, reader, writer, notice),
         Noting::TraceScript => trace_noting(alloc, reader, writer, notice),
         Noting::Show => show_story(Detail::Changes, alloc, reader, writer, notice),
+        Noting::Page => write_drawn(PAGE, alloc, reader, writer, notice, &mut Unwatched),
+        Noting::States => write_picture(Picture::States, alloc, reader, writer, notice),
     }
 }
 
@@ -60,8 +67,14 @@ const OTHER_ANSWER: &str = "thread 10 = t7\npick\n";
 
 const REFUSED: &str = "thread 0\npick\n";
 
+/// The first flaw is a difference, and the second a fault.
+const FAULTY_BEHIND: &str = "thread 10 = t7\npik\n";
+
+/// The first flaw of a strict check is a refusal, and the second a difference.
+const OTHER_BEHIND: &str = "thread 0\npick = t1\n";
+
 /// What is done with which story, and what the notice has then.
-static KEPT: [(Noting, &str, &str); 18] = [
+static KEPT: [(Noting, &str, &str); 24] = [
     (Noting::Check, FAULTY, "pik"),
     (Noting::Strict, FAULTY, "pik"),
     (Noting::Fill, FAULTY, "pik"),
@@ -69,17 +82,23 @@ static KEPT: [(Noting, &str, &str); 18] = [
     (Noting::Trace, FAULTY, "pik"),
     (Noting::TraceScript, FAULTY, "pik"),
     (Noting::Show, FAULTY, "pik"),
+    (Noting::Page, FAULTY, "pik"),
+    (Noting::States, FAULTY, "pik"),
     (Noting::Check, OTHER_ANSWER, BEFORE),
     (Noting::Strict, OTHER_ANSWER, BEFORE),
     (Noting::Fill, OTHER_ANSWER, BEFORE),
     (Noting::FillSeveral, OTHER_ANSWER, BEFORE),
     (Noting::Trace, OTHER_ANSWER, BEFORE),
     (Noting::Show, OTHER_ANSWER, BEFORE),
+    (Noting::Page, OTHER_ANSWER, BEFORE),
+    (Noting::States, OTHER_ANSWER, BEFORE),
     (Noting::TraceScript, REFUSED, BEFORE),
     (Noting::Check, REFUSED, BEFORE),
     (Noting::Strict, REFUSED, "thread 0"),
     (Noting::Fill, REFUSED, BEFORE),
     (Noting::Show, REFUSED, BEFORE),
+    (Noting::Check, FAULTY_BEHIND, BEFORE),
+    (Noting::Strict, OTHER_BEHIND, "thread 0"),
 ];
 
 /// Checks what the notice has of a story.

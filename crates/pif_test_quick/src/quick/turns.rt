@@ -124,6 +124,7 @@ fn try_to_meet<R: Threads + Wait + Clock + Abort + Sync>(
     assert_eq!(rt; *held.value(), 5);
     *held.value_mut() = 7;
     assert!(rt; quick.try_lock(&mut two, 0).is_none());
+    assert!(rt; !quick.marked(&mut two, 0));
     let (mut one, mut two, read) = contend(rt, quick, one, held, two);
     assert_eq!(rt; read, 7);
     find_seven(rt, quick, &mut one);
