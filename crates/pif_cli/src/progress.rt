@@ -17,6 +17,10 @@ pub struct Unwatched;
 
 impl Watch for Unwatched {
     fn line(&mut self, _line: usize, _states: usize) {}
+
+    fn goes_on(&mut self) -> bool {
+        true
+    }
 }
 
 impl WatchFiles for Unwatched {
@@ -87,6 +91,10 @@ impl<C: Clock, E: Write> Watch for Progress<'_, '_, C, E> {
             let _ = write!(message, "line {line}: {states} states");
             message.tell(self.errors);
         }
+    }
+
+    fn goes_on(&mut self) -> bool {
+        true
     }
 }
 

@@ -139,6 +139,10 @@ impl Watch for LastLine {
     fn line(&mut self, line: usize, _states: usize) {
         self.line = line;
     }
+
+    fn goes_on(&mut self) -> bool {
+        true
+    }
 }
 
 fn judged(alloc: Global, lines: &[Line], last: &mut LastLine) -> Result<Found, Stop> {

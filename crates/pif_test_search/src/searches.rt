@@ -14,11 +14,12 @@ enum Expected {
     Undecided(usize),
 }
 
-/// Counts the lines and the states of which it is told.
+/// Counts the lines and the states of which it is told, and ends a search behind `most` lines.
 #[derive(Drop)]
 struct Told {
     lines: usize,
     states: usize,
+    most: usize,
 }
 
 impl Watch for Told {
@@ -26,12 +27,21 @@ impl Watch for Told {
         self.lines = line;
         self.states = states;
     }
+
+    fn goes_on(&mut self) -> bool {
+        self.lines < self.most
+    }
 }
 
 fn nothing_told() -> Told {
+    told_at_most(usize::MAX)
+}
+
+fn told_at_most(most: usize) -> Told {
     Told {
         lines: 0,
         states: 0,
+        most,
     }
 }
 
@@ -212,6 +222,15 @@ fn watch_is_told_lines_and_states(rt: HostRuntime) -> Result<(), Stop> {
     assert_eq!(rt; (told.lines, told.states), (2, 6));
     judge_dark(rt.alloc(), &[3], 1000, &mut told)?;
     assert_eq!(rt; (told.lines, told.states), (1, 3));
+    Ok(())
+}
+
+#[test]
+fn a_search_that_is_ended_has_not_decided_the_next_line(rt: HostRuntime) -> Result<(), Stop> {
+    for most in 0..3 {
+        let ended = judge_whole(rt.alloc(), &[1, 3, 3], 1000, &mut told_at_most(most))?;
+        assert_eq!(rt; ended, Expected::Undecided(most + 1));
+    }
     Ok(())
 }
 
