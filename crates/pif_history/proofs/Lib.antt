@@ -1,7 +1,3 @@
-mod Lines
-pub mod Listing
-mod Numbers
-mod Selections
 mod Settling
 mod Telling
 mod Taken

@@ -1,4 +1,3 @@
-pub mod Listed
 pub mod Told
 pub mod Verdicts
 pub mod Guided

@@ -25,8 +25,12 @@ mod scene;
 mod unqueued;
 mod verdicts;
 
-pub use judge::{judge_lines, possible_answers, possible_priorities};
-pub use machine::HistoryMachine;
+pub use dying::{are_same, dying_after, is_among};
+pub use judge::{
+    answers_of, judge_lines, labels_of, numbers_of, possible_answers, possible_priorities,
+    priorities_of, settled,
+};
+pub use machine::{HistoryMachine, push_labelled, thread_numbered};
 pub use pif_search::{Stop, Unwatched, Watch};
 pub use position::Position;
 pub use refused::refusal;

@@ -15,3 +15,9 @@ mod Even
 mod Unqueued
 mod Queues
 pub mod Taking
+mod LineLemmas
+pub mod Labelled
+pub mod Listing
+pub mod Selections
+pub mod Numbers
+pub mod ShownLines

@@ -5,3 +5,5 @@ pub mod Refused
 pub mod Verdicts
 pub mod Forgetting
 pub mod Queues
+pub mod Listed
+pub mod Numbers

@@ -17,7 +17,7 @@ use Rattle.pif_history_model.specs.declared.lines.Line.TheVariants.{Thread, Mute
 use Rattle.pif_history_model.specs.Lines.{line_of}
 use Rattle.pif_history_model.specs.Shown.{IsSeen}
 use Rattle.pif_history_model.specs.Shown.IsSeen.{rests as by_rests, prio as by_prio, dying as by_dying}
-use Rattle.pif_history.specs.Listed.{entry_for, is_seen}
+use Rattle.pif_history_model.specs.Listed.{entry_for, is_seen}
 
 -- the entry that is listed for a line is one that the line shows
 pub shows-entry_for : (w : World) (line : Line) (e : Entry) → entry_for w line ≡ Some e → line_of e ≡ Some line

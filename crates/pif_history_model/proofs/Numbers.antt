@@ -9,7 +9,7 @@ use Rattle.std.proofs.lemmas.List.Quantifiers.{all_pairs_push}
 use Rattle.pif_types.specs.Bounds.{Bounds}
 use Rattle.pif_posix_model.proofs.DoingLists.{among_is}
 use Rattle.pif_search.specs.Verdicts.{IsSelection, CanFollow, AreNext}
-use Rattle.pif_history.proofs.Selections.{IsSelection-pairs, IsSelection-sound, IsSelection-complete}
+use Rattle.pif_history_model.proofs.Selections.{IsSelection-pairs, IsSelection-sound, IsSelection-complete}
 use Rattle.pif_history_model.specs.declared.lines.Line.{Line}
 use Rattle.pif_history_model.specs.declared.lines.Line.TheVariants.{Answer, Prio}
 use Rattle.pif_history_model.specs.declared.labels.Label.{Label}
@@ -19,23 +19,25 @@ use Rattle.pif_history_model.specs.Shown.{IsShown}
 use Rattle.pif_history_model.specs.Verdicts.{answers, AreJust, ArePossibleAnswers, ArePossiblePriorities}
 use Rattle.pif_history_model.proofs.Judging.{labels_of, shown-from_next, next-from_shown}
 use Rattle.pif_history_model.proofs.Fitting.{answer-from_shown, priority-from_shown}
-use Rattle.pif_history.specs.Verdicts.{number_of, before_if, numbers_in, up_to}
+use Rattle.pif_history_model.specs.Numbers.{number_of, before_if, numbers_in, up_to}
 
--- of candidates that show a number each, just those numbers are kept with which a run shows the line
-kept : (l : Bounds) (before : List Line) (line : ℕ → Line) → ((n : ℕ) → number_of (Shown (line n)) ≡ Some n) → (ns : List ℕ) (found : List Label)
-    → IsSelection (CanFollow (Advances l) hides (start_of l) (labels_of before)) (λ x. CanFollow (Advances l) hides (start_of l) (labels_of before) x → ⊥)
-    (map (λ n. Shown (line n)) ns) found
-    → IsSelection (λ n. IsShown l (line n ∷ reverse before)) (λ n. IsShown l (line n ∷ reverse before) → ⊥) ns (numbers_in found)
-kept l before line number [] found e = ap (λ (xs : List Label). numbers_in xs) e
-kept l before line number (n ∷ ns) found (inl s) =
+-- of candidates that show a number each, just those numbers are kept of which P holds, if P says that a run shows the
+-- line next
+pub kept : {S : Type 0} (Step : S → Label → S → Type 0) (start : S) (lines : List Label) (P : ℕ → Type 0) (line : ℕ → Line)
+    → ((n : ℕ) → number_of (Shown (line n)) ≡ Some n) → ((n : ℕ) → CanFollow Step hides start lines (Shown (line n)) → P n)
+    → ((n : ℕ) → P n → CanFollow Step hides start lines (Shown (line n))) → (ns : List ℕ) (found : List Label)
+    → IsSelection (CanFollow Step hides start lines) (λ x. CanFollow Step hides start lines x → ⊥) (map (λ n. Shown (line n)) ns) found
+    → IsSelection P (λ n. P n → ⊥) ns (numbers_in found)
+kept Step start lines P line number from to [] found e = ap (λ (xs : List Label). numbers_in xs) e
+kept Step start lines P line number from to (n ∷ ns) found (inl s) =
     let first : numbers_in found ≡ n ∷ numbers_in s.0 =
     ap (λ (xs : List Label). numbers_in xs) s.2 ∙ ap (λ (o : Option ℕ). before_if o (numbers_in s.0)) (number n) in
-    inl (numbers_in s.0, shown-from_next l before (line n) s.1, first, kept l before line number ns s.0 s.3)
-kept l before line number (n ∷ ns) found (inr s) =
-    inr (λ x. s.0 (next-from_shown l before (line n) x), kept l before line number ns found s.1)
+    inl (numbers_in s.0, from n s.1, first, kept Step start lines P line number from to ns s.0 s.3)
+kept Step start lines P line number from to (n ∷ ns) found (inr s) =
+    inr (λ x. s.0 (to n x), kept Step start lines P line number from to ns found s.1)
 
 -- of rising numbers, among which are all of which P holds, just these are kept, rising
-just_kept : (P : ℕ → Type 0) (ns found : List ℕ) → AllPairs (λ m n. m < n) ns → ((n : ℕ) → P n → Contains ns n)
+pub just_kept : (P : ℕ → Type 0) (ns found : List ℕ) → AllPairs (λ m n. m < n) ns → ((n : ℕ) → P n → Contains ns n)
     → IsSelection P (λ n. P n → ⊥) ns found → AreJust P found
 just_kept P ns found rising known s = record {
   rising = IsSelection-pairs P (λ n. P n → ⊥) (λ m n. m < n) ns found rising s;
@@ -54,7 +56,9 @@ possible : (l : Bounds) (before : List Line) (line : ℕ → Line) (all : List �
     → AreNext (Advances l) hides (start_of l) (labels_of before) (map (λ n. Shown (line n)) all) found
     → AreJust (λ n. IsShown l (line n ∷ reverse before)) (numbers_in found)
 possible l before line all found number rising known next =
-    just_kept (λ n. IsShown l (line n ∷ reverse before)) all (numbers_in found) rising known (kept l before line number all found next.selection)
+    just_kept (λ n. IsShown l (line n ∷ reverse before)) all (numbers_in found) rising known
+    (kept (Advances l) (start_of l) (labels_of before) (λ n. IsShown l (line n ∷ reverse before)) line number
+    (λ n x. shown-from_next l before (line n) x) (λ n x. next-from_shown l before (line n) x) all found next.selection)
 
 -- numbers that rise from m, each above the one before it
 abbrev Rise : ℕ → List ℕ → Type 0
@@ -72,7 +76,7 @@ rise_in_pairs m [] r = AllPairs-cons (λ i j. i < j) m [] (All-nil (λ (n : ℕ)
 rise_in_pairs m (n ∷ ns) r =
     AllPairs-cons (λ i j. i < j) m (n ∷ ns) (all_above m m (n ∷ ns) (omega arith) r) (rise_in_pairs n ns r.1)
 
-answers_rise : AllPairs (λ i j. i < j) answers
+pub answers_rise : AllPairs (λ i j. i < j) answers
 answers_rise =
     rise_in_pairs 0 (1 ∷ 3 ∷ 11 ∷ 16 ∷ 22 ∷ 35 ∷ 75 ∷ 110 ∷ 130 ∷ 131 ∷ [])
     (omega arith, (omega arith, (omega arith, (omega arith, (omega arith, (omega arith, (omega arith, (omega arith, (omega arith, (omega arith, tt))))))))))
@@ -102,7 +106,7 @@ in_more : (n p : ℕ) → p ≤ suc n → (p ≤ n → Contains (up_to n) p) →
 in_more n p b f (inl h) = Contains-append_left (up_to n) (suc n ∷ []) p (f h)
 in_more n p b f (inr h) = let same : suc n ≡ p = omega arith in subst (λ (k : ℕ). Contains (up_to n ++ suc n ∷ []) k) same (Contains-push (up_to n) (suc n))
 
-in_up_to : (n p : ℕ) → 1 ≤ p → p ≤ n → Contains (up_to n) p
+pub in_up_to : (n p : ℕ) → 1 ≤ p → p ≤ n → Contains (up_to n) p
 unfolding up_to
 in_up_to zero p a b = absurd (omega arith)
 in_up_to (suc n) p a b = in_more n p b (λ h. in_up_to n p a h) (le_or_more p n)
@@ -114,7 +118,7 @@ up_to-within (suc n) =
     All-push (λ (m : ℕ). m < suc (suc n)) (up_to n) (suc n)
     (All-weaker (λ (m : ℕ). m < suc n) (λ (m : ℕ). m < suc (suc n)) (λ m h. omega arith) (up_to n) (up_to-within n)) (omega arith)
 
-up_to-rises : (n : ℕ) → AllPairs (λ i j. i < j) (up_to n)
+pub up_to-rises : (n : ℕ) → AllPairs (λ i j. i < j) (up_to n)
 unfolding up_to
 up_to-rises zero = λ i j d lt within. absurd (omega arith)
 up_to-rises (suc n) = all_pairs_push (λ i j. i < j) (up_to n) (suc n) (up_to-rises n) (up_to-within n)
