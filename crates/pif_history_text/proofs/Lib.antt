@@ -1,3 +1,4 @@
+mod AllowedLemmas
 mod LineTexts
 mod PlaceLemmas
 mod SplitLemmas

@@ -25,8 +25,10 @@ use Rattle.pif_story_model.specs.Lines.{is_passed}
 use Rattle.pif_history_model.specs.declared.lines.Line.{Line}
 use Rattle.pif_history_model.specs.declared.lines.Line.TheVariants as line
 use Rattle.pif_history_text.specs.declared.said.Said.{Said}
-use Rattle.pif_history_text.specs.declared.said.Said.TheVariants.{Limits, Nothing, Shown}
-use Rattle.pif_history_text.specs.Lines.{answer_in, command_said, errno_in, line_of_three, line_of_two, line_of_words, said_in}
+use Rattle.pif_history_text.specs.declared.said.Said.TheVariants.{Allow, Limits, Nothing, Shown}
+use Rattle.pif_rules_model.specs.declared.rules.Rules.{Rules}
+use Rattle.pif_history_text.specs.Allowed.{allowed_in}
+use Rattle.pif_history_text.specs.Lines.{answer_in, command_said, errno_in, line_of_three, line_of_two, line_of_words, said_by_words, said_in}
 use Rattle.pif_history_text.specs.Texts.{IsLineWritten, line_text}
 
 -- ---- lines that are commands of scripts
@@ -57,16 +59,16 @@ words-three : (name first second : List ℕ) → has_no_space name ≡ true → 
 words-three name first second e f g =
     first_word name (first ++ 32 ∷ second) e ∙ ap (λ l. name ∷ l) (two-words first second f g)
 
-by_words : (o : Option Command) (p : Option Line) (l : Line) → o ≡ None → p ≡ Some l
-    → ◌≡◌ {A = Option Said} (elim o [ Some c ↦ command_said c | None ↦ option_map Shown p ]) (Some (Shown l))
-by_words o p l e f = rw (e, f) refl
+by_words : (o : Option Command) (p : Option Line) (q : Option Rules) (l : Line) → o ≡ None → p ≡ Some l
+    → ◌≡◌ {A = Option Said} (elim o [ Some c ↦ command_said c | None ↦ elim p [ Some k ↦ Some (Shown k) | None ↦ option_map Allow q ] ]) (Some (Shown l))
+by_words o p q l e f = rw (e, f) refl
 
 -- a text of words that are no command
 said_words : (text : List ℕ) (ws : List (List ℕ)) (l : Line) → is_passed text ≡ false → words text ≡ ws
     → command_of_words ws ≡ None → line_of_words ws ≡ Some l → said_in text ≡ Some (Shown l)
 unfolding said_in command_in
 said_words text ws l e f g h =
-    rw e (by_words (command_in text) (line_of_words (words text)) l (ap command_of_words f ∙ g) (ap line_of_words f ∙ h))
+    rw e (by_words (command_in text) (line_of_words (words text)) (allowed_in (words text)) l (ap command_of_words f ∙ g) (ap line_of_words f ∙ h))
 
 answer_back : (a : ℕ) → a < 4294967296 → answer_in (decimal a) ≡ Some a
 unfolding answer_in
@@ -104,6 +106,7 @@ abbrev IsSaidWritten : Said → Type 0
 IsSaidWritten (Shown l) = IsLineWritten l
 IsSaidWritten Nothing = Unit {0}
 IsSaidWritten (Limits t m c s) = Unit {0}
+IsSaidWritten (Allow r) = Unit {0}
 
 errno-small : (e : Errno) → IsNumber (number_of e)
 errno-small NotPermitted = omega arith
@@ -169,10 +172,19 @@ said-written (command.Event (event.Go t)) r = tt
 said-written (command.Run t q) r = tt
 said-written (command.Ask q) r = tt
 
-by_command : (o : Option Command) (p : Option Line) → Yields IsWritten o → Yields IsLineWritten p
-    → Yields IsSaidWritten (elim o [ Some c ↦ command_said c | None ↦ option_map Shown p ])
-by_command (Some c) p h g = said-written c h
-by_command None p h g = map_yields IsSaidWritten Shown p g
+rules-written : (o : Option Rules) → Yields IsSaidWritten (option_map Allow o)
+rules-written None = tt
+rules-written (Some r) = tt
+
+line_or_rules : (p : Option Line) (o : Option Rules) → Yields IsLineWritten p
+    → Yields IsSaidWritten (elim p [ Some l ↦ Some (Shown l) | None ↦ option_map Allow o ])
+line_or_rules (Some l) o g = g
+line_or_rules None o g = rules-written o
+
+by_command : (o : Option Command) (ws : List (List ℕ)) → Yields IsWritten o → Yields IsLineWritten (line_of_words ws)
+    → Yields IsSaidWritten (elim o [ Some c ↦ command_said c | None ↦ said_by_words ws ])
+by_command (Some c) ws h g = said-written c h
+by_command None ws h g = line_or_rules (line_of_words ws) (allowed_in ws) g
 
 command-written : (text : List ℕ) (o : Option Command) → command_in text ≡ o → Yields IsWritten o
 command-written text (Some c) e = command_in-written text c e
@@ -182,5 +194,5 @@ pub said_in-written : (text : List ℕ) (l : Line) → said_in text ≡ Some (Sh
 unfolding said_in
 said_in-written text l e =
     subst (Yields IsSaidWritten) e (if_yields IsSaidWritten (is_passed text) (Some Nothing) _ tt
-    (by_command (command_in text) (line_of_words (words text)) (command-written text (command_in text) refl)
+    (by_command (command_in text) (words text) (command-written text (command_in text) refl)
     (words-written (words text))))

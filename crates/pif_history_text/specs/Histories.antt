@@ -1,20 +1,27 @@
 -- Histories as bytes: their limits and their lines, or their first fault.
-use Rattle.std.specs.Prelude.{ℕ, ◌+◌, ◌==◌, ◌||◌, nat_le, Bool, not, is_some, List, [], ◌∷◌, ◌++◌, length, take, Option, Some, None, Result, Ok, Err, if◌then◌else◌}
+use Rattle.std.specs.Prelude.{ℕ, ◌+◌, ◌==◌, ◌||◌, nat_le, Bool, true, false, not, is_some, List, [], ◌∷◌, ◌++◌, length, take, Option, Some, None, Result, Ok, Err, if◌then◌else◌}
 use Rattle.pif_types.specs.Bounds.{Bounds}
 use Rattle.pif_text_model.specs.declared.replies.Cause.{Cause}
-use Rattle.pif_text_model.specs.declared.replies.Cause.TheVariants.{Size, Long, Command}
+use Rattle.pif_text_model.specs.declared.replies.Cause.TheVariants.{Size, Long, Command, Limits as OutOfRange}
 use Rattle.pif_story_model.specs.Lines.{lines}
 use Rattle.pif_story_model.specs.Verdicts.{Fault}
+use Rattle.std.specs.List.{list_any}
+use Rattle.pif_rules_model.specs.declared.rules.Rules.{Rules}
+use Rattle.pif_rules_model.specs.Rules.{no_rules}
 use Rattle.pif_history_model.specs.declared.lines.Line.{Line}
+use Rattle.pif_history_model.specs.declared.lines.Line.TheVariants.{Begin}
+use Rattle.pif_history_text.specs.Allowed.{have_common, is_any, is_too_small, joined}
 use Rattle.pif_history_text.specs.declared.said.Said.{Said}
-use Rattle.pif_history_text.specs.declared.said.Said.TheVariants.{Limits, Nothing, Shown}
+use Rattle.pif_history_text.specs.declared.said.Said.TheVariants.{Allow, Limits, Nothing, Shown}
 use Rattle.pif_history_text.specs.Lines.{said_in, text_of_line, is_long}
 
 -- A history, or the front of one.
 pub record Heard : Type 0 where
   -- The limits that its first line names, if it does.
   pub named : Option Bounds
-  -- Its lines: all but limits, comments and empty lines.
+  -- The rules that it allows.
+  pub allowed : Rules
+  -- Its lines: all but limits, `allow`, comments and empty lines.
   pub shown : List Line
   -- The number of each of them in the text, from 1.
   pub numbers : List ℕ
@@ -23,7 +30,7 @@ pub record Heard : Type 0 where
 
 -- Before its first line.
 abbrev pub unheard : Heard
-unheard = record { named = None; shown = []; numbers = []; count = 0 }
+unheard = record { named = None; allowed = no_rules; shown = []; numbers = []; count = 0 }
 
 -- The greatest limits that a line can write, which no history of this size reaches.
 abbrev pub most : Bounds
@@ -39,11 +46,24 @@ next_number h = h.count + 1
 
 -- Whether there was a line already that is no comment and not empty.
 abbrev pub has_begun : Heard → Bool
-has_begun h = is_some h.named || not (length h.shown == 0)
+has_begun h = is_some h.named || is_any h.allowed || not (length h.shown == 0)
 
 -- Limits, which stand only before all but comments and empty lines.
 abbrev pub after_limits : Heard → Bounds → Result Heard Cause
 after_limits h b = if has_begun h then Err Command else Ok (record h { named = Some b; count = next_number h })
+
+-- Whether a call was begun already.
+abbrev pub is_begin : Line → Bool
+is_begin (Begin t q) = true
+is_begin _ = false
+
+-- More rules, which stand only before the first call that is begun, each once in a history.
+abbrev pub after_allow : Heard → Rules → Result Heard Cause
+after_allow h r =
+    if list_any is_begin h.shown then Err Command
+    else if have_common h.allowed r then Err Command
+    else if is_too_small r.recursion then Err OutOfRange
+    else Ok (record h { allowed = joined h.allowed r; count = next_number h })
 
 -- One line more that is shown by runs, or by none.
 abbrev pub after_shown : Heard → Line → Heard
@@ -56,6 +76,7 @@ after_said h None = Err Command
 after_said h (Some Nothing) = Ok (record h { count = next_number h })
 after_said h (Some (Limits t m c s)) =
     after_limits h (record { threads = t; mutexes = m; conds = c; signals = s })
+after_said h (Some (Allow r)) = after_allow h r
 after_said h (Some (Shown l)) = Ok (after_shown h l)
 
 -- One more line of the text, of these bytes.

@@ -1,3 +1,4 @@
+pub mod Allowed
 pub mod Histories
 pub mod Lines
 pub mod Reading

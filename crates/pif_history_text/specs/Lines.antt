@@ -16,8 +16,9 @@ use Rattle.pif_text_model.specs.Words.{words}
 use Rattle.pif_story_model.specs.Lines.{is_passed, without_mark}
 use Rattle.pif_history_model.specs.declared.lines.Line.{Line}
 use Rattle.pif_history_model.specs.declared.lines.Line.TheVariants as line
+use Rattle.pif_history_text.specs.Allowed.{allowed_in}
 use Rattle.pif_history_text.specs.declared.said.Said.{Said}
-use Rattle.pif_history_text.specs.declared.said.Said.TheVariants.{Limits, Nothing, Shown}
+use Rattle.pif_history_text.specs.declared.said.Said.TheVariants.{Allow, Limits, Nothing, Shown}
 
 -- The error that a word names, as <errno.h> does.
 unfoldable pub errno_in : List ℕ → Option Errno
@@ -87,11 +88,15 @@ line_of_words (a ∷ b ∷ []) = line_of_two a b
 line_of_words (a ∷ b ∷ c ∷ []) = line_of_three a b c
 line_of_words more = None
 
+-- What words say that make no command of scripts: a line, or which rules are allowed.
+abbrev pub said_by_words : List (List ℕ) → Option Said
+said_by_words ws = elim (line_of_words ws) [ Some l ↦ Some (Shown l) | None ↦ option_map Allow (allowed_in ws) ]
+
 -- What the text of a line says, if it is no fault: an empty line and a comment say nothing.
 unfoldable pub said_in : List ℕ → Option Said
 said_in text =
     if is_passed text then Some Nothing
-    else elim (command_in text) [ Some c ↦ command_said c | None ↦ option_map Shown (line_of_words (words text)) ]
+    else elim (command_in text) [ Some c ↦ command_said c | None ↦ said_by_words (words text) ]
 
 -- ---- the text of a line
 

@@ -12,7 +12,7 @@ use Rattle.pif_history_text.specs.Histories.{Heard, at_end, cut_off, heard_from,
 
 -- A history as the code has it.
 abbrev pub heard_of : History → Heard
-heard_of h = record { named = h.named; shown = h.shown.items; numbers = h.numbers.items; count = h.count }
+heard_of h = record { named = h.named; allowed = h.allowed; shown = h.shown.items; numbers = h.numbers.items; count = h.count }
 
 -- Each of its lines has a number.
 abbrev pub IsPaired : History → Type 0

@@ -4,12 +4,14 @@
 //! | Module | What it has |
 //! |---|---|
 //! | `said` | what a line says |
+//! | `allowed` | the rules that a line allows |
 //! | `lines` | a line, read |
 //! | `heard` | a history, line by line |
 //! | `reading` | a history, read whole |
 //! | `writing` | lines as text |
 #![tactic(auto)]
 
+mod allowed;
 mod heard;
 mod lines;
 mod reading;
@@ -18,6 +20,7 @@ mod texts;
 mod verdicts;
 mod writing;
 
+pub use allowed::no_rules;
 pub use heard::{History, MOST_BYTES};
 pub use lines::{answer_of, said_of};
 pub use reading::read_history;

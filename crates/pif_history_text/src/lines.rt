@@ -1,9 +1,10 @@
 ghost use Rattle.std.specs.Prelude.{◌≡◌, ◌∷◌, ◌+◌, ◌≤◌, ◌<◌, ◌↔◌, ◌==◌, IsTrue, length, option_map};
 ghost use Rattle.pif_types.specs.Numbers.{number_of};
 ghost use Rattle.pif_text_model.specs.Words.{words};
-ghost use Rattle.pif_history_text.specs.Lines.{addition_said, answer_in, command_said, errno_in, event_said, is_long, line_of_three, line_of_two, line_of_words, said_in, text_of_line};
+ghost use Rattle.pif_history_text.specs.Lines.{addition_said, answer_in, command_said, errno_in, event_said, is_long, line_of_three, line_of_two, line_of_words, said_by_words, said_in, text_of_line};
 
 use crate::Said;
+use crate::allowed::allowed_of;
 use crate::texts::is_passed;
 use pif_history_model::Line;
 use pif_model::Event;
@@ -145,6 +146,16 @@ fn of_words(text: &[u8]) -> Option<Line>
     }
 }
 
+/// What a text says that is no command of scripts: a line, or which rules are allowed.
+fn said_by_words(text: &[u8]) -> Option<Said>
+    ensures { result ≡ said_by_words (words text.now) }
+{
+    match of_words(text) {
+        Some(line) => Some(Said::Shown(line)),
+        None => Some(Said::Allow(allowed_of(text)?)),
+    }
+}
+
 /// What the text of a line says, or `None` where the line is a fault.
 #[tactic(auto, unfolding(crate::specs::Lines::said_in))]
 pub fn said_of(text: &[u8]) -> Option<Said>
@@ -155,6 +166,6 @@ pub fn said_of(text: &[u8]) -> Option<Said>
     }
     match command_of(text) {
         Some(command) => said_by_command(command),
-        None => Some(Said::Shown(of_words(text)?)),
+        None => said_by_words(text),
     }
 }

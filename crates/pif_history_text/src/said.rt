@@ -1,4 +1,5 @@
 use pif_history_model::Line;
+use pif_rules_model::Rules;
 
 /// What a line of the text of a history says.
 #[derive(Clone, Copy)]
@@ -7,6 +8,8 @@ pub enum Said {
     Nothing,
     /// `limits T M C S`.
     Limits(u32, u32, u32, u32),
+    /// `allow NAME ..`: these rules are allowed.
+    Allow(Rules),
     /// A line that is shown by runs, or by none.
     Shown(Line),
 }

@@ -1,5 +1,6 @@
 use pif_history_model::Line;
-use pif_history_text::{History, read_history};
+use pif_history_text::{History, no_rules, read_history};
+use pif_rules_model::Rules;
 use pif_script_model::CliFault;
 use pif_test_streams::{Part, Stream};
 use pif_text::Cause;
@@ -12,7 +13,7 @@ use std::process::Abort;
 type Faulty = (&'static str, u64, Cause);
 
 /// Lines of which one is a fault.
-static FAULTS: [Faulty; 24] = [
+static FAULTS: [Faulty; 37] = [
     ("threads 1\n", 1, Cause::Command),
     ("thread 1\nthread\n", 2, Cause::Command),
     ("# no\n\nthread 01\n", 3, Cause::Command),
@@ -37,6 +38,19 @@ static FAULTS: [Faulty; 24] = [
     ("call t1 lock m1\n", 1, Cause::Command),
     ("thread 1\nlimits 1 1 1 1\n", 2, Cause::Command),
     ("limits 1 1 1 1\nlimits 1 1 1 1\n", 2, Cause::Command),
+    ("allow\n", 1, Cause::Command),
+    ("allow all\n", 1, Cause::Command),
+    ("allow steal \n", 1, Cause::Command),
+    ("allow steal steal\n", 1, Cause::Command),
+    ("allow steal\nallow spurious steal\n", 2, Cause::Command),
+    ("allow recursion\n", 1, Cause::Command),
+    ("allow recursion=300\n", 1, Cause::Command),
+    ("allow recursion 300 recursion 301\n", 1, Cause::Command),
+    ("allow recursion 4294967296\n", 1, Cause::Command),
+    ("allow steal recursion 255\n", 1, Cause::Limits),
+    ("allow steal\nlimits 1 1 1 1\n", 2, Cause::Command),
+    ("begin t1 lock m1\nallow steal\n", 2, Cause::Command),
+    ("begin t1 lock m1\nallow recursion 255\n", 2, Cause::Command),
 ];
 
 /// Checks where a history is a fault.
@@ -113,6 +127,45 @@ fn lines_of_histories(rt: HostRuntime) {
         (Some(thread), Some(mutex)) => check_thread(&rt, alloc, thread, mutex),
         _ => assert!(rt; false),
     }
+}
+
+/// Checks which rules a history allows.
+fn check_allowed(rt: &impl Abort, alloc: Global, text: &str, rules: Rules) {
+    match read_history(alloc, &mut text.as_bytes()) {
+        Ok(history) => assert!(rt; history.allowed == rules, "{text:?}"),
+        Err(_) => assert!(rt; false, "{text:?}"),
+    }
+}
+
+#[test]
+fn histories_allow_rules(rt: HostRuntime) {
+    let alloc = rt.alloc();
+    let none = no_rules();
+    check_allowed(&rt, alloc, "thread 1\n", none);
+    let some = Rules {
+        steal: true,
+        recursion: Some(256),
+        revives: true,
+        ..none
+    };
+    check_allowed(
+        &rt,
+        alloc,
+        "limits 1 1 1 1\nallow steal recursion 256 revives\n",
+        some,
+    );
+    let others = Rules {
+        any_waiter: true,
+        spurious: true,
+        own_errorcheck: true,
+        any_consistent: true,
+        held_wait: true,
+        lost_signal: true,
+        ..none
+    };
+    let text =
+        "allow any_waiter spurious own_errorcheck\nthread 1\nallow any_consistent held_wait\nallow lost_signal\n";
+    check_allowed(&rt, alloc, text, others);
 }
 
 /// A line of 64 bytes with its LF.
