@@ -1,28 +1,11 @@
 //! A step of each case leads to as many states as the table has, without its rule and with it.
-use crate::cases::{Asked, CASES, Case, Rule};
-use crate::scene::{Scene, no_rules};
+use crate::cases::{Asked, CASES, Case};
+use crate::scene::{Scene, no_rules, only};
 use pif_posix::Wide;
 use pif_rules_model::Rules;
 use pif_search::Stop;
 use std::alloc::Global;
 use std::process::Abort;
-
-/// This rule alone is allowed.
-fn only(rule: Rule) -> Rules {
-    let mut rules = no_rules();
-    match rule {
-        Rule::Steal => rules.steal = true,
-        Rule::AnyWaiter => rules.any_waiter = true,
-        Rule::Spurious => rules.spurious = true,
-        Rule::Recursion(most) => rules.recursion = Some(most),
-        Rule::OwnErrorcheck => rules.own_errorcheck = true,
-        Rule::AnyConsistent => rules.any_consistent = true,
-        Rule::HeldWait => rules.held_wait = true,
-        Rule::LostSignal => rules.lost_signal = true,
-        Rule::Revives => rules.revives = true,
-    }
-    rules
-}
 
 /// The states to which the step of a case leads.
 fn after(scene: &Scene, asked: Asked, rules: &Rules) -> Result<Vec<Wide>, Stop> {

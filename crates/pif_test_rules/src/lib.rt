@@ -2,6 +2,8 @@
 //!
 //! | Module | What it has |
 //! |---|---|
+//! | `histories` | none: histories with their verdicts, which were worked out by hand |
+//! | `judged` | the verdict on each history, without rules, with its rule, and with all |
 //! | `scene` | none: a state that is built by steps, made of numbers |
 //! | `cases` | none: the table, which was worked out by hand |
 //! | `allowed` | a step of each case, without its rule and with it |
@@ -11,5 +13,9 @@
 mod allowed;
 #[cfg(test)]
 mod cases;
+#[cfg(test)]
+mod histories;
+#[cfg(test)]
+mod judged;
 #[cfg(test)]
 mod scene;

@@ -1,4 +1,5 @@
 //! A state that is built by steps of the plain machine.
+use crate::cases::Rule;
 use pif_model::{Entry, Event, Seen};
 use pif_posix::{State, Wide};
 use pif_posix_model::HistoryLimits;
@@ -60,6 +61,23 @@ pub fn no_rules() -> Rules {
         lost_signal: false,
         revives: false,
     }
+}
+
+/// This rule alone is allowed.
+pub fn only(rule: Rule) -> Rules {
+    let mut rules = no_rules();
+    match rule {
+        Rule::Steal => rules.steal = true,
+        Rule::AnyWaiter => rules.any_waiter = true,
+        Rule::Spurious => rules.spurious = true,
+        Rule::Recursion(most) => rules.recursion = Some(most),
+        Rule::OwnErrorcheck => rules.own_errorcheck = true,
+        Rule::AnyConsistent => rules.any_consistent = true,
+        Rule::HeldWait => rules.held_wait = true,
+        Rule::LostSignal => rules.lost_signal = true,
+        Rule::Revives => rules.revives = true,
+    }
+    rules
 }
 
 fn tid(number: u32) -> Result<Tid, Stop> {

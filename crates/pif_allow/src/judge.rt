@@ -1,0 +1,175 @@
+ghost use Rattle.std.specs.Prelude.{◌≡◌, ◌≤◌, true, false, map, length, All, IfOk, IfSome};
+ghost use Rattle.pif_rules_model.specs.Rules.{no_rules};
+ghost use Rattle.pif_history_model.specs.declared.labels.Label.TheVariants.{Shown};
+ghost use Rattle.pif_history_model.specs.Searched.{hides};
+ghost use Rattle.pif_search.specs.Verdicts.{AreNext};
+ghost use Rattle.pif_allow_model.specs.Allowed.{WideAdvances, wide_start_of};
+ghost use Rattle.pif_allow_model.specs.Verdicts.{ArePossibleAnswersWith, ArePossiblePrioritiesWith};
+ghost use Rattle.pif_allow.specs.Verdicts.{IsVerdictWith};
+
+use crate::machine::AllowingMachine;
+use crate::position::WidePosition;
+use pif_history::{
+    Verdict, answers_of, judge_lines, labels_of, numbers_of, possible_answers, possible_priorities,
+    priorities_of, settled,
+};
+use pif_history_model::{HistoryLimits, Label, Line};
+use pif_rules_model::Rules;
+use pif_search::{Stop, Unwatched, Watch, judge, possible, searches_all_steps};
+use pif_types::{Answer, Tid};
+use std::alloc::Global;
+
+/// Whether none of the rules is allowed.
+pub fn are_none(rules: &Rules) -> bool
+    ensures { result ≡ true → rules.now ≡ no_rules }
+{
+    match *rules {
+        Rules {
+            steal: false,
+            any_waiter: false,
+            spurious: false,
+            recursion: None,
+            own_errorcheck: false,
+            any_consistent: false,
+            held_wait: false,
+            lost_signal: false,
+            revives: false,
+        } => true,
+        _ => false,
+    }
+}
+
+/// The verdict on these lines, of which there are some, by a search of all steps.
+fn searched<W: Watch>(
+    alloc: Global,
+    rules: &Rules,
+    limits: HistoryLimits,
+    lines: &[Line],
+    states: usize,
+    watch: &mut W,
+) -> Result<Verdict, Stop>
+    requires { 1 ≤ length lines.now }
+    ensures { IfOk result (IsVerdictWith rules.now limits lines.now) }
+{
+    let machine = AllowingMachine::new(limits, *rules);
+    let start = WidePosition::start(alloc, limits)?;
+    searches_all_steps(&machine, &start);
+    let labels = labels_of(alloc, lines)?;
+    let verdict = judge(&machine, alloc, start, labels.as_slice(), states, watch)?;
+    Ok(settled(verdict))
+}
+
+/// Whether some run, under these limits and with these rules, shows the lines of a history, oldest first.
+///
+/// `Legal` has a witness: the labels of such a run, newest first. `Illegal(n)` says that no run shows the first n lines,
+/// and that some run shows the first n - 1. `Undecided(n)` says nothing of the first n lines: more than `states` states
+/// were made for one line. `watch` is told how far a search has come: those of `judge_lines` come first, since what is
+/// legal without rules is legal with them, and then the one with rules, each from the first line.
+///
+/// # Errors
+///
+/// Memory ran out, or a number of a state got too great for it. It then says nothing.
+pub fn judge_allowing<W: Watch>(
+    alloc: Global,
+    rules: &Rules,
+    limits: HistoryLimits,
+    lines: &[Line],
+    states: usize,
+    watch: &mut W,
+) -> Result<Verdict, Stop>
+    ensures { IfOk result (IsVerdictWith rules.now limits lines.now) }
+{
+    let plain = judge_lines(alloc, limits, lines, states, watch)?;
+    if are_none(rules) {
+        return Ok(plain);
+    }
+    match plain {
+        Verdict::Legal(witness) => Ok(Verdict::Legal(witness)),
+        Verdict::Illegal(_) => searched(alloc, rules, limits, lines, states, watch),
+        Verdict::Undecided(_) => searched(alloc, rules, limits, lines, states, watch),
+    }
+}
+
+/// The candidates that can come behind these lines; none if the search gave up.
+fn next_labels(
+    alloc: Global,
+    rules: &Rules,
+    limits: HistoryLimits,
+    before: &[Line],
+    candidates: &[Label],
+    states: usize,
+) -> Result<Option<Vec<Label>>, Stop>
+    requires { All (λ x. hides x ≡ false) candidates.now }
+    ensures { IfOk result (λ o. IfSome o (λ v. AreNext (WideAdvances rules.now limits) hides (wide_start_of limits) (map (λ x. Shown x) before.now) candidates.now v.items)) }
+{
+    let machine = AllowingMachine::new(limits, *rules);
+    let start = WidePosition::start(alloc, limits)?;
+    searches_all_steps(&machine, &start);
+    let lines = labels_of(alloc, before)?;
+    let found = possible(
+        &machine,
+        alloc,
+        start,
+        lines.as_slice(),
+        candidates,
+        states,
+        &mut Unwatched,
+    )?;
+    Ok(found)
+}
+
+/// The answers with which some run, with these rules, shows the lines before, oldest first, and then that the open call
+/// of the thread answered so: of 0 and the errors of calls all that are possible, rising. None if more than `states`
+/// states were made for one line: that says nothing.
+///
+/// # Errors
+///
+/// As those of `judge_allowing`.
+pub fn possible_answers_allowing(
+    alloc: Global,
+    rules: &Rules,
+    limits: HistoryLimits,
+    before: &[Line],
+    thread: Tid,
+    states: usize,
+) -> Result<Option<Vec<Answer>>, Stop>
+    ensures { IfOk result (λ o. IfSome o (λ v. ArePossibleAnswersWith rules.now limits before.now thread v.items)) }
+{
+    if are_none(rules) {
+        let plain = possible_answers(alloc, limits, before, thread, states)?;
+        return Ok(plain);
+    }
+    let candidates = answers_of(alloc, thread)?;
+    match next_labels(alloc, rules, limits, before, candidates.as_slice(), states)? {
+        Some(labels) => Ok(Some(numbers_of(alloc, labels.as_slice())?)),
+        None => Ok(None),
+    }
+}
+
+/// The priorities with which some run, with these rules, shows the lines before, oldest first, and then that the thread
+/// has this effective priority: of 1 to 99 all that are possible, rising. None if more than `states` states were made for
+/// one line: that says nothing.
+///
+/// # Errors
+///
+/// As those of `judge_allowing`.
+pub fn possible_priorities_allowing(
+    alloc: Global,
+    rules: &Rules,
+    limits: HistoryLimits,
+    before: &[Line],
+    thread: Tid,
+    states: usize,
+) -> Result<Option<Vec<u32>>, Stop>
+    ensures { IfOk result (λ o. IfSome o (λ v. ArePossiblePrioritiesWith rules.now limits before.now thread v.items)) }
+{
+    if are_none(rules) {
+        let plain = possible_priorities(alloc, limits, before, thread, states)?;
+        return Ok(plain);
+    }
+    let candidates = priorities_of(alloc, thread)?;
+    match next_labels(alloc, rules, limits, before, candidates.as_slice(), states)? {
+        Some(labels) => Ok(Some(numbers_of(alloc, labels.as_slice())?)),
+        None => Ok(None),
+    }
+}
