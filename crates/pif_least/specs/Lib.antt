@@ -1,0 +1,3 @@
+pub mod Least
+pub mod Sets
+pub mod Texts
