@@ -1,0 +1,5 @@
+pub mod Finding
+pub mod Rivals
+pub mod Stuck
+pub mod Marking
+pub mod Looping
