@@ -1,0 +1,10 @@
+use Rattle.std.proofs.Common.{refl}
+use Rattle.pif_job_explore.proofs.rulings.ruling.Goals as goal
+
+pub returns : goal.returns
+returns c = λ start whole. record {
+  condition = c.args.claim.now.condition;
+  is = refl;
+  number = refl;
+  verdict = c.verdict_of-verdict.ensures start whole;
+}

@@ -1,0 +1,2 @@
+pub mod Starts
+pub mod Exploring

@@ -1,0 +1,10 @@
+use pif_script_model::CliFault;
+
+/// Why a program was not found to keep its claims.
+#[derive(Clone, Copy, Debug, PartialEq, Eq)]
+pub enum ExploreFault {
+    /// A fault as of scripts. `Differs` names the line, from 1, of the first claim that is broken.
+    Cli(CliFault),
+    /// There are more states than may be kept, and no claim was found to be broken.
+    Undecided,
+}

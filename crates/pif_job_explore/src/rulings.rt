@@ -1,0 +1,62 @@
+//! What is found of the claims of a file.
+ghost use Rattle.std.specs.Prelude.{◌≡◌, IfOk, length, map, true};
+ghost use Rattle.pif_explore.specs.Explored.{AreFinalBelow};
+ghost use Rattle.pif_explore_model.specs.Exploring.{Steps};
+ghost use Rattle.pif_explore_model.specs.Forgetting.{AreSameSoFar};
+ghost use Rattle.pif_explore_model.specs.Situations.{Situation as Situated};
+ghost use Rattle.pif_explore_text.specs.Views.{claim_view};
+ghost use Rattle.pif_reach.specs.Spaces.{IsWhole};
+ghost use Rattle.pif_job_explore.specs.Exploring.{AreRuled, IsRuled, first_broken};
+
+use pif_explore::{Explored, Plan};
+use pif_explore_text::Claim;
+use pif_explore_told::{Ruling, Verdict, verdict_of};
+use pif_search::{Stop, push};
+use std::alloc::Global;
+
+/// What is found of a claim.
+fn ruling(plan: &Plan, explored: &Explored, claim: &Claim) -> Ruling
+    requires { AreFinalBelow plan.now explored.now.nodes.items explored.now.finals.items (length explored.now.nodes.items) }
+    ensures { (start : Situated) → (explored.now.is_whole ≡ true → IsWhole (Steps plan.now) AreSameSoFar start explored.now.nodes.items) → IsRuled plan.now start explored.now.nodes.items (claim_view claim.now) result }
+{
+    let verdict = verdict_of(plan, explored, &claim.scope, &claim.condition);
+    Ruling {
+        number: claim.number,
+        verdict,
+    }
+}
+
+/// What is found of claims.
+///
+/// # Errors
+///
+/// Memory ran out.
+pub fn rulings(
+    alloc: Global,
+    plan: &Plan,
+    explored: &Explored,
+    claims: &[Claim],
+) -> Result<Vec<Ruling>, Stop>
+    requires { AreFinalBelow plan.now explored.now.nodes.items explored.now.finals.items (length explored.now.nodes.items) }
+    ensures { IfOk result (λ v. (start : Situated) → (explored.now.is_whole ≡ true → IsWhole (Steps plan.now) AreSameSoFar start explored.now.nodes.items) → AreRuled plan.now start explored.now.nodes.items (map claim_view claims.now) v.items) }
+{
+    let mut all = Vec::new(alloc);
+    for claim in claims {
+        let next = ruling(plan, explored, claim);
+        push(&mut all, next)?;
+    }
+    Ok(all)
+}
+
+/// The line of the first claim that is broken, if there is one.
+pub fn first_broken(rulings: &[Ruling]) -> Option<u32>
+    ensures { result ≡ first_broken rulings.now }
+{
+    match rulings {
+        [] => None,
+        [first, rest @ ..] => match first.verdict {
+            Verdict::Broken(_) => Some(first.number),
+            Verdict::Kept | Verdict::Open => first_broken(rest),
+        },
+    }
+}
