@@ -31,6 +31,6 @@ pub use pif_script_model::{CliFault, End, Ending, OpenFault, Stop};
 pub use running::{default_limits, first_limits, obey, open_core, tell};
 pub use runs::{run, run_noting};
 pub use scanner::{MOST_BYTES, MOST_LINE, Scanner};
-pub use script::{read_script, stop};
+pub use script::{close, feed, read_script, stop};
 pub use whole::read_all;
 pub use writing::write_whole;

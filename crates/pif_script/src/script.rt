@@ -62,8 +62,13 @@ fn turn<L: Listener + Drop, R: Read, W: Write>(
     Ok(true)
 }
 
-/// Reads bytes, and writes what their lines are answered.
-fn feed<L: Listener + Drop, W: Write>(
+/// Has a scanner read these bytes behind those that it has read, and writes what their lines are answered, or what is
+/// said of the line that ends the script. `notice` keeps that line, and is left as it is if there is none.
+///
+/// # Errors
+///
+/// `Script` and `Differs` with the line that ends the script; `Write` if the writer fails; and `NoMemory`.
+pub fn feed<L: Listener + Drop, W: Write>(
     alloc: Global,
     scanner: &mut Scanner<L>,
     bytes: &[u8],
@@ -103,8 +108,13 @@ fn make_room<W: Write>(output: &mut Output, writer: &mut W) -> Result<(), CliFau
     Ok(())
 }
 
-/// Writes what is said where the script ends here. The input does not go on.
-fn close<L: Listener + Drop, W: Write>(
+/// Writes what is said if the script ends behind the bytes that a scanner has read. Answers `false`: the input does not
+/// go on. `notice` keeps the line that is a fault then, and is left as it is if there is none.
+///
+/// # Errors
+///
+/// `Script` with the fault, whose line was written then, and `Write` if the writer fails.
+pub fn close<L: Listener + Drop, W: Write>(
     scanner: &Scanner<L>,
     output: &mut Output,
     writer: &mut W,

@@ -1,4 +1,4 @@
-use pif_job_replay::replay_noting;
+use pif_job_replay::{migrate_noting, replay_noting};
 use pif_script::{CliFault, Notice, run_noting};
 use pif_test_streams::Stream;
 use pif_text::Cause;
@@ -187,4 +187,37 @@ fn check_fault_behind(rt: &impl Abort, alloc: Global) {
 #[test]
 fn a_fault_takes_the_place_of_a_difference(rt: HostRuntime) {
     check_fault_behind(&rt, rt.alloc());
+}
+
+/// What a notice has before a trace is replayed or migrated.
+const BEFORE: &str = "before";
+
+/// Whether a trace is migrated and not replayed, the trace, and what the notice has then.
+static LEFT: [(bool, &str, &str); 5] = [
+    (false, "pif-trace 1\nthread 10 = t1\n", BEFORE),
+    (false, "pif-trace 1\nthread 10 = t2\n", "thread 10 = t2"),
+    (true, "pif-trace 1\nthread 10 = t1\n", BEFORE),
+    (true, "pif-trace 1\nthread 10 = t2\n", BEFORE),
+    (true, "pif-trace 1\nthread 10 = t1\npick\n", "pick"),
+];
+
+/// Checks what a notice has behind a trace.
+fn check_left(rt: &impl Abort, alloc: Global, migrates: bool, trace: &str, line: &str) {
+    let mut notice = Notice::new();
+    notice.keep_command(BEFORE.as_bytes());
+    let parts = [(trace, 1)];
+    let (mut input, mut output) = (Stream::new(&parts), Stream::new(&[]));
+    let ended = if migrates {
+        migrate_noting(alloc, &mut input, &mut output, &mut notice)
+    } else {
+        replay_noting(alloc, &mut input, &mut output, &mut notice)
+    };
+    assert!(rt; notice.line() == line.as_bytes(), "{trace:?}: {ended:?}");
+}
+
+#[test]
+fn a_notice_is_left_if_nothing_is_wrong_with_a_trace(rt: HostRuntime) {
+    for (migrates, trace, line) in &LEFT {
+        check_left(&rt, rt.alloc(), *migrates, trace, line);
+    }
 }
