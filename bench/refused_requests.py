@@ -2,11 +2,12 @@
 """Refuses each request for memory of the built program in turn, by a `malloc` and a `realloc` that refuse the Nth: for
 a run, a run that is shown, a replay, a trace, help, a wrong word and two clients in real threads. Each time it must end
 for that: with status 4, nothing on standard output and `pif: out of memory` on standard error, or with status 6 and
-`fault threads` where a thread could not be started. Or all must be as with no refusal, since the standard library asks
-again for some. With the words of a job behind the program it is that job alone, over an example.
+`fault threads` if a thread could not be started. Or all must be as with no refusal, since the standard library asks
+again for some. A run may say besides that it is out of memory for notes. With the words of a job behind the program it
+is that job alone, over an example.
 
-Two rows more are asked where they are built. The test `desk_keeps_receipts` of pif_test_drive (by `rt test` there) asks
-again for what was refused, by `resume` where a call is open: no answer, book or replayed trace may change. The
+Two rows more are asked if they are built. The test `desk_keeps_receipts` of pif_test_drive (by `rt test` there) asks
+again for what was refused, by `resume` if a call is open: no answer, book or replayed trace may change. The
 benchmark `new_core` of pif_bench (by `rt run` there) makes cores: whichever request of `Core::new` is refused, the
 status is 1.
 
@@ -33,6 +34,9 @@ SCRIPT = TOP / "examples/holder_is_boosted_until_it_unlocks.pif"
 
 # How the program ends for a refused request: its status, what it prints, and what it prints of the error.
 REFUSALS = ((4, b"", b"pif: out of memory\n"), (6, b"fault threads\n", b"pif: a thread cannot be started\n"))
+
+# What a run prints of the error if only its notes are refused memory.
+NO_NOTES = b"pif: out of memory for notes\n"
 
 # The jobs of the program, each with its status. A replay reads the trace of the script, the others the script.
 JOBS = (("run", 0), ("show", 0), ("replay", 0), ("trace", 0), ("--help", 0), ("walk", 1), ("drive 2", 0))
@@ -74,7 +78,7 @@ void *realloc(void *old, size_t size) {
 
 class Row(NamedTuple):
     """What is run: its name, its words, its input, its status with no refusal, and whether an end is that of a refused
-    request."""
+    request, beside the end with no refusal."""
 
     name: str
     words: list
@@ -107,7 +111,7 @@ def sweep(room, row):
     while refused:
         if ended == whole:
             same.append(number)
-        elif not row.is_refusal(ended):
+        elif not row.is_refusal(ended, whole):
             print("%s: with request %d refused: %s" % (row.name, number, ended))
             return False
         number += 1
@@ -119,20 +123,25 @@ def sweep(room, row):
     return True
 
 
+def is_refused(ended, whole):
+    """Whether a job of the program ended so for a refused request; without one it ends as whole."""
+    return ended in REFUSALS or ended == (0, whole[1], NO_NOTES)
+
+
 def rows_of(program, words):
     """The rows: of the program those of JOBS, or the one of these words; and the two that may be built beside it."""
     script = SCRIPT.read_bytes()
     trace = subprocess.run([program, "trace"], input=script, stdout=subprocess.PIPE, check=True).stdout
     for job, status in [(" ".join(words), 0)] if words else JOBS:
         text = trace if job == "replay" else script
-        yield Row("pif " + job, [program] + (words or job.split(" ")), text, status, lambda ended: ended in REFUSALS)
+        yield Row("pif " + job, [program] + (words or job.split(" ")), text, status, is_refused)
     if words:
         return
     if TESTS.is_file():
-        yield Row("desk_keeps_receipts", [TESTS, "desks::desk_keeps_receipts"], b"", 0, lambda ended: False)
+        yield Row("desk_keeps_receipts", [TESTS, "desks::desk_keeps_receipts"], b"", 0, lambda ended, whole: False)
     if BENCH.is_file():
         yield Row("pif_bench new_core", [BENCH, "new_core"], b"", 0,
-                  lambda ended: ended[:2] == (1, b"") and ended[2].count(b"\n") == 1)
+                  lambda ended, whole: ended[:2] == (1, b"") and ended[2].count(b"\n") == 1)
 
 
 def make_library(room):

@@ -2,6 +2,7 @@
 #![tactic(auto)]
 
 use pif_cli::{Input, Output, Progress, Status, WatchFiles, command_at_terminal};
+use pif_job_explore::Watch as WatchStates;
 use pif_job_judge::Watch;
 use pif_watch::WatchSteps;
 use std::io::{IsTerminal, Read, Write};
@@ -15,7 +16,7 @@ fn answer<
     R: Read,
     W: Write,
     E: Write,
-    V: Watch + WatchFiles + WatchSteps,
+    V: Watch + WatchFiles + WatchStates + WatchSteps,
 >(
     process: &P,
     is_terminal: bool,

@@ -2,6 +2,7 @@
 use Rattle.std.specs.Prelude.{ℕ, ◌≡◌, ◌++◌, ◌≤◌, ◌<◌, Bool, List, [], length, drop, Option, Some, Result, Ok, Err, if◌then◌else◌}
 use Rattle.pif_script_model.specs.declared.faults.CliFault.{CliFault}
 use Rattle.pif_script_model.specs.declared.faults.CliFault.TheVariants.{Read, Write, NoMemory, Script, Differs}
+use Rattle.pif_rules_model.specs.declared.rules.Rules.{Rules}
 use Rattle.pif_job_judge.specs.declared.forms.Form.{Form}
 use Rattle.pif_job_judge.specs.declared.forms.Form.TheVariants as form
 use Rattle.pif_job_judge.specs.Judging.{JudgesTo}
@@ -35,9 +36,9 @@ Job E = Option (List ℕ) → Option (List ℕ) → Option (List ℕ) → Option
 abbrev pub form_of : (witness : Bool) → Form
 form_of witness = if witness then form.Witness else form.Text
 
--- judging a history in a form, with no name in front of what is told
-abbrev pub JudgesAlone : Form → Job JudgeFault
-JudgesAlone told before left held holds done = JudgesTo told before left held holds [] done
+-- judging a history in a form, with these rules beside those that it allows, and no name in front of what is told
+abbrev pub JudgesAlone : Form → Rules → Job JudgeFault
+JudgesAlone told r before left held holds done = JudgesTo told r before left held holds [] done
 
 -- a job read from these bytes, and wrote this text into an empty writer
 abbrev pub Wholly : {E : Type 0} → Job E → List ℕ → List ℕ → Result (Unit {0}) E → Type 0

@@ -4,8 +4,10 @@ ghost use Rattle.pif_script_model.specs.Traces.{ReplaysTo};
 ghost use Rattle.pif_script_model.specs.declared.faults.CliFault.{CliFault};
 ghost use Rattle.pif_story_model.specs.Checks.{TellsTo, check_telling};
 ghost use Rattle.pif_job_judge.specs.declared.faults.JudgeFault.{JudgeFault};
+ghost use Rattle.pif_rules_model.specs.Rules.{no_rules};
 ghost use Rattle.pif_c.specs.Texts.{fault_number, ended_number, judged_number, form_of, JudgesAlone, Wholly, HandsOut, IsHandedOut};
 
+use pif_history_text::no_rules;
 use pif_job_judge::{Form, JudgeFault, Judging, Unwatched};
 use pif_script_model::CliFault;
 use std::alloc::Global;
@@ -109,7 +111,7 @@ fn judge_whole(
     history: &[u8],
 ) -> (Vec<u8>, Result<(), JudgeFault>)
     requires { asked.now.name ≡ None }
-    ensures { Wholly (JudgesAlone asked.now.form) history.now result.0.items result.1 }
+    ensures { Wholly (JudgesAlone asked.now.form asked.now.allowed) history.now result.0.items result.1 }
 {
     let mut reader = history;
     let mut text = Vec::new(alloc);
@@ -158,12 +160,13 @@ pub extern "C" fn pif_judge(
     witness: bool,
     out: &mut [u8],
 ) -> PifText
-    ensures { HandsOut (JudgesAlone (form_of witness)) judged_number history.now out.old out.new result }
+    ensures { HandsOut (JudgesAlone (form_of witness) no_rules) judged_number history.now out.old out.new result }
 {
     let asked = Judging {
         name: None,
         form: form_of(witness),
         states,
+        allowed: no_rules(),
     };
     let (text, done) = judge_whole(alloc, &asked, history);
     hand_out(&text, judged_number(done), out)

@@ -1,9 +1,16 @@
--- A check, and a show, with notes do what they do without.
+-- A run, a check, and a show, with notes do what they do without.
 use Rattle.std.proofs.Common.{◌≡◌, ℕ, List, Option, Ok, Err, subst}
 use Rattle.pif_script_model.specs.declared.faults.CliFault.{CliFault}
+use Rattle.pif_script_model.specs.Running.{RunsTo}
 use Rattle.pif_story_model.specs.Checks.{Telling, TellsTo, check_telling}
 use Rattle.pif_story_model.specs.Showing.{ShowsStoryTo}
 use Rattle.pif_story_notes.specs.Notes.{ShowsNoting, TellsNoting}
+use Rattle.pif_job_run.specs.Noting.{RunsNoting}
+
+-- what was run, whatever is noted
+pub run_noting : (name : List ℕ) (before after held holds notes : Option (List ℕ))
+    → RunsNoting name before after held holds notes → RunsTo before after held holds (Ok tt)
+run_noting name before after held holds notes n = (n.0, n.1, n.2)
 
 -- what was told, whatever is noted
 pub told_noting : (name notes : List ℕ) (telling : List ℕ → Telling) (a b h k : Option (List ℕ))

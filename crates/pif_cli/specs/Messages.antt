@@ -1,5 +1,5 @@
 -- What the standard error gets: one line of what has failed, or the notes of what was done.
-use Rattle.std.specs.Prelude.{ℕ, ◌≡◌, ◌≤◌, ◌⊎◌, ◌&&◌, nat_le, Bool, true, MatchBool, List, [], ◌∷◌, ◌++◌, Option, Result, Ok, Err}
+use Rattle.std.specs.Prelude.{ℕ, ◌≡◌, ◌≤◌, ◌⊎◌, ◌&&◌, nat_le, Bool, true, MatchBool, List, [], ◌∷◌, ◌++◌, Option, Some, None, Result, Ok, Err, codes}
 use Rattle.std.specs.List.{list_all}
 use Rattle.std.specs.Io.KnownBytes.{Appends, Keeps}
 use Rattle.pif_cli.specs.declared.statuses.JobFault.{JobFault}
@@ -23,6 +23,15 @@ TellsLine held holds =
 -- what is told of a fault: one line, or nothing of an output that nobody reads any more, or of which was told before
 abbrev pub TellsFault : JobFault → (held holds : Option (List ℕ)) → Type 0
 TellsFault fault held holds = MatchBool (is_output fault) (TellsLine held holds ⊎ Keeps held holds) (TellsLine held holds)
+
+-- what is said in place of notes for which memory was refused
+abbrev pub no_notes_text : List ℕ
+no_notes_text = codes "pif: out of memory for notes\n"
+
+-- notes, or what is said if memory was refused for them
+abbrev pub notes_text : Option (List ℕ) → List ℕ
+notes_text None = no_notes_text
+notes_text (Some notes) = notes
 
 -- notes were told, all of them and nothing else; or a proper part of them, where a write failed
 abbrev pub TellsNotes : (notes : List ℕ) → (held holds : Option (List ℕ)) → Type 0

@@ -1,5 +1,5 @@
 -- What the program does by its words, what is written, and its status.
-use Rattle.std.specs.Prelude.{ℕ, ◌≡◌, ◌⊎◌, ◌==◌, MatchBool, OnOk, Bool, List, [], ◌∷◌, Option, Some, None, Result, Ok, Err, codes, bytes_eq, if◌then◌else◌}
+use Rattle.std.specs.Prelude.{ℕ, zero, suc, ◌≡◌, ◌⊎◌, ◌==◌, MatchBool, OnOk, Bool, List, [], ◌∷◌, Option, Some, None, Result, Ok, Err, codes, bytes_eq, if◌then◌else◌}
 use Rattle.std.specs.Io.KnownBytes.{Appends, Keeps}
 use Rattle.clap.specs.Words.{IsAmong, Kinds, Text}
 use Rattle.clap.specs.declared.error.kind.ErrorKind.{ErrorKind}
@@ -15,19 +15,25 @@ use Rattle.pif_story_model.specs.Showing.{ShowsStoryTo, TracesStoryTo}
 use Rattle.pif_story_model.specs.Checks.{TellsTo, check_telling, fill_telling, strict_telling, titled_telling}
 use Rattle.pif_story_notes.specs.Notes.{ShowsNoting, TellsNoting}
 use Rattle.pif_job_draw.specs.Pictures.{DrawsTo, PicturesTo}
+use Rattle.pif_job_explore.specs.declared.faults.ExploreFault.{ExploreFault}
+use Rattle.pif_job_explore.specs.declared.faults.ExploreFault.TheVariants as explore_fault
+use Rattle.pif_job_explore.specs.Exploring.{ExploresTo}
+use Rattle.pif_job_run.specs.Noting.{RunsNoting}
 use Rattle.pif_job_judge.specs.declared.faults.JudgeFault.{JudgeFault}
 use Rattle.pif_job_judge.specs.declared.faults.JudgeFault.TheVariants as judge_fault
 use Rattle.pif_job_judge.specs.declared.forms.Form.{Form}
 use Rattle.pif_job_judge.specs.declared.forms.Form.TheVariants as form
 use Rattle.pif_job_judge.specs.Judging.{JudgesTo, front_of}
+use Rattle.pif_job_least.specs.Judging.{JudgesLeastTo}
 use Rattle.pif_job_shell.specs.Talks.{TalksTo}
+use Rattle.pif_cli_words.specs.declared.jobs.Exploring.{Exploring}
 use Rattle.pif_cli_words.specs.declared.jobs.Judging.{Judging}
 use Rattle.pif_cli_words.specs.declared.jobs.Job.{Job}
-use Rattle.pif_cli_words.specs.declared.jobs.Job.TheVariants.{Run, Replay, Trace, Migrate, Show, Picture, Draw, Shell, Check, Strict, Fill, FillSeveral, Judge, Random, Drive}
+use Rattle.pif_cli_words.specs.declared.jobs.Job.TheVariants.{Run, Replay, Trace, Migrate, Show, Picture, Draw, Shell, Check, Strict, Fill, FillSeveral, Judge, Explore, Random, Drive}
 use Rattle.pif_cli_words.specs.Words.{files_of, inputs_of, job_of, refusals_of, rewrites, standard_name}
 use Rattle.pif_cli.specs.declared.statuses.JobFault.{JobFault}
 use Rattle.pif_cli.specs.declared.statuses.JobFault.TheVariants.{Cli, Undecided}
-use Rattle.pif_cli.specs.Messages.{TellsLine, TellsOf}
+use Rattle.pif_cli.specs.Messages.{TellsLine, TellsOf, notes_text}
 use Rattle.pif_cli.specs.Random.{WritesRandom}
 use Rattle.pif_cli.specs.Statuses.{job_status}
 use Rattle.pif_cli.specs.Driving.{Drives}
@@ -56,14 +62,37 @@ abbrev pub form_of : Judging → Form
 form_of asked =
     if asked.html then form.Page else (if asked.json then form.Json else (if asked.witness then form.Witness else form.Text))
 
+-- a history was judged in the form that the words ask for, with their rules beside its own, or which of these it needs
+abbrev pub JudgesAs : Judging → (name : Option (List ℕ)) → (before after held holds : Option (List ℕ))
+    → Result (Unit {0}) JudgeFault → Type 0
+JudgesAs asked name before after held holds done =
+    MatchBool asked.least (JudgesLeastTo asked.allowed before after held holds (front_of name form.Text) done)
+    (JudgesTo (form_of asked) asked.allowed before after held holds (front_of name (form_of asked)) done)
+
 -- a history of this name was judged; its name is told if there are several
 abbrev pub JudgesNamed : Judging → (name : Text) → (before after held holds : Option (List ℕ))
     → Result (Unit {0}) JobFault → Type 0
 JudgesNamed asked name before after held holds result =
     (done : Result (Unit {0}) JudgeFault)
-    × JudgesTo (form_of asked) before after held holds
-    (front_of (if asked.several then Some name else None) (form_of asked)) done
+    × JudgesAs asked (if asked.several then Some name else None) before after held holds done
     × (result ≡ as_judged done)
+
+-- how exploring a program ends. If it has more states than may be kept, its first line stands for all of it
+abbrev pub as_explored : Result (Unit {0}) ExploreFault → Result (Unit {0}) JobFault
+as_explored (Ok x) = Ok x
+as_explored (Err (explore_fault.Cli e)) = Err (Cli e)
+as_explored (Err explore_fault.Undecided) = Err (Undecided 1)
+
+-- a number, if it isn't 0
+abbrev pub some_number : ℕ → Option ℕ
+some_number zero = None
+some_number (suc n) = Some (suc n)
+
+-- a program was explored
+abbrev pub ExploresAsked : Exploring → (before after held holds : Option (List ℕ)) → Result (Unit {0}) JobFault → Type 0
+ExploresAsked asked before after held holds result =
+    (done : Result (Unit {0}) ExploreFault) × ExploresTo asked.witness (some_number asked.core) before after held holds done
+    × (result ≡ as_explored done)
 
 -- a job over an input of this name, by the bytes that were read and written; `random` and `drive` read nothing
 abbrev pub Does : Job → (name : Text) → (before after held holds : Option (List ℕ)) → Result (Unit {0}) JobFault
@@ -82,13 +111,21 @@ Does Fill name before after held holds result = EndsAsCli (TellsTo (fill_telling
 Does FillSeveral name before after held holds result =
     EndsAsCli (TellsTo (titled_telling name) before after held holds) result
 Does (Judge asked) name before after held holds result = JudgesNamed asked name before after held holds result
+Does (Explore asked) name before after held holds result = ExploresAsked asked before after held holds result
 Does (Random recipe) name before after held holds result =
     Keeps before after × WritesRandom recipe.lines held holds result
 Does (Drive clients) name before after held holds result = Keeps before after × Drives clients held holds result
 
--- the notes of a job that was done over an input of this name: those on the story that was checked, or shown; other
--- jobs have none. A strict check that is done has none either, since each refusal has its answer
+-- a script of this name was run, and these are told as the notes on it
+abbrev pub RunsTold : (name : Text) → (before after held holds : Option (List ℕ)) → (notes : List ℕ) → Type 0
+RunsTold name before after held holds notes =
+    (found : Option (List ℕ)) × RunsNoting name before after held holds found × (notes ≡ notes_text found)
+
+-- the notes of a job that was done over an input of this name: those on the script that was run, or the story that was
+-- checked, or shown; other jobs have none. A strict check that is done has none either, since each refusal has its
+-- answer
 abbrev pub HasNotes : Job → (name : Text) → (before after held holds : Option (List ℕ)) → (notes : List ℕ) → Type 0
+HasNotes Run name before after held holds notes = RunsTold name before after held holds notes
 HasNotes Check name before after held holds notes =
     TellsNoting name (check_telling name) before after held holds (Ok notes)
 HasNotes (Show detail) name before after held holds notes = ShowsNoting name before after held holds (Ok notes)

@@ -50,8 +50,7 @@ impl<'n, 's> Given<'n, 's> {
             JobFault::Threads => words_message("a thread cannot be started"),
             JobFault::Unsettled => words_message("the desk does not settle with its clients"),
             JobFault::Undecided(number) => {
-                let words = "too many states were made to decide it";
-                line_message(&self.place(number), words)
+                line_message(&self.place(number), undecided_words(self.job))
             }
         }
     }
@@ -79,6 +78,10 @@ impl<'n, 's> Given<'n, 's> {
             (Job::Judge(_), _) => {
                 let column = column_of(cause, b"");
                 say_line(&place, column, history_cause(cause), b"", &mut message)
+            }
+            (Job::Explore(_), _) => {
+                let column = explore_column(cause);
+                say_line(&place, column, explore_cause(cause), b"", &mut message)
             }
             (Job::Replay | Job::Migrate, Cause::Command) => {
                 no_traced(&place, number, notice, &mut message)
@@ -124,6 +127,7 @@ impl<'n, 's> Given<'n, 's> {
             | Job::FillSeveral
             | Job::Picture(_)
             | Job::Draw(_) => { line_message(&place, story_difference(notice)) }
+            Job::Explore(_) => line_message(&place, "a state breaks the claim"),
             Job::Judge(_) => {
                 let words = "no run of the POSIX machine shows the lines up to here";
                 line_message(&place, words)
@@ -224,16 +228,43 @@ fn column_of(cause: Cause, line: &[u8]) -> usize {
     }
 }
 
-/// The words of a cause, of a history.
-fn history_cause(cause: Cause) -> &'static str {
+/// What is said if not all was decided.
+fn undecided_words(job: Job) -> &'static str {
+    match job {
+        Job::Explore(_) => "there are more states than may be kept",
+        _ => "too many states were made to decide it",
+    }
+}
+
+/// In which column of a line a fault of this cause stands, of a program that is explored.
+fn explore_column(cause: Cause) -> usize {
     match cause {
-        Cause::Size => "the input has more than 268435456 bytes",
-        Cause::Command => "no line of a history, or limits behind another line",
+        Cause::Long => 501,
+        _ => 1,
+    }
+}
+
+/// The words of a cause, of a program that is explored.
+fn explore_cause(cause: Cause) -> &'static str {
+    match cause {
+        Cause::Long => "the line has more than 500 bytes",
+        Cause::Limits => "a number is out of its range",
+        Cause::Command => "no line of a program, or it names what is not there",
         _ => plain_cause(cause),
     }
 }
 
-/// Appends the text of a line behind what was said of it; nothing where the line is empty.
+/// The words of a cause, of a history.
+fn history_cause(cause: Cause) -> &'static str {
+    match cause {
+        Cause::Size => "the input has more than 268435456 bytes",
+        Cause::Limits => "the number of recursion is 256 to 4294967295",
+        Cause::Command => "no line of a history, or one that stands too late or twice",
+        _ => plain_cause(cause),
+    }
+}
+
+/// Appends the text of a line behind what was said of it; nothing if the line is empty.
 fn show_line(line: &[u8], message: &mut Message) {
     if !line.is_empty() {
         message.say(": ");
@@ -277,7 +308,7 @@ fn size_of_drawing(story: Option<&[u8]>) -> &'static str {
     }
 }
 
-/// The words of a cause, where it has just these.
+/// The words of a cause, if it has just these.
 fn plain_cause(cause: Cause) -> &'static str {
     match cause {
         Cause::Size => "the input has more than 16777216 bytes",

@@ -10,6 +10,7 @@ use crate::rewriting::rewrite_file;
 use crate::streams::{Input, words_of};
 use crate::words::{do_and_tell, do_or_refuse, refuse};
 use pif_cli_words::{Job, STANDARD_NAME, near_command, read_words};
+use pif_job_explore::Watch as WatchStates;
 use pif_job_judge::Watch;
 use pif_job_shell::Shelf;
 use pif_watch::WatchSteps;
@@ -33,11 +34,13 @@ fn fail_to_open<E: Write>(name: &str, why: ErrorKind, errors: &mut E) -> u8
 }
 
 /// Does a job over the file of this name. Answers the status.
-fn do_file<P: Files + Threads + Wait + Sync, S: Shelf, W: Write, E: Write, V: Watch + WatchSteps>(
-    job: Job,
-    name: &str,
-    host: &mut Host<P, S, W, E, V>,
-) -> u8
+fn do_file<
+    P: Files + Threads + Wait + Sync,
+    S: Shelf,
+    W: Write,
+    E: Write,
+    V: Watch + WatchStates + WatchSteps,
+>(job: Job, name: &str, host: &mut Host<P, S, W, E, V>) -> u8
     ensures same_output { host.new.output.ghost_name ≡ host.old.output.ghost_name }
     ensures same_errors { host.new.errors.ghost_name ≡ host.old.errors.ghost_name }
     ensures did { DidFile job name.now (W.contents host.old.output.now) (W.contents host.new.output.now)
@@ -50,12 +53,13 @@ fn do_file<P: Files + Threads + Wait + Sync, S: Shelf, W: Write, E: Write, V: Wa
 }
 
 /// Does a job over the file of this name, or writes what it makes into the file.
-fn do_named<P: Files + Threads + Wait + Sync, S: Shelf, W: Write, E: Write, V: Watch + WatchSteps>(
-    rewrite: bool,
-    job: Job,
-    name: &str,
-    host: &mut Host<P, S, W, E, V>,
-) -> u8
+fn do_named<
+    P: Files + Threads + Wait + Sync,
+    S: Shelf,
+    W: Write,
+    E: Write,
+    V: Watch + WatchStates + WatchSteps,
+>(rewrite: bool, job: Job, name: &str, host: &mut Host<P, S, W, E, V>) -> u8
     ensures same_output { host.new.output.ghost_name ≡ host.old.output.ghost_name }
     ensures same_errors { host.new.errors.ghost_name ≡ host.old.errors.ghost_name }
     ensures did { MatchBool rewrite
@@ -78,7 +82,7 @@ fn do_over<
     R: Read,
     W: Write,
     E: Write,
-    V: Watch + WatchSteps,
+    V: Watch + WatchStates + WatchSteps,
 >(rewrite: bool, job: Job, name: &str, input: &mut Input<R>, host: &mut Host<P, S, W, E, V>) -> u8
     ensures same_output { host.new.output.ghost_name ≡ host.old.output.ghost_name }
     ensures same_errors { host.new.errors.ghost_name ≡ host.old.errors.ghost_name }
@@ -107,7 +111,7 @@ fn do_all<
     R: Read,
     W: Write,
     E: Write,
-    V: Watch + WatchFiles + WatchSteps,
+    V: Watch + WatchFiles + WatchStates + WatchSteps,
 >(
     rewrite: bool,
     job: Job,
@@ -150,7 +154,7 @@ pub fn command_over_files<
     R: Read,
     W: Write,
     E: Write,
-    V: Watch + WatchFiles + WatchSteps,
+    V: Watch + WatchFiles + WatchStates + WatchSteps,
 >(words: &[T], input: &mut Input<R>, host: &mut Host<P, S, W, E, V>) -> u8
     ensures same_output { host.new.output.ghost_name ≡ host.old.output.ghost_name }
     ensures same_errors { host.new.errors.ghost_name ≡ host.old.errors.ghost_name }

@@ -9,6 +9,7 @@ mod drive;
 mod files;
 mod hosts;
 mod messages;
+mod notes;
 mod places;
 mod process;
 mod progress;

@@ -10,6 +10,7 @@ use crate::shelves::FileShelf;
 use crate::statuses::Status;
 use crate::streams::{Input, Output};
 use crate::words::{fail, show};
+use pif_job_explore::Watch as WatchStates;
 use pif_job_judge::Watch;
 use pif_script::CliFault;
 use pif_watch::WatchSteps;
@@ -24,14 +25,15 @@ const NO_TEXT: &str = "error: a word is not UTF-8\n";
 
 /// The program over the words of a process, as `command_of_process` has it. If `is_terminal`, `input` is a terminal,
 /// and `pif shell` writes a prompt before each line that it reads. `watch` is told of each file that a job begins with.
-/// Of each line of a history that `pif judge` judges it is told how many states were made, and of each line of `pif
-/// random` and each command of `pif draw` that it is made. What it tells a person is no part of what `errors` is told.
+/// Of each line of a history that `pif judge` judges it is told how many states were made, and of a program that `pif
+/// explore` explores how many states and steps were found. Of each line of `pif random` and each command of `pif draw` it
+/// is told that it is made. What it tells a person is no part of what `errors` is told.
 pub fn command_at_terminal<
     P: Env + AllocGlobal + Files + Threads + Wait + Sync,
     R: Read,
     W: Write,
     E: Write,
-    V: Watch + WatchFiles + WatchSteps,
+    V: Watch + WatchFiles + WatchStates + WatchSteps,
 >(
     process: &P,
     is_terminal: bool,

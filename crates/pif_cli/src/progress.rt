@@ -1,4 +1,5 @@
 use crate::messages::Message;
+use pif_job_explore::Watch as WatchStates;
 use pif_job_judge::Watch;
 use pif_watch::WatchSteps;
 use std::fmt::Write as _;
@@ -27,13 +28,17 @@ impl WatchFiles for Unwatched {
     fn file(&mut self, _done: usize, _count: usize) {}
 }
 
+impl WatchStates for Unwatched {
+    fn found(&mut self, _states: usize, _steps: usize) {}
+}
+
 impl WatchSteps for Unwatched {
     fn step(&mut self, _done: usize, _count: usize) {}
 }
 
 /// How far a job has come, as a person at a terminal is told: a line each second after the first. Of a job over several
-/// files it says how many are done, of a history which line is judged and how many states were made for it, and of a
-/// drawing or a random script how much of it is done.
+/// files it says how many are done, of a history which line is judged and how many states were made for it, of an
+/// exploration how many states and steps were found, and of a drawing or a random script how much of it is done.
 #[derive(Drop)]
 pub struct Progress<'c, 'e, C, E> {
     clock: &'c C,
@@ -95,6 +100,16 @@ impl<C: Clock, E: Write> Watch for Progress<'_, '_, C, E> {
 
     fn goes_on(&mut self) -> bool {
         true
+    }
+}
+
+impl<C: Clock, E: Write> WatchStates for Progress<'_, '_, C, E> {
+    fn found(&mut self, states: usize, steps: usize) {
+        if self.is_told() {
+            let mut message = Message::new();
+            let _ = write!(message, "{states} states, {steps} steps");
+            message.tell(self.errors);
+        }
     }
 }
 

@@ -10,6 +10,7 @@ use crate::streams::{Input, words_of};
 use crate::words::do_and_tell;
 use pif_cli_words::Job;
 use pif_job_check::fill;
+use pif_job_explore::Watch as WatchStates;
 use pif_job_judge::Watch;
 use pif_job_shell::Shelf;
 use pif_script::{CliFault, read_all, write_whole};
@@ -185,7 +186,7 @@ pub fn rewrite_file<
     S: Shelf,
     W: Write,
     E: Write,
-    V: Watch + WatchSteps,
+    V: Watch + WatchStates + WatchSteps,
 >(name: &str, host: &mut Host<P, S, W, E, V>) -> u8
     ensures same_output { host.new.output.ghost_name ≡ host.old.output.ghost_name }
     ensures same_errors { host.new.errors.ghost_name ≡ host.old.errors.ghost_name }

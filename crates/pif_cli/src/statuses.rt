@@ -15,12 +15,13 @@ pub enum JobFault {
     Threads,
     /// The desk didn't settle with its clients.
     Unsettled,
-    /// At the line of this number, from 1, the search for a run of a history was given up.
+    /// At the line of this number, from 1, the search for a run of a history was given up; or a program has more states
+    /// than may be kept, and then it is line 1.
     Undecided(u64),
 }
 
-/// The status of the program after this fault of a job: 6 where a thread could not be started, or the desk didn't
-/// settle, and 7 where a history was not decided.
+/// The status of the program after this fault of a job: 6 if a thread could not be started, or the desk didn't settle,
+/// and 7 if a history was not decided, or not all states of a program were found.
 pub fn job_fault_status(fault: JobFault) -> u8
     ensures { result ≡ job_fault_status fault }
 {
@@ -31,8 +32,8 @@ pub fn job_fault_status(fault: JobFault) -> u8
     }
 }
 
-/// The status of the program after this fault: 2 for a fault of the script, trace or history, 3 for a read or a write
-/// that failed, 4 for out of memory, and 5 for a difference, or a history that is illegal.
+/// The status of the program after this fault: 2 for a fault of the script, trace, history or program, 3 for a read or a
+/// write that failed, and 4 for out of memory. It is 5 for a difference, an illegal history or a broken claim.
 pub fn fault_status(fault: CliFault) -> u8
     ensures { result ≡ fault_status fault }
 {

@@ -1,18 +1,20 @@
 ghost use Rattle.std.specs.Prelude.{◌≡◌, ◌⊎◌, [], None, Some, Ok, OnOk, if◌then◌else◌, map, option_copied};
 ghost use Rattle.clap.specs.Words.{kind_of};
 ghost use Rattle.pif_cli_words.specs.Words.{refusals_of, rewrites, job_of, name_of};
+ghost use Rattle.pif_script_model.specs.Running.{RunsTo};
 ghost use Rattle.pif_story_model.specs.Checks.{TellsTo, check_telling};
 ghost use Rattle.pif_story_model.specs.Showing.{ShowsStoryTo};
 ghost use Rattle.pif_story_notes.specs.Notes.{ShowsNoting, TellsNoting};
 ghost use Rattle.pif_job_draw.specs.Pictures.{DrawsTo};
 ghost use Rattle.pif_cli.specs.Messages.{TellsAt, TellsFault, TellsLine, TellsNotes};
 ghost use Rattle.pif_cli.specs.Statuses.{fault_status};
-ghost use Rattle.pif_cli.specs.Words.{Did, DidOrRefused, Does, EndsAsCli, HasNotes, JudgesNamed, as_job, as_judged, form_of, EndsBy, HadNoMemory, RefusedFor, RefusesInput, Shows, ShowsHelp};
+ghost use Rattle.pif_cli.specs.Words.{some_number, Did, DidOrRefused, Does, EndsAsCli, HasNotes, JudgesAs, JudgesNamed, RunsTold, as_job, as_judged, form_of, EndsBy, HadNoMemory, RefusedFor, RefusesInput, Shows, ShowsHelp, ExploresAsked, as_explored};
 
 use crate::causes::{Given, plain_message};
 use crate::drive::drive;
 use crate::hosts::{Host, Means};
 use crate::messages::Message;
+use crate::notes::Notes;
 use crate::progress::Unwatched;
 use crate::random::write_random;
 use crate::statuses::{JobFault, fault_status, is_output, job_fault_status};
@@ -21,12 +23,15 @@ use clap::error::ErrorKind;
 use pif_cli_words::{Job, first_name, near_command, read_words};
 use pif_job_check::{check_noting, check_strictly, fill_as_one_of_several, fill_noting};
 use pif_job_draw::{Drawn, write_drawn, write_picture};
+use pif_job_explore::{ExploreFault, Exploring, Watch as WatchStates, explore_text};
 use pif_job_judge::{Form, JudgeFault, Judging, Watch, judge};
+use pif_job_least::judge_least;
 use pif_job_replay::{migrate_noting, replay_noting};
+use pif_job_run::run_noted;
 use pif_job_shell::{NoShelf, Shelf, shell};
 use pif_job_show::show_noting;
 use pif_job_trace::trace_story;
-use pif_script::{CliFault, Notice, run_noting, write_whole};
+use pif_script::{CliFault, Notice, write_whole};
 use pif_script_model::Detail;
 use pif_watch::WatchSteps;
 use std::alloc::{AllocError, Global};
@@ -78,6 +83,30 @@ fn form_of(asked: pif_cli_words::Judging) -> Form
     }
 }
 
+/// Judges a history whose name is told, if there is one: in a form, or by the rules that it needs.
+fn judge_as<R: Read, W: Write, V: Watch>(
+    alloc: Global,
+    asked: pif_cli_words::Judging,
+    name: Option<&[u8]>,
+    input: &mut R,
+    output: &mut W,
+    watch: &mut V,
+) -> Result<(), JudgeFault>
+    ensures { JudgesAs asked (option_copied name.entry) (R.remaining input.old) (R.remaining input.new) (W.contents output.old) (W.contents output.new) result }
+{
+    let judging = Judging {
+        name,
+        form: form_of(asked),
+        states: asked.states,
+        allowed: asked.allowed,
+    };
+    if asked.least {
+        judge_least(alloc, &judging, input, output, watch)
+    } else {
+        judge(alloc, &judging, input, output, watch)
+    }
+}
+
 /// Judges the history of this name.
 fn judge_input<R: Read, W: Write, V: Watch>(
     alloc: Global,
@@ -89,12 +118,44 @@ fn judge_input<R: Read, W: Write, V: Watch>(
 ) -> Result<(), JobFault>
     ensures { JudgesNamed asked name.now (R.remaining input.old) (R.remaining input.new) (W.contents output.old) (W.contents output.new) result }
 {
-    let judging = Judging {
-        name: told_name(asked.several, name),
-        form: form_of(asked),
+    let told = told_name(asked.several, name);
+    as_judged(judge_as(alloc, asked, told, input, output, watch))
+}
+
+/// How exploring a program ends.
+fn as_explored(done: Result<(), ExploreFault>) -> Result<(), JobFault>
+    ensures { result ≡ as_explored done }
+{
+    match done {
+        Ok(()) => Ok(()),
+        Err(ExploreFault::Cli(fault)) => Err(JobFault::Cli(fault)),
+        Err(ExploreFault::Undecided) => Err(JobFault::Undecided(1)),
+    }
+}
+
+/// A number, if it isn't 0.
+fn some(number: u32) -> Option<u32>
+    ensures { result ≡ some_number number }
+{
+    if number == 0 { None } else { Some(number) }
+}
+
+/// Explores a program.
+fn explore_input<R: Read, W: Write, V: WatchStates>(
+    alloc: Global,
+    asked: pif_cli_words::Exploring,
+    input: &mut R,
+    output: &mut W,
+    watch: &mut V,
+) -> Result<(), JobFault>
+    ensures { ExploresAsked asked (R.remaining input.old) (R.remaining input.new) (W.contents output.old) (W.contents output.new) result }
+{
+    let exploring = Exploring {
+        witness: asked.witness,
         states: asked.states,
+        core: some(asked.core),
     };
-    as_judged(judge(alloc, &judging, input, output, watch))
+    as_explored(explore_text(alloc, &exploring, input, output, watch))
 }
 
 /// Draws a story.
@@ -116,6 +177,27 @@ fn draw_input<R: Read, W: Write, V: WatchSteps>(
     as_job(write_drawn(drawn, alloc, input, output, notice, watch))
 }
 
+/// Runs the script of this name, and keeps the notes on it.
+fn run_input<R: Read, W: Write>(
+    alloc: Global,
+    name: &str,
+    input: &mut R,
+    output: &mut W,
+    notice: &mut Notice,
+    notes: &mut Notes,
+) -> Result<(), JobFault>
+    ensures did { EndsAsCli (RunsTo (R.remaining input.old) (R.remaining input.new) (W.contents output.old) (W.contents output.new)) result }
+    ensures noted { OnOk result (RunsTold name.now (R.remaining input.old) (R.remaining input.new) (W.contents output.old) (W.contents output.new) notes.new) }
+{
+    match run_noted(alloc, name.as_bytes(), input, output, notice) {
+        Ok(found) => {
+            *notes = Notes::if_any(found);
+            Ok(())
+        }
+        Err(fault) => Err(JobFault::Cli(fault)),
+    }
+}
+
 /// Checks the story of this name, and keeps the notes on it.
 fn check_input<R: Read, W: Write>(
     alloc: Global,
@@ -123,14 +205,14 @@ fn check_input<R: Read, W: Write>(
     input: &mut R,
     output: &mut W,
     notice: &mut Notice,
-    notes: &mut Vec<u8>,
+    notes: &mut Notes,
 ) -> Result<(), JobFault>
     ensures did { EndsAsCli (TellsTo (check_telling name.now) (R.remaining input.old) (R.remaining input.new) (W.contents output.old) (W.contents output.new)) result }
-    ensures noted { OnOk result (TellsNoting name.now (check_telling name.now) (R.remaining input.old) (R.remaining input.new) (W.contents output.old) (W.contents output.new) (Ok notes.new.items)) }
+    ensures noted { OnOk result (TellsNoting name.now (check_telling name.now) (R.remaining input.old) (R.remaining input.new) (W.contents output.old) (W.contents output.new) (Ok notes.new)) }
 {
     match check_noting(alloc, name.as_bytes(), input, output, notice) {
         Ok(text) => {
-            *notes = text;
+            *notes = Notes::of(text);
             Ok(())
         }
         Err(fault) => Err(JobFault::Cli(fault)),
@@ -145,14 +227,14 @@ fn show_input<R: Read, W: Write>(
     input: &mut R,
     output: &mut W,
     notice: &mut Notice,
-    notes: &mut Vec<u8>,
+    notes: &mut Notes,
 ) -> Result<(), JobFault>
     ensures did { EndsAsCli (ShowsStoryTo (R.remaining input.old) (R.remaining input.new) (W.contents output.old) (W.contents output.new)) result }
-    ensures noted { OnOk result (ShowsNoting name.now (R.remaining input.old) (R.remaining input.new) (W.contents output.old) (W.contents output.new) (Ok notes.new.items)) }
+    ensures noted { OnOk result (ShowsNoting name.now (R.remaining input.old) (R.remaining input.new) (W.contents output.old) (W.contents output.new) (Ok notes.new)) }
 {
     match show_noting(detail, alloc, name.as_bytes(), input, output, notice) {
         Ok(text) => {
-            *notes = text;
+            *notes = Notes::of(text);
             Ok(())
         }
         Err(fault) => Err(JobFault::Cli(fault)),
@@ -160,7 +242,13 @@ fn show_input<R: Read, W: Write>(
 }
 
 /// Does a job over an input of this name, and has `notice` keep the line that ends it, and `notes` those of the job.
-fn do_job<P: Threads + Wait + Sync, S: Shelf, R: Read, W: Write, V: Watch + WatchSteps>(
+fn do_job<
+    P: Threads + Wait + Sync,
+    S: Shelf,
+    R: Read,
+    W: Write,
+    V: Watch + WatchStates + WatchSteps,
+>(
     job: Job,
     name: &str,
     means: &Means<P, S>,
@@ -168,20 +256,22 @@ fn do_job<P: Threads + Wait + Sync, S: Shelf, R: Read, W: Write, V: Watch + Watc
     output: &mut W,
     watch: &mut V,
     notice: &mut Notice,
-    notes: &mut Vec<u8>,
+    notes: &mut Notes,
 ) -> Result<(), JobFault>
-    requires { notes.old.items ≡ [] }
+    requires { notes.old ≡ [] }
     ensures did { Does job name.now (R.remaining input.old) (R.remaining input.new) (W.contents output.old) (W.contents output.new) result }
-    ensures noted { OnOk result (HasNotes job name.now (R.remaining input.old) (R.remaining input.new) (W.contents output.old) (W.contents output.new) notes.new.items) }
+    ensures noted { OnOk result (HasNotes job name.now (R.remaining input.old) (R.remaining input.new) (W.contents output.old) (W.contents output.new) notes.new) }
 {
     let alloc = means.alloc;
     match job {
-        Job::Run => as_job(run_noting(alloc, input, output, notice)),
+        Job::Run => run_input(alloc, name, input, output, notice, notes),
         Job::Replay => as_job(replay_noting(alloc, input, output, notice)),
         Job::Trace => as_job(trace_story(alloc, input, output, notice)),
         Job::Migrate => as_job(migrate_noting(alloc, input, output, notice)),
         Job::Show(detail) => show_input(alloc, detail, name, input, output, notice, notes),
-        Job::Picture(picture) => as_job(write_picture(picture, alloc, input, output, notice)),
+        Job::Picture(picture) => {
+            as_job(write_picture(picture, alloc, input, output, notice, watch))
+        }
         Job::Draw(asked) => draw_input(alloc, asked, input, output, notice, watch),
         Job::Shell => as_job(shell(alloc, means.shelf, means.is_terminal, input, output)),
         Job::Check => check_input(alloc, name, input, output, notice, notes),
@@ -195,6 +285,7 @@ fn do_job<P: Threads + Wait + Sync, S: Shelf, R: Read, W: Write, V: Watch + Watc
             notice,
         )),
         Job::Judge(asked) => judge_input(alloc, asked, name, input, output, watch),
+        Job::Explore(asked) => explore_input(alloc, asked, input, output, watch),
         Job::Random(recipe) => write_random(alloc, recipe, output, watch),
         Job::Drive(clients) => drive(alloc, means.process, clients, output),
     }
@@ -217,11 +308,17 @@ struct Ended {
     /// What is told of its fault, if it has one.
     message: Message,
     /// What is told if it was done.
-    notes: Vec<u8>,
+    notes: Notes,
 }
 
 /// Does a job over an input of this name.
-fn do_noting<P: Threads + Wait + Sync, S: Shelf, R: Read, W: Write, V: Watch + WatchSteps>(
+fn do_noting<
+    P: Threads + Wait + Sync,
+    S: Shelf,
+    R: Read,
+    W: Write,
+    V: Watch + WatchStates + WatchSteps,
+>(
     job: Job,
     name: &str,
     means: &Means<P, S>,
@@ -230,10 +327,10 @@ fn do_noting<P: Threads + Wait + Sync, S: Shelf, R: Read, W: Write, V: Watch + W
     watch: &mut V,
 ) -> Ended
     ensures did { Does job name.now (R.remaining input.old) (R.remaining input.new) (W.contents output.old) (W.contents output.new) result.done }
-    ensures noted { OnOk result.done (HasNotes job name.now (R.remaining input.old) (R.remaining input.new) (W.contents output.old) (W.contents output.new) result.notes.items) }
+    ensures noted { OnOk result.done (HasNotes job name.now (R.remaining input.old) (R.remaining input.new) (W.contents output.old) (W.contents output.new) result.notes) }
 {
     let mut notice = Notice::new();
-    let mut notes = Vec::new(means.alloc);
+    let mut notes = Notes::none(means.alloc);
     input.begin(means.alloc, keeps_text(job));
     let done = do_job(
         job,
@@ -293,7 +390,7 @@ pub fn do_and_tell<
     R: Read,
     W: Write,
     E: Write,
-    V: Watch + WatchSteps,
+    V: Watch + WatchStates + WatchSteps,
 >(job: Job, name: &str, input: &mut Input<R>, host: &mut Host<P, S, W, E, V>) -> u8
     ensures same_output { host.new.output.ghost_name ≡ host.old.output.ghost_name }
     ensures same_errors { host.new.errors.ghost_name ≡ host.old.errors.ghost_name }
@@ -313,7 +410,7 @@ pub fn do_and_tell<
     } = do_noting(job, name, &means, input, host.output, host.watch);
     match done {
         Ok(()) => {
-            tell_notes(notes.as_slice(), host.errors);
+            tell_notes(notes.text(), host.errors);
             0
         }
         Err(fault) => {
@@ -372,7 +469,7 @@ pub fn do_or_refuse<
     R: Read,
     W: Write,
     E: Write,
-    V: Watch + WatchSteps,
+    V: Watch + WatchStates + WatchSteps,
 >(rewrite: bool, job: Job, name: &str, input: &mut Input<R>, host: &mut Host<P, S, W, E, V>) -> u8
     ensures same_output { host.new.output.ghost_name ≡ host.old.output.ghost_name }
     ensures same_errors { host.new.errors.ghost_name ≡ host.old.errors.ghost_name }
@@ -443,6 +540,7 @@ pub fn refuse<W: Write, E: Write>(
 ///   each refusal. With `--print` it writes the story with its answers, as `fill` does. `--write` is refused, since
 ///   `input` is no file.
 /// - `judge` reads a history, and writes whether it is legal, as `judge` does in the form that its flags name.
+/// - `explore` reads a small program that locks, and writes all its outcomes, as `explore_text` does.
 /// - `shell` reads the lines of a person, and answers each, as `shell` does without a prompt. It saves and loads no
 ///   story.
 /// - `replay` reads a trace, and writes what it comes to, as `replay` does.
@@ -462,10 +560,11 @@ pub fn refuse<W: Write, E: Write>(
 /// - 6 if a thread can't be started, or the desk of the clients doesn't settle;
 /// - 7 if a history stayed undecided.
 ///
-/// At status 0 the notes of `check` and `show` go to `errors`, as `story_notes` has them, and at 2 to 7 one line of
-/// printable ASCII, which says what went wrong. If these cannot be written, the status stays. At 3 it is a part of the
-/// reason why the words are refused, if that could not be written. It is nothing if nobody reads `output` any more. No
-/// memory is taken for the line, but a story is kept in memory for the place of its fault.
+/// At status 0 the notes of `run`, `check` and `show` go to `errors`, as `story_notes` has them, and at 2 to 7 one line
+/// of printable ASCII, which says what went wrong. If these cannot be written, the status stays. At 3 it is a part of
+/// the reason why the words are refused, if that could not be written. It is nothing if nobody reads `output` any more.
+/// No memory is taken for the line, but a story is kept in memory for the place of its fault. A script that is run is
+/// kept for its notes. If memory is refused for these, one line says so in their place.
 pub fn command<T: Threads + Wait + Sync, S: AsStr, R: Read, W: Write, E: Write>(
     alloc: Global,
     rt: &T,

@@ -1,4 +1,5 @@
 pub mod CommandLemmas
 pub mod OptionsLemmas
 pub mod RandomLemmas
+pub mod RulesLemmas
 pub mod WordsLemmas

@@ -4,17 +4,19 @@ use Rattle.clap.specs.Kinds.{or_else}
 use Rattle.clap.specs.Lexer.{usize_max}
 use Rattle.clap.specs.Words.{App, Kinds, Row, Rule, Text, all_of, fault_of, first_of, new_app, new_rule, subcommand_of, with_rule, with_subcommand}
 use Rattle.clap.specs.declared.builder.value_parser.ValueParser.TheVariants.{Unsigned}
-use Rattle.clap.specs.declared.error.kind.ErrorKind.TheVariants.{ArgumentConflict, TooManyValues}
+use Rattle.clap.specs.declared.error.kind.ErrorKind.TheVariants.{ArgumentConflict, InvalidValue, TooManyValues}
 use Rattle.pif_script_model.specs.declared.details.Detail.TheVariants.{Changes, All}
 use Rattle.pif_script_model.specs.declared.pictures.Picture.TheVariants.{States, Graph}
 use Rattle.pif_cli_words.specs.declared.clashes.Clash.{Clash}
-use Rattle.pif_cli_words.specs.declared.clashes.Clash.TheVariants.{Forms, Files}
+use Rattle.pif_cli_words.specs.declared.clashes.Clash.TheVariants.{Least, Forms, Files, Rules}
 use Rattle.pif_cli_words.specs.declared.jobs.Drawn.{Drawn}
+use Rattle.pif_cli_words.specs.declared.jobs.Exploring.{Exploring}
 use Rattle.pif_cli_words.specs.declared.jobs.Judging.{Judging}
 use Rattle.pif_cli_words.specs.declared.jobs.Job.{Job}
-use Rattle.pif_cli_words.specs.declared.jobs.Job.TheVariants.{Run, Replay, Trace, Migrate, Show, Picture, Draw, Shell, Check, Strict, Fill, FillSeveral, Judge, Random, Drive}
+use Rattle.pif_cli_words.specs.declared.jobs.Job.TheVariants.{Run, Replay, Trace, Migrate, Show, Picture, Draw, Shell, Check, Strict, Fill, FillSeveral, Judge, Explore, Random, Drive}
 use Rattle.pif_cli_words.specs.Options.{chosen_rule, flag_in, flag_rule, number_between, number_rule}
 use Rattle.pif_cli_words.specs.Random.{random_app, recipe_in}
+use Rattle.pif_cli_words.specs.Rules.{allow_rule, allowed_in, are_rules}
 
 -- the file of a command over one input, which may be left out
 abbrev pub file_rule : Rule
@@ -57,15 +59,25 @@ checked_app =
 abbrev pub check_app : App
 check_app = with_rule checked_app files_rule
 
--- the command `judge` for a person or, by a flag, for programs or with a page, and its option for how many states may be
--- made for a line
+-- the command `judge` for a person or, by a flag, for programs or with a page; its flag for the rules that histories need;
+-- its option for how many states may be made for a line; and that for rules
 abbrev pub judged_app : App
 judged_app =
-    with_rule (with_rule (with_rule (with_rule (new_app (codes "judge")) (flag_rule (codes "witness"))) (flag_rule (codes "json")))
-    (flag_rule (codes "html"))) (chosen_rule (codes "states") 1 16777216 (codes "200000"))
+    with_rule (with_rule (with_rule (with_rule (with_rule (new_app (codes "judge")) (flag_rule (codes "witness"))) (flag_rule (codes "json")))
+    (flag_rule (codes "html"))) (flag_rule (codes "least"))) (chosen_rule (codes "states") 1 16777216 (codes "200000"))
 
 abbrev pub judge_app : App
-judge_app = with_rule judged_app files_rule
+judge_app = with_rule (with_rule judged_app allow_rule) files_rule
+
+-- the command `explore`, with its flag for schedules, and its options for how many states may be kept and how many
+-- schedules are played on cores
+abbrev pub explored_app : App
+explored_app =
+    with_rule (with_rule (with_rule (new_app (codes "explore")) (flag_rule (codes "witness")))
+    (chosen_rule (codes "states") 1 16777216 (codes "1000000"))) (number_rule (codes "core") 1 1000000)
+
+abbrev pub explore_app : App
+explore_app = with_rule explored_app file_rule
 
 -- the command `show` for a person, with its flag for all there is
 abbrev pub shown_app : App
@@ -89,18 +101,20 @@ shell_app = new_app (codes "shell")
 abbrev pub with_states : App → App
 with_states pif = with_subcommand (with_subcommand (with_job pif (codes "run")) show_app.top) draw_app.top
 
--- a program with the commands over scripts, stories and histories that show answers: these, `shell`, `check` and
--- `judge`
+-- a program with the commands over scripts, stories, histories and programs that show answers: these, `shell`, `check`,
+-- `judge` and `explore`
 abbrev pub with_runs : App → App
 with_runs pif =
-    with_subcommand (with_subcommand (with_subcommand (with_states pif) shell_app.top) check_app.top) judge_app.top
+    with_subcommand
+    (with_subcommand (with_subcommand (with_subcommand (with_states pif) shell_app.top) check_app.top) judge_app.top)
+    explore_app.top
 
 -- a program with the commands over traces: `replay`, `trace` and `migrate`
 abbrev pub with_traces : App → App
 with_traces pif = with_job (with_job (with_job pif (codes "replay")) (codes "trace")) (codes "migrate")
 
--- the program's commands: `run`, `show`, `draw`, `shell`, `check`, `judge`, `replay`, `trace`, `migrate`, `random` and
--- `drive`
+-- the program's commands: `run`, `show`, `draw`, `shell`, `check`, `judge`, `explore`, `replay`, `trace`, `migrate`,
+-- `random` and `drive`
 abbrev pub program : App
 program = with_subcommand (with_subcommand (with_traces (with_runs bare_program)) random_app.top) drive_app.top
 
@@ -130,22 +144,37 @@ judging_in rows = record {
   witness = flag_in (codes "witness") rows;
   json = flag_in (codes "json") rows;
   html = flag_in (codes "html") rows;
+  least = flag_in (codes "least") rows;
   states = number_between 1 16777216 (first_of (codes "states") rows);
   several = has_several rows;
+  allowed = allowed_in rows;
 }
 
--- how `judge` clashes: a page holds the lines of JSON and a run, so that nothing else is written beside it, and it is one
--- of one history
+-- how a page clashes: it holds the lines of JSON and a run, so that nothing else is written beside it, and it is one of
+-- one history
+abbrev pub page_clash : List Row → Option Clash
+page_clash rows =
+    if flag_in (codes "html") rows
+    then (if flag_in (codes "json") rows || flag_in (codes "witness") rows then Some Forms
+    else (if has_several rows then Some Files else None)) else None
+
+-- whether a form is given to `judge` that isn't its first one
+abbrev pub has_form : List Row → Bool
+has_form rows = flag_in (codes "json") rows || (flag_in (codes "html") rows || flag_in (codes "witness") rows)
+
+-- how `judge` clashes: what is allowed has to be rules, and the rules that a history needs are told in lines
 abbrev pub judging_clash : List Row → Option Clash
 judging_clash rows =
-    if flag_in (codes "html") rows then (if flag_in (codes "json") rows || flag_in (codes "witness") rows then Some Forms
-    else (if has_several rows then Some Files else None)) else None
+    if are_rules rows then (if flag_in (codes "least") rows
+    then (if has_form rows then Some Least else None) else page_clash rows) else Some Rules
 
 -- the kind of error of a clash, if there is one
 abbrev pub clash_kinds : Option Clash → Kinds
 clash_kinds None = []
+clash_kinds (Some Least) = ArgumentConflict ∷ []
 clash_kinds (Some Forms) = ArgumentConflict ∷ []
 clash_kinds (Some Files) = TooManyValues ∷ []
+clash_kinds (Some Rules) = InvalidValue ∷ []
 
 -- how words of a command clash, by its name and what was given to it
 abbrev pub clash_by : Option (Text × List Row) → Option Clash
@@ -155,6 +184,14 @@ clash_by None = None
 -- why the words are refused, the program's name first; none where they ask for a job
 abbrev pub refusals_of : List (List ℕ) → Kinds
 refusals_of words = or_else (fault_of program words) (clash_kinds (clash_by (subcommand_of program words)))
+
+-- how programs are explored
+abbrev pub exploring_in : List Row → Exploring
+exploring_in rows = record {
+  witness = flag_in (codes "witness") rows;
+  states = number_between 1 16777216 (first_of (codes "states") rows);
+  core = number_between 1 1000000 (first_of (codes "core") rows);
+}
 
 -- how stories are filled in and printed: several are told apart
 abbrev pub filling_in : List Row → Job
@@ -179,8 +216,9 @@ job_named name rows =
     else (if bytes_eq name (codes "shell") then Shell
     else (if bytes_eq name (codes "check") then checking_in rows
     else (if bytes_eq name (codes "judge") then Judge (judging_in rows)
+    else (if bytes_eq name (codes "explore") then Explore (exploring_in rows)
     else (if bytes_eq name (codes "random") then Random (recipe_in rows)
-    else (if bytes_eq name (codes "drive") then Drive (number_between 1 64 (first_of (codes "N") rows)) else Run)))))))))
+    else (if bytes_eq name (codes "drive") then Drive (number_between 1 64 (first_of (codes "N") rows)) else Run))))))))))
 
 -- the job of a command, by its name and what was given to it
 abbrev pub job_by : Option (Text × List Row) → Job

@@ -1,20 +1,25 @@
 //! Words that `clap` takes one by one, and that ask for what cannot be had together.
 ghost use Rattle.std.specs.Prelude.{◌≡◌, ◌∷◌, [], Some};
 ghost use Rattle.clap.specs.Words.{HasKind, found_of, rows_of};
-ghost use Rattle.pif_cli_words.specs.Words.{clash_by, clash_kinds, judging_clash};
+ghost use Rattle.pif_cli_words.specs.Words.{clash_by, clash_kinds, has_form, judging_clash, page_clash};
 
 use crate::commands::program;
 use crate::options::{has_several, is_given};
+use crate::rules::are_rules;
 use clap::error::ErrorKind;
 use std::alloc::Global;
 
 /// How words clash.
 #[derive(Clone, Copy)]
 pub enum Clash {
+    /// The rules that histories need are asked for, and another form, too.
+    Least,
     /// A page is asked for, and another form, too.
     Forms,
     /// A page is asked for, of several files.
     Files,
+    /// What is to be allowed is no rule.
+    Rules,
 }
 
 impl Clash {
@@ -23,16 +28,19 @@ impl Clash {
         ensures { clash_kinds (Some self) ≡ result ∷ [] }
     {
         match self {
-            Clash::Forms => ErrorKind::ArgumentConflict,
+            Clash::Least | Clash::Forms => ErrorKind::ArgumentConflict,
             Clash::Files => ErrorKind::TooManyValues,
+            Clash::Rules => ErrorKind::InvalidValue,
         }
     }
 
     /// What is told of it.
     fn words(self) -> &'static str {
         match self {
+            Clash::Least => "'judge --least' takes none of '--json', '--html' and '--witness'",
             Clash::Forms => "'judge --html' takes neither '--json' nor '--witness'",
             Clash::Files => "'judge --html' makes a page of one file",
+            Clash::Rules => "'judge --allow' takes a rule, as 'steal' or 'recursion=300', or 'all'",
         }
     }
 
@@ -50,9 +58,9 @@ impl Clash {
     }
 }
 
-/// How `judge` clashes with what was given to it.
-fn judging_clash(given: &clap::ArgMatches) -> Option<Clash>
-    ensures { result ≡ judging_clash (rows_of (found_of given.now)) }
+/// How a page clashes with what else was given to `judge`.
+fn page_clash(given: &clap::ArgMatches) -> Option<Clash>
+    ensures { result ≡ page_clash (rows_of (found_of given.now)) }
 {
     if !is_given(given, "html") {
         None
@@ -60,6 +68,28 @@ fn judging_clash(given: &clap::ArgMatches) -> Option<Clash>
         Some(Clash::Forms)
     } else if has_several(given) {
         Some(Clash::Files)
+    } else {
+        None
+    }
+}
+
+/// Whether a form is given to `judge` that isn't its first one.
+fn has_form(given: &clap::ArgMatches) -> bool
+    ensures { result ≡ has_form (rows_of (found_of given.now)) }
+{
+    is_given(given, "json") || is_given(given, "html") || is_given(given, "witness")
+}
+
+/// How `judge` clashes with what was given to it.
+fn judging_clash(given: &clap::ArgMatches) -> Option<Clash>
+    ensures { result ≡ judging_clash (rows_of (found_of given.now)) }
+{
+    if !are_rules(given) {
+        Some(Clash::Rules)
+    } else if !is_given(given, "least") {
+        page_clash(given)
+    } else if has_form(given) {
+        Some(Clash::Least)
     } else {
         None
     }

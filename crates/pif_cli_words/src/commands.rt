@@ -1,22 +1,25 @@
 //! The program's commands, as `clap` takes them. A command is handed on as it was made, so that only `with_arg`,
 //! `with_subcommand` and `with_command` ask whether memory was refused.
-ghost use Rattle.std.specs.Prelude.{◌≡◌, IfOk, false};
+ghost use Rattle.std.specs.Prelude.{◌≡◌, IfOk, codes, false};
 ghost use Rattle.clap.specs.Words.{App, app_of, new_app, rule_of, with_rule, with_subcommand};
 ghost use Rattle.pif_cli_words.specs.Commands.{IsApp, IsCommand};
 ghost use Rattle.pif_cli_words.specs.Options.{flag_rule, number_rule};
-ghost use Rattle.pif_cli_words.specs.Words.{bare_program, check_app, clients_rule, draw_app, drive_app, file_rule, files_rule, judge_app, program, show_app, with_job, with_runs, with_states, with_traces};
+ghost use Rattle.pif_cli_words.specs.Words.{bare_program, check_app, clients_rule, draw_app, drive_app, explore_app, file_rule, files_rule, judge_app, program, show_app, with_job, with_runs, with_states, with_traces};
 
 use crate::helps::{
-    ABOUT, ABOUT_ALL, ABOUT_CHECK, ABOUT_CLIENTS, ABOUT_DOT, ABOUT_DRAW, ABOUT_DRIVE, ABOUT_FILE,
-    ABOUT_FILES, ABOUT_FROM, ABOUT_HISTORIES, ABOUT_HTML, ABOUT_JSON, ABOUT_JUDGE, ABOUT_MIGRATE,
-    ABOUT_PRINT, ABOUT_REPLAY, ABOUT_RUN, ABOUT_RUN_HTML, ABOUT_RUN_JSON, ABOUT_SHELL, ABOUT_SHOW,
+    ABOUT, ABOUT_ALL, ABOUT_ALLOW, ABOUT_CHECK, ABOUT_CLIENTS, ABOUT_CORE, ABOUT_DOT, ABOUT_DRAW,
+    ABOUT_DRIVE, ABOUT_EXPLORE, ABOUT_FILE, ABOUT_FILES, ABOUT_FROM, ABOUT_HISTORIES, ABOUT_HTML,
+    ABOUT_JSON, ABOUT_JUDGE, ABOUT_KEPT, ABOUT_LEAST, ABOUT_MIGRATE, ABOUT_PRINT, ABOUT_REPLAY,
+    ABOUT_RUN, ABOUT_RUN_HTML, ABOUT_RUN_JSON, ABOUT_SCHEDULES, ABOUT_SHELL, ABOUT_SHOW,
     ABOUT_STATES, ABOUT_STRICT, ABOUT_TO, ABOUT_TRACE, ABOUT_WITNESS, ABOUT_WRITE, EXAMPLE,
-    MORE_CHECK, MORE_DRAW, MORE_DRIVE, MORE_JUDGE, MORE_MIGRATE, MORE_REPLAY, MORE_RUN, MORE_SHELL,
-    MORE_SHOW, MORE_TRACE, USAGE_CHECK, USAGE_DRAW, USAGE_DRIVE, USAGE_JUDGE, USAGE_MIGRATE,
-    USAGE_REPLAY, USAGE_RUN, USAGE_SHELL, USAGE_SHOW, USAGE_TRACE, VERSION,
+    MORE_CHECK, MORE_DRAW, MORE_DRIVE, MORE_EXPLORE, MORE_JUDGE, MORE_MIGRATE, MORE_REPLAY,
+    MORE_RUN, MORE_SHELL, MORE_SHOW, MORE_TRACE, USAGE_CHECK, USAGE_DRAW, USAGE_DRIVE,
+    USAGE_EXPLORE, USAGE_JUDGE, USAGE_MIGRATE, USAGE_REPLAY, USAGE_RUN, USAGE_SHELL, USAGE_SHOW,
+    USAGE_TRACE, VERSION,
 };
 use crate::options::{flag_given, number_given};
 use crate::random::{random_command, with_chosen};
+use crate::rules::rules_given;
 use clap::builder::ValueParser;
 use std::alloc::{AllocError, Global};
 
@@ -178,9 +181,10 @@ fn judge_command<'a>(alloc: Global) -> Made<'a>
     let witness = with_flag(alloc, judge, "witness", ABOUT_WITNESS);
     let json = with_flag(alloc, witness, "json", ABOUT_RUN_JSON);
     let html = with_flag(alloc, json, "html", ABOUT_RUN_HTML);
+    let least = with_flag(alloc, html, "least", ABOUT_LEAST);
     let states = with_chosen(
         alloc,
-        html,
+        least,
         "states",
         "N",
         1,
@@ -188,7 +192,31 @@ fn judge_command<'a>(alloc: Global) -> Made<'a>
         "200000",
         ABOUT_STATES,
     );
-    with_arg(states, files_given(alloc, ABOUT_HISTORIES))
+    let allow = with_arg(states, rules_given(alloc, ABOUT_ALLOW));
+    with_arg(allow, files_given(alloc, ABOUT_HISTORIES))
+}
+
+/// With the option for how many schedules are played on cores.
+fn with_core<'a>(alloc: Global, made: Made<'a>) -> Made<'a>
+    ensures { (app : App) → IsApp app made.entry → IsApp (with_rule app (number_rule (codes "core") 1 1000000)) result }
+{
+    with_arg(
+        made,
+        number_given(alloc, "core", "N", 1, 1_000_000, ABOUT_CORE),
+    )
+}
+
+/// The command `explore`.
+fn explore_command<'a>(alloc: Global) -> Made<'a>
+    ensures { IsApp explore_app result }
+{
+    let explore = described(alloc, "explore", ABOUT_EXPLORE, USAGE_EXPLORE, MORE_EXPLORE);
+    let witness = with_flag(alloc, explore, "witness", ABOUT_SCHEDULES);
+    let states = with_chosen(
+        alloc, witness, "states", "N", 1, 16_777_216, "1000000", ABOUT_KEPT,
+    );
+    let core = with_core(alloc, states);
+    with_file(alloc, core)
 }
 
 /// The program with the commands that run a script and show its states.
@@ -208,7 +236,8 @@ fn with_runs<'a>(alloc: Global, pif: Made<'a>) -> Made<'a>
     let shell = described(alloc, "shell", ABOUT_SHELL, USAGE_SHELL, MORE_SHELL);
     let shells = with_command(states, shell);
     let checks = with_command(shells, check_command(alloc));
-    with_command(checks, judge_command(alloc))
+    let judges = with_command(checks, judge_command(alloc));
+    with_command(judges, explore_command(alloc))
 }
 
 /// The program with the commands over traces.

@@ -59,13 +59,31 @@ pub const ABOUT_WITNESS: &str = "Writes a run of each legal history, too";
 pub const ABOUT_RUN_JSON: &str = "Writes the verdict and a run as lines of JSON";
 
 /// What the flag of `judge` for a page does.
-pub const ABOUT_RUN_HTML: &str = "Writes a page that shows the verdict and a run; of one file";
+pub const ABOUT_RUN_HTML: &str = "Writes a page with the verdict and a run; of one file";
+
+/// What the flag of `judge` for rules does.
+pub const ABOUT_LEAST: &str = "Says which of the rules of --allow a history needs";
 
 /// What the option of `judge` does.
-pub const ABOUT_STATES: &str = "The most states for a line, 1 to 16777216";
+pub const ABOUT_STATES: &str = "Most states for a line, 1 to 16777216";
+
+/// What the option of `judge` for rules does.
+pub const ABOUT_ALLOW: &str = "Allows a rule, as 'steal' or 'recursion=300', or 'all'";
 
 /// What the files of `judge` are.
 pub const ABOUT_HISTORIES: &str = "The histories to read; '-' or none is the standard input";
+
+/// What `explore` does.
+pub const ABOUT_EXPLORE: &str = "Reads a small program that locks, and tells all its outcomes";
+
+/// What the flag of `explore` does.
+pub const ABOUT_SCHEDULES: &str = "Writes a schedule of each outcome, too";
+
+/// What the option of `explore` for cores does.
+pub const ABOUT_CORE: &str = "Plays N schedules on the core, too, 1 to 1000000";
+
+/// What the option of `explore` for states does.
+pub const ABOUT_KEPT: &str = "Most states that are kept, 1 to 16777216";
 
 /// What the file of a command is.
 pub const ABOUT_FILE: &str = "The file to read; '-' or none is the standard input";
@@ -86,7 +104,11 @@ pub const ABOUT_WRITE: &str = "Writes the answers of each story into its file, a
 pub const USAGE_CHECK: &str = "pif check [--strict | --print | --write] [FILE]...";
 
 /// How `judge` is called.
-pub const USAGE_JUDGE: &str = "pif judge [--witness | --json | --html] [--states N] [FILE]...";
+pub const USAGE_JUDGE: &str =
+    "pif judge [--witness | --json | --html | --least] [OPTIONS] [FILE]...";
+
+/// How `explore` is called.
+pub const USAGE_EXPLORE: &str = "pif explore [--witness] [--states N] [--core N] [FILE]";
 
 /// How `run` is called.
 pub const USAGE_RUN: &str = "pif run [FILE]";
@@ -336,6 +358,7 @@ pub const MORE_JUDGE: &str =
     "A history is what was seen of an implementation with real threads, in the order
 in which it was seen. Its lines:
   limits T M C S              first, or not at all
+  allow RULE ..               before the first 'begin': rules, by their names
   thread P, mutex K [robust], cond mN
                               as in scripts, before the first use
   begin tN CALL               the thread entered the call, as 'begin t1 lock m1'
@@ -344,9 +367,14 @@ in which it was seen. Its lines:
   tick N                      the time is N from here on
   rests tN, prio tN P         the thread was seen blocked, or at this priority
 
+Rules are what implementations do otherwise: steal, any_waiter, spurious,
+recursion N (--allow recursion=N), own_errorcheck, any_consistent, held_wait,
+lost_signal, revives. Those of the history and of each --allow hold
+together.
+
 For each history it prints:
   legal N
-    some run of the POSIX machine shows its N lines
+    some run of the POSIX machine, with the rules, shows its N lines
   illegal at L: LINE
     no run shows the lines up to L; 'possible there: A ..' has the answers with
     which one does, and 'refused WORD' says why there is none, whatever was
@@ -360,6 +388,10 @@ with the moves before it: of a run that shows the history, or the lines before
 line L. With --html they stand in a page, which needs nothing from elsewhere: a
 lane for each thread, and a click on a step shows the state behind it. A fault
 has no object and no page.
+With --least it looks among the rules of --allow for the fewest with which the
+history is legal: 'legal N with steal spurious', or 'legal N' if it needs none.
+If it is illegal with all of them, that is told. If the search is given up for
+some rules, it prints 'undecided at L with' and these rules.
 
 Example:
   printf 'thread 10\\nmutex normal\\nbegin t1 lock m1\\nanswer t1 0\\n' | pif judge
@@ -368,6 +400,52 @@ prints 'legal 4'.
 Status, of the first history that is not legal: 0 legal, 1 wrong words, 2 a
 fault, 3 a read or write failed, 4 out of memory, 5 illegal, 7 undecided.
 Standard error says what went wrong, and in which line.";
+
+/// What `explore` reads, and what it answers.
+pub const MORE_EXPLORE: &str =
+    "A file has what there is, a program for each thread, and what must hold. Its
+lines:
+  limits T M C S              first, or not at all
+  thread P, mutex K [robust], cond mN
+                              as in scripts, before all others
+  do tN: S; S; ..             what the thread does. S is a call, as 'lock m1',
+                              'set x1 1' or 'add x1 1' for a cell of 0 to 255,
+                              or has a block: 'if T { .. } else { .. }' and
+                              'while T { .. }'. T asks for the last answer, as
+                              '130', or for a cell, as 'x1 = 0', also with
+                              'not' and 'or'
+  ends N, ticks N N ..        at most N threads end, and these times come
+  never: C, always: C         of all states that are reached
+  finally: C                  of those from which only ends lead. C is made of
+                              'tN stuck', 'tN ended', 'tN answered A',
+                              'mN free', 'mN held by tN', 'mN inconsistent',
+                              'mN unusable', 'xN = V', 'not', 'and', 'or' and
+                              '(..)'
+
+It runs the programs in all interleavings, and prints a line for each outcome:
+the last answer of each call, '-' for one that was never answered, why a thread
+is stuck, and mutexes and cells. Then, and last:
+  kept at L, broken at L      line L is kept; or the steps below lead to a state
+                              that breaks it
+  undecided at L              no state that was found breaks it, and there are
+                              more
+  race: tN tN xN              two next steps access xN, and the first writes it
+  deadlock: tN                at the end tN waits for a mutex
+  lost wake-up: tN cN         at the end tN waits on cN, though a signal came
+  livelock                    from some state no final one is reached
+  N outcomes, S states, T steps
+It begins with 'undecided: ' if there are more states than --states. The first
+line that is a fault is told by 'fault L CAUSE', alone. With --core a line for
+each outcome follows, 'outcome K: seen on the core' or 'not seen on the core',
+one for each claim, and 'N schedules on the core'.
+
+Example:
+  printf 'thread 10\\nmutex normal\\ndo t1: lock m1\\n' | pif explore
+prints 't1 0; m1 held by t1' and '1 outcomes, 4 states, 3 steps'.
+
+Status: 0 all is kept, 1 wrong words, 2 a fault, 3 a read or write failed, 4 out
+of memory, 5 a claim is broken, 7 undecided. Standard error says what went
+wrong.";
 
 /// The end of the help of `check`.
 pub const MORE_CHECK: &str =

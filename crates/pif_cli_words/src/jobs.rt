@@ -1,12 +1,14 @@
 //! Jobs: what the words ask for, and over which files.
 ghost use Rattle.std.specs.Prelude.{◌≡◌, IfOk, Some, map};
 ghost use Rattle.clap.specs.Words.{FailsBy, found_of, rows_of};
-ghost use Rattle.pif_cli_words.specs.Words.{refusals_of, job_of, job_named, checking_in, filling_in, rewrites, rewrites_by, files_in, files_of, first_name, drawn_in, judging_in, shown_in};
+ghost use Rattle.pif_cli_words.specs.Words.{refusals_of, job_of, job_named, checking_in, filling_in, rewrites, rewrites_by, files_in, files_of, first_name, drawn_in, exploring_in, judging_in, shown_in};
 
 use crate::clashes::clash_in;
 use crate::commands::program;
 use crate::options::{has_several, is_given, small_number_between};
 use crate::random::{Recipe, recipe_in};
+use crate::rules::allowed_in;
+use pif_rules_model::Rules;
 use pif_script_model::{Detail, Picture};
 use std::alloc::{AllocError, Global};
 use std::convert::AsStr;
@@ -23,10 +25,25 @@ pub struct Judging {
     pub json: bool,
     /// Whether a page is written.
     pub html: bool,
+    /// Whether the rules are told that each history needs.
+    pub least: bool,
     /// How many states may be made for a line.
     pub states: u32,
     /// Whether there are several files, so that the name of each is told.
     pub several: bool,
+    /// The rules that hold beside those of each history.
+    pub allowed: Rules,
+}
+
+/// How programs are explored.
+#[derive(Clone, Copy)]
+pub struct Exploring {
+    /// Whether a schedule of each outcome is written.
+    pub witness: bool,
+    /// How many states may be kept.
+    pub states: u32,
+    /// How many schedules are played on a core of their own; 0 if none is.
+    pub core: u32,
 }
 
 /// What of a story is drawn, and how.
@@ -70,6 +87,8 @@ pub enum Job {
     FillSeveral,
     /// `judge`: say whether a history is legal.
     Judge(Judging),
+    /// `explore`: tell all outcomes of small programs.
+    Explore(Exploring),
     /// `random`: write a random script.
     Random(Recipe),
     /// `drive`: let so many clients make calls in threads of their own.
@@ -153,8 +172,21 @@ fn judging_in(given: &clap::ArgMatches) -> Judging
         witness: is_given(given, "witness"),
         json: is_given(given, "json"),
         html: is_given(given, "html"),
+        least: is_given(given, "least"),
         states: small_number_between(given, "states", 1, 16_777_216),
         several: has_several(given),
+        allowed: allowed_in(given),
+    }
+}
+
+/// How `explore` is to explore its programs.
+fn exploring_in(given: &clap::ArgMatches) -> Exploring
+    ensures { result ≡ exploring_in (rows_of (found_of given.now)) }
+{
+    Exploring {
+        witness: is_given(given, "witness"),
+        states: small_number_between(given, "states", 1, 16_777_216),
+        core: small_number_between(given, "core", 1, 1_000_000),
     }
 }
 
@@ -216,6 +248,8 @@ fn job_named(name: &str, given: &clap::ArgMatches) -> Job
         checking_in(given)
     } else if name == "judge" {
         Job::Judge(judging_in(given))
+    } else if name == "explore" {
+        Job::Explore(exploring_in(given))
     } else if name == "random" {
         Job::Random(recipe_in(given))
     } else if name == "drive" {

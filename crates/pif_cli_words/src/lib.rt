@@ -7,6 +7,7 @@
 //! | `commands` | the commands, as `clap` takes them |
 //! | `random` | the command `random`, and the script that it asks for |
 //! | `options` | flags, numbers and files |
+//! | `rules` | the rules that `judge` is told to allow |
 //! | `clashes` | words that ask for what cannot be had together |
 //! | `helps` | the texts of help |
 //! | `near` | the command that is meant where there is none of its name |
@@ -21,8 +22,9 @@ mod laws;
 mod near;
 mod options;
 mod random;
+mod rules;
 
-pub use jobs::{Asked, Drawn, Job, Judging, STANDARD_NAME, first_name, read_words};
+pub use jobs::{Asked, Drawn, Exploring, Job, Judging, STANDARD_NAME, first_name, read_words};
 pub use laws::{random_lines_have_a_bound, words_of_the_program};
 pub use near::near_command;
 pub use random::Recipe;

@@ -3,9 +3,9 @@ use pif_text_errors::nearest_name;
 use std::convert::AsStr;
 
 /// The commands of the program.
-const COMMANDS: [&str; 12] = [
-    "run", "show", "draw", "shell", "check", "judge", "replay", "trace", "migrate", "random",
-    "drive", "help",
+const COMMANDS: [&str; 13] = [
+    "run", "show", "draw", "shell", "check", "judge", "explore", "replay", "trace", "migrate",
+    "random", "drive", "help",
 ];
 
 /// The command that is near to the one that the words name, behind the program's name or behind `help`, if that is

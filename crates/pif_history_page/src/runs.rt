@@ -1,12 +1,13 @@
 ghost use Rattle.std.specs.Prelude.{◌≡◌, ◌∷◌, List, IfOk, IfSome};
 ghost use Rattle.pif_history_model.specs.declared.labels.Label.{Label};
-ghost use Rattle.pif_history_model.specs.Searched.{Configuration};
+ghost use Rattle.pif_allow_model.specs.Allowed.{WideConfiguration};
 ghost use Rattle.pif_history_page.specs.Runs.{IsTold, Telling};
 
-use crate::tellings::{Frame, Telling};
-use pif_history::{HistoryMachine, Position};
+use crate::tellings::{Frame, Leap, Telling};
+use pif_allow::WidePosition;
 use pif_history_model::{HistoryLimits, Label};
-use pif_history_run::{behind, choices};
+use pif_history_run::{choices, steps};
+use pif_rules_model::Rules;
 use pif_search::Stop;
 use std::alloc::Global;
 
@@ -14,39 +15,45 @@ use std::alloc::Global;
 /// there is no such.
 fn take_step(
     alloc: Global,
-    machine: &HistoryMachine,
+    rules: &Rules,
+    limits: HistoryLimits,
     frame: &Frame<'_>,
     label: &Label,
     choice: usize,
-    from: &Position,
+    from: &WidePosition,
     told: &mut Telling,
-) -> Result<Option<Position>, Stop>
+) -> Result<Option<WidePosition>, Stop>
     ensures { IfOk result (λ o. IfSome o (λ to. (xs : List Label)
-        → IsTold machine.now.limits frame.now.numbers.now frame.now.from xs from.now told.old
-        → IsTold machine.now.limits frame.now.numbers.now frame.now.from (label.now ∷ xs) to told.new)) }
+        → IsTold rules.now limits frame.now.numbers.now frame.now.from xs from.now told.old
+        → IsTold rules.now limits frame.now.numbers.now frame.now.from (label.now ∷ xs) to told.new)) }
 {
-    let mut next = behind(alloc, machine, from, label)?;
+    let mut next = steps(alloc, rules, limits, from, label)?;
     if choice >= next.len() {
         return Ok(None);
     }
-    let to = next.swap_remove(choice);
-    told.add(frame, label, from.world(), to.world())?;
-    Ok(Some(to))
+    let step = next.swap_remove(choice);
+    let leap = Leap {
+        rule: step.rule,
+        from: from.world(),
+        to: step.position.world(),
+    };
+    told.add(frame, label, &leap)?;
+    Ok(Some(step.position))
 }
 
 /// The run that takes these choices.
 fn follow(
     alloc: Global,
+    rules: &Rules,
     limits: HistoryLimits,
     frame: &Frame<'_>,
     witness: &[Label],
     chosen: &[usize],
 ) -> Result<Option<Vec<u8>>, Stop>
-    ensures { IfOk result (λ o. IfSome o (λ text. (last : Configuration) × (told : Telling)
-        × IsTold limits frame.now.numbers.now frame.now.from witness.now last told × (text.items ≡ told.done))) }
+    ensures { IfOk result (λ o. IfSome o (λ text. (last : WideConfiguration) × (told : Telling)
+        × IsTold rules.now limits frame.now.numbers.now frame.now.from witness.now last told × (text.items ≡ told.done))) }
 {
-    let machine = HistoryMachine::new(limits);
-    let mut position = Position::start(alloc, limits)?;
+    let mut position = WidePosition::start(alloc, limits)?;
     let mut told = Telling::new(alloc);
     let mut left = witness.len();
     while left > 0 {
@@ -57,7 +64,8 @@ fn follow(
         };
         match take_step(
             alloc,
-            &machine,
+            rules,
+            limits,
             frame,
             &witness[left],
             choice,
@@ -72,26 +80,27 @@ fn follow(
 }
 
 /// A run whose steps have these labels, newest first, as lines of JSON: one for each line of the history but the first
-/// `from`, which has the number of its place among `numbers`, the moves before it, and what each changes. None if no run
-/// of these labels was found.
+/// `from`, which has the number of its place among `numbers`, the moves before it, and what each changes. A step that
+/// needs one of these rules names it. None if no run of these labels was found.
 ///
 /// # Errors
 ///
 /// Memory ran out, or a number of a state got too great for it.
 pub fn run_text(
     alloc: Global,
+    rules: &Rules,
     limits: HistoryLimits,
     numbers: &[u32],
     from: usize,
     witness: &[Label],
 ) -> Result<Option<Vec<u8>>, Stop>
-    ensures { IfOk result (λ o. IfSome o (λ text. (last : Configuration) × (told : Telling)
-        × IsTold limits numbers.now from witness.now last told × (text.items ≡ told.done))) }
+    ensures { IfOk result (λ o. IfSome o (λ text. (last : WideConfiguration) × (told : Telling)
+        × IsTold rules.now limits numbers.now from witness.now last told × (text.items ≡ told.done))) }
 {
-    match choices(alloc, limits, witness)? {
+    match choices(alloc, rules, limits, witness)? {
         Some(chosen) => {
             let frame = Frame { numbers, from };
-            follow(alloc, limits, &frame, witness, chosen.as_slice())
+            follow(alloc, rules, limits, &frame, witness, chosen.as_slice())
         }
         None => Ok(None),
     }

@@ -255,7 +255,7 @@ function choose(place) {
   if (place < 0 || place >= steps.length) return;
   chosen = place;
   const step = steps[place], before = place ? stateAt(place - 1) : empty(), state = stateAt(place);
-  const said = wordsOf(before, step.by);
+  const said = [...(step.by.rule ? [`by the rule ${step.by.rule}`] : []), ...wordsOf(before, step.by)];
   const lit = new Set(step.by.whole ? [] : [...step.by.threads, ...step.by.mutexes].map(one => one.name));
   at('where').textContent = 'Behind ' + titleOf(place);
   at('words').textContent = said.length ? said.join('; ') : place && !step.by.whole ? 'nothing changes' : 'the whole state';

@@ -1,10 +1,11 @@
 ghost use Rattle.std.specs.Prelude.{◌≡◌, ◌+◌, ◌++◌, get_or, IfOk, OnOk};
-ghost use Rattle.pif_history_page.specs.Runs.{comma_behind, line_object, move_object, told_line, untold, with_line, with_move, with_step};
+ghost use Rattle.pif_history_page.specs.Runs.{comma_behind, line_object, move_object, rule_members, told_line, untold, with_line, with_move, with_step};
 
 use crate::changes::{Change, append_changes};
 use pif_history_model::{Label, Line};
 use pif_history_text::line_text;
 use pif_posix::State;
+use pif_rules::{Rule, name_of};
 use pif_search::Stop;
 use pif_text::Text;
 use pif_text_json::{append_bool, append_decimal, append_name, append_quoted};
@@ -40,6 +41,17 @@ pub struct Frame<'a> {
     pub from: usize,
 }
 
+/// A step of a run, from a state to a state.
+#[derive(Clone, Copy)]
+pub struct Leap<'a> {
+    /// The rule that it needs, if it does.
+    pub rule: Option<Rule>,
+    /// The state before it.
+    pub from: &'a State,
+    /// The state behind it.
+    pub to: &'a State,
+}
+
 /// The number of the line at a place; 0 if there is none.
 fn number_at(numbers: &[u32], place: usize) -> u32
     ensures { result ≡ get_or numbers.now place 0 }
@@ -62,24 +74,33 @@ fn append_comma(out: &mut Vec<u8>) -> Result<(), Stop>
     Ok(())
 }
 
+/// Appends the rule that a step needs, if it does, as a member.
+fn append_rule(rule: Option<Rule>, out: &mut Vec<u8>) -> Result<(), Stop>
+    ensures { OnOk result (out.new.items ≡ out.old.items ++ rule_members rule) }
+{
+    match rule {
+        Some(rule) => {
+            out.extend_from_slice(b",\"rule\":")?;
+            append_quoted(out, name_of(rule))?;
+            Ok(())
+        }
+        None => Ok(()),
+    }
+}
+
 /// Appends a move of a thread that no line shows, as an object.
 #[tactic(auto, unfolding(crate::specs::Runs::move_object))]
-fn append_move(
-    name: &[u8],
-    thread: Tid,
-    from: &State,
-    to: &State,
-    out: &mut Vec<u8>,
-) -> Result<(), Stop>
-    ensures { OnOk result (out.new.items ≡ out.old.items ++ move_object name.now thread from.now to.now) }
+fn append_move(name: &[u8], thread: Tid, step: &Leap<'_>, out: &mut Vec<u8>) -> Result<(), Stop>
+    ensures { OnOk result (out.new.items ≡ out.old.items ++ move_object name.now thread step.now.rule step.now.from.now step.now.to.now) }
 {
     out.extend_from_slice(b"{\"")?;
     out.extend_from_slice(name)?;
     out.extend_from_slice(b"\":")?;
     append_name(out, b't', thread.get())?;
+    append_rule(step.rule, out)?;
     let change = Change {
-        from,
-        to,
+        from: step.from,
+        to: step.to,
         is_whole: false,
     };
     append_changes(&change, out)?;
@@ -87,16 +108,17 @@ fn append_move(
     Ok(())
 }
 
-/// Appends a line of the history with this number, the moves before it, and what it changes.
+/// Appends a line of the history with this number, the moves before it, the rule that it needs, and what it changes.
 #[tactic(auto, unfolding(crate::specs::Runs::line_object))]
 fn append_line(
     number: u32,
     line: &Line,
     moves: &[u8],
+    rule: Option<Rule>,
     change: &Change<'_>,
     out: &mut Vec<u8>,
 ) -> Result<(), Stop>
-    ensures { OnOk result (out.new.items ≡ out.old.items ++ line_object change.now.is_whole number line.now moves.now change.now.from.now change.now.to.now) }
+    ensures { OnOk result (out.new.items ≡ out.old.items ++ line_object change.now.is_whole number line.now moves.now rule change.now.from.now change.now.to.now) }
 {
     let mut text = Text::new();
     line_text(*line, &mut text);
@@ -108,6 +130,7 @@ fn append_line(
     out.extend_from_slice(moves)?;
     out.extend_from_slice(b"],\"whole\":")?;
     append_bool(out, change.is_whole)?;
+    append_rule(rule, out)?;
     append_changes(change, out)?;
     out.extend_from_slice(b"}\n")?;
     Ok(())
@@ -119,21 +142,27 @@ fn append_told(
     place: usize,
     line: &Line,
     moves: &[u8],
-    from: &State,
-    to: &State,
+    step: &Leap<'_>,
     out: &mut Vec<u8>,
 ) -> Result<(), Stop>
-    ensures { OnOk result (out.new.items ≡ out.old.items ++ told_line frame.now.from frame.now.numbers.now place line.now moves.now from.now to.now) }
+    ensures { OnOk result (out.new.items ≡ out.old.items ++ told_line frame.now.from frame.now.numbers.now place line.now moves.now step.now.rule step.now.from.now step.now.to.now) }
 {
     if place < frame.from {
         return Ok(());
     }
     let change = Change {
-        from,
-        to,
+        from: step.from,
+        to: step.to,
         is_whole: (place - frame.from) % WHOLE_LINES == 0,
     };
-    append_line(number_at(frame.numbers, place), line, moves, &change, out)
+    append_line(
+        number_at(frame.numbers, place),
+        line,
+        moves,
+        step.rule,
+        &change,
+        out,
+    )
 }
 
 /// The place behind a place.
@@ -166,22 +195,15 @@ impl Telling {
     }
 
     /// Adds a line of the history.
-    fn add_line(
-        &mut self,
-        frame: &Frame<'_>,
-        line: &Line,
-        from: &State,
-        to: &State,
-    ) -> Result<(), Stop>
-        ensures { OnOk result (self.new ≡ with_line frame.now.from frame.now.numbers.now line.now from.now to.now self.old) }
+    fn add_line(&mut self, frame: &Frame<'_>, line: &Line, step: &Leap<'_>) -> Result<(), Stop>
+        ensures { OnOk result (self.new ≡ with_line frame.now.from frame.now.numbers.now line.now step.now.rule step.now.from.now step.now.to.now self.old) }
     {
         append_told(
             frame,
             self.place,
             line,
             self.pending.as_slice(),
-            from,
-            to,
+            step,
             &mut self.done,
         )?;
         self.pending.clear();
@@ -195,33 +217,26 @@ impl Telling {
         frame: &Frame<'_>,
         name: &[u8],
         thread: Tid,
-        from: &State,
-        to: &State,
+        step: &Leap<'_>,
     ) -> Result<(), Stop>
-        ensures { OnOk result (self.new ≡ with_move frame.now.from name.now thread from.now to.now self.old) }
+        ensures { OnOk result (self.new ≡ with_move frame.now.from name.now thread step.now.rule step.now.from.now step.now.to.now self.old) }
     {
         if frame.from >= self.place {
             return Ok(());
         }
         append_comma(&mut self.pending)?;
-        append_move(name, thread, from, to, &mut self.pending)
+        append_move(name, thread, step, &mut self.pending)
     }
 
     /// Adds a step of a run.
     #[tactic(auto, unfolding(crate::specs::Runs::with_step))]
-    pub fn add(
-        &mut self,
-        frame: &Frame<'_>,
-        label: &Label,
-        from: &State,
-        to: &State,
-    ) -> Result<(), Stop>
-        ensures { OnOk result (self.new ≡ with_step frame.now.from frame.now.numbers.now label.now from.now to.now self.old) }
+    pub fn add(&mut self, frame: &Frame<'_>, label: &Label, step: &Leap<'_>) -> Result<(), Stop>
+        ensures { OnOk result (self.new ≡ with_step frame.now.from frame.now.numbers.now label.now step.now.rule step.now.from.now step.now.to.now self.old) }
     {
         match *label {
-            Label::Shown(line) => self.add_line(frame, &line, from, to),
-            Label::Moves(thread) => self.add_move(frame, b"move", thread, from, to),
-            Label::Ends(thread) => self.add_move(frame, b"end", thread, from, to),
+            Label::Shown(line) => self.add_line(frame, &line, step),
+            Label::Moves(thread) => self.add_move(frame, b"move", thread, step),
+            Label::Ends(thread) => self.add_move(frame, b"end", thread, step),
         }
     }
 }

@@ -6,25 +6,30 @@ use Rattle.pif_model.specs.Posix.{World, Call, named_by, mutex_at, thread_at}
 use Rattle.pif_text_model.specs.Replies.{thread_name}
 use Rattle.pif_history_model.specs.declared.labels.Label.{Label}
 use Rattle.pif_history_model.specs.declared.labels.Label.TheVariants.{Shown, Moves, Ends}
-use Rattle.pif_history_model.specs.Searched.{Configuration, Advances, start_of}
+use Rattle.pif_rules_model.specs.declared.rules.Rules.{Rules}
+use Rattle.pif_allow_model.specs.Allowed.{WideConfiguration, wide_start_of}
+use Rattle.pif_rules.specs.declared.rules.Rule.{Rule}
+use Rattle.pif_rules.specs.Sets.{name_of}
+use Rattle.pif_history_run.specs.Steps.{IsStepBy}
 use Rattle.pif_history_text.specs.Texts.{line_text}
 use Rattle.pif_history_witness.specs.declared.deeds.Deed.{Deed}
-use Rattle.pif_history_witness.specs.Deeds.{deed_line, other_deed, own_deed}
+use Rattle.pif_history_witness.specs.Deeds.{deed_line, other_deed, own_deed, rule_front}
 
 -- Whether t owns m.
 abbrev pub owns : World → (t m : ℕ) → Bool
 owns w t m = (mutex_at w m).owner == t
 
--- What t does from w to v, where its open call was and is this.
-abbrev pub own_telling : (t : ℕ) → World → World → Option Call → Option Call → List ℕ
-own_telling t w v (Some c) (Some d) =
-    deed_line t c.request (own_deed c.progress (owns w t (named_by c.request)) (owns v t (named_by c.request)) d.progress)
-own_telling t w v c d = []
+-- What t does from w to v, by this rule or by none, where its open call was and is this.
+abbrev pub own_telling : Option Rule → (t : ℕ) → World → World → Option Call → Option Call → List ℕ
+own_telling rule t w v (Some c) (Some d) =
+    deed_line rule t c.request
+    (own_deed rule t c.progress (mutex_at w (named_by c.request)).owner (owns v t (named_by c.request)) d.progress)
+own_telling rule t w v c d = []
 
 -- The line of a deed, if there is one.
 abbrev pub deed_telling : (t : ℕ) → Request → Option Deed → List ℕ
 deed_telling t q None = []
-deed_telling t q (Some d) = deed_line t q d
+deed_telling t q (Some d) = deed_line None t q d
 
 -- What happens to t by another, where its open call was and is this.
 abbrev pub other_telling : (t : ℕ) → Option Call → Option Call → List ℕ
@@ -45,15 +50,21 @@ others_below (suc n) moving w v = others_below n moving w v ++ if_other moving n
 abbrev pub others : (moving : ℕ) → World → World → List ℕ
 others moving w v = others_below (length w.threads) moving w v
 
--- One step of the machine that is searched, from w to v: a line of the history; a move of a thread; or the end of one
--- that is dying.
-abbrev pub step_telling : Label → World → World → List ℕ
-step_telling (Shown line) w v = line_text line ++ codes "\n" ++ others 0 w v
-step_telling (Moves t) w v = own_telling t w v (thread_at w t).call (thread_at v t).call ++ others t w v
-step_telling (Ends t) w v = codes "  " ++ thread_name t ++ codes " ends\n" ++ others 0 w v
+-- The rule that a line of the history needs, if it does.
+abbrev pub rule_telling : Option Rule → List ℕ
+rule_telling None = []
+rule_telling (Some rule) = codes "  " ++ name_of rule ++ codes "\n"
 
--- A run of these labels, newest first, which leads from the start to s, is told so.
-pub data IsTold (l : Bounds) : List Label → Configuration → List ℕ → Type 0 where
-  start : IsTold l [] (start_of l) []
-  then : {xs : List Label} {s : Configuration} {text : List ℕ} (x : Label) (n : Configuration) → IsTold l xs s text
-      → Advances l s x n → IsTold l (x ∷ xs) n (text ++ step_telling x s.world n.world)
+-- One step of the machine that is searched, from w to v, by this rule or by none: a line of the history; a move of a
+-- thread; or the end of one that is dying.
+abbrev pub step_telling : Option Rule → Label → World → World → List ℕ
+step_telling rule (Shown line) w v = line_text line ++ codes "\n" ++ rule_telling rule ++ others 0 w v
+step_telling rule (Moves t) w v = own_telling rule t w v (thread_at w t).call (thread_at v t).call ++ others t w v
+step_telling rule (Ends t) w v = codes "  " ++ rule_front rule ++ thread_name t ++ codes " ends\n" ++ others 0 w v
+
+-- A run of these labels, newest first, which leads from the start to s, is told so. It may use these rules.
+pub data IsTold (r : Rules) (l : Bounds) : List Label → WideConfiguration → List ℕ → Type 0 where
+  start : IsTold r l [] (wide_start_of l) []
+  then : {xs : List Label} {s : WideConfiguration} {text : List ℕ} (x : Label) (rule : Option Rule) (n : WideConfiguration)
+      → IsTold r l xs s text → IsStepBy r l s x rule n
+      → IsTold r l (x ∷ xs) n (text ++ step_telling rule x s.wide.world n.wide.world)

@@ -3,9 +3,10 @@ ghost use Rattle.arrayvec.specs.ArrayVec.{array_vec_len};
 ghost use Rattle.pif_model.specs.Posix.{named_by, variable_of};
 ghost use Rattle.pif_posix.specs.Shapes.{progress_of};
 ghost use Rattle.pif_text_model.specs.Replies.{mutex_name, cond_name};
-ghost use Rattle.pif_history_witness.specs.Deeds.{blocked_deed, deed_line, deed_words, other_deed, owing_deed, own_deed, result_deed};
+ghost use Rattle.pif_history_witness.specs.Deeds.{blocked_deed, deed_line, deed_words, other_deed, owing_deed, own_deed, plain_deed, result_deed, rule_front};
 
 use pif_posix::{Progress, named_by, variable_of};
+use pif_rules::{Rule, name_of};
 use pif_text::{TEXT_ROOM, Text, append, append_number};
 use pif_types::Request;
 
@@ -14,6 +15,8 @@ use pif_types::Request;
 pub enum Deed {
     /// It takes the mutex, which nobody owned.
     Takes,
+    /// It takes the mutex from this thread.
+    TakesFrom(u32),
     /// It is handed the mutex for which it waited.
     IsHanded,
     /// It joins the waiters of the mutex.
@@ -73,10 +76,10 @@ fn blocked_deed(noted: bool) -> Deed
     }
 }
 
-/// What a thread does by its own move, by how far its call had come and has come, and by whether the thread owned the
-/// mutex that the call names, and owns it.
-pub fn own_deed(before: Progress, owned: bool, owns: bool, after: Progress) -> Deed
-    ensures { result ≡ own_deed (progress_of before) owned owns (progress_of after) }
+/// What a thread does by its own move, which needs no rule, by how far its call had come and has come, and by whether
+/// the thread owned the mutex that the call names, and owns it.
+fn plain_deed(before: Progress, owned: bool, owns: bool, after: Progress) -> Deed
+    ensures { result ≡ plain_deed (progress_of before) owned owns (progress_of after) }
 {
     match (before, after) {
         (_, Progress::Waiting) => Deed::WaitsFor,
@@ -89,6 +92,25 @@ pub fn own_deed(before: Progress, owned: bool, owns: bool, after: Progress) -> D
         (_, Progress::Reacquiring) => owing_deed(before),
         (_, Progress::Used) => Deed::Uses,
         _ => Deed::SpoilsIt,
+    }
+}
+
+/// What a thread does by its own move, by a rule or by none. The mutex that its call names had this owner.
+pub fn own_deed(
+    rule: Option<Rule>,
+    thread: u32,
+    before: Progress,
+    owner: u32,
+    owns: bool,
+    after: Progress,
+) -> Deed
+    ensures { result ≡ own_deed rule thread (progress_of before) owner owns (progress_of after) }
+{
+    match rule {
+        Some(Rule::Steal) => Deed::TakesFrom(owner),
+        Some(Rule::Spurious) => Deed::IsUnblocked,
+        Some(Rule::HeldWait) => Deed::IsBlocked,
+        _ => plain_deed(before, owner == thread, owns, after),
     }
 }
 
@@ -128,7 +150,7 @@ fn append_with_cond(request: &Request, words: &[u8], out: &mut Text)
 }
 
 /// How many bytes of room the words of a deed need.
-const WORDS_ROOM: usize = 32;
+const WORDS_ROOM: usize = 48;
 
 /// Appends a deed of a thread with this open call.
 fn append_deed(request: &Request, deed: Deed, out: &mut Text)
@@ -138,6 +160,11 @@ fn append_deed(request: &Request, deed: Deed, out: &mut Text)
 {
     match deed {
         Deed::Takes => append_with_mutex(request, b" takes ", out),
+        Deed::TakesFrom(owner) => {
+            append_with_mutex(request, b" takes ", out);
+            append(out, b" from t");
+            append_number(out, owner);
+        }
         Deed::IsHanded => append_with_mutex(request, b" is handed ", out),
         Deed::WaitsFor => append_with_mutex(request, b" waits for ", out),
         Deed::WaitsForGood => {
@@ -162,12 +189,29 @@ fn append_deed(request: &Request, deed: Deed, out: &mut Text)
     }
 }
 
+/// How many bytes of room a rule in front of a line needs.
+const RULE_ROOM: usize = 16;
+
+/// Appends what stands in front of a line of a step: the name of the rule that it needs, if it does.
+pub fn append_front(rule: Option<Rule>, out: &mut Text)
+    requires { array_vec_len out.old + RULE_ROOM ≤ TEXT_ROOM }
+    ensures items { out.new.items ≡ out.old.items ++ rule_front rule }
+    ensures len { array_vec_len out.new ≤ array_vec_len out.old + RULE_ROOM }
+{
+    if let Some(rule) = rule {
+        append(out, name_of(rule));
+        append(out, b": ");
+    }
+}
+
 /// The line of a deed of a thread with this open call, behind two blanks.
-pub fn deed_line(thread: u32, request: &Request, deed: Deed) -> Text
-    ensures { result.items ≡ deed_line thread request.now deed }
+pub fn deed_line(rule: Option<Rule>, thread: u32, request: &Request, deed: Deed) -> Text
+    ensures { result.items ≡ deed_line rule thread request.now deed }
 {
     let mut text = Text::new();
-    append(&mut text, b"  t");
+    append(&mut text, b"  ");
+    append_front(rule, &mut text);
+    append(&mut text, b"t");
     append_number(&mut text, thread);
     append_deed(request, deed, &mut text);
     append(&mut text, b"\n");

@@ -9,7 +9,7 @@ use pif_story_drawing::Span;
 use pif_story_model::AnsweredRow;
 use pif_text::Cause;
 use pif_types::NoMemory;
-use pif_watch::WatchSteps;
+use pif_watch::{Part, WatchSteps};
 use std::alloc::Global;
 use std::io::{Read, Write};
 
@@ -42,7 +42,7 @@ fn line_too_far(page: bool, span: &Span, rows: &[AnsweredRow]) -> Option<u32> {
     None
 }
 
-/// The page of a story without a fault.
+/// The page of a story without a fault. The commands are played twice for the drawing, and once for the states.
 ///
 /// # Errors
 ///
@@ -57,8 +57,18 @@ fn page_text<V: WatchSteps>(
 ) -> Result<Vec<u8>, NoMemory>
     ensures { IfOk result (λ text. IsDrawn true story.now text.items) }
 {
-    let drawing = drawing_text(alloc, span, story, plain, rows, watch)?;
-    let states = states_text(alloc, story)?;
+    let count = rows.len();
+    let twice = count.saturating_mul(2);
+    let whole = count.saturating_mul(3);
+    let drawing = drawing_text(
+        alloc,
+        span,
+        story,
+        plain,
+        rows,
+        &mut Part::new(watch, 0, twice, whole),
+    )?;
+    let states = states_text(alloc, story, &mut Part::new(watch, twice, count, whole))?;
     match page_of(alloc, drawing.as_slice(), states.as_slice()) {
         Ok(page) => Ok(page),
         Err(_) => Err(NoMemory),
@@ -126,7 +136,8 @@ fn drawn_text<V: WatchSteps>(
 /// Draws a story, or a script, as an SVG image, or as a page of HTML that needs nothing else: the image, and the state
 /// behind a command that one chooses. Of the commands those are drawn that stand in the lines named. The story is read
 /// to its end before anything is written, and it and the drawing are kept in memory. `notice` keeps the command that is
-/// a fault; if there is none, it is left as it is. `watch` is told of the commands that are played for the drawing.
+/// a fault; if there is none, it is left as it is. `watch` is told of the commands that are played for the drawing and the
+/// states.
 ///
 /// # Errors
 ///

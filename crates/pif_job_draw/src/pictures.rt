@@ -4,6 +4,7 @@ ghost use Rattle.pif_job_draw.specs.Pictures.{PicturesTo};
 use crate::texts::picture_text;
 use pif_script::{CliFault, Notice, read_all, write_whole};
 use pif_script_model::Picture;
+use pif_watch::{Unwatched, WatchSteps};
 use std::alloc::Global;
 use std::io::{Read, Write};
 
@@ -25,7 +26,14 @@ pub fn draw<R: Read, W: Write>(
 ) -> Result<(), CliFault>
     ensures { PicturesTo Picture.Drawing (R.remaining reader.old) (R.remaining reader.new) (W.contents writer.old) (W.contents writer.new) result }
 {
-    write_picture(Picture::Drawing, alloc, reader, writer, notice)
+    write_picture(
+        Picture::Drawing,
+        alloc,
+        reader,
+        writer,
+        notice,
+        &mut Unwatched,
+    )
 }
 
 /// Writes the states of a story, or a script: for each command a line with one JSON object, of the command, its answer,
@@ -43,7 +51,14 @@ pub fn write_states<R: Read, W: Write>(
 ) -> Result<(), CliFault>
     ensures { PicturesTo Picture.States (R.remaining reader.old) (R.remaining reader.new) (W.contents writer.old) (W.contents writer.new) result }
 {
-    write_picture(Picture::States, alloc, reader, writer, notice)
+    write_picture(
+        Picture::States,
+        alloc,
+        reader,
+        writer,
+        notice,
+        &mut Unwatched,
+    )
 }
 
 /// Writes who waits for whom, through which mutex, at the end of a story, or a script: a graph in the language of
@@ -61,25 +76,33 @@ pub fn write_graph<R: Read, W: Write>(
 ) -> Result<(), CliFault>
     ensures { PicturesTo Picture.Graph (R.remaining reader.old) (R.remaining reader.new) (W.contents writer.old) (W.contents writer.new) result }
 {
-    write_picture(Picture::Graph, alloc, reader, writer, notice)
+    write_picture(
+        Picture::Graph,
+        alloc,
+        reader,
+        writer,
+        notice,
+        &mut Unwatched,
+    )
 }
 
 /// Writes this picture of a story, or a script. The story is read to its end before anything is written, and it and the
-/// picture are kept in memory. `notice` is as of `draw`.
+/// picture are kept in memory. `notice` is as of `draw`. `watch` is told of the commands that are played for it.
 ///
 /// # Errors
 ///
 /// Those of `draw`.
-pub fn write_picture<R: Read, W: Write>(
+pub fn write_picture<R: Read, W: Write, V: WatchSteps>(
     picture: Picture,
     alloc: Global,
     reader: &mut R,
     writer: &mut W,
     notice: &mut Notice,
+    watch: &mut V,
 ) -> Result<(), CliFault>
     ensures { PicturesTo picture (R.remaining reader.old) (R.remaining reader.new) (W.contents writer.old) (W.contents writer.new) result }
 {
     let story = read_all(alloc, reader)?;
-    let text = picture_text(picture, alloc, story.as_slice(), notice)?;
+    let text = picture_text(picture, alloc, story.as_slice(), notice, watch)?;
     write_whole(writer, text.as_slice())
 }

@@ -13,16 +13,20 @@ use pif_story_model::AnsweredRow;
 use pif_story_names::names_in;
 use pif_story_states::states_of;
 use pif_types::NoMemory;
-use pif_watch::{Unwatched, WatchSteps};
+use pif_watch::WatchSteps;
 use std::alloc::Global;
 
-/// The states behind the commands of a story, as lines of JSON.
+/// The states behind the commands of a story, as lines of JSON. `watch` is told how far it has come.
 ///
 /// # Errors
 ///
 /// `NoMemory`.
 #[tactic(auto, unfolding(pif_story_states::specs::States::states_text))]
-pub fn states_text(alloc: Global, story: &[u8]) -> Result<Vec<u8>, NoMemory>
+pub fn states_text<V: WatchSteps>(
+    alloc: Global,
+    story: &[u8],
+    watch: &mut V,
+) -> Result<Vec<u8>, NoMemory>
     ensures { IfOk result (λ text. text.items ≡ states_text story.now) }
 {
     let Ok(plain) = plain_story(alloc, story) else {
@@ -31,7 +35,7 @@ pub fn states_text(alloc: Global, story: &[u8]) -> Result<Vec<u8>, NoMemory>
     let Ok(names) = names_in(alloc, story) else {
         return Err(NoMemory);
     };
-    match states_of(alloc, names.as_slice(), plain.as_slice()) {
+    match states_of(alloc, names.as_slice(), plain.as_slice(), watch) {
         Ok(text) => Ok(text),
         Err(_) => Err(NoMemory),
     }
@@ -60,46 +64,55 @@ pub fn drawing_text<V: WatchSteps>(
     }
 }
 
-/// This picture of a story without a fault, whose commands stand there in `plain` and are answered so.
+/// This picture of a story without a fault, whose commands stand there in `plain` and are answered so. `watch` is told
+/// how far it has come.
 ///
 /// # Errors
 ///
 /// `NoMemory`.
-fn text_of(
+fn text_of<V: WatchSteps>(
     picture: Picture,
     alloc: Global,
     story: &[u8],
     plain: &[u8],
     rows: &[AnsweredRow],
+    watch: &mut V,
 ) -> Result<Vec<u8>, NoMemory>
     ensures { IfOk result (λ text. IsPictureOf picture story.now text.items) }
 {
     match picture {
-        Picture::Drawing => {
-            drawing_text(alloc, &Span::all(), story, plain, rows, &mut Unwatched)
-        }
-        Picture::States => states_text(alloc, story),
-        Picture::Graph => Ok(graph_of(alloc, plain, rows)?.into_bytes()),
+        Picture::Drawing => { drawing_text(alloc, &Span::all(), story, plain, rows, watch) }
+        Picture::States => states_text(alloc, story, watch),
+        Picture::Graph => Ok(graph_of(alloc, plain, rows, watch)?.into_bytes()),
     }
 }
 
-/// This picture of a story that is in memory; `notice` keeps the command that is a fault.
+/// This picture of a story that is in memory; `notice` keeps the command that is a fault. `watch` is told how far it
+/// has come, once the story is known to have none.
 ///
 /// # Errors
 ///
 /// Those of `fill_rows`.
-pub fn picture_text(
+pub fn picture_text<V: WatchSteps>(
     picture: Picture,
     alloc: Global,
     story: &[u8],
     notice: &mut Notice,
+    watch: &mut V,
 ) -> Result<Vec<u8>, CliFault>
     ensures filled { FillsRows story.now result }
     ensures shown { IfOk result (λ text. IsPictureOf picture story.now text.items) }
 {
     let filled = fill_rows(alloc, story, notice)?;
     let (plain, rows) = filled;
-    match text_of(picture, alloc, story, plain.as_slice(), rows.as_slice()) {
+    match text_of(
+        picture,
+        alloc,
+        story,
+        plain.as_slice(),
+        rows.as_slice(),
+        watch,
+    ) {
         Ok(text) => Ok(text),
         Err(NoMemory) => Err(CliFault::NoMemory),
     }

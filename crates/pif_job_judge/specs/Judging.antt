@@ -5,6 +5,8 @@ use Rattle.pif_text_model.specs.declared.replies.Cause.{Cause}
 use Rattle.pif_script_model.specs.declared.faults.CliFault.{CliFault}
 use Rattle.pif_script_model.specs.declared.faults.CliFault.TheVariants.{NoMemory, Script, Write}
 use Rattle.pif_script_model.specs.Runs.{WritesPart}
+use Rattle.pif_rules_model.specs.declared.rules.Rules.{Rules}
+use Rattle.pif_rules.specs.Sets.{both}
 use Rattle.pif_history_text.specs.Histories.{Heard}
 use Rattle.pif_history_text.specs.Reading.{ReadsHistory}
 use Rattle.pif_history_text.specs.Verdicts.{fault_line}
@@ -63,8 +65,19 @@ Judges form (Err (Script line cause)) held holds front result =
     ⊎ WritesText held holds (front ++ fault_told form line cause) (Err (fault.Cli (Script line cause))) result
 Judges form (Err other) held holds front result = (result ≡ Err (fault.Cli other)) × Keeps held holds
 
--- The same, by what the reader had and has left, and what the writer held and holds.
-abbrev pub JudgesTo : Form → (before after held holds : Option (List ℕ)) → (front : List ℕ)
+-- A history that allows these rules, too. Of two numbers of `recursion` the greater counts.
+abbrev pub allowing : Rules → Heard → Heard
+allowing r h = record h { allowed = both r h.allowed }
+
+-- The same if there is a history.
+abbrev pub heard_allowing : Rules → Result Heard CliFault → Result Heard CliFault
+heard_allowing r (Ok h) = Ok (allowing r h)
+heard_allowing r (Err fault) = Err fault
+
+-- Judging by what the reader had and has left, and what the writer held and holds. These rules hold beside those that the
+-- history allows.
+abbrev pub JudgesTo : Form → Rules → (before after held holds : Option (List ℕ)) → (front : List ℕ)
     → Result (Unit {0}) JudgeFault → Type 0
-JudgesTo form before after held holds front result =
-    (history : Result Heard CliFault) × ReadsHistory before after history × Judges form history held holds front result
+JudgesTo form r before after held holds front result =
+    (history : Result Heard CliFault) × ReadsHistory before after history
+    × Judges form (heard_allowing r history) held holds front result

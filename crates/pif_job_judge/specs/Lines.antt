@@ -6,9 +6,10 @@ use Rattle.pif_history_model.specs.declared.labels.Label.{Label}
 use Rattle.pif_history_model.specs.declared.lines.Line.{Line}
 use Rattle.pif_history.specs.declared.verdicts.Verdict.{Verdict}
 use Rattle.pif_history.specs.declared.verdicts.Verdict.TheVariants.{Legal, Illegal, Undecided}
-use Rattle.pif_history.specs.Verdicts.{IsVerdictOf}
+use Rattle.pif_rules_model.specs.declared.rules.Rules.{Rules}
+use Rattle.pif_allow.specs.Verdicts.{IsVerdictWith}
 use Rattle.pif_history_model.specs.Lines.{thread_of}
-use Rattle.pif_history_model.specs.Searched.{Configuration}
+use Rattle.pif_allow_model.specs.Allowed.{WideConfiguration}
 use Rattle.pif_history_text.specs.Histories.{Heard, limits_of}
 use Rattle.pif_history_text.specs.Verdicts.{began_line, illegal_line, legal_line, possible_line, refused_line, undecided_line}
 use Rattle.pif_history_witness.specs.Tellings.{IsTold as IsRunTold}
@@ -45,26 +46,28 @@ abbrev pub TellsWhy : (h : Heard) → (before : ℕ) → Line → (text : List �
 TellsWhy h before line text =
     (known : Known) × IsKnown h before line known × (text ≡ why_text known (open_of (thread_of line) h before))
 
--- A text tells nothing; or, if the witness is wanted, perhaps a run whose steps have these labels, newest first.
-abbrev pub TellsRun : Form → Bounds → List Label → (text : List ℕ) → Type 0
-TellsRun Witness l labels text = (text ≡ []) ⊎ ((last : Configuration) × IsRunTold l labels last text)
-TellsRun form l labels text = text ≡ []
+-- A text tells nothing; or, if the witness is wanted, perhaps a run with these rules, whose steps have these labels,
+-- newest first.
+abbrev pub TellsRun : Form → Rules → Bounds → List Label → (text : List ℕ) → Type 0
+TellsRun Witness r l labels text = (text ≡ []) ⊎ ((last : WideConfiguration) × IsRunTold r l labels last text)
+TellsRun form r l labels text = text ≡ []
 
 -- A verdict that there is a run, which a text tells, or which isn't told.
-abbrev pub TellsVerdict : Form → Bounds → Verdict → (text : List ℕ) → Type 0
-TellsVerdict form l (Legal witness) text = TellsRun form l witness.items text
-TellsVerdict form l (Illegal n) text = ⊥
-TellsVerdict form l (Undecided n) text = ⊥
+abbrev pub TellsVerdict : Form → Rules → Bounds → Verdict → (text : List ℕ) → Type 0
+TellsVerdict form r l (Legal witness) text = TellsRun form r l witness.items text
+TellsVerdict form r l (Illegal n) text = ⊥
+TellsVerdict form r l (Undecided n) text = ⊥
 
--- What is told of a history in lines, and how that ends. Behind the line of a legal one its witness may be told.
+-- What is told of a history in lines, and how that ends: the verdict on it with the rules that it allows. Behind the line
+-- of a legal one its witness may be told.
 pub data IsTold (form : Form) (h : Heard) (text : List ℕ) (end : Result (Unit {0}) JudgeFault) : Type 0 where
-  legal : (v : Verdict) (witness : List ℕ) → IsVerdictOf (limits_of h) h.shown v
-      → TellsVerdict form (limits_of h) v witness → text ≡ legal_line h.count ++ witness → end ≡ Ok tt
+  legal : (v : Verdict) (witness : List ℕ) → IsVerdictWith h.allowed (limits_of h) h.shown v
+      → TellsVerdict form h.allowed (limits_of h) v witness → text ≡ legal_line h.count ++ witness → end ≡ Ok tt
       → IsTold form h text end
-  illegal : (n number : ℕ) (line : Line) (why : List ℕ) → IsVerdictOf (limits_of h) h.shown (Illegal n)
+  illegal : (n number : ℕ) (line : Line) (why : List ℕ) → IsVerdictWith h.allowed (limits_of h) h.shown (Illegal n)
       → slice_get h.shown (n - 1) ≡ Some line → IsNumbered h n number → TellsWhy h (n - 1) line why
       → text ≡ illegal_line number line ++ why → end ≡ Err (fault.Cli (Differs number)) → IsTold form h text end
-  undecided : (n number : ℕ) → IsVerdictOf (limits_of h) h.shown (Undecided n) → IsNumbered h n number
+  undecided : (n number : ℕ) → IsVerdictWith h.allowed (limits_of h) h.shown (Undecided n) → IsNumbered h n number
       → text ≡ undecided_line number → end ≡ Err (fault.Undecided number) → IsTold form h text end
 
 -- Bytes grew by what is told in lines of a history that ends so.
@@ -74,7 +77,7 @@ AppendsLines form h end old new = (text : List ℕ) × IsTold form h text end ×
 -- Bytes grew by the line of a legal history, and by what is told of the run whose steps have these labels.
 abbrev pub TellsLegal : Form → Heard → List Label → (old new : List ℕ) → Type 0
 TellsLegal form h labels old new =
-    (witness : List ℕ) × TellsRun form (limits_of h) labels witness × (new ≡ old ++ (legal_line h.count ++ witness))
+    (witness : List ℕ) × TellsRun form h.allowed (limits_of h) labels witness × (new ≡ old ++ (legal_line h.count ++ witness))
 
 -- Bytes grew by what is told of a history whose nth line is the first up to which there is no run, and this is how it
 -- ends.

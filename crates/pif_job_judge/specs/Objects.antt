@@ -4,10 +4,10 @@ use Rattle.pif_script_model.specs.declared.faults.CliFault.TheVariants.{Differs}
 use Rattle.pif_history_model.specs.declared.labels.Label.{Label}
 use Rattle.pif_history_model.specs.declared.lines.Line.{Line}
 use Rattle.pif_history_model.specs.Lines.{thread_of}
-use Rattle.pif_history_model.specs.Searched.{Configuration}
-use Rattle.pif_history_model.specs.Verdicts.{IsLegalBy}
+use Rattle.pif_allow_model.specs.Allowed.{WideConfiguration}
+use Rattle.pif_allow_model.specs.Verdicts.{IsLegalWith}
 use Rattle.pif_history.specs.declared.verdicts.Verdict.TheVariants.{Illegal, Undecided}
-use Rattle.pif_history.specs.Verdicts.{IsVerdictOf}
+use Rattle.pif_allow.specs.Verdicts.{IsVerdictWith}
 use Rattle.pif_history_text.specs.Histories.{Heard, limits_of}
 use Rattle.pif_history_page.specs.declared.verdicts.Began.{Began}
 use Rattle.pif_history_page.specs.declared.verdicts.Known.{Known}
@@ -34,14 +34,14 @@ left_out_of form lines = 0
 abbrev pub TellsSteps : Heard → (left_out : ℕ) → List Label → (text : List ℕ) → Type 0
 TellsSteps h left_out labels text =
     (text ≡ [])
-    ⊎ ((last : Configuration) × (told : Telling) × IsRunTold (limits_of h) h.numbers left_out labels last told
+    ⊎ ((last : WideConfiguration) × (told : Telling) × IsRunTold h.allowed (limits_of h) h.numbers left_out labels last told
     × (text ≡ told.done))
 
 -- A text tells nothing, or a run that shows the first `before` lines of a history.
 abbrev pub TellsBefore : Heard → (before left_out : ℕ) → (text : List ℕ) → Type 0
 TellsBefore h before left_out text =
     (text ≡ [])
-    ⊎ ((labels : List Label) × IsLegalBy (limits_of h) (take before h.shown) labels × TellsSteps h left_out labels text)
+    ⊎ ((labels : List Label) × IsLegalWith h.allowed (limits_of h) (take before h.shown) labels × TellsSteps h left_out labels text)
 
 -- The open call that is told with what is known of an illegal line: none, if the line is refused.
 abbrev pub began_with : Known → Option Began → Option Began
@@ -52,18 +52,18 @@ began_with Nothing began = began
 -- What is told of a history in lines of JSON, and how that ends: the verdict, and behind it a run that shows all lines,
 -- or those before the line of the verdict.
 pub data AreObjects (form : Form) (h : Heard) (text : List ℕ) (end : Result (Unit {0}) JudgeFault) : Type 0 where
-  legal : (labels : List Label) (run : List ℕ) → IsLegalBy (limits_of h) h.shown labels
+  legal : (labels : List Label) (run : List ℕ) → IsLegalWith h.allowed (limits_of h) h.shown labels
       → TellsSteps h (left_out_of form (length h.shown)) labels run
       → text ≡ legal_object h.count (left_out_of form (length h.shown)) ++ run → end ≡ Ok tt
       → AreObjects form h text end
-  illegal : (n number : ℕ) (line : Line) (known : Known) (run : List ℕ) → IsVerdictOf (limits_of h) h.shown (Illegal n)
+  illegal : (n number : ℕ) (line : Line) (known : Known) (run : List ℕ) → IsVerdictWith h.allowed (limits_of h) h.shown (Illegal n)
       → slice_get h.shown (n - 1) ≡ Some line → IsNumbered h n number → IsKnown h (n - 1) line known
       → TellsBefore h (n - 1) (left_out_of form (n - 1)) run
       → text
       ≡ illegal_object number line known (began_with known (open_of (thread_of line) h (n - 1))) (left_out_of form (n - 1))
       ++ run
       → end ≡ Err (fault.Cli (Differs number)) → AreObjects form h text end
-  undecided : (n number : ℕ) (run : List ℕ) → IsVerdictOf (limits_of h) h.shown (Undecided n) → IsNumbered h n number
+  undecided : (n number : ℕ) (run : List ℕ) → IsVerdictWith h.allowed (limits_of h) h.shown (Undecided n) → IsNumbered h n number
       → TellsBefore h (n - 1) (left_out_of form (n - 1)) run
       → text ≡ undecided_object number (left_out_of form (n - 1)) ++ run → end ≡ Err (fault.Undecided number)
       → AreObjects form h text end

@@ -1,3 +1,5 @@
+use pif_rules_model::Rules;
+
 /// In which form a verdict on a history is told.
 #[derive(Clone, Copy, Debug, PartialEq, Eq)]
 pub enum Form {
@@ -21,4 +23,6 @@ pub struct Judging<'a> {
     pub form: Form,
     /// How many states may be made for one line.
     pub states: u32,
+    /// The rules that hold beside those that the history allows.
+    pub allowed: Rules,
 }

@@ -4,7 +4,8 @@ ghost use Rattle.pif_history_text.specs.Histories.{limits_of};
 ghost use Rattle.pif_history_text.specs.Reading.{heard_of};
 ghost use Rattle.pif_job_judge.specs.Why.{IsKnown};
 
-use pif_history::{possible_answers, possible_priorities, refusal};
+use pif_allow::{possible_answers_allowing, possible_priorities_allowing};
+use pif_history::refusal;
 use pif_history_model::Line;
 use pif_history_page::Known;
 use pif_history_text::History;
@@ -26,12 +27,17 @@ fn numbers_of(
 {
     let lines = &history.shown.as_slice()[..before];
     let limits = history.limits();
+    let rules = &history.allowed;
     match line {
-        Line::Answer(thread, _) => match possible_answers(alloc, limits, lines, *thread, states) {
+        Line::Answer(thread, _) => match possible_answers_allowing(
+            alloc, rules, limits, lines, *thread, states,
+        ) {
             Ok(answers) => Ok(Known::Numbers(answers)),
             Err(_) => Err(CliFault::NoMemory),
         },
-        Line::Prio(thread, _) => match possible_priorities(alloc, limits, lines, *thread, states) {
+        Line::Prio(thread, _) => match possible_priorities_allowing(
+            alloc, rules, limits, lines, *thread, states,
+        ) {
             Ok(priorities) => Ok(Known::Numbers(priorities)),
             Err(_) => Err(CliFault::NoMemory),
         },

@@ -1,5 +1,5 @@
 ghost use Rattle.std.specs.Prelude.{◌≡◌, ◌≤◌, IfErr, IfOk, OnOk, vec_len};
-ghost use Rattle.pif_history.specs.Verdicts.{IsVerdictOf};
+ghost use Rattle.pif_allow.specs.Verdicts.{IsVerdictWith};
 ghost use Rattle.pif_history_text.specs.Histories.{limits_of};
 ghost use Rattle.pif_history_text.specs.Reading.{IsPaired, heard_of};
 ghost use Rattle.pif_job_judge.specs.Lines.{AppendsLines, TellsIllegal, TellsLegal, TellsRun};
@@ -13,19 +13,21 @@ use pif_history::Verdict;
 use pif_history_model::{HistoryLimits, Label};
 use pif_history_text::{History, push_illegal, push_undecided};
 use pif_history_witness::witness_text;
+use pif_rules_model::Rules;
 use pif_script_model::CliFault;
 use std::alloc::Global;
 
 /// What is told of a run whose steps have these labels, newest first: nothing, if there is no such run.
 fn told_witness(
     alloc: Global,
+    rules: &Rules,
     limits: HistoryLimits,
     witness: &[Label],
 ) -> Result<Vec<u8>, CliFault>
-    ensures told { IfOk result (λ text. TellsRun Form.Witness limits witness.now text.items) }
+    ensures told { IfOk result (λ text. TellsRun Form.Witness rules.now limits witness.now text.items) }
     ensures failed { IfErr result (λ fault. fault ≡ CliFault.NoMemory) }
 {
-    match witness_text(alloc, limits, witness) {
+    match witness_text(alloc, rules, limits, witness) {
         Ok(Some(text)) => Ok(text),
         Ok(None) => Ok(Vec::new(alloc)),
         Err(_) => Err(CliFault::NoMemory),
@@ -37,14 +39,15 @@ fn told_witness(
 fn told_run(
     alloc: Global,
     form: Form,
+    rules: &Rules,
     limits: HistoryLimits,
     witness: &[Label],
 ) -> Result<Vec<u8>, CliFault>
-    ensures told { IfOk result (λ text. TellsRun form limits witness.now text.items) }
+    ensures told { IfOk result (λ text. TellsRun form rules.now limits witness.now text.items) }
     ensures failed { IfErr result (λ fault. fault ≡ CliFault.NoMemory) }
 {
     match form {
-        Form::Witness => told_witness(alloc, limits, witness),
+        Form::Witness => told_witness(alloc, rules, limits, witness),
         Form::Text | Form::Json | Form::Page => Ok(Vec::new(alloc)),
     }
 }
@@ -60,7 +63,8 @@ fn tell_verdict_legal(
     ensures told { OnOk result (TellsLegal asked.now.form (heard_of history.now) witness.now out.old.items out.new.items) }
     ensures failed { IfErr result (λ fault. fault ≡ CliFault.NoMemory) }
 {
-    let more = told_run(alloc, asked.form, history.limits(), witness)?;
+    let limits = history.limits();
+    let more = told_run(alloc, asked.form, &history.allowed, limits, witness)?;
     match tell_legal(history.count, more.as_slice(), out) {
         Ok(()) => Ok(()),
         Err(_) => Err(CliFault::NoMemory),
@@ -107,7 +111,7 @@ pub fn tell_lines(
     out: &mut Vec<u8>,
 ) -> Result<Result<(), JudgeFault>, CliFault>
     requires paired { IsPaired history.now }
-    requires verdict { IsVerdictOf (limits_of (heard_of history.now)) history.now.shown.items verdict }
+    requires verdict { IsVerdictWith history.now.allowed (limits_of (heard_of history.now)) history.now.shown.items verdict }
     ensures told { IfOk result (λ end. AppendsLines asked.now.form (heard_of history.now) end out.old.items out.new.items) }
     ensures failed { IfErr result (λ fault. fault ≡ CliFault.NoMemory) }
 {

@@ -1,7 +1,7 @@
 ghost use Rattle.std.specs.Prelude.{◌≡◌, ◌≤◌, ◌-◌, Err, IfErr, IfOk, Ok, OnOk, vec_len};
 ghost use Rattle.pif_history.specs.declared.verdicts.Verdict.TheVariants.{Illegal, Undecided};
-ghost use Rattle.pif_history.specs.Verdicts.{IsVerdictOf};
-ghost use Rattle.pif_history_model.specs.Verdicts.{IsLegalBy};
+ghost use Rattle.pif_allow.specs.Verdicts.{IsVerdictWith};
+ghost use Rattle.pif_allow_model.specs.Verdicts.{IsLegalWith};
 ghost use Rattle.pif_history_text.specs.Histories.{limits_of};
 ghost use Rattle.pif_history_text.specs.Reading.{IsPaired, heard_of};
 ghost use Rattle.pif_job_judge.specs.Objects.{AppendsBefore, AppendsObjects, AppendsSteps, began_with, left_out_of};
@@ -11,7 +11,8 @@ use crate::forms::{Form, Judging};
 use crate::known::known_of;
 use crate::places::{line_at, number_at};
 use crate::telling::began_before;
-use pif_history::{Unwatched, Verdict, judge_lines};
+use pif_allow::judge_allowing;
+use pif_history::{Unwatched, Verdict};
 use pif_history_model::Label;
 use pif_history_page::{
     Began, Known, append_illegal, append_legal, append_undecided, first_shown, run_text,
@@ -65,6 +66,7 @@ fn append_steps(
 {
     match run_text(
         alloc,
+        &history.allowed,
         history.limits(),
         history.numbers.as_slice(),
         left_out,
@@ -94,7 +96,14 @@ fn append_before(
     ensures failed { IfErr result (λ fault. fault ≡ CliFault.NoMemory) }
 {
     let lines = &history.shown.as_slice()[..before];
-    match judge_lines(alloc, history.limits(), lines, states, &mut Unwatched) {
+    match judge_allowing(
+        alloc,
+        &history.allowed,
+        history.limits(),
+        lines,
+        states,
+        &mut Unwatched,
+    ) {
         Ok(Verdict::Legal(witness)) => {
             append_steps(alloc, history, left_out, witness.as_slice(), out)
         }
@@ -111,7 +120,7 @@ fn append_legal_history(
     labels: &[Label],
     out: &mut Vec<u8>,
 ) -> Result<(), CliFault>
-    requires { IsLegalBy (limits_of (heard_of history.now)) history.now.shown.items labels.now }
+    requires { IsLegalWith history.now.allowed (limits_of (heard_of history.now)) history.now.shown.items labels.now }
     ensures told { OnOk result (AppendsObjects form (heard_of history.now) (Ok tt) out.old.items out.new.items) }
     ensures failed { IfErr result (λ fault. fault ≡ CliFault.NoMemory) }
 {
@@ -133,7 +142,7 @@ fn append_illegal_history(
     out: &mut Vec<u8>,
 ) -> Result<JudgeFault, CliFault>
     requires paired { IsPaired history.now }
-    requires verdict { IsVerdictOf (limits_of (heard_of history.now)) history.now.shown.items (Illegal count) }
+    requires verdict { IsVerdictWith history.now.allowed (limits_of (heard_of history.now)) history.now.shown.items (Illegal count) }
     ensures told { IfOk result (λ end. AppendsObjects asked.now.form (heard_of history.now) (Err end) out.old.items out.new.items) }
     ensures failed { IfErr result (λ fault. fault ≡ CliFault.NoMemory) }
 {
@@ -161,7 +170,7 @@ fn append_undecided_history(
     out: &mut Vec<u8>,
 ) -> Result<JudgeFault, CliFault>
     requires paired { IsPaired history.now }
-    requires verdict { IsVerdictOf (limits_of (heard_of history.now)) history.now.shown.items (Undecided count) }
+    requires verdict { IsVerdictWith history.now.allowed (limits_of (heard_of history.now)) history.now.shown.items (Undecided count) }
     ensures told { IfOk result (λ end. AppendsObjects asked.now.form (heard_of history.now) (Err end) out.old.items out.new.items) }
     ensures failed { IfErr result (λ fault. fault ≡ CliFault.NoMemory) }
 {
@@ -188,7 +197,7 @@ pub fn tell_objects(
     out: &mut Vec<u8>,
 ) -> Result<Result<(), JudgeFault>, CliFault>
     requires paired { IsPaired history.now }
-    requires verdict { IsVerdictOf (limits_of (heard_of history.now)) history.now.shown.items verdict }
+    requires verdict { IsVerdictWith history.now.allowed (limits_of (heard_of history.now)) history.now.shown.items verdict }
     ensures told { IfOk result (λ end. AppendsObjects asked.now.form (heard_of history.now) end out.old.items out.new.items) }
     ensures failed { IfErr result (λ fault. fault ≡ CliFault.NoMemory) }
 {

@@ -12,7 +12,7 @@ use crate::spans::Span;
 use pif_core::Core;
 use pif_story_model::AnsweredRow;
 use pif_types::{MutexId, NoMemory, Tid};
-use pif_watch::WatchSteps;
+use pif_watch::{Part, WatchSteps};
 use std::alloc::{AllocError, Global};
 
 /// A drawing while it is made.
@@ -70,7 +70,9 @@ impl Drawing {
         if self.add_lanes().is_err() || self.add_bars().is_err() {
             return Err(NoMemory);
         }
-        play(alloc, story, rows, self, rows.len(), told)?;
+        let count = rows.len();
+        let mut half = Part::new(told, count, count, count.saturating_mul(2));
+        play(alloc, story, rows, self, &mut half)?;
         let mut page = Page::new(alloc);
         write_drawing(&self.plan, names, &self.sheet, &mut page);
         page.text()

@@ -6,7 +6,7 @@ use crate::rows::Row;
 use pif_core::{Core, Status};
 use pif_story_model::AnsweredRow;
 use pif_types::{CondId, MutexId, NoMemory, Tid};
-use pif_watch::Unwatched;
+use pif_watch::WatchSteps;
 use std::alloc::Global;
 
 /// Who waits for whom behind the commands that were played.
@@ -15,16 +15,21 @@ struct Graph {
     page: Page,
 }
 
-/// Who waits for whom at the end of a story, as a graph.
+/// Who waits for whom at the end of a story, as a graph. `told` is told of each command as a step.
 ///
 /// # Errors
 ///
 /// A growth of memory was refused.
-pub fn graph_of(alloc: Global, story: &[u8], rows: &[AnsweredRow]) -> Result<String, NoMemory> {
+pub fn graph_of<V: WatchSteps>(
+    alloc: Global,
+    story: &[u8],
+    rows: &[AnsweredRow],
+    told: &mut V,
+) -> Result<String, NoMemory> {
     let mut graph = Graph {
         page: Page::new(alloc),
     };
-    play(alloc, story, rows, &mut graph, 0, &mut Unwatched)?;
+    play(alloc, story, rows, &mut graph, told)?;
     graph.page.text()
 }
 

@@ -8,7 +8,7 @@ use pif_story_model::AnsweredRow;
 use pif_story_names::name_of;
 use pif_text::{Addition, Command};
 use pif_types::{MutexId, NoMemory, Request, Tid};
-use pif_watch::WatchSteps;
+use pif_watch::{Part, WatchSteps};
 use std::alloc::{AllocError, Global};
 
 /// Where the first column begins, if threads have no names.
@@ -92,7 +92,9 @@ impl Planner {
         rows: &[AnsweredRow],
         told: &mut V,
     ) -> Result<Plan, NoMemory> {
-        play(alloc, story, rows, self, 0, told)?;
+        let count = rows.len();
+        let mut half = Part::new(told, 0, count, count.saturating_mul(2));
+        play(alloc, story, rows, self, &mut half)?;
         if self.failed {
             Err(NoMemory)
         } else {

@@ -17,8 +17,7 @@ pub trait Watch {
 }
 
 /// Plays the commands of a story, by a core to which nothing was added, under the limits that the story begins with, or
-/// else those of scripts. For a drawing all are played twice: `told` is told of each as a step, behind so many that are
-/// done.
+/// else those of scripts. `told` is told of each as a step.
 ///
 /// # Errors
 ///
@@ -28,12 +27,11 @@ pub fn play<W: Watch, V: WatchSteps>(
     story: &[u8],
     rows: &[AnsweredRow],
     watch: &mut W,
-    done: usize,
     told: &mut V,
 ) -> Result<(), NoMemory> {
     match Core::new(alloc, limits_of(rows)) {
         Ok(mut core) => {
-            play_rows(&mut core, story, rows, watch, done, told);
+            play_rows(&mut core, story, rows, watch, told);
             Ok(())
         }
         Err(_) => Err(NoMemory),
@@ -46,12 +44,10 @@ fn play_rows<W: Watch, V: WatchSteps>(
     story: &[u8],
     rows: &[AnsweredRow],
     watch: &mut W,
-    done: usize,
     told: &mut V,
 ) {
-    let count = rows.len().saturating_mul(2);
     for (place, answered) in rows.iter().enumerate() {
-        told.step(done.saturating_add(place), count);
+        told.step(place, rows.len());
         if let Some(row) = row_of(answered, story) {
             obey(core, row.command);
             watch.see(&row, core);

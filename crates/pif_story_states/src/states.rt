@@ -9,6 +9,7 @@ use pif_script::{OpenFault, obey, open_core};
 use pif_story::{row_of, split_line};
 use pif_text::{Added, Command, Fact, Reply, command_of};
 use pif_types::{AddFault, CondId, Health, MutexId, Prio, Tid};
+use pif_watch::WatchSteps;
 use std::alloc::{AllocError, Global};
 
 /// Has a core do what a command asks, or makes the core if it is the first one. `None` if the command is a fault.
@@ -68,21 +69,27 @@ fn append_row(
 }
 
 /// The states behind the commands of a story, of which nothing but its words is given: a line for each, up to the first
-/// fault. Threads have the names that these comments give.
+/// fault. Threads have the names that these comments give. `told` is told how many bytes of the words are passed.
 ///
 /// # Errors
 ///
 /// A growth of memory was refused.
 #[tactic(auto, using(pif_story_model::proofs::StoriesLemmas::rows_from_nothing, pif_story_model::proofs::StoriesLemmas::rows_from_passed, pif_story_model::proofs::StoriesLemmas::rows_from_row))]
-pub fn states_of(alloc: Global, names: &[u8], plain: &[u8]) -> Result<Vec<u8>, AllocError>
+pub fn states_of<V: WatchSteps>(
+    alloc: Global,
+    names: &[u8],
+    plain: &[u8],
+    told: &mut V,
+) -> Result<Vec<u8>, AllocError>
     ensures { IfOk result (λ text. text.items ≡ states_from names.now None (rows_from 1 (lines plain.now))) }
 {
     let mut core = None;
     let mut text = Vec::new(alloc);
     let mut rest = Some(plain);
     let mut number = 0u64;
-    let _size = plain.len();
+    let size = plain.len();
     'lines: while let Some(left) = rest {
+        told.step(size.saturating_sub(left.len()), size);
         let (line, behind) = split_line(left);
         rest = behind;
         number += 1;

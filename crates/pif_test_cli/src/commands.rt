@@ -1,7 +1,9 @@
 mod drives;
 mod files;
 mod messages;
+mod progress;
 mod randoms;
+mod saves;
 mod shows;
 mod terminals;
 mod texts;
@@ -29,6 +31,9 @@ const BOOSTED_ANSWERS: &str =
 
 /// What the errors are told where memory is refused.
 const NO_MEMORY: &str = "pif: out of memory\n";
+
+/// What they are told if it is refused for notes alone.
+const NO_NOTES: &str = "pif: out of memory for notes\n";
 
 /// Asks the program for a job with these words over a reader. Answers the status.
 fn ask_over<R: Read, W: Write, E: Write>(
@@ -116,7 +121,7 @@ pub(crate) fn check_cut(rt: &impl Abort, ended: u8, written: &[u8], expected: &[
 }
 
 /// What a job writes to the output and to the errors, or that it is out of memory: then nothing is written but the
-/// message.
+/// message. If only the notes are refused memory, that is said.
 fn check_written(
     rt: &(impl Abort + Threads + Wait + Sync),
     alloc: Global,
@@ -126,9 +131,10 @@ fn check_written(
 ) {
     let (mut output, mut errors) = (Kept::new(), Kept::new());
     let ended = ask(rt, alloc, words, input, &mut output, &mut errors);
+    let has_no_notes = errors.as_slice() == NO_NOTES.as_bytes();
     let (answers, message) = match ended {
         4 => ("", NO_MEMORY),
-        _ => (expected, ""),
+        _ => (expected, if has_no_notes { NO_NOTES } else { "" }),
     };
     check_bytes(rt, output.as_slice(), answers.as_bytes(), "the output");
     check_bytes(rt, errors.as_slice(), message.as_bytes(), "the errors");
@@ -136,7 +142,7 @@ fn check_written(
 }
 
 /// Each allocation of a run is refused in turn by `rt try --test --fail-alloc N`: then nothing is written but the
-/// message.
+/// message, or all answers, if it was for the notes.
 #[test]
 fn out_of_memory_writes_nothing(rt: HostRuntime) {
     check_written(

@@ -3,13 +3,16 @@
 //!
 //! | Module | Tests of |
 //! |---|---|
-//! | `commands` | `pif_cli`: words of a process, files, random scripts, memory and writes that fail, clients in threads |
+//! | `commands` | `pif_cli`: words of a process, files, stories that are saved, random scripts, memory, failing writes, drives |
 //! | `processes` | none: the processes that the others share |
+//! | `listed_files` | none: files of which is known what they are to be asked |
 //!
 //! What words and an input can ask is a transcript of `pif_test_transcripts`.
 #![tactic(auto)]
 
 #[cfg(test)]
 mod commands;
+#[cfg(test)]
+mod listed_files;
 #[cfg(test)]
 mod processes;

@@ -1,5 +1,6 @@
 mod failures;
 mod limits;
+mod progress;
 
 /// A thread of priority 10 holds a mutex, and one of priority 50 waits for it until it is handed over.
 const BOOSTED: &str = "# A boost.\nthread 10\nthread 50\nmutex normal\ncall t1 lock m1\n\

@@ -13,7 +13,7 @@ const UNREAD: &str = "pif: no/such: No such file or directory\n";
 
 /// A file that isn't there, and a story in place of a history.
 const UNREAD_AND_NO_HISTORY: &str = "pif: no/such: No such file or directory\n\
-    -:1:1: no line of a history, or limits behind another line\n";
+    -:1:1: no line of a history, or one that stands too late or twice\n";
 
 const NO_FILE: &str = "error: 'check --write' writes into files, and the standard input is none\n";
 

@@ -2,6 +2,7 @@
 use super::{Kept, check_bytes, check_status};
 use crate::processes::Process;
 use pif_cli::{Input, Output, Progress, Status, WatchFiles, command_at_terminal};
+use pif_job_explore::Watch as WatchStates;
 use pif_job_judge::Watch;
 use pif_watch::WatchSteps;
 use std::io::Write;
@@ -21,11 +22,11 @@ const GREETED: &str = "'help' names the commands; Ctrl-D ends\n\
 const ASKED: [(bool, &str); 2] = [(true, GREETED), (false, "none\n")];
 
 /// Lets a process do what its words ask for over one command, perhaps at a terminal.
-fn ask_at_terminal<
+pub(super) fn ask_at_terminal<
     P: Env + AllocGlobal + Files + Threads + Wait + Sync,
     W: Write,
     E: Write,
-    V: Watch + WatchFiles + WatchSteps,
+    V: Watch + WatchFiles + WatchStates + WatchSteps,
 >(process: &P, is_terminal: bool, output: &mut W, errors: &mut E, watch: &mut V) -> Status {
     let (mut input, mut output) = (Input::new(b"pick\n".as_slice()), Output::new(output));
     command_at_terminal(process, is_terminal, &mut input, &mut output, errors, watch)

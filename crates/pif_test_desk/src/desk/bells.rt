@@ -12,7 +12,14 @@ use std::sync::Wait;
 use std::test::Fail;
 use std::thread::{Threads, join};
 
-/// The first client unlocks the mutex once the last sleeps, whose bell rings by that.
+/// The bell of the last thread has rung twice, and that of the first once.
+fn check_rings<R: Wait + Abort>(rt: &R, desk: &Desk<Watch>) {
+    let rings = (desk.rings(thread(65)), desk.rings(thread(1)));
+    holds(rt, rings == (Some(2), Some(1)), "bells have rung otherwise");
+}
+
+/// The first client unlocks the mutex once the last sleeps, whose bell rings by that, and locks it again. Then it does
+/// so a second time.
 fn unlock_at_sleep<R: Wait + Clock + Abort>(
     rt: &R,
     desk: &Desk<Watch>,
@@ -23,11 +30,22 @@ fn unlock_at_sleep<R: Wait + Clock + Abort>(
     check_bell(rt, desk, last, 0);
     first.call(rt, desk, Request::Unlock(MutexId::default()))?;
     check_bell(rt, desk, last, 1);
+    first.call(rt, desk, lock())?;
+    wait_for_sleep(rt, desk, last);
+    first.call(rt, desk, Request::Unlock(MutexId::default()))?;
+    check_rings(rt, desk);
     Ok(())
 }
 
-/// What the last client is answered that locks the mutex.
-fn lock_last(rt: &impl Wait, desk: &Desk<Watch>, last: &mut Client) -> Result<u32, DeskFault> {
+/// What the last client is answered that locks the mutex, unlocks it once the first sleeps, and locks it again.
+fn lock_last<R: Wait + Clock + Abort>(
+    rt: &R,
+    desk: &Desk<Watch>,
+    last: &mut Client,
+) -> Result<u32, DeskFault> {
+    last.call(rt, desk, lock())?;
+    wait_for_sleep(rt, desk, thread(1));
+    last.call(rt, desk, Request::Unlock(MutexId::default()))?;
     Ok(last.call(rt, desk, lock())?.answer)
 }
 
@@ -64,7 +82,7 @@ pub(crate) fn last_waits_for_first<R: Threads + Wait + Clock + Abort + Sync>(
 
 #[test]
 fn the_last_thread_sleeps_and_is_woken(rt: HostRuntime) -> Result<(), Fail> {
-    play(&rt, rt.alloc(), Watch::new(rt), Scene::Crowd, Ok(3))
+    play(&rt, rt.alloc(), Watch::new(rt), Scene::Crowd, Ok(7))
 }
 
 /// How often the bell of the thread of this number has rung, if there is one.

@@ -54,7 +54,14 @@ fn note(
         Noting::TraceScript => trace_noting(alloc, reader, writer, notice),
         Noting::Show => show_story(Detail::Changes, alloc, reader, writer, notice),
         Noting::Page => write_drawn(PAGE, alloc, reader, writer, notice, &mut Unwatched),
-        Noting::States => write_picture(Picture::States, alloc, reader, writer, notice),
+        Noting::States => write_picture(
+            Picture::States,
+            alloc,
+            reader,
+            writer,
+            notice,
+            &mut Unwatched,
+        ),
     }
 }
 

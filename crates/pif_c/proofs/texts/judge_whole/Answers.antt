@@ -9,6 +9,6 @@ returns c =
     let form = c.args.asked.now.form in
     let nameless : front_of (option_copied c.args.asked.now.name) form ≡ [] = ap (λ n. front_of (option_copied n) form) c.requires in (
       Some c.judge-done.new.reader.now,
-      subst (λ (front : List ℕ). JudgesTo form (Some c.args.history.now) (Some c.judge-done.new.reader.now) (Some []) (Some c.judge-done.new.writer.items) front c.judge-done.result) nameless
-          (subst (λ (held : List ℕ). JudgesTo form (Some c.args.history.now) (Some c.judge-done.new.reader.now) (Some held) (Some c.judge-done.new.writer.items) (front_of (option_copied c.args.asked.now.name) form) c.judge-done.result) c.new-text.ensures.items c.judge-done.ensures),
+      subst (λ (front : List ℕ). JudgesTo form c.args.asked.now.allowed (Some c.args.history.now) (Some c.judge-done.new.reader.now) (Some []) (Some c.judge-done.new.writer.items) front c.judge-done.result) nameless
+          (subst (λ (held : List ℕ). JudgesTo form c.args.asked.now.allowed (Some c.args.history.now) (Some c.judge-done.new.reader.now) (Some held) (Some c.judge-done.new.writer.items) (front_of (option_copied c.args.asked.now.name) form) c.judge-done.result) c.new-text.ensures.items c.judge-done.ensures),
     )

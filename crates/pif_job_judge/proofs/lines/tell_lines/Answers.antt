@@ -1,7 +1,7 @@
 use Rattle.std.proofs.Common.{List, subst, sym, arith}
 use Rattle.pif_history_model.specs.declared.labels.Label.{Label}
 use Rattle.pif_history.specs.declared.verdicts.Verdict.{Verdict}
-use Rattle.pif_history.specs.Verdicts.{IsVerdictOf}
+use Rattle.pif_allow.specs.Verdicts.{IsVerdictWith}
 use Rattle.pif_history_text.specs.Histories.{limits_of}
 use Rattle.pif_history_text.specs.Reading.{heard_of}
 use Rattle.pif_job_judge.specs.Lines.{TellsRun, TellsVerdict}
@@ -13,16 +13,16 @@ returns-in-Ok-clause-told c =
     let form = c.args.asked.now.form in
     let h = heard_of c.args.history.now in
     let tells = c.in-Ok.ensures.told in
-    let run = subst (λ (ls : List Label). TellsRun form (limits_of h) ls tells.0) c.as_slice.ensures.value tells.1 in
+    let run = subst (λ (ls : List Label). TellsRun form h.allowed (limits_of h) ls tells.0) c.as_slice.ensures.value tells.1 in
     told_legal form h c.args.verdict tells.0 c.args.out.now.items c.tell_verdict_legal.new.out.items c.requires.verdict
-    (subst (λ (v : Verdict). TellsVerdict form (limits_of h) v tells.0) (sym c.in-Legal.is) run) tells.2
+    (subst (λ (v : Verdict). TellsVerdict form h.allowed (limits_of h) v tells.0) (sym c.in-Legal.is) run) tells.2
 
 pub returns-in-Ok-tell_illegal-clause-told : goal.returns-in-Ok-tell_illegal-clause-told
 returns-in-Ok-tell_illegal-clause-told c =
     let form = c.args.asked.now.form in
     let h = heard_of c.args.history.now in
     told_illegal form h c.in-Illegal.count c.args.out.now.items c.tell_illegal.new.out.items c.in-Ok-tell_illegal.end
-    (subst (λ (v : Verdict). IsVerdictOf (limits_of h) h.shown v) c.in-Illegal.is c.requires.verdict)
+    (subst (λ (v : Verdict). IsVerdictWith h.allowed (limits_of h) h.shown v) c.in-Illegal.is c.requires.verdict)
     c.in-Ok-tell_illegal.ensures.told
 
 pub returns-in-Ok-push_undecided-clause-told : goal.returns-in-Ok-push_undecided-clause-told
@@ -31,17 +31,17 @@ returns-in-Ok-push_undecided-clause-told c =
     let h = heard_of c.args.history.now in
     rw c.from.ensures (told_undecided form h c.in-Undecided.count c.number_at-number.result c.args.out.now.items
     c.push_undecided.new.out.items
-    (subst (λ (v : Verdict). IsVerdictOf (limits_of h) h.shown v) c.in-Undecided.is c.requires.verdict)
+    (subst (λ (v : Verdict). IsVerdictWith h.allowed (limits_of h) h.shown v) c.in-Undecided.is c.requires.verdict)
     c.number_at-number.ensures c.in-Ok-push_undecided.ensures)
 
 pub tell_illegal-requires-clause-within : goal.tell_illegal-requires-clause-within
 tell_illegal-requires-clause-within c =
     let h = heard_of c.args.history.now in
-    let v = subst (λ (v : Verdict). IsVerdictOf (limits_of h) h.shown v) c.in-Illegal.is c.requires.verdict in
+    let v = subst (λ (v : Verdict). IsVerdictWith h.allowed (limits_of h) h.shown v) c.in-Illegal.is c.requires.verdict in
     (v.0, omega (arith, v.1, c.args.history.now.shown.ok.0))
 
 pub number_at-number-requires : goal.number_at-number-requires
 number_at-number-requires c =
     let h = heard_of c.args.history.now in
-    let v = subst (λ (v : Verdict). IsVerdictOf (limits_of h) h.shown v) c.in-Undecided.is c.requires.verdict in
+    let v = subst (λ (v : Verdict). IsVerdictWith h.allowed (limits_of h) h.shown v) c.in-Undecided.is c.requires.verdict in
     record { within = (v.0, omega (arith, v.1, c.args.history.now.shown.ok.0, c.args.history.now.numbers.ok.0, c.requires.paired)) }

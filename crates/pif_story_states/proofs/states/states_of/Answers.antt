@@ -7,7 +7,7 @@ use Rattle.pif_story_states.proofs.StateLemmas.{states_whole, told_on, told_out}
 use Rattle.pif_story_states.proofs.states.states_of.Goals as goal
 
 pub returns-then-not-branch : goal.returns-then-not-branch
-returns-then-not-branch c =
+returns-then-not-branch g c =
     let row : StoryRow = (c.in-Some-row_of.words.now, option_copied c.in-Some-row_of.field-0-1) in
     let whole = states_from c.args.names.now None (rows_from 1 (lines c.args.plain.now)) in
     let before = rw (c.in-Some.is, c.split_line.ensures.split) at c.lines.invariant.same in
@@ -17,7 +17,7 @@ returns-then-not-branch c =
     c.if-not-branch.true
 
 pub lines-preserved-else-not-branch : goal.lines-preserved-else-not-branch
-lines-preserved-else-not-branch c =
+lines-preserved-else-not-branch g c =
     let row : StoryRow = (c.in-Some-row_of.words.now, option_copied c.in-Some-row_of.field-0-1) in
     let whole = states_from c.args.names.now None (rows_from 1 (lines c.args.plain.now)) in
     let before = rw (c.in-Some.is, c.split_line.ensures.split) at c.lines.invariant.same in
@@ -31,6 +31,6 @@ lines-preserved-else-not-branch c =
     }
 
 pub returns : goal.returns
-returns c =
+returns g c =
     states_whole c.args.names.now (states_from c.args.names.now None (rows_from 1 (lines c.args.plain.now)))
     c.lines.text.items (c.lines.number + 1) c.lines.core (rw c.in_default.is at c.lines.invariant.same)

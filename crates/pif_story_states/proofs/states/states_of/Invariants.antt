@@ -7,11 +7,11 @@ use Rattle.pif_story_states.specs.States.{states_from}
 use Rattle.pif_story_states.proofs.states.states_of.Given as goal
 
 abbrev pub invariant-lines : goal.invariant-lines
-invariant-lines l = record {
+invariant-lines g l = record {
   same : states_from l.names None (rows_from 1 (lines l.fn.plain))
       ≡ l.text.items ++ states_from l.names l.core (rows_from (l.number + 1) (lines_behind (option_copied l.rest)));
   within : l.number + option_map_or (λ text. length text.now + 1) l.rest 0 ≤ length l.fn.plain + 1;
 }
 
 abbrev pub decreases-lines : goal.decreases-lines
-decreases-lines l = option_map_or (λ text. length text.now + 1) l.rest 0
+decreases-lines g l = option_map_or (λ text. length text.now + 1) l.rest 0
