@@ -7,8 +7,8 @@ ghost use Rattle.pif_job_judge.specs.declared.faults.JudgeFault.{JudgeFault};
 ghost use Rattle.pif_rules_model.specs.Rules.{no_rules};
 ghost use Rattle.pif_c.specs.Texts.{fault_number, ended_number, judged_number, form_of, JudgesAlone, Wholly, HandsOut, IsHandedOut};
 
-use pif_history_text::no_rules;
 use pif_job_judge::{Form, JudgeFault, Judging, Unwatched};
+use pif_rules::no_rules;
 use pif_script_model::CliFault;
 use std::alloc::Global;
 

@@ -5,8 +5,7 @@ ghost use Rattle.pif_rules_model.specs.Rules.{no_rules};
 ghost use Rattle.pif_cli_words.specs.Rules.{allow_all, allow_rule, allowed_in, are_rules, rules_of};
 
 use clap::ArgAction;
-use pif_history_text::no_rules;
-use pif_rules::{both, rules_named};
+use pif_rules::{both, no_rules, rules_named};
 use pif_rules_model::Rules;
 use std::alloc::Global;
 

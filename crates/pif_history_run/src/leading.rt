@@ -7,8 +7,7 @@ ghost use Rattle.pif_history_run.specs.Steps.{AreSteps, IsStepBy};
 
 use pif_allow::{AllowingMachine, WidePosition};
 use pif_history_model::{HistoryLimits, Label};
-use pif_history_text::no_rules;
-use pif_rules::{RULES, Rule, has, only};
+use pif_rules::{RULES, Rule, has, no_rules, only};
 use pif_rules_model::Rules;
 use pif_search::{Stop, push};
 use std::alloc::Global;

@@ -8,7 +8,8 @@ use Rattle.pif_rules_model.specs.declared.rules.Rules.{Rules}
 use Rattle.pif_text_model.specs.Numbers.{number_in}
 use Rattle.pif_text_model.specs.declared.replies.Cause.TheVariants.{Limits as OutOfRange}
 use Rattle.pif_history_text.specs.Histories.{Heard, is_begin, after_allow, next_number}
-use Rattle.pif_history_text.specs.Allowed.{have_common, is_too_small, joined, rules_in, some_rules_in, with_rule, with_recursion}
+use Rattle.pif_history_text.specs.Allowed.{have_common, is_too_small, rules_in, some_rules_in, with_rule, with_recursion}
+use Rattle.pif_rules.specs.Sets.{both}
 
 by_length : (ws : List (List ℕ)) → 1 ≤ length ws → some_rules_in ws ≡ rules_in no_rules ws
 by_length [] h = absurd (omega arith)
@@ -40,7 +41,7 @@ some_are_named text = by_length (words text) (has_words text)
 
 -- the rules of a line are taken, or their number is out of range
 pub allow_new : (h : Heard) (r q : Rules) → list_any is_begin h.shown ≡ false → have_common h.allowed r ≡ false
-    → is_too_small r.recursion ≡ false → q ≡ joined h.allowed r
+    → is_too_small r.recursion ≡ false → q ≡ both h.allowed r
     → after_allow h r ≡ Ok (record h { allowed = q; count = next_number h })
 allow_new h r q a b c d = rw (a, b, c, d) refl
 

@@ -1,22 +1,21 @@
 -- Lines by which a history allows rules: `allow`, and behind it the names of rules, each once. A number stands behind
 -- `recursion`.
-use Rattle.std.specs.Prelude.{ℕ, ◌||◌, ◌&&◌, nat_lt, Bool, true, false, is_some, List, [], ◌∷◌, Option, Some, None, if◌then◌else◌, bytes_eq, codes}
+use Rattle.std.specs.Prelude.{ℕ, ◌||◌, ◌&&◌, nat_lt, Bool, false, is_some, List, [], ◌∷◌, Option, Some, None, if◌then◌else◌, bytes_eq, codes}
 use Rattle.pif_text_model.specs.Numbers.{number_in}
 use Rattle.pif_rules_model.specs.declared.rules.Rules.{Rules}
 use Rattle.pif_rules_model.specs.Rules.{no_rules}
+use Rattle.pif_rules.specs.declared.rules.Rule.{Rule}
+use Rattle.pif_rules.specs.Sets.{both, has, only}
+use Rattle.pif_rules.specs.Words.{all_rules, rule_in}
+
+-- These rules, and one more; none if there is no more, or it is one of these.
+abbrev pub with_one : Rules → Option Rule → Option Rules
+with_one r None = None
+with_one r (Some x) = if has r x then None else Some (both r (only all_rules x))
 
 -- These rules, and the one that a word names; none if the word names no rule without a number, or one of these.
 unfoldable pub with_rule : Rules → List ℕ → Option Rules
-with_rule r word =
-    if bytes_eq word (codes "steal") then (if r.steal then None else Some (record r { steal = true }))
-    else if bytes_eq word (codes "any_waiter") then (if r.any_waiter then None else Some (record r { any_waiter = true }))
-    else if bytes_eq word (codes "spurious") then (if r.spurious then None else Some (record r { spurious = true }))
-    else if bytes_eq word (codes "own_errorcheck") then (if r.own_errorcheck then None else Some (record r { own_errorcheck = true }))
-    else if bytes_eq word (codes "any_consistent") then (if r.any_consistent then None else Some (record r { any_consistent = true }))
-    else if bytes_eq word (codes "held_wait") then (if r.held_wait then None else Some (record r { held_wait = true }))
-    else if bytes_eq word (codes "lost_signal") then (if r.lost_signal then None else Some (record r { lost_signal = true }))
-    else if bytes_eq word (codes "revives") then (if r.revives then None else Some (record r { revives = true }))
-    else None
+with_rule r word = with_one r (rule_in word)
 
 -- These rules, and `recursion` with a number, unless it is one of these.
 abbrev pub with_recursion : Rules → Option ℕ → Option Rules
@@ -58,25 +57,6 @@ have_common a b = have_common_locks a b || have_common_wakes a b || have_common_
 -- Whether there is a rule.
 abbrev pub is_any : Rules → Bool
 is_any r = have_common r r
-
--- The first number, or the second if there is no first.
-abbrev pub either_number : Option ℕ → Option ℕ → Option ℕ
-either_number None b = b
-either_number (Some n) b = Some n
-
--- The rules of both, which have none in common.
-abbrev pub joined : Rules → Rules → Rules
-joined a b = record {
-  steal = a.steal || b.steal;
-  any_waiter = a.any_waiter || b.any_waiter;
-  spurious = a.spurious || b.spurious;
-  recursion = either_number a.recursion b.recursion;
-  own_errorcheck = a.own_errorcheck || b.own_errorcheck;
-  any_consistent = a.any_consistent || b.any_consistent;
-  held_wait = a.held_wait || b.held_wait;
-  lost_signal = a.lost_signal || b.lost_signal;
-  revives = a.revives || b.revives;
-}
 
 -- Whether the number of `recursion` is below its range, which is 256 to the greatest that a line can write.
 abbrev pub is_too_small : Option ℕ → Bool

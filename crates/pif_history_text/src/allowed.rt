@@ -1,110 +1,21 @@
-ghost use Rattle.std.specs.Prelude.{◌≡◌, ◌<◌, ◌||◌, length, option_copied, Some, None, if◌then◌else◌, IfSome, IfNone};
-ghost use Rattle.pif_rules_model.specs.Rules.{no_rules};
+ghost use Rattle.std.specs.Prelude.{◌≡◌, ◌<◌, length, option_copied, None, IfSome, IfNone};
 ghost use Rattle.pif_text_model.specs.Words.{words, words_behind};
-ghost use Rattle.pif_history_text.specs.Allowed.{allowed_in, either_number, have_common, have_common_locks, have_common_others, have_common_wakes, is_any, is_too_small, joined, rules_in, some_rules_in, with_recursion, with_rule};
+ghost use Rattle.pif_history_text.specs.Allowed.{allowed_in, have_common, have_common_locks, have_common_others, have_common_wakes, is_any, is_too_small, rules_in, some_rules_in, with_recursion, with_rule};
 
+use pif_rules::{LEAST_RECURSION, all_rules, both, has, no_rules, only, rule_in};
 use pif_rules_model::Rules;
 use pif_text::{is_word, number_of, split_first};
-
-/// The least number of `recursion`.
-const LEAST_RECURSION: u32 = 256;
-
-/// No rule is allowed.
-pub fn no_rules() -> Rules
-    ensures { result ≡ no_rules }
-{
-    Rules {
-        steal: false,
-        any_waiter: false,
-        spurious: false,
-        recursion: None,
-        own_errorcheck: false,
-        any_consistent: false,
-        held_wait: false,
-        lost_signal: false,
-        revives: false,
-    }
-}
-
-/// These rules, and one more; none if it is one of these.
-fn with(is_there: bool, more: Rules) -> Option<Rules>
-    ensures { result ≡ (if is_there then None else Some more) }
-{
-    if is_there { None } else { Some(more) }
-}
 
 /// These rules, and the one that a word names; none if the word names no rule without a number, or one of these.
 #[tactic(auto, unfolding(crate::specs::Allowed::with_rule))]
 fn with_rule(rules: Rules, word: &[u8]) -> Option<Rules>
     ensures { result ≡ with_rule rules word.now }
 {
-    if is_word(word, b"steal") {
-        with(
-            rules.steal,
-            Rules {
-                steal: true,
-                ..rules
-            },
-        )
-    } else if is_word(word, b"any_waiter") {
-        with(
-            rules.any_waiter,
-            Rules {
-                any_waiter: true,
-                ..rules
-            },
-        )
-    } else if is_word(word, b"spurious") {
-        with(
-            rules.spurious,
-            Rules {
-                spurious: true,
-                ..rules
-            },
-        )
-    } else if is_word(word, b"own_errorcheck") {
-        with(
-            rules.own_errorcheck,
-            Rules {
-                own_errorcheck: true,
-                ..rules
-            },
-        )
-    } else if is_word(word, b"any_consistent") {
-        with(
-            rules.any_consistent,
-            Rules {
-                any_consistent: true,
-                ..rules
-            },
-        )
-    } else if is_word(word, b"held_wait") {
-        with(
-            rules.held_wait,
-            Rules {
-                held_wait: true,
-                ..rules
-            },
-        )
-    } else if is_word(word, b"lost_signal") {
-        with(
-            rules.lost_signal,
-            Rules {
-                lost_signal: true,
-                ..rules
-            },
-        )
-    } else if is_word(word, b"revives") {
-        with(
-            rules.revives,
-            Rules {
-                revives: true,
-                ..rules
-            },
-        )
-    } else {
-        None
+    let rule = rule_in(word)?;
+    if has(&rules, rule) {
+        return None;
     }
+    Some(both(&rules, &only(&all_rules(), rule)))
 }
 
 /// These rules, and `recursion` with a number, unless it is one of these.
@@ -113,13 +24,11 @@ fn with_recursion(rules: Rules, number: Option<u32>) -> Option<Rules>
 {
     match number {
         None => None,
-        Some(most) => with(
-            rules.recursion.is_some(),
-            Rules {
-                recursion: Some(most),
-                ..rules
-            },
-        ),
+        Some(_) if rules.recursion.is_some() => None,
+        Some(most) => Some(Rules {
+            recursion: Some(most),
+            ..rules
+        }),
     }
 }
 
@@ -206,40 +115,6 @@ pub(crate) fn is_any(rules: &Rules) -> bool
     ensures { result ≡ is_any rules.now }
 {
     have_common(rules, rules)
-}
-
-/// Whether one of two is so.
-fn either(a: bool, b: bool) -> bool
-    ensures { result ≡ (a || b) }
-{
-    a || b
-}
-
-/// The first number, or the second if there is no first.
-fn either_number(a: Option<u32>, b: Option<u32>) -> Option<u32>
-    ensures { result ≡ either_number a b }
-{
-    match a {
-        Some(number) => Some(number),
-        None => b,
-    }
-}
-
-/// The rules of both, which have none in common.
-pub(crate) fn joined(a: &Rules, b: &Rules) -> Rules
-    ensures { result ≡ joined a.now b.now }
-{
-    Rules {
-        steal: either(a.steal, b.steal),
-        any_waiter: either(a.any_waiter, b.any_waiter),
-        spurious: either(a.spurious, b.spurious),
-        recursion: either_number(a.recursion, b.recursion),
-        own_errorcheck: either(a.own_errorcheck, b.own_errorcheck),
-        any_consistent: either(a.any_consistent, b.any_consistent),
-        held_wait: either(a.held_wait, b.held_wait),
-        lost_signal: either(a.lost_signal, b.lost_signal),
-        revives: either(a.revives, b.revives),
-    }
 }
 
 /// Whether the number of `recursion` is below its range.

@@ -20,7 +20,6 @@ mod texts;
 mod verdicts;
 mod writing;
 
-pub use allowed::no_rules;
 pub use heard::{History, MOST_BYTES};
 pub use lines::{answer_of, said_of};
 pub use reading::read_history;

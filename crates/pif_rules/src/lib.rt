@@ -12,5 +12,5 @@ mod sets;
 mod words;
 
 pub use rules::{RULES, Rule, name_of};
-pub use sets::{both, has, only};
-pub use words::{all_rules, rules_named};
+pub use sets::{both, has, no_rules, only};
+pub use words::{LEAST_RECURSION, all_rules, rule_in, rules_named};

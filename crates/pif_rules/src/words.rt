@@ -2,13 +2,12 @@ ghost use Rattle.std.specs.Prelude.{◌≡◌};
 ghost use Rattle.pif_rules.specs.Words.{all_rules, in_range, recursion_in, rule_in, rules_named};
 
 use crate::rules::Rule;
-use crate::sets::only;
-use pif_history_text::no_rules;
+use crate::sets::{no_rules, only};
 use pif_rules_model::Rules;
 use pif_text::{is_word, number_of};
 
 /// The least number of `recursion`.
-const LEAST_RECURSION: u32 = 256;
+pub const LEAST_RECURSION: u32 = 256;
 
 /// What stands in front of the number of `recursion`, and how long it is.
 const RECURSION: &[u8; 10] = b"recursion=";
@@ -30,8 +29,8 @@ pub fn all_rules() -> Rules
     }
 }
 
-/// The rule that a word names, if it takes no number.
-fn rule_in(word: &[u8]) -> Option<Rule>
+/// The rule that a word names, if it is one without a number: each but `recursion`.
+pub fn rule_in(word: &[u8]) -> Option<Rule>
     ensures { result ≡ rule_in word.now }
 {
     if is_word(word, b"steal") {

@@ -1,5 +1,6 @@
 use pif_history_model::Line;
-use pif_history_text::{History, no_rules, read_history};
+use pif_history_text::{History, read_history};
+use pif_rules::no_rules;
 use pif_rules_model::Rules;
 use pif_script_model::CliFault;
 use pif_test_streams::{Part, Stream};
