@@ -1,11 +1,13 @@
-ghost use Rattle.std.specs.Prelude.{◌≡◌, ◌+◌, ◌≤◌, None, Some, List, [], ℕ};
-ghost use Rattle.std.specs.Io.KnownBytes.{Keeps};
+ghost use Rattle.std.specs.Prelude.{◌≡◌, ◌+◌, ◌≤◌, None, Some, List, [], ℕ, OnOk, map};
+ghost use Rattle.std.specs.Io.KnownBytes.{Appends, Keeps};
 ghost use Rattle.arrayvec.specs.ArrayVec.{array_vec_len};
 ghost use Rattle.pif_text_model.specs.Extends.{Stays};
+ghost use Rattle.pif_script_model.specs.declared.details.Detail.TheVariants.{All};
 ghost use Rattle.pif_script_model.specs.Running.{script};
 ghost use Rattle.pif_script_model.specs.Runs.{Feeds, RunsFrom, Stops};
 ghost use Rattle.pif_script.specs.Scanners.{scan_of};
 ghost use Rattle.pif_script_model.specs.Showing.{OrUnwritten, ShowsTo, Silent};
+ghost use Rattle.pif_text_core.specs.Texts.{state_text};
 
 use crate::shown::Shown;
 use pif_script::{
@@ -157,7 +159,9 @@ fn name_error(error: Errno, output: &mut Output) {
 
 /// Writes what has changed in a core, or all of it if that is asked for, or if there is nothing from before.
 fn write_core<W: Write>(look: &Look<'_>, shown: &Shown, writer: &mut W) -> Result<(), Unwritten>
-    ensures { Stays (W.contents writer.old) (W.contents writer.new) }
+    ensures stays { Stays (W.contents writer.old) (W.contents writer.new) }
+    ensures whole { look.now.detail ≡ All → OnOk result (Appends (W.contents writer.old) (W.contents writer.new)
+        (state_text (map (λ name. name.now) look.now.names.now) shown.now)) }
 {
     match shown.before() {
         Some(before) if look.detail == Detail::Changes => {

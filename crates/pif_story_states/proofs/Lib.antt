@@ -1,6 +1,5 @@
 pub mod AnswerLemmas
 pub mod ChainLemmas
 pub mod FilterLemmas
-pub mod OrderLemmas
 pub mod PieceLemmas
 pub mod StateLemmas

@@ -1,16 +1,13 @@
 -- What there is behind a command, as objects of JSON. Each is a function of what a core's readers answer.
-use Rattle.std.specs.Prelude.{ℕ, ◌-◌, ◌==◌, zero, suc, Bool, false, not, ◌&&◌, List, [], ◌++◌, Option, Some, None, codes, decimal, filter, find, length, take, option_and_then, option_map, is_some}
-use Rattle.std.specs.List.{list_any}
+use Rattle.std.specs.Prelude.{ℕ, ◌==◌, zero, suc, List, [], ◌++◌, Option, Some, None, codes, decimal, filter, find, option_and_then, option_map}
 use Rattle.pif_types.specs.Numbers.{number_of}
 use Rattle.pif_model.specs.declared.events.Seen.{Seen}
 use Rattle.pif_model.specs.declared.events.Seen.TheVariants as seen
-use Rattle.pif_model.specs.declared.events.Order.{Order}
 use Rattle.pif_model.specs.declared.events.Order.TheVariants as order
 use Rattle.pif_model.specs.declared.lines.Status.{Status}
 use Rattle.pif_model.specs.declared.lines.Status.TheVariants.{Ready, Queued, Parked, Stopped, Ended}
 use Rattle.pif_model.specs.Table.{Table}
-use Rattle.pif_model.specs.PiKernel.{parked_in, ready_in, waiters_in}
-use Rattle.pif_model.specs.Calls.{base_answer, bound_answer, cond_word_answer, effective_answer, health_answer, kind_answer, open_call_answer, owner_answer, status_answer, threads_answer, waiter_answer, word_answer}
+use Rattle.pif_model.specs.Calls.{base_answer, bound_answer, cond_word_answer, effective_answer, health_answer, kind_answer, open_call_answer, owner_answer, status_answer, threads_answer, word_answer}
 use Rattle.pif_text_model.specs.declared.replies.Reply.{Reply}
 use Rattle.pif_text_model.specs.declared.replies.Reply.TheVariants as reply
 use Rattle.pif_text_model.specs.CommandTexts.{kind_word, request_text}
@@ -18,6 +15,7 @@ use Rattle.pif_text_model.specs.Errors.{errno_name}
 use Rattle.pif_text_model.specs.Replies.{health_text, text_of}
 use Rattle.pif_story_model.specs.Answers.{errors}
 use Rattle.pif_story_names.specs.Names.{name_of}
+use Rattle.pif_waiting.specs.Waiting.{awaited, has, mutexes_added, order_in}
 use Rattle.pif_text_json.specs.Json.{bool_text, name_or_null, name_text, names_array, number_or_null, numbers, or_null, quoted}
 
 -- ---- answers
@@ -55,14 +53,6 @@ state_word (Parked c) = codes "parked"
 state_word Stopped = codes "stopped"
 state_word Ended = codes "ended"
 
--- the mutex among whose waiters a thread of this status is
-abbrev pub mutex_by : Status → Option ℕ
-mutex_by (Ready woken) = None
-mutex_by (Queued m) = Some m
-mutex_by (Parked c) = None
-mutex_by Stopped = None
-mutex_by Ended = None
-
 -- the condition variable on which it is parked
 abbrev pub cond_by : Status → Option ℕ
 cond_by (Ready woken) = None
@@ -70,10 +60,6 @@ cond_by (Queued m) = None
 cond_by (Parked c) = Some c
 cond_by Stopped = None
 cond_by Ended = None
-
--- the mutex for which a thread waits
-abbrev pub awaited : ℕ → Table → Option ℕ
-awaited t s = option_and_then mutex_by (status_answer t s)
 
 -- what a thread does, and for what it waits
 unfoldable pub doing_members : ℕ → Table → List ℕ
@@ -92,19 +78,6 @@ priority_members t s =
 unfoldable pub call_member : ℕ → Table → List ℕ
 call_member t s = codes ",\"call\":" ++ or_null (λ q. quoted (request_text q)) (open_call_answer t s)
 
--- how many mutexes were added
-abbrev pub mutexes_added : Table → ℕ
-mutexes_added s = length s.mutexes - 1
-
--- whether the owner of a mutex, if it has one, is this thread
-abbrev pub is_owner : ℕ → Option (ℕ × ℕ) → Bool
-is_owner t None = false
-is_owner t (Some owner) = owner.0 == t
-
--- whether a thread holds a mutex
-abbrev pub has : ℕ → Table → ℕ → Bool
-has t s m = is_owner t (owner_answer m s)
-
 -- the mutexes that it holds
 unfoldable pub holds_member : ℕ → Table → List ℕ
 holds_member t s = codes ",\"holds\":" ++ names_array 109 (filter (has t s) (numbers (mutexes_added s)))
@@ -114,18 +87,6 @@ unfoldable pub thread_object : (names : List ℕ) → Table → ℕ → List ℕ
 thread_object names s t =
     codes "{\"name\":" ++ name_text 116 t ++ codes ",\"label\":" ++ or_null quoted (name_of names t) ++ doing_members t s ++ priority_members t s ++ call_member t s
     ++ holds_member t s ++ codes "}"
-
--- ---- orders
-
--- the threads of an order, the next one first
-abbrev pub all_in : Order → Table → List ℕ
-all_in (order.Waiters m) s = waiters_in s.kernel m
-all_in (order.Parked c) s = parked_in s.kernel c
-all_in order.Ready s = ready_in s.kernel
-
--- no more of them than were added: each stands there once
-abbrev pub order_in : Order → Table → List ℕ
-order_in o s = take (threads_answer s) (all_in o s)
 
 -- ---- mutexes
 
@@ -160,10 +121,6 @@ mutex_object s m =
 
 -- ---- condition variables
 
--- how many condition variables were added
-abbrev pub conds_added : Table → ℕ
-conds_added s = length s.conds - 1
-
 -- a condition variable
 unfoldable pub cond_object : Table → ℕ → List ℕ
 cond_object s c =
@@ -172,18 +129,6 @@ cond_object s c =
     ++ names_array 116 (order_in (order.Parked c) s) ++ codes "}"
 
 -- ---- chains of waiting
-
--- whether a thread holds a mutex for which somebody waits
-unfoldable pub blocks : ℕ → Table → ℕ → Bool
-blocks t s m = has t s m && is_some (waiter_answer m 0 s)
-
--- whether somebody waits for a mutex that a thread holds
-unfoldable pub has_waiter : ℕ → Table → Bool
-has_waiter t s = list_any (blocks t s) (numbers (mutexes_added s))
-
--- whether a chain begins with a thread: it waits for a mutex, and nobody waits for it
-abbrev pub begins_chain : Table → ℕ → Bool
-begins_chain s t = is_some (awaited t s) && not (has_waiter t s)
 
 -- the owner of the mutex for which a thread waits
 abbrev pub blocker : ℕ → Table → Option ℕ

@@ -11,7 +11,8 @@ use Rattle.pif_script_model.specs.Running.{Answer, command_answer, first_answer}
 use Rattle.pif_story_model.specs.Stories.{NumberedRow, rows_of}
 use Rattle.pif_story_names.specs.Names.{names_in}
 use Rattle.pif_text_json.specs.Json.{names_array, numbers, quoted, separated}
-use Rattle.pif_story_states.specs.Objects.{answer_object, begins_chain, chain_array, cond_object, conds_added, mutex_object, mutexes_added, order_in, thread_object}
+use Rattle.pif_waiting.specs.Waiting.{begins_chain, conds_added, mutexes_added, order_in}
+use Rattle.pif_story_states.specs.Objects.{answer_object, chain_array, cond_object, mutex_object, thread_object}
 
 -- the threads, mutexes and condition variables that were added
 unfoldable pub things_members : (names : List ℕ) → Table → List ℕ

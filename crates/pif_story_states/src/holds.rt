@@ -1,26 +1,13 @@
-ghost use Rattle.std.specs.Prelude.{◌≡◌, ◌++◌, ◌≤◌, filter, OnOk};
+ghost use Rattle.std.specs.Prelude.{◌≡◌, ◌++◌, filter, OnOk};
 ghost use Rattle.pif_text_json.specs.Json.{name_text, names_array, numbers};
-ghost use Rattle.pif_story_states.specs.Objects.{has, holds_member, mutexes_added};
+ghost use Rattle.pif_waiting.specs.Waiting.{has, mutexes_added};
+ghost use Rattle.pif_story_states.specs.Objects.{holds_member};
 
-use crate::counts::mutexes_added;
 use pif_core::Core;
 use pif_text_json::{Listed, append_list, append_name};
-use pif_types::{MutexId, Tid};
+use pif_types::Tid;
+use pif_waiting::{has, mutexes_added};
 use std::alloc::AllocError;
-
-/// Whether a thread holds the mutex of this number.
-pub fn has(core: &Core, thread: Tid, number: u32) -> bool
-    requires { 1 ≤ number }
-    ensures { result ≡ has thread core.now number }
-{
-    let Some(mutex) = MutexId::new(number) else {
-        return false;
-    };
-    match core.owner(mutex) {
-        Some((owner, _)) => owner.get() == thread.get(),
-        None => false,
-    }
-}
 
 /// The mutexes that a thread holds.
 #[derive(Clone, Copy)]

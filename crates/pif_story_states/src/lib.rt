@@ -16,7 +16,6 @@
 mod answers;
 mod chains;
 mod conds;
-mod counts;
 mod holds;
 mod lines;
 mod mutexes;

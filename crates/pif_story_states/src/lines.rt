@@ -1,13 +1,13 @@
 ghost use Rattle.std.specs.Prelude.{◌≡◌, ◌++◌, true, map, OnOk};
 ghost use Rattle.pif_model.specs.Calls.{threads_answer};
 ghost use Rattle.pif_text_json.specs.Json.{numbers, separated};
-ghost use Rattle.pif_story_states.specs.Objects.{begins_chain, chain_array, cond_object, conds_added, mutex_object, mutexes_added, thread_object};
+ghost use Rattle.pif_waiting.specs.Waiting.{begins_chain, conds_added, mutexes_added};
+ghost use Rattle.pif_story_states.specs.Objects.{chain_array, cond_object, mutex_object, thread_object};
 ghost use Rattle.pif_story_states.specs.States.{order_members, state_line, things_members};
 
 use crate::answers::append_answer;
-use crate::chains::{append_chain, begins_chain};
+use crate::chains::append_chain;
 use crate::conds::append_cond;
-use crate::counts::{conds_added, mutexes_added};
 use crate::mutexes::append_mutex;
 use crate::queues::append_order;
 use crate::threads::append_thread;
@@ -15,6 +15,7 @@ use pif_core::{Core, Order};
 use pif_text::Reply;
 use pif_text_json::{Listed, append_decimal, append_list, append_quoted};
 use pif_types::{CondId, MutexId, Tid};
+use pif_waiting::{begins_chain, conds_added, mutexes_added};
 use std::alloc::AllocError;
 
 /// The threads of a core, with the names that these comments give.

@@ -1,6 +1,6 @@
 ghost use Rattle.std.specs.Prelude.{◌≡◌, ◌++◌, OnOk};
 ghost use Rattle.pif_text_json.specs.Json.{names_array};
-ghost use Rattle.pif_story_states.specs.Objects.{all_in, order_in};
+ghost use Rattle.pif_waiting.specs.Waiting.{all_in, order_in};
 
 use pif_core::{Core, Order};
 use pif_text_json::{Sequence, append_names};
@@ -16,7 +16,7 @@ struct Threads<'a> {
 impl Sequence for Threads<'_> {
     ghost members = { λ list. all_in list.order.now list.core.now };
 
-    #[tactic(auto, using(crate::proofs::OrderLemmas::in_order))]
+    #[tactic(auto, using(pif_waiting::proofs::OrderLemmas::in_order))]
     fn at(&self, place: u32) -> Option<u32> {
         match self.core.nth(*self.order, place) {
             Some(thread) => Some(thread.get()),

@@ -2,7 +2,8 @@ ghost use Rattle.std.specs.Prelude.{◌≡◌, ◌++◌, OnOk, option_and_then};
 ghost use Rattle.pif_model.specs.Calls.{base_answer, effective_answer, status_answer};
 ghost use Rattle.pif_story_names.specs.Names.{name_of};
 ghost use Rattle.pif_text_json.specs.Json.{or_null, quoted};
-ghost use Rattle.pif_story_states.specs.Objects.{awaited, call_member, cond_by, doing_members, mutex_by, priority_members, state_word, thread_object};
+ghost use Rattle.pif_waiting.specs.Waiting.{awaited};
+ghost use Rattle.pif_story_states.specs.Objects.{call_member, cond_by, doing_members, priority_members, state_word, thread_object};
 
 use crate::holds::append_holds;
 use crate::names::{append_cond_or_null, append_mutex_or_null};
@@ -10,7 +11,8 @@ use crate::requests::append_request;
 use pif_core::{Core, Status};
 use pif_story_names::name_of;
 use pif_text_json::{append_name, append_null, append_number_or_null, append_quoted};
-use pif_types::{CondId, MutexId, Tid};
+use pif_types::{CondId, Tid};
+use pif_waiting::awaited;
 use std::alloc::AllocError;
 
 /// What a thread of this status does, in one word.
@@ -33,26 +35,6 @@ fn append_state(core: &Core, thread: Tid, out: &mut Vec<u8>) -> Result<(), Alloc
     match core.status(thread) {
         Some(status) => append_quoted(out, state_word(status).as_bytes()),
         None => append_null(out),
-    }
-}
-
-/// The mutex for which a thread waits.
-pub fn awaited(core: &Core, thread: Tid) -> Option<MutexId>
-    ensures { result ≡ awaited thread core.now }
-{
-    match core.status(thread) {
-        Some(status) => mutex_by(status),
-        None => None,
-    }
-}
-
-/// The mutex among whose waiters a thread of this status is.
-fn mutex_by(status: Status) -> Option<MutexId>
-    ensures { result ≡ mutex_by status }
-{
-    match status {
-        Status::Queued(mutex) => Some(mutex),
-        _ => None,
     }
 }
 

@@ -1,12 +1,16 @@
-ghost use Rattle.pif_text_model.specs.Extends.{Stays};
+ghost use Rattle.std.specs.Prelude.{◌++◌, codes, decimal};
+ghost use Rattle.pif_text_model.specs.Replies.{cond_name, mutex_name, thread_name};
+ghost use Rattle.pif_text_core.specs.Pages.{Tells};
+ghost use Rattle.pif_text_core.specs.Texts.{call_text};
 
 use crate::pages::Page;
 use pif_types::{CondId, MutexId, Request, Tid};
 use std::io::Write;
 
 /// Writes that a thread is in this call, which stands there as in a script.
-pub fn show_call<W: Write>(request: Request, page: &mut Page<'_>, writer: &mut W)
-    ensures { Stays (W.contents writer.old) (W.contents writer.new) }
+#[tactic(auto, unfolding(pif_text_model::specs::CommandTexts::request_text))]
+pub fn show_call<W: Write>(request: Request, page: &mut Page, writer: &mut W)
+    ensures { Tells page.old page.new (W.contents writer.old) (W.contents writer.new) (call_text request) }
 {
     match request {
         Request::Lock(mutex) => page.mutex("; in lock ", mutex, writer),
@@ -25,16 +29,16 @@ pub fn show_call<W: Write>(request: Request, page: &mut Page<'_>, writer: &mut W
 }
 
 /// Writes that a thread is in a wait.
-fn show_cond_wait<W: Write>(cond: CondId, mutex: MutexId, page: &mut Page<'_>, writer: &mut W)
-    ensures { Stays (W.contents writer.old) (W.contents writer.new) }
+fn show_cond_wait<W: Write>(cond: CondId, mutex: MutexId, page: &mut Page, writer: &mut W)
+    ensures { Tells page.old page.new (W.contents writer.old) (W.contents writer.new) (codes "; in wait " ++ cond_name cond ++ codes " " ++ mutex_name mutex) }
 {
     page.cond("; in wait ", cond, writer);
     page.mutex(" ", mutex, writer);
 }
 
 /// Writes that a thread is in a lock with a deadline.
-fn show_timed_lock<W: Write>(mutex: MutexId, deadline: u32, page: &mut Page<'_>, writer: &mut W)
-    ensures { Stays (W.contents writer.old) (W.contents writer.new) }
+fn show_timed_lock<W: Write>(mutex: MutexId, deadline: u32, page: &mut Page, writer: &mut W)
+    ensures { Tells page.old page.new (W.contents writer.old) (W.contents writer.new) (codes "; in timedlock " ++ mutex_name mutex ++ codes " " ++ decimal deadline) }
 {
     page.mutex("; in timedlock ", mutex, writer);
     page.number(" ", deadline, writer);
@@ -45,10 +49,10 @@ fn show_timed_wait<W: Write>(
     cond: CondId,
     mutex: MutexId,
     deadline: u32,
-    page: &mut Page<'_>,
+    page: &mut Page,
     writer: &mut W,
 )
-    ensures { Stays (W.contents writer.old) (W.contents writer.new) }
+    ensures { Tells page.old page.new (W.contents writer.old) (W.contents writer.new) (codes "; in timedwait " ++ cond_name cond ++ codes " " ++ mutex_name mutex ++ codes " " ++ decimal deadline) }
 {
     page.cond("; in timedwait ", cond, writer);
     page.mutex(" ", mutex, writer);
@@ -56,8 +60,8 @@ fn show_timed_wait<W: Write>(
 }
 
 /// Writes that a thread is about to set a priority.
-fn show_setting<W: Write>(thread: Tid, priority: u32, page: &mut Page<'_>, writer: &mut W)
-    ensures { Stays (W.contents writer.old) (W.contents writer.new) }
+fn show_setting<W: Write>(thread: Tid, priority: u32, page: &mut Page, writer: &mut W)
+    ensures { Tells page.old page.new (W.contents writer.old) (W.contents writer.new) (codes "; in setprio " ++ thread_name thread ++ codes " " ++ decimal priority) }
 {
     page.number("; in setprio t", thread.get(), writer);
     page.number(" ", priority, writer);

@@ -1,125 +1,156 @@
-ghost use Rattle.pif_text_model.specs.Extends.{Stays};
+ghost use Rattle.std.specs.Prelude.{ℕ, ◌≡◌, ◌≤◌, [], List, None, false, flat_map, option_copied};
+ghost use Rattle.pif_model.specs.Calls.{threads_answer};
+ghost use Rattle.pif_text_json.specs.Json.{numbers};
+ghost use Rattle.pif_text_core.specs.Pages.{Tells};
+ghost use Rattle.pif_text_core.specs.Texts.{chain_line, chain_line_at, links_text};
 
-use crate::changes::{Holder, awaited, holder_of};
+use crate::holders::{awaited_holder, holder_of};
+use crate::names::Names;
 use crate::pages::Page;
-use crate::threads::{held_as, mutex_of, show_holder};
+use crate::threads::show_holder;
 use pif_core::Core;
-use pif_types::{MutexId, Tid};
+use pif_types::Tid;
+use pif_waiting::{awaited, begins_chain};
 use std::io::Write;
 
 /// Writes a line for each chain of waiting, from a thread that waits and for which nobody waits. If there is a core
-/// from before, only chains are written that weren't there, and that there are none if the last ones are gone.
+/// from before, only chains are written that weren't there.
 pub fn show_chains<W: Write>(
+    names: &Names<'_>,
     before: Option<&Core>,
     core: &Core,
-    page: &mut Page<'_>,
+    page: &mut Page,
     writer: &mut W,
 )
-    ensures { Stays (W.contents writer.old) (W.contents writer.new) }
+    ensures { (text : List ℕ) × (option_copied before.entry ≡ None → text ≡ flat_map (chain_line_at names.now core.now) (numbers (threads_answer core.now)))
+        × Tells page.old page.new (W.contents writer.old) (W.contents writer.new) text }
 {
-    for number in 1..=core.threads() {
-        if let Some(thread) = Tid::new(number) {
-            if begins_chain(core, thread) && has_chain_changed(before, core, thread) {
-                show_chain(core, thread, page, writer);
-            }
-        }
+    for place in 0..core.threads() {
+        show_chain_if_new(names, before, core, place + 1, page, writer);
     }
-    if has_chain(before) && !has_chain(Some(core)) {
+}
+
+/// Writes the chain that begins with the thread of this number, if one does that wasn't there before.
+fn show_chain_if_new<W: Write>(
+    names: &Names<'_>,
+    before: Option<&Core>,
+    core: &Core,
+    number: u32,
+    page: &mut Page,
+    writer: &mut W,
+)
+    requires { 1 ≤ number }
+    ensures { (text : List ℕ) × (option_copied before.entry ≡ None → text ≡ chain_line_at names.now core.now number)
+        × Tells page.old page.new (W.contents writer.old) (W.contents writer.new) text }
+{
+    let Some(thread) = Tid::new(number) else {
+        return;
+    };
+    if !begins_chain(core, thread) {
+        return;
+    }
+    if !was_chain_there(before, core, thread) {
+        show_chain(names, core, thread, page, writer);
+    }
+}
+
+/// Writes that there are no chains if the last ones are gone.
+pub fn show_no_chain<W: Write>(before: Option<&Core>, core: &Core, page: &mut Page, writer: &mut W)
+    ensures { (text : List ℕ) × (option_copied before.entry ≡ None → text ≡ [])
+        × Tells page.old page.new (W.contents writer.old) (W.contents writer.new) text }
+{
+    if had_waiting(before) && !has_waiting(core) {
         page.words("  chain: none\n", writer);
     }
 }
 
-/// Whether a chain of waiting begins with this thread: it waits for a mutex, and nobody waits for it.
-pub fn begins_chain(core: &Core, thread: Tid) -> bool {
-    awaited(core, thread).is_some() && !has_waiter(core, thread)
-}
-
-/// Whether there is a chain in a core, if there is a core.
-fn has_chain(core: Option<&Core>) -> bool {
-    match core {
-        Some(core) => has_waiting(core),
+/// Whether a thread waited for a mutex in a core, if there is one.
+fn had_waiting(before: Option<&Core>) -> bool
+    ensures { option_copied before.entry ≡ None → result ≡ false }
+{
+    match before {
+        Some(before) => has_waiting(before),
         None => false,
     }
 }
 
 /// Whether a thread waits for a mutex.
 fn has_waiting(core: &Core) -> bool {
-    for number in 1..=core.threads() {
-        if let Some(thread) = Tid::new(number) {
-            if awaited(core, thread).is_some() {
-                return true;
-            }
+    for place in 0..core.threads() {
+        if is_waiting(core, place + 1) {
+            return true;
         }
     }
     false
 }
 
-/// Whether the chain that begins with this thread wasn't there before.
-fn has_chain_changed(before: Option<&Core>, core: &Core, thread: Tid) -> bool {
+/// Whether the thread of this number waits for a mutex.
+fn is_waiting(core: &Core, number: u32) -> bool {
+    match Tid::new(number) {
+        Some(thread) => awaited(core, thread).is_some(),
+        None => false,
+    }
+}
+
+/// Whether the chain that begins with this thread was there before.
+fn was_chain_there(before: Option<&Core>, core: &Core, thread: Tid) -> bool
+    ensures { option_copied before.entry ≡ None → result ≡ false }
+{
     match before {
-        Some(before) => { !(begins_chain(before, thread) && has_same_links(before, core, thread)) }
-        None => true,
+        Some(before) => begins_chain(before, thread) && has_same_links(before, core, thread),
+        None => false,
     }
 }
 
 /// Whether the chain from this thread has the same links in both cores.
 fn has_same_links(before: &Core, core: &Core, first: Tid) -> bool {
-    are_same_links(before, core, core.path(first).as_slice())
-}
-
-/// Whether these threads wait for the same mutexes in both cores, held by the same threads.
-fn are_same_links(before: &Core, core: &Core, path: &[Tid]) -> bool {
-    for thread in path {
-        if link_of(before, *thread) != link_of(core, *thread) {
+    let mut next = first;
+    for place in 0..core.threads() {
+        if awaited(before, next) != awaited(core, next) {
             return false;
+        }
+        let holder = awaited_holder(core, next);
+        if awaited_holder(before, next) != holder {
+            return false;
+        }
+        match holder {
+            Some(holder) => next = holder.owner,
+            None => return true,
         }
     }
     true
 }
 
-/// A link of a chain: a mutex for which a thread waits, and who holds it.
-#[derive(Clone, Copy, PartialEq, Eq)]
-struct Link {
-    mutex: MutexId,
-    holder: Holder,
-}
-
-/// The mutex for which a thread waits, and who holds it. `None` if it waits for none.
-fn link_of(core: &Core, thread: Tid) -> Option<Link> {
-    let mutex = mutex_of(core.status(thread)?)?;
-    let holder = holder_of(core, mutex)?;
-    Some(Link { mutex, holder })
-}
-
 /// Writes the chain that begins with this thread.
-fn show_chain<W: Write>(core: &Core, thread: Tid, page: &mut Page<'_>, writer: &mut W)
-    ensures { Stays (W.contents writer.old) (W.contents writer.new) }
+#[tactic(auto, unfolding(crate::specs::Texts::chain_line))]
+fn show_chain<W: Write>(
+    names: &Names<'_>,
+    core: &Core,
+    thread: Tid,
+    page: &mut Page,
+    writer: &mut W,
+)
+    ensures { Tells page.old page.new (W.contents writer.old) (W.contents writer.new) (chain_line names.now core.now thread) }
 {
-    page.thread("  chain: ", thread, writer);
-    show_links(core, core.path(thread).as_slice(), page, writer);
+    page.thread("  chain: ", names, thread, writer);
+    show_links(names, core, thread, page, writer);
     page.words("\n", writer);
 }
 
-/// Writes for which mutex each of these threads waits and who holds it; nothing for one that waits for none.
-fn show_links<W: Write>(core: &Core, path: &[Tid], page: &mut Page<'_>, writer: &mut W)
-    ensures { Stays (W.contents writer.old) (W.contents writer.new) }
+/// Writes for which mutex this thread waits, who holds it, and so on from that one.
+fn show_links<W: Write>(names: &Names<'_>, core: &Core, first: Tid, page: &mut Page, writer: &mut W)
+    ensures { Tells page.old page.new (W.contents writer.old) (W.contents writer.new) (links_text names.now (threads_answer core.now) core.now first) }
 {
-    for thread in path {
-        if let Some(link) = link_of(core, *thread) {
-            page.mutex(" -> ", link.mutex, writer);
-            show_holder(" -> ", link.holder, page, writer);
-        }
+    let mut next = first;
+    for place in 0..core.threads() {
+        let Some(mutex) = awaited(core, next) else {
+            return;
+        };
+        page.mutex(" -> ", mutex, writer);
+        let Some(holder) = holder_of(core, mutex) else {
+            return;
+        };
+        show_holder(" -> ", names, &holder, page, writer);
+        next = holder.owner;
     }
-}
-
-/// Whether somebody waits for a mutex that this thread holds.
-fn has_waiter(core: &Core, thread: Tid) -> bool {
-    for number in 1..=core.mutexes() {
-        if let Some((mutex, _)) = held_as(core, thread, number) {
-            if core.waiter(mutex, 0).is_some() {
-                return true;
-            }
-        }
-    }
-    false
 }

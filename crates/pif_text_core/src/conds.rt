@@ -1,42 +1,70 @@
-ghost use Rattle.pif_text_model.specs.Extends.{Stays};
+ghost use Rattle.std.specs.Prelude.{ℕ, ◌≡◌, ◌≤◌, List, None, flat_map, option_copied};
+ghost use Rattle.pif_text_json.specs.Json.{numbers};
+ghost use Rattle.pif_waiting.specs.Waiting.{conds_added};
+ghost use Rattle.pif_text_core.specs.Pages.{Tells};
+ghost use Rattle.pif_text_core.specs.Texts.{cond_line};
 
-use crate::changes::has_cond_changed;
+use crate::changes::was_cond_there;
+use crate::names::Names;
 use crate::pages::Page;
 use crate::queues::show_queue;
+use crate::threads::show_bound;
 use pif_core::{Core, Order};
 use pif_types::CondId;
+use pif_waiting::conds_added;
 use std::io::Write;
 
 /// Writes a line for each condition variable, or if there is a core from before, for each of which the line has
 /// changed.
-pub fn show_conds<W: Write>(before: Option<&Core>, core: &Core, page: &mut Page<'_>, writer: &mut W)
-    ensures { Stays (W.contents writer.old) (W.contents writer.new) }
+pub fn show_conds<W: Write>(
+    names: &Names<'_>,
+    before: Option<&Core>,
+    core: &Core,
+    page: &mut Page,
+    writer: &mut W,
+)
+    ensures { (text : List ℕ) × (option_copied before.entry ≡ None → text ≡ flat_map (cond_line names.now core.now) (numbers (conds_added core.now)))
+        × Tells page.old page.new (W.contents writer.old) (W.contents writer.new) text }
 {
-    for number in 1..=core.conds() {
-        if let Some(cond) = CondId::new(number) {
-            if has_cond_changed(before, core, cond) {
-                show_cond(core, cond, page, writer);
-            }
-        }
+    for place in 0..conds_added(core) {
+        show_cond_if_new(names, before, core, place + 1, page, writer);
+    }
+}
+
+/// Writes the line of the condition variable of this number if it wasn't there before.
+fn show_cond_if_new<W: Write>(
+    names: &Names<'_>,
+    before: Option<&Core>,
+    core: &Core,
+    number: u32,
+    page: &mut Page,
+    writer: &mut W,
+)
+    requires { 1 ≤ number }
+    ensures { (text : List ℕ) × (option_copied before.entry ≡ None → text ≡ cond_line names.now core.now number)
+        × Tells page.old page.new (W.contents writer.old) (W.contents writer.new) text }
+{
+    let Some(cond) = CondId::new(number) else {
+        return;
+    };
+    if !was_cond_there(before, core, cond) {
+        show_cond(names, core, cond, page, writer);
     }
 }
 
 /// Writes the line of a condition variable.
-fn show_cond<W: Write>(core: &Core, cond: CondId, page: &mut Page<'_>, writer: &mut W)
-    ensures { Stays (W.contents writer.old) (W.contents writer.new) }
+fn show_cond<W: Write>(
+    names: &Names<'_>,
+    core: &Core,
+    cond: CondId,
+    page: &mut Page,
+    writer: &mut W,
+)
+    ensures { Tells page.old page.new (W.contents writer.old) (W.contents writer.new) (cond_line names.now core.now cond) }
 {
     page.cond("  ", cond, writer);
-    show_bound(core, cond, page, writer);
+    show_bound(": for ", core, cond, page, writer);
     page.number("; uses ", core.cond_word(cond).unwrap_or(0), writer);
-    show_queue(core, &Order::Parked(cond), "; parked ", page, writer);
+    show_queue(names, core, &Order::Parked(cond), "; parked ", page, writer);
     page.words("\n", writer);
-}
-
-/// Writes the mutex to which a condition variable is bound.
-fn show_bound<W: Write>(core: &Core, cond: CondId, page: &mut Page<'_>, writer: &mut W)
-    ensures { Stays (W.contents writer.old) (W.contents writer.new) }
-{
-    if let Some(mutex) = core.bound(cond) {
-        page.mutex(": for ", mutex, writer);
-    }
 }

@@ -14,19 +14,20 @@
 //! What is empty is left out, and a time of 0. Of changes the lines are written that weren't there before, and `none`
 //! for a run queue, or for chains, of which nothing is left. A thread that has a name for a person stands there as
 //! `t1 low`, but not in a call or a word. The text is written in parts, and takes no memory.
-//! Pictures show the same chains (`begins_chain`).
 #![tactic(auto)]
 
 mod calls;
 mod chains;
 mod changes;
 mod conds;
+mod holders;
 mod mutexes;
+mod names;
 mod pages;
+mod parts;
 mod queues;
 mod states;
 mod threads;
 
-pub use chains::begins_chain;
 pub use pages::Unwritten;
 pub use states::{write_changes, write_state};

@@ -1,112 +1,181 @@
-ghost use Rattle.std.specs.Prelude.{◌≡◌, false};
+ghost use Rattle.std.specs.Prelude.{None, flat_map, unwrap_or, ℕ, ◌≡◌, ◌≤◌, ◌++◌, ◌==◌, [], false, List, Option, codes, decimal, option_copied, if◌then◌else◌};
+ghost use Rattle.pif_model.specs.Calls.{kind_answer, owner_answer, word_answer};
 ghost use Rattle.pif_model.specs.Projection.{health_of};
 ghost use Rattle.pif_model.specs.Word.{health_word, word_of};
-ghost use Rattle.pif_text_model.specs.Extends.{Stays};
+ghost use Rattle.pif_text_model.specs.Replies.{health_text, thread_name};
+ghost use Rattle.pif_text_json.specs.Json.{numbers};
+ghost use Rattle.pif_waiting.specs.Waiting.{mutexes_added};
+ghost use Rattle.pif_text_core.specs.Pages.{Tells};
+ghost use Rattle.pif_text_core.specs.Texts.{has_own_line, health_at, health_part, if_some, lag_text, kind_by, lags, mutex_line, owner_text, state_by, times_text, word_front, word_text};
 
-use crate::changes::{has_mutex_changed, holder_of};
+use crate::changes::was_mutex_there;
+use crate::names::Names;
 use crate::pages::Page;
 use crate::queues::show_queue;
-use crate::threads::show_holder;
+use crate::threads::{show_owner, show_times};
 use pif_core::{Core, Order};
 use pif_text::kind_word;
 use pif_types::{Health, MutexId};
+use pif_waiting::mutexes_added;
 use pif_word::{has_waiters, number, owner_died};
 use std::io::Write;
 
 /// Writes a line for each mutex, or if there is a core from before, for each of which the line has changed.
 pub fn show_mutexes<W: Write>(
+    names: &Names<'_>,
     before: Option<&Core>,
     core: &Core,
-    page: &mut Page<'_>,
+    page: &mut Page,
     writer: &mut W,
 )
-    ensures { Stays (W.contents writer.old) (W.contents writer.new) }
+    ensures { (text : List ℕ) × (option_copied before.entry ≡ None → text ≡ flat_map (mutex_line names.now core.now) (numbers (mutexes_added core.now)))
+        × Tells page.old page.new (W.contents writer.old) (W.contents writer.new) text }
 {
-    for number in 1..=core.mutexes() {
-        if let Some(mutex) = MutexId::new(number) {
-            if has_mutex_changed(before, core, mutex) {
-                show_mutex(core, mutex, page, writer);
-            }
-        }
+    for place in 0..mutexes_added(core) {
+        show_mutex_if_new(names, before, core, place + 1, page, writer);
     }
 }
 
-/// What stands before the word of a mutex on the line of its state.
-const SAME_LINE: &str = "; word ";
-
-/// What stands before it on a line of its own.
-const NEXT_LINE: &str = "\n      word ";
+/// Writes the line of the mutex of this number if it wasn't there before.
+fn show_mutex_if_new<W: Write>(
+    names: &Names<'_>,
+    before: Option<&Core>,
+    core: &Core,
+    number: u32,
+    page: &mut Page,
+    writer: &mut W,
+)
+    requires { 1 ≤ number }
+    ensures { (text : List ℕ) × (option_copied before.entry ≡ None → text ≡ mutex_line names.now core.now number)
+        × Tells page.old page.new (W.contents writer.old) (W.contents writer.new) text }
+{
+    let Some(mutex) = MutexId::new(number) else {
+        return;
+    };
+    if !was_mutex_there(before, core, mutex) {
+        show_mutex(names, core, mutex, page, writer);
+    }
+}
 
 /// Writes the line of a mutex. If the health word of a robust one lags behind its state, there are two lines.
-fn show_mutex<W: Write>(core: &Core, mutex: MutexId, page: &mut Page<'_>, writer: &mut W)
-    ensures { Stays (W.contents writer.old) (W.contents writer.new) }
+fn show_mutex<W: Write>(
+    names: &Names<'_>,
+    core: &Core,
+    mutex: MutexId,
+    page: &mut Page,
+    writer: &mut W,
+)
+    ensures { Tells page.old page.new (W.contents writer.old) (W.contents writer.new) (mutex_line names.now core.now mutex) }
 {
-    let word = core.word(mutex).unwrap_or(0);
+    let word = word_in(core, mutex);
+    let health = health_at(core, mutex);
+    let died = owner_died(word);
     page.mutex("  ", mutex, writer);
-    let front = show_kind(core, mutex, word, page, writer);
-    show_word(front, word, page, writer);
-    show_ownership(core, mutex, page, writer);
-    show_queue(core, &Order::Waiters(mutex), "; waiters ", page, writer);
+    show_kind(core, mutex, health, died, page, writer);
+    page.words(front_of_word(core, mutex, health, died), writer);
+    show_word(word, page, writer);
+    show_ownership(names, core, mutex, page, writer);
+    show_queue(
+        names,
+        core,
+        &Order::Waiters(mutex),
+        "; waiters ",
+        page,
+        writer,
+    );
     page.words("\n", writer);
 }
 
-/// Writes the kind of a mutex, whether it is robust, and its state. Gives what stands before its word then.
+/// The word of a mutex; 0 if there is none.
+fn word_in(core: &Core, mutex: MutexId) -> u32
+    ensures { result ≡ unwrap_or (word_answer mutex core.now) 0 }
+{
+    core.word(mutex).unwrap_or(0)
+}
+
+/// The health word of a mutex.
+fn health_at(core: &Core, mutex: MutexId) -> Health
+    ensures { result ≡ health_at mutex core.now }
+{
+    core.health(mutex).unwrap_or(Health::Fine)
+}
+
+/// Writes the kind of a mutex, whether it is robust, and its state.
 fn show_kind<W: Write>(
     core: &Core,
     mutex: MutexId,
-    word: u32,
-    page: &mut Page<'_>,
+    health: Health,
+    died: bool,
+    page: &mut Page,
     writer: &mut W,
-) -> &'static str
-    ensures { Stays (W.contents writer.old) (W.contents writer.new) }
+)
+    ensures { Tells page.old page.new (W.contents writer.old) (W.contents writer.new) (if_some (kind_by health died) (kind_answer mutex core.now)) }
 {
     if let Some((kind, is_robust)) = core.kind(mutex) {
         page.words(": ", writer);
         page.words(kind_word(kind), writer);
         if is_robust {
-            let health = core.health(mutex).unwrap_or(Health::Fine);
-            return show_state(health, word, page, writer);
+            show_state(health, died, page, writer);
         }
     }
-    SAME_LINE
 }
 
-/// Writes the state of a robust mutex by POSIX, and what the health word says if that is something else. Gives what
-/// stands before its word then.
-fn show_state<W: Write>(
-    health: Health,
-    word: u32,
-    page: &mut Page<'_>,
-    writer: &mut W,
-) -> &'static str
-    ensures { Stays (W.contents writer.old) (W.contents writer.new) }
+/// What stands before the word of a mutex, which has a line of its own behind a health word that lags.
+fn front_of_word(core: &Core, mutex: MutexId, health: Health, died: bool) -> &'static str
+    ensures { result.now ≡ word_front (has_own_line health died (kind_answer mutex core.now)) }
 {
-    let state = state_of(health, word);
-    page.words(", robust, ", writer);
-    page.words(health_words(state), writer);
-    if state == health {
-        return SAME_LINE;
+    match core.kind(mutex) {
+        Some((_, true)) if lags(health, died) => "\n      word ",
+        _ => "; word ",
     }
-    page.words(" (health word: ", writer);
-    page.words(health_words(health), writer);
-    page.words(")", writer);
-    NEXT_LINE
 }
 
-/// The state of a robust mutex by POSIX, of which this is the health word and this the word. Once its owner has ended
-/// it is inconsistent, though the health word is written only when a thread takes the mutex over.
-fn state_of(health: Health, word: u32) -> Health
-    ensures { health_of (health_word result) false ≡ health_of (health_word health) (word_of word).died }
+/// Whether the health word of a robust mutex lags behind its state.
+fn lags(health: Health, died: bool) -> bool
+    ensures { result ≡ lags health died }
 {
-    if health == Health::Fine && owner_died(word) {
-        Health::Inconsistent
-    } else {
-        health
+    match health {
+        Health::Fine => died,
+        _ => false,
+    }
+}
+
+/// Writes the state of a robust mutex by POSIX, and what the health word says if that is something else.
+fn show_state<W: Write>(health: Health, died: bool, page: &mut Page, writer: &mut W)
+    ensures { Tells page.old page.new (W.contents writer.old) (W.contents writer.new) (health_part health died) }
+{
+    page.words(", robust, ", writer);
+    page.words(health_words(state_of(health, died)), writer);
+    show_lag(health, died, page, writer);
+}
+
+/// Writes what the health word of a mutex says if it lags behind the state.
+fn show_lag<W: Write>(health: Health, died: bool, page: &mut Page, writer: &mut W)
+    ensures { Tells page.old page.new (W.contents writer.old) (W.contents writer.new) (lag_text (lags health died) health) }
+{
+    if lags(health, died) {
+        page.words(" (health word: ", writer);
+        page.words(health_words(health), writer);
+        page.words(")", writer);
+    }
+}
+
+/// The state of a robust mutex by POSIX, of which this is the health word, by whether OWNER_DIED is set. Once its owner
+/// has ended it is inconsistent, though the health word is written only when a thread takes the mutex over.
+fn state_of(health: Health, died: bool) -> Health
+    ensures state { result ≡ state_by health died }
+    ensures posix { health_of (health_word result) false ≡ health_of (health_word health) died }
+{
+    match health {
+        Health::Fine if died => Health::Inconsistent,
+        health => health,
     }
 }
 
 /// The state of a robust mutex in a word.
-fn health_words(health: Health) -> &'static str {
+fn health_words(health: Health) -> &'static str
+    ensures { result.now ≡ health_text health }
+{
     match health {
         Health::Fine => "fine",
         Health::Inconsistent => "inconsistent",
@@ -114,41 +183,54 @@ fn health_words(health: Health) -> &'static str {
     }
 }
 
-/// Writes the number in the word of a mutex behind what stands before it.
-fn show_number<W: Write>(front: &str, word: u32, page: &mut Page<'_>, writer: &mut W)
-    ensures { Stays (W.contents writer.old) (W.contents writer.new) }
+/// Writes the parts of the word of a mutex.
+fn show_word<W: Write>(word: u32, page: &mut Page, writer: &mut W)
+    ensures { Tells page.old page.new (W.contents writer.old) (W.contents writer.new) (word_text (word_of word)) }
 {
-    page.words(front, writer);
-    match number(word) {
-        0 => page.words("0", writer),
-        thread => page.number("t", thread, writer),
+    show_number(number(word), page, writer);
+    show_bit(has_waiters(word), " + WAITERS", page, writer);
+    show_bit(owner_died(word), " + OWNER_DIED", page, writer);
+}
+
+/// Writes the owner's number in a word, as a thread; 0 if there is none.
+fn show_number<W: Write>(number: u32, page: &mut Page, writer: &mut W)
+    ensures { Tells page.old page.new (W.contents writer.old) (W.contents writer.new) (if number == 0 then decimal 0 else thread_name number) }
+{
+    if number == 0 {
+        page.number("", 0, writer);
+    } else {
+        page.number("t", number, writer);
     }
 }
 
-/// Writes the parts of the word of a mutex behind what stands before it.
-fn show_word<W: Write>(front: &str, word: u32, page: &mut Page<'_>, writer: &mut W)
-    ensures { Stays (W.contents writer.old) (W.contents writer.new) }
+/// Writes the name of a bit if it is set.
+fn show_bit<W: Write>(is_set: bool, words: &str, page: &mut Page, writer: &mut W)
+    ensures { Tells page.old page.new (W.contents writer.old) (W.contents writer.new) (if is_set then words.now else []) }
 {
-    show_number(front, word, page, writer);
-    if has_waiters(word) {
-        page.words(" + WAITERS", writer);
-    }
-    if owner_died(word) {
-        page.words(" + OWNER_DIED", writer);
+    if is_set {
+        page.words(words, writer);
     }
 }
 
 /// Writes the owner of a mutex, and how often it holds the mutex; nothing where nobody owns it.
-fn show_ownership<W: Write>(core: &Core, mutex: MutexId, page: &mut Page<'_>, writer: &mut W)
-    ensures { Stays (W.contents writer.old) (W.contents writer.new) }
+fn show_ownership<W: Write>(
+    names: &Names<'_>,
+    core: &Core,
+    mutex: MutexId,
+    page: &mut Page,
+    writer: &mut W,
+)
+    ensures { Tells page.old page.new (W.contents writer.old) (W.contents writer.new) (owner_text names.now mutex core.now) }
 {
-    if let Some(holder) = holder_of(core, mutex) {
-        show_holder("; owner ", holder, page, writer);
-    }
+    show_owner("; owner ", names, core, mutex, page, writer);
+    show_count(core, mutex, page, writer);
+}
+
+/// Writes how often a mutex is held, if it is held more than once.
+fn show_count<W: Write>(core: &Core, mutex: MutexId, page: &mut Page, writer: &mut W)
+    ensures { Tells page.old page.new (W.contents writer.old) (W.contents writer.new) (if_some (λ owner. times_text (codes ", ") (codes " times") owner.1) (owner_answer mutex core.now)) }
+{
     if let Some((_, count)) = core.owner(mutex) {
-        if count > 1 {
-            page.number(", ", count, writer);
-            page.words(" times", writer);
-        }
+        show_times(", ", count, " times", page, writer);
     }
 }

@@ -1,9 +1,16 @@
+ghost use Rattle.std.specs.Prelude.{◌≡◌, ◌<◌, ◌++◌, [], ◌∷◌, false, decimal, length, OnOk};
+ghost use Rattle.std.specs.Io.KnownBytes.{Appends};
 ghost use Rattle.pif_text_model.specs.Extends.{Stays};
+ghost use Rattle.pif_text_model.specs.Replies.{cond_name, mutex_name};
+ghost use Rattle.pif_text_core.specs.Pages.{Sheet, Tells};
+ghost use Rattle.pif_text_core.specs.Texts.{label_text, person_text};
 
+use crate::names::Names;
 use arrayvec::ArrayVec;
 use itoa::Buffer;
 use pif_types::{CondId, MutexId, Tid};
 use std::io::Write;
+use std::marker::Model;
 use thiserror::Error;
 
 /// A write failed, or took no byte.
@@ -16,18 +23,23 @@ const PAGE_ROOM: usize = 1024;
 
 /// A text on its way to a writer, which gets it in parts. Once a write has failed nothing more is written.
 #[derive(Drop)]
-pub struct Page<'n> {
-    // The names of threads for a person, that of t1 first.
-    names: &'n [&'n str],
+pub struct Page {
     kept: ArrayVec<u8, PAGE_ROOM>,
     failed: bool,
 }
 
-impl<'n> Page<'n> {
-    /// A page with no text, on which threads have these names: that of t1 is the first, and an empty one is none.
-    pub fn new(names: &'n [&'n str]) -> Page<'n> {
+impl Model for Page {
+    ghost Value = { Sheet };
+
+    ghost view = { λ p. record { kept = p.kept.items; failed = p.failed } };
+}
+
+impl Page {
+    /// A page with no text.
+    pub fn new() -> Page
+        ensures { result ≡ record { kept = []; failed = false } }
+    {
         Page {
-            names,
             kept: ArrayVec::new(),
             failed: false,
         }
@@ -35,14 +47,14 @@ impl<'n> Page<'n> {
 
     /// Appends words.
     pub fn words<W: Write>(&mut self, words: &str, writer: &mut W)
-        ensures { Stays (W.contents writer.old) (W.contents writer.new) }
+        ensures { Tells self.old self.new (W.contents writer.old) (W.contents writer.new) words.now }
     {
         self.bytes(words.as_bytes(), writer);
     }
 
     /// Appends words and a number in decimal digits.
     pub fn number<W: Write>(&mut self, before: &str, number: u32, writer: &mut W)
-        ensures { Stays (W.contents writer.old) (W.contents writer.new) }
+        ensures { Tells self.old self.new (W.contents writer.old) (W.contents writer.new) (before.now ++ decimal number) }
     {
         self.bytes(before.as_bytes(), writer);
         let mut buffer = Buffer::new();
@@ -50,12 +62,19 @@ impl<'n> Page<'n> {
     }
 
     /// Appends words and a thread as commands name it, as `t1`, with its name for a person behind it, if it has one.
-    pub fn thread<W: Write>(&mut self, before: &str, thread: Tid, writer: &mut W)
-        ensures { Stays (W.contents writer.old) (W.contents writer.new) }
+    pub fn thread<W: Write>(&mut self, before: &str, names: &Names<'_>, thread: Tid, writer: &mut W)
+        ensures { Tells self.old self.new (W.contents writer.old) (W.contents writer.new) (before.now ++ person_text names.now thread) }
     {
         self.words(before, writer);
         self.number("t", thread.get(), writer);
-        if let Some(name) = name_in(self.names, thread) {
+        self.label(names.of(thread), writer);
+    }
+
+    /// Appends a name for a person behind a space; nothing if it is empty.
+    fn label<W: Write>(&mut self, name: &str, writer: &mut W)
+        ensures { Tells self.old self.new (W.contents writer.old) (W.contents writer.new) (label_text name.now) }
+    {
+        if !name.is_empty() {
             self.words(" ", writer);
             self.words(name, writer);
         }
@@ -63,7 +82,7 @@ impl<'n> Page<'n> {
 
     /// Appends words and the name of a mutex, as `m1`.
     pub fn mutex<W: Write>(&mut self, before: &str, mutex: MutexId, writer: &mut W)
-        ensures { Stays (W.contents writer.old) (W.contents writer.new) }
+        ensures { Tells self.old self.new (W.contents writer.old) (W.contents writer.new) (before.now ++ mutex_name mutex) }
     {
         self.words(before, writer);
         self.number("m", mutex.get(), writer);
@@ -71,7 +90,7 @@ impl<'n> Page<'n> {
 
     /// Appends words and the name of a condition variable, as `c1`.
     pub fn cond<W: Write>(&mut self, before: &str, cond: CondId, writer: &mut W)
-        ensures { Stays (W.contents writer.old) (W.contents writer.new) }
+        ensures { Tells self.old self.new (W.contents writer.old) (W.contents writer.new) (before.now ++ cond_name cond) }
     {
         self.words(before, writer);
         self.number("c", cond.get(), writer);
@@ -83,7 +102,8 @@ impl<'n> Page<'n> {
     ///
     /// `Unwritten`, where a write failed, this one or an earlier one.
     pub fn finish<W: Write>(&mut self, writer: &mut W) -> Result<(), Unwritten>
-        ensures { Stays (W.contents writer.old) (W.contents writer.new) }
+        ensures told { Tells self.old self.new (W.contents writer.old) (W.contents writer.new) [] }
+        ensures all { OnOk result (self.new ≡ record { kept = []; failed = false }) }
     {
         self.flush(writer);
         if self.failed { Err(Unwritten) } else { Ok(()) }
@@ -91,19 +111,35 @@ impl<'n> Page<'n> {
 
     /// Appends bytes.
     fn bytes<W: Write>(&mut self, bytes: &[u8], writer: &mut W)
-        ensures { Stays (W.contents writer.old) (W.contents writer.new) }
+        ensures { Tells self.old self.new (W.contents writer.old) (W.contents writer.new) bytes.now }
     {
         for byte in bytes {
-            if self.kept.is_full() {
-                self.flush(writer);
-            }
-            let _ = self.kept.try_push(*byte);
+            self.byte(*byte, writer);
+        }
+    }
+
+    /// Appends a byte.
+    fn byte<W: Write>(&mut self, byte: u8, writer: &mut W)
+        ensures { Tells self.old self.new (W.contents writer.old) (W.contents writer.new) (byte ∷ []) }
+    {
+        self.make_room(writer);
+        let _ = self.kept.try_push(byte);
+    }
+
+    /// Makes room for a byte.
+    fn make_room<W: Write>(&mut self, writer: &mut W)
+        ensures told { Tells self.old self.new (W.contents writer.old) (W.contents writer.new) [] }
+        ensures room { length self.new.kept < 1024 }
+    {
+        if self.kept.is_full() {
+            self.flush(writer);
         }
     }
 
     /// Writes what is kept, if no write has failed. Nothing is kept then.
     fn flush<W: Write>(&mut self, writer: &mut W)
-        ensures { Stays (W.contents writer.old) (W.contents writer.new) }
+        ensures told { Tells self.old self.new (W.contents writer.old) (W.contents writer.new) [] }
+        ensures emptied { self.new.kept ≡ [] }
     {
         if !self.failed {
             self.failed = write_whole(writer, self.kept.as_slice()).is_err();
@@ -112,19 +148,10 @@ impl<'n> Page<'n> {
     }
 }
 
-/// The name of a thread in a list, in which that of t1 is the first; none if it is empty.
-fn name_in<'n>(names: &'n [&'n str], thread: Tid) -> Option<&'n str> {
-    let place = (thread.get() - 1) as usize;
-    if place < names.len() && !names[place].is_empty() {
-        Some(names[place])
-    } else {
-        None
-    }
-}
-
 /// Writes all of `bytes`. Where it fails, some of them may be written.
 fn write_whole<W: Write>(writer: &mut W, bytes: &[u8]) -> Result<(), Unwritten>
-    ensures { Stays (W.contents writer.old) (W.contents writer.new) }
+    ensures stays { Stays (W.contents writer.old) (W.contents writer.new) }
+    ensures written { OnOk result (Appends (W.contents writer.old) (W.contents writer.new) bytes.now) }
 {
     let mut written = 0;
     while written < bytes.len() {

@@ -1,5 +1,9 @@
-ghost use Rattle.pif_text_model.specs.Extends.{Stays};
+ghost use Rattle.std.specs.Prelude.{ℕ, ◌≡◌, ◌++◌, ◌==◌, [], List, None, option_copied};
+ghost use Rattle.pif_waiting.specs.Waiting.{order_in};
+ghost use Rattle.pif_text_core.specs.Pages.{Tells};
+ghost use Rattle.pif_text_core.specs.Texts.{front_of, person_text, ready_line, threads_text};
 
+use crate::names::Names;
 use crate::pages::Page;
 use pif_core::{Core, Order};
 use pif_types::Tid;
@@ -7,30 +11,38 @@ use std::io::Write;
 
 /// Writes the threads of an order with `head` before the first; nothing where there is none.
 pub fn show_queue<W: Write>(
+    names: &Names<'_>,
     core: &Core,
     order: &Order,
     head: &str,
-    page: &mut Page<'_>,
+    page: &mut Page,
     writer: &mut W,
 )
-    ensures { Stays (W.contents writer.old) (W.contents writer.new) }
+    ensures { Tells page.old page.new (W.contents writer.old) (W.contents writer.new) (threads_text names.now head.now (order_in order.now core.now)) }
 {
     for place in 0..core.threads() {
         match core.nth(*order, place) {
-            Some(thread) => show_place(place, thread, head, page, writer),
+            Some(thread) => show_place(names, place, thread, head, page, writer),
             None => return,
         }
     }
 }
 
 /// Writes a thread of an order before which `place` others stand.
-fn show_place<W: Write>(place: u32, thread: Tid, head: &str, page: &mut Page<'_>, writer: &mut W)
-    ensures { Stays (W.contents writer.old) (W.contents writer.new) }
+fn show_place<W: Write>(
+    names: &Names<'_>,
+    place: u32,
+    thread: Tid,
+    head: &str,
+    page: &mut Page,
+    writer: &mut W,
+)
+    ensures { Tells page.old page.new (W.contents writer.old) (W.contents writer.new) (front_of head.now (place == 0) ++ person_text names.now thread) }
 {
     if place == 0 {
-        page.thread(head, thread, writer);
+        page.thread(head, names, thread, writer);
     } else {
-        page.thread(", ", thread, writer);
+        page.thread(", ", names, thread, writer);
     }
 }
 
@@ -51,31 +63,40 @@ pub fn is_same_queue(before: &Core, core: &Core, order: &Order) -> bool {
 /// Writes the line of the run queue; nothing if no thread is ready. If there is a core from before, it is written only
 /// if it has changed, and then also if no thread is ready.
 pub fn show_run_queue<W: Write>(
+    names: &Names<'_>,
     before: Option<&Core>,
     core: &Core,
-    page: &mut Page<'_>,
+    page: &mut Page,
     writer: &mut W,
 )
-    ensures { Stays (W.contents writer.old) (W.contents writer.new) }
+    ensures { (text : List ℕ) × (option_copied before.entry ≡ None → text ≡ ready_line names.now [] core.now)
+        × Tells page.old page.new (W.contents writer.old) (W.contents writer.new) text }
 {
     match before {
         Some(before) => {
             if !is_same_queue(before, core, &Order::Ready) {
-                show_ready(core, "  run queue: none\n", page, writer);
+                show_ready(names, core, "  run queue: none\n", page, writer);
             }
         }
-        None => show_ready(core, "", page, writer),
+        None => show_ready(names, core, "", page, writer),
     }
 }
 
 /// Writes the line of the run queue, or these words if no thread is ready.
-fn show_ready<W: Write>(core: &Core, empty: &str, page: &mut Page<'_>, writer: &mut W)
-    ensures { Stays (W.contents writer.old) (W.contents writer.new) }
+fn show_ready<W: Write>(
+    names: &Names<'_>,
+    core: &Core,
+    empty: &str,
+    page: &mut Page,
+    writer: &mut W,
+)
+    ensures { Tells page.old page.new (W.contents writer.old) (W.contents writer.new) (ready_line names.now empty.now core.now) }
 {
-    if core.pick().is_some() {
-        show_queue(core, &Order::Ready, "  run queue: ", page, writer);
-        page.words("\n", writer);
-    } else {
-        page.words(empty, writer);
+    match core.pick() {
+        Some(_) => {
+            show_queue(names, core, &Order::Ready, "  run queue: ", page, writer);
+            page.words("\n", writer);
+        }
+        None => page.words(empty, writer),
     }
 }

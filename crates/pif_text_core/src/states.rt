@@ -1,8 +1,13 @@
+ghost use Rattle.std.specs.Prelude.{ℕ, ◌≡◌, List, None, map, OnOk, option_copied};
+ghost use Rattle.std.specs.Io.KnownBytes.{Appends};
 ghost use Rattle.pif_text_model.specs.Extends.{Stays};
+ghost use Rattle.pif_text_core.specs.Pages.{Tells};
+ghost use Rattle.pif_text_core.specs.Texts.{state_text, time_before, time_line};
 
-use crate::chains::show_chains;
+use crate::chains::{show_chains, show_no_chain};
 use crate::conds::show_conds;
 use crate::mutexes::show_mutexes;
+use crate::names::Names;
 use crate::pages::{Page, Unwritten};
 use crate::queues::show_run_queue;
 use crate::threads::show_threads;
@@ -17,9 +22,10 @@ use std::io::Write;
 ///
 /// `Unwritten`, where the writer fails or takes no byte; a part of the text may be written then.
 pub fn write_state<W: Write>(names: &[&str], core: &Core, writer: &mut W) -> Result<(), Unwritten>
-    ensures { Stays (W.contents writer.old) (W.contents writer.new) }
+    ensures stays { Stays (W.contents writer.old) (W.contents writer.new) }
+    ensures told { OnOk result (Appends (W.contents writer.old) (W.contents writer.new) (state_text (map (λ name. name.now) names.now) core.now)) }
 {
-    write_lines(names, None, core, writer)
+    write_lines(&Names::new(names), None, core, writer)
 }
 
 /// Writes what has changed since a core did what `before` does, which has the same limits: of the lines of
@@ -35,44 +41,63 @@ pub fn write_changes<W: Write>(
     core: &Core,
     writer: &mut W,
 ) -> Result<(), Unwritten>
-    ensures { Stays (W.contents writer.old) (W.contents writer.new) }
+    ensures stays { Stays (W.contents writer.old) (W.contents writer.new) }
 {
-    write_lines(names, Some(before), core, writer)
+    write_lines(&Names::new(names), Some(before), core, writer)
 }
 
 /// Writes what a core does, or if there is a core from before, what has changed; and an empty line.
 fn write_lines<W: Write>(
-    names: &[&str],
+    names: &Names<'_>,
     before: Option<&Core>,
     core: &Core,
     writer: &mut W,
 ) -> Result<(), Unwritten>
-    ensures { Stays (W.contents writer.old) (W.contents writer.new) }
+    ensures stays { Stays (W.contents writer.old) (W.contents writer.new) }
+    ensures told { OnOk result ((text : List ℕ) × (option_copied before.entry ≡ None → text ≡ state_text names.now core.now)
+        × Appends (W.contents writer.old) (W.contents writer.new) text) }
 {
-    let mut page = Page::new(names);
-    show_time(before, core, &mut page, writer);
-    show_threads(before, core, &mut page, writer);
-    show_mutexes(before, core, &mut page, writer);
-    show_conds(before, core, &mut page, writer);
-    show_run_queue(before, core, &mut page, writer);
-    show_chains(before, core, &mut page, writer);
-    page.words("\n", writer);
+    let mut page = Page::new();
+    show_lines(names, before, core, &mut page, writer);
     page.finish(writer)
 }
 
+/// Writes the lines of that, and an empty one.
+fn show_lines<W: Write>(
+    names: &Names<'_>,
+    before: Option<&Core>,
+    core: &Core,
+    page: &mut Page,
+    writer: &mut W,
+)
+    ensures { (text : List ℕ) × (option_copied before.entry ≡ None → text ≡ state_text names.now core.now)
+        × Tells page.old page.new (W.contents writer.old) (W.contents writer.new) text }
+{
+    show_time(before, core, page, writer);
+    show_threads(names, before, core, page, writer);
+    show_mutexes(names, before, core, page, writer);
+    show_conds(names, before, core, page, writer);
+    show_run_queue(names, before, core, page, writer);
+    show_chains(names, before, core, page, writer);
+    show_no_chain(before, core, page, writer);
+    page.words("\n", writer);
+}
+
 /// Writes the line of the time; nothing if it is 0, or if it is what it was before.
-fn show_time<W: Write>(before: Option<&Core>, core: &Core, page: &mut Page<'_>, writer: &mut W)
-    ensures { Stays (W.contents writer.old) (W.contents writer.new) }
+fn show_time<W: Write>(before: Option<&Core>, core: &Core, page: &mut Page, writer: &mut W)
+    ensures { Tells page.old page.new (W.contents writer.old) (W.contents writer.new) (time_line (time_before (option_copied before.entry)) core.now.time) }
 {
     let time = core.time();
-    if time > time_of(before) {
+    if time > time_before(before) {
         page.number("  time ", time, writer);
         page.words("\n", writer);
     }
 }
 
 /// The time of a core, or 0 if there is none.
-fn time_of(before: Option<&Core>) -> u32 {
+fn time_before(before: Option<&Core>) -> u32
+    ensures { result ≡ time_before (option_copied before.entry) }
+{
     match before {
         Some(core) => core.time(),
         None => 0,

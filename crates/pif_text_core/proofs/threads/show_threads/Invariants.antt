@@ -1,5 +1,11 @@
-use Rattle.pif_text_model.specs.Extends.{Stays}
+use Rattle.std.proofs.Common.{◌≡◌, ℕ, List, None}
+use Rattle.std.specs.Prelude.{flat_map, option_copied}
+use Rattle.pif_text_json.specs.Json.{numbers}
+use Rattle.pif_text_core.specs.Pages.{Tells}
+use Rattle.pif_text_core.specs.Texts.{thread_line}
 use Rattle.pif_text_core.proofs.threads.show_threads.Given as goal
 
-abbrev pub invariant-loop-number : goal.invariant-loop-number
-invariant-loop-number g l = Stays (g.W.Write.contents l.initial.writer) (g.W.Write.contents l.writer)
+abbrev pub invariant-loop-place : goal.invariant-loop-place
+invariant-loop-place g l =
+    (text : List ℕ) × (option_copied l.before ≡ None → text ≡ flat_map (thread_line l.names l.core) (numbers l.place))
+    × Tells l.initial.page l.page (g.W.Write.contents l.initial.writer) (g.W.Write.contents l.writer) text

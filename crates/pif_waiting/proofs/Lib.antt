@@ -1,0 +1,2 @@
+pub mod AnyLemmas
+pub mod OrderLemmas

@@ -1,0 +1,16 @@
+//! Who holds what, and who waits for whom, by what a core's readers answer.
+//!
+//! | Module | What it has |
+//! |---|---|
+//! | `counts` | how many mutexes and condition variables were added |
+//! | `holds` | whether a thread holds a mutex |
+//! | `waits` | for which mutex a thread waits, and where a chain of waiting begins |
+#![tactic(auto)]
+
+mod counts;
+mod holds;
+mod waits;
+
+pub use counts::{conds_added, mutexes_added};
+pub use holds::has;
+pub use waits::{awaited, begins_chain};
