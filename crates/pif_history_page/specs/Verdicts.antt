@@ -57,7 +57,9 @@ abbrev pub illegal_object : (number : ℕ) → Line → Known → Option Began �
 illegal_object number line known began left_out =
     illegal_front number line left_out ++ illegal_end known began
 
--- At the line of this number the search was given up.
-abbrev pub undecided_object : (number left_out : ℕ) → List ℕ
-undecided_object number left_out =
-    at_number (codes "{\"verdict\":\"undecided\",\"line\":") number left_out ++ codes "}\n"
+-- At the line of this number the search was given up, and no witness was found from the line of another number on, which
+-- claims nothing.
+unfoldable pub undecided_object : (number unfound left_out : ℕ) → List ℕ
+undecided_object number unfound left_out =
+    at_number (codes "{\"verdict\":\"undecided\",\"line\":") number left_out ++ codes ",\"no_witness_from\":" ++ decimal unfound
+    ++ codes "}\n"

@@ -1,87 +1,46 @@
-ghost use Rattle.std.specs.Prelude.{◌≡◌, ◌∷◌, List, IfOk, IfSome};
-ghost use Rattle.pif_history_model.specs.declared.labels.Label.{Label};
+ghost use Rattle.std.specs.Prelude.{◌≡◌, ◌<◌, Some, length, slice_get, IfOk};
 ghost use Rattle.pif_allow_model.specs.Allowed.{WideConfiguration};
-ghost use Rattle.pif_history_page.specs.Runs.{IsTold, Telling};
+ghost use Rattle.pif_history_run.specs.Steps.{steps_of};
+ghost use Rattle.pif_history_run.specs.Ways.{IsRun};
+ghost use Rattle.pif_history_run.specs.declared.leading.Step.{Step};
+ghost use Rattle.pif_history_page.specs.Runs.{IsTold, Telling, with_step};
 
 use crate::tellings::{Frame, Leap, Telling};
 use pif_allow::WidePosition;
 use pif_history_model::{HistoryLimits, Label};
-use pif_history_run::{choices, steps};
+use pif_history_run::{choices, step_at};
 use pif_rules_model::Rules;
 use pif_search::Stop;
 use std::alloc::Global;
 
-/// Tells a step of this label from a position, and answers to which one it leads: the one at the chosen place. None if
-/// there is no such.
+/// Tells the step at this place among those of a label from a position, and answers to which one it leads.
 fn take_step(
     alloc: Global,
     rules: &Rules,
     limits: HistoryLimits,
     frame: &Frame<'_>,
     label: &Label,
-    choice: usize,
+    place: usize,
     from: &WidePosition,
     told: &mut Telling,
-) -> Result<Option<WidePosition>, Stop>
-    ensures { IfOk result (λ o. IfSome o (λ to. (xs : List Label)
-        → IsTold rules.now limits frame.now.numbers.now frame.now.from xs from.now told.old
-        → IsTold rules.now limits frame.now.numbers.now frame.now.from (label.now ∷ xs) to told.new)) }
+) -> Result<WidePosition, Stop>
+    requires { place < length (steps_of rules.now limits from.now label.now) }
+    ensures { IfOk result (λ to. (step : Step) × (slice_get (steps_of rules.now limits from.now label.now) place ≡ Some step) × (step.position ≡ to)
+        × (told.new ≡ with_step frame.now.from frame.now.numbers.now label.now step.rule from.now.wide.world step.position.wide.world told.old)) }
 {
-    let mut next = steps(alloc, rules, limits, from, label)?;
-    if choice >= next.len() {
-        return Ok(None);
-    }
-    let step = next.swap_remove(choice);
+    let step = step_at(alloc, rules, limits, from, label, place)?;
     let leap = Leap {
         rule: step.rule,
         from: from.world(),
         to: step.position.world(),
     };
     told.add(frame, label, &leap)?;
-    Ok(Some(step.position))
-}
-
-/// The run that takes these choices.
-fn follow(
-    alloc: Global,
-    rules: &Rules,
-    limits: HistoryLimits,
-    frame: &Frame<'_>,
-    witness: &[Label],
-    chosen: &[usize],
-) -> Result<Option<Vec<u8>>, Stop>
-    ensures { IfOk result (λ o. IfSome o (λ text. (last : WideConfiguration) × (told : Telling)
-        × IsTold rules.now limits frame.now.numbers.now frame.now.from witness.now last told × (text.items ≡ told.done))) }
-{
-    let mut position = WidePosition::start(alloc, limits)?;
-    let mut told = Telling::new(alloc);
-    let mut left = witness.len();
-    while left > 0 {
-        left -= 1;
-        let choice = match chosen.get(left) {
-            Some(choice) => *choice,
-            None => return Ok(None),
-        };
-        match take_step(
-            alloc,
-            rules,
-            limits,
-            frame,
-            &witness[left],
-            choice,
-            &position,
-            &mut told,
-        )? {
-            Some(to) => position = to,
-            None => return Ok(None),
-        }
-    }
-    Ok(Some(told.into_lines()))
+    Ok(step.position)
 }
 
 /// A run whose steps have these labels, newest first, as lines of JSON: one for each line of the history but the first
 /// `from`, which has the number of its place among `numbers`, the moves before it, and what each changes. A step that
-/// needs one of these rules names it. None if no run of these labels was found.
+/// needs one of these rules names it. There has to be such a run.
 ///
 /// # Errors
 ///
@@ -93,15 +52,28 @@ pub fn run_text(
     numbers: &[u32],
     from: usize,
     witness: &[Label],
-) -> Result<Option<Vec<u8>>, Stop>
-    ensures { IfOk result (λ o. IfSome o (λ text. (last : WideConfiguration) × (told : Telling)
-        × IsTold rules.now limits numbers.now from witness.now last told × (text.items ≡ told.done))) }
+) -> Result<Vec<u8>, Stop>
+    requires run { IsRun rules.now limits witness.now }
+    ensures { IfOk result (λ text. (last : WideConfiguration) × (told : Telling)
+        × IsTold rules.now limits numbers.now from witness.now last told × (text.items ≡ told.done)) }
 {
-    match choices(alloc, rules, limits, witness)? {
-        Some(chosen) => {
-            let frame = Frame { numbers, from };
-            follow(alloc, rules, limits, &frame, witness, chosen.as_slice())
-        }
-        None => Ok(None),
+    let chosen = choices(alloc, rules, limits, witness)?;
+    let frame = Frame { numbers, from };
+    let mut position = WidePosition::start(alloc, limits)?;
+    let mut told = Telling::new(alloc);
+    let mut left = witness.len();
+    while left > 0 {
+        left -= 1;
+        position = take_step(
+            alloc,
+            rules,
+            limits,
+            &frame,
+            &witness[left],
+            chosen[left],
+            &position,
+            &mut told,
+        )?;
     }
+    Ok(told.into_lines())
 }

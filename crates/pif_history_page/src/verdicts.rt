@@ -210,13 +210,19 @@ pub fn append_legal(lines: u32, left_out: u32, out: &mut Vec<u8>) -> Result<(), 
     out.extend_from_slice(b"}\n")
 }
 
-/// Appends the verdict on a history that was given up at the line of this number.
+/// Appends the verdict on a history that was given up at the line of this number. From the line of number `unfound` on no
+/// witness was found, which claims nothing.
 ///
 /// # Errors
 ///
 /// A growth of memory was refused.
-pub fn append_undecided(number: u32, left_out: u32, out: &mut Vec<u8>) -> Result<(), AllocError>
-    ensures { OnOk result (out.new.items ≡ out.old.items ++ undecided_object number left_out) }
+pub fn append_undecided(
+    number: u32,
+    unfound: u32,
+    left_out: u32,
+    out: &mut Vec<u8>,
+) -> Result<(), AllocError>
+    ensures { OnOk result (out.new.items ≡ out.old.items ++ undecided_object number unfound left_out) }
 {
     append_at(
         b"{\"verdict\":\"undecided\",\"line\":",
@@ -224,5 +230,7 @@ pub fn append_undecided(number: u32, left_out: u32, out: &mut Vec<u8>) -> Result
         left_out,
         out,
     )?;
+    out.extend_from_slice(b",\"no_witness_from\":")?;
+    append_decimal(out, u64::from(unfound))?;
     out.extend_from_slice(b"}\n")
 }

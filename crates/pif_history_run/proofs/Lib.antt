@@ -1,1 +1,4 @@
-pub mod StepLemmas
+mod Splitting
+mod StepLemmas
+mod WayLemmas
+pub mod Chosen

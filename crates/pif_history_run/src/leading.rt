@@ -1,9 +1,8 @@
-ghost use Rattle.std.specs.Prelude.{◌≡◌, true, All, IfOk, OnOk};
-ghost use Rattle.pif_types.specs.Bounds.{Bounds};
-ghost use Rattle.pif_rules_model.specs.declared.rules.Rules.{Rules as AllRules};
-ghost use Rattle.pif_history_model.specs.declared.labels.Label.{Label as AnyLabel};
-ghost use Rattle.pif_allow_model.specs.Allowed.{WideConfiguration};
-ghost use Rattle.pif_history_run.specs.Steps.{AreSteps, IsStepBy};
+ghost use Rattle.std.specs.Prelude.{◌≡◌, ◌<◌, ◌++◌, Some, drop, length, slice_get, IfOk, OnOk};
+ghost use Rattle.pif_rules_model.specs.Rules.{no_rules};
+ghost use Rattle.pif_allow_model.specs.Allowed.{WideConfiguration, WideAdvances};
+ghost use Rattle.pif_allow.specs.Listed.{behind};
+ghost use Rattle.pif_history_run.specs.Steps.{AreSteps, IsLedTo, added_by, led_by, steps_of};
 
 use pif_allow::{AllowingMachine, WidePosition};
 use pif_history_model::{HistoryLimits, Label};
@@ -28,17 +27,10 @@ fn add(
     positions: Vec<WidePosition>,
     found: &mut Vec<Step>,
 ) -> Result<(), Stop>
-    ensures { OnOk result ((r : AllRules) (l : Bounds) (s : WideConfiguration) (x : AnyLabel)
-        → All (λ n. IsStepBy r l s x rule n) positions.items
-        → AreSteps r l s x found.old.items → AreSteps r l s x found.new.items) }
+    ensures { OnOk result (found.new.items ≡ found.old.items ++ led_by rule (drop first positions.items)) }
 {
-    let mut place = 0usize;
-    for position in positions {
-        let at = place;
-        place = place.saturating_add(1);
-        if at >= first {
-            push(found, Step { rule, position })?;
-        }
+    for position in positions.into_iter().skip(first) {
+        push(found, Step { rule, position })?;
     }
     Ok(())
 }
@@ -54,8 +46,8 @@ fn add_by(
     label: &Label,
     found: &mut Vec<Step>,
 ) -> Result<(), Stop>
-    ensures { OnOk result (AreSteps rules.now limits from.now label.now found.old.items
-        → AreSteps rules.now limits from.now label.now found.new.items) }
+    requires { plain ≡ length (behind no_rules limits from.now label.now) }
+    ensures { OnOk result (found.new.items ≡ found.old.items ++ added_by rules.now limits from.now label.now rule) }
 {
     if !has(rules, rule) {
         return Ok(());
@@ -65,8 +57,8 @@ fn add_by(
     add(Some(rule), plain, positions, found)
 }
 
-/// The steps of this label from a position: first those of the plain machine, and then those that each rule adds, in
-/// the order of `RULES`.
+/// The steps of this label from a position, and no others: first those of the plain machine, and then those that each
+/// rule adds, in the order of `RULES`.
 ///
 /// # Errors
 ///
@@ -78,7 +70,24 @@ pub fn steps(
     from: &WidePosition,
     label: &Label,
 ) -> Result<Vec<Step>, Stop>
-    ensures { IfOk result (λ v. AreSteps rules.now limits from.now label.now v.items) }
+    ensures listed { IfOk result (λ v. v.items ≡ steps_of rules.now limits from.now label.now) }
+    ensures sound { IfOk result (λ v. AreSteps rules.now limits from.now label.now v.items) }
+    ensures complete { IfOk result (λ v. (n : WideConfiguration) → WideAdvances rules.now limits from.now label.now n → IsLedTo v.items n) }
+{
+    let found = listed(alloc, rules, limits, from, label)?;
+    Ok(found)
+}
+
+/// The same steps.
+#[tactic(auto, unfolding(crate::specs::Steps::steps_of))]
+fn listed(
+    alloc: Global,
+    rules: &Rules,
+    limits: HistoryLimits,
+    from: &WidePosition,
+    label: &Label,
+) -> Result<Vec<Step>, Stop>
+    ensures { IfOk result (λ v. v.items ≡ steps_of rules.now limits from.now label.now) }
 {
     let mut found = Vec::new(alloc);
     let machine = AllowingMachine::new(limits, no_rules());
@@ -89,4 +98,24 @@ pub fn steps(
         add_by(alloc, rules, limits, *rule, plain, from, label, &mut found)?;
     }
     Ok(found)
+}
+
+/// The step at this place among those of a label from a position.
+///
+/// # Errors
+///
+/// Memory ran out, or a number got too great for a state.
+pub fn step_at(
+    alloc: Global,
+    rules: &Rules,
+    limits: HistoryLimits,
+    from: &WidePosition,
+    label: &Label,
+    place: usize,
+) -> Result<Step, Stop>
+    requires { place < length (steps_of rules.now limits from.now label.now) }
+    ensures { IfOk result (λ step. slice_get (steps_of rules.now limits from.now label.now) place ≡ Some step) }
+{
+    let mut found = listed(alloc, rules, limits, from, label)?;
+    Ok(found.swap_remove(place))
 }

@@ -1,15 +1,13 @@
 -- Runs that are followed, and texts that tell them, step by step.
-use Rattle.std.proofs.Common.{◌≡◌, ℕ, suc, ◌+◌, Option, List, [], ◌∷◌, ◌++◌, All, sym, ap, ◌∙◌, subst, arith, append_assoc}
-use Rattle.std.proofs.lemmas.List.Elements.{All-nil, All-push, All-same}
+use Rattle.std.proofs.Common.{◌≡◌, ℕ, suc, ◌+◌, Option, List, [], ◌∷◌, ◌++◌, sym, ap, ◌∙◌, subst, arith, append_assoc}
 use Rattle.pif_types.specs.Bounds.{Bounds}
 use Rattle.pif_model.specs.Posix.{World}
 use Rattle.pif_history_model.specs.declared.labels.Label.{Label}
 use Rattle.pif_rules_model.specs.declared.rules.Rules.{Rules}
 use Rattle.pif_allow_model.specs.Allowed.{WideConfiguration, wide_start_of}
 use Rattle.pif_rules.specs.declared.rules.Rule.{Rule}
+use Rattle.pif_history_run.specs.declared.leading.Step.{Step}
 use Rattle.pif_history_run.specs.Steps.{IsStepBy}
-use Rattle.pif_history_witness.specs.declared.following.Traced.{Traced}
-use Rattle.pif_history_witness.specs.Following.{AreTold}
 use Rattle.pif_history_witness.specs.Tellings.{IsTold, if_other, others_below, step_telling}
 use Rattle.pif_history_witness.specs.Tellings.IsTold.{start as told_start, then as told_then}
 
@@ -22,22 +20,20 @@ others-more moving n w v old mid new e f =
     ∙ (append_assoc old (others_below n moving w v) (if_other moving n w v)
     ∙ ap (λ (j : ℕ). old ++ others_below j moving w v) next))
 
--- nothing was followed yet
-pub AreTold-start : (r : Rules) (l : Bounds) (old all : List Traced) (one : Traced) → all ≡ old ++ one ∷ [] → old ≡ []
-    → one.position ≡ wide_start_of l → one.text.items ≡ [] → AreTold r l [] all
-AreTold-start r l old all one e none f g =
-    let P : Traced → Type 0 = λ t. IsTold r l [] t.position t.text.items in
-    let at : IsTold r l [] one.position [] = subst (λ (s : WideConfiguration). IsTold r l [] s []) (sym f) told_start in
-    let told : IsTold r l [] one.position one.text.items = subst (λ (b : List ℕ). IsTold r l [] one.position b) (sym g) at in
-    let nobody : All P old = subst (All P) (sym none) (All-nil P) in
-    All-same P all (old ++ one ∷ []) e (All-push P old one nobody told)
+-- one step more
+pub IsTold-step : (r : Rules) (l : Bounds) (xs ys : List Label) (x : Label) (s to : WideConfiguration) (step : Step)
+    (old text : List ℕ) → ys ≡ x ∷ xs → IsStepBy r l s x step.rule step.position → step.position ≡ to
+    → text ≡ old ++ step_telling step.rule x s.wide.world step.position.wide.world → IsTold r l xs s old → IsTold r l ys to text
+IsTold-step r l xs ys x s to step old text more by leads grown told =
+    let one : IsTold r l (x ∷ xs) step.position text =
+    subst (λ (b : List ℕ). IsTold r l (x ∷ xs) step.position b) (sym grown) (told_then x step.rule step.position told by) in
+    subst (λ (z : WideConfiguration). IsTold r l ys z text) leads
+    (subst (λ (zs : List Label). IsTold r l zs step.position text) (sym more) one)
 
--- one more was reached
-pub AreTold-added : (r : Rules) (l : Bounds) (xs : List Label) (x : Label) (rule : Option Rule) (s : WideConfiguration)
-    (text : List ℕ) (old new : List Traced) (one : Traced) → new ≡ old ++ one ∷ []
-    → one.text.items ≡ text ++ step_telling rule x s.wide.world one.position.wide.world → IsTold r l xs s text
-    → IsStepBy r l s x rule one.position → AreTold r l (x ∷ xs) old → AreTold r l (x ∷ xs) new
-AreTold-added r l xs x rule s text old new one e f t a h =
-    let P : Traced → Type 0 = λ t. IsTold r l (x ∷ xs) t.position t.text.items in
-    let told : P one = subst (λ (b : List ℕ). IsTold r l (x ∷ xs) one.position b) (sym f) (told_then x rule one.position t a) in
-    All-same P new (old ++ one ∷ []) e (All-push P old one h told)
+-- before the first step
+pub IsTold-start : (r : Rules) (l : Bounds) (xs : List Label) (s : WideConfiguration) (text : List ℕ) → xs ≡ []
+    → s ≡ wide_start_of l → text ≡ [] → IsTold r l xs s text
+IsTold-start r l xs s text none first nothing =
+    subst (λ (ys : List Label). IsTold r l ys s text) (sym none)
+    (subst (λ (b : List ℕ). IsTold r l [] s b) (sym nothing)
+    (subst (λ (z : WideConfiguration). IsTold r l [] z []) (sym first) told_start))

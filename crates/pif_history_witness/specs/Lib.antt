@@ -1,3 +1,2 @@
 pub mod Deeds
-pub mod Following
 pub mod Tellings

@@ -13,3 +13,4 @@ mod tellings;
 
 pub use deeds::Deed;
 pub use following::witness_text;
+pub use tellings::push_step;

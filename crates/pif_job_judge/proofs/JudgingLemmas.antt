@@ -26,7 +26,7 @@ use Rattle.pif_job_judge.specs.declared.faults.JudgeFault.TheVariants as fault
 use Rattle.pif_job_judge.specs.declared.forms.Form.{Form}
 use Rattle.pif_job_judge.specs.declared.forms.Form.TheVariants.{Text, Witness, Json, Page}
 use Rattle.pif_job_judge.specs.Judging.{AppendsTold, Judges, WritesText}
-use Rattle.pif_job_judge.specs.Lines.{AppendsLines, TellsIllegal, TellsVerdict, why_text}
+use Rattle.pif_job_judge.specs.Lines.{AppendsLines, TellsIllegal, TellsUndecided, TellsVerdict, unfound_line, why_text}
 use Rattle.pif_job_judge.specs.Lines.IsTold.{legal, illegal, undecided}
 use Rattle.pif_job_judge.specs.Objects.{AppendsObjects, AreObjects}
 use Rattle.pif_job_judge.specs.Why.{ArePossible, IsKnown, IsNumbered, has_number, open_behind, open_call, open_of, said_of}
@@ -48,6 +48,21 @@ tells_illegal h n old mid new number line known began there numbered is began_is
       refl,
     )
 
+-- the lines of one that was given up
+pub tells_undecided : (h : Heard) (n unfound : ℕ) (old mid new : List ℕ) (number from : ℕ) → IsNumbered h n number → n ≤ unfound
+    → IsNumbered h unfound from → mid ≡ old ++ undecided_line number → new ≡ mid ++ unfound_line from
+    → TellsUndecided h n old new (fault.Undecided number)
+tells_undecided h n unfound old mid new number from numbered behind there first second = (
+  number,
+  unfound,
+  from,
+  numbered,
+  behind,
+  there,
+  second ∙ ap (λ (l : List ℕ). l ++ unfound_line from) first ∙ append_assoc old (undecided_line number) (unfound_line from),
+  refl,
+)
+
 -- a history of each verdict
 pub told_legal : (form : Form) (h : Heard) (v : Verdict) (witness old new : List ℕ) → IsVerdictWith h.allowed (limits_of h) h.shown v
     → TellsVerdict form h.allowed (limits_of h) v witness → new ≡ old ++ (legal_line h.count ++ witness)
@@ -59,10 +74,10 @@ pub told_illegal : (form : Form) (h : Heard) (n : ℕ) (old new : List ℕ) (end
 told_illegal form h n old new end is t =
     (_, illegal n t.0 t.1 t.2 is t.3 t.4 t.5 refl (ap (λ (e : JudgeFault). Err e) t.7), t.6)
 
-pub told_undecided : (form : Form) (h : Heard) (n number : ℕ) (old new : List ℕ)
-    → IsVerdictWith h.allowed (limits_of h) h.shown (Undecided n) → IsNumbered h n number → new ≡ old ++ undecided_line number
-    → AppendsLines form h (Err (fault.Undecided number)) old new
-told_undecided form h n number old new is numbered e = (_, undecided n number is numbered refl refl, e)
+pub told_undecided : (form : Form) (h : Heard) (n : ℕ) (old new : List ℕ) (end : JudgeFault)
+    → IsVerdictWith h.allowed (limits_of h) h.shown (Undecided n) → TellsUndecided h n old new end → AppendsLines form h (Err end) old new
+told_undecided form h n old new end is t =
+    (_, undecided n t.0 t.1 t.2 is t.3 t.4 t.5 refl (ap (λ (e : JudgeFault). Err e) t.7), t.6)
 
 -- what is told in each form
 pub lines_told : (form : Form) (h : Heard) (r : Result (Result (Unit {0}) JudgeFault) CliFault) (old new : List ℕ)

@@ -1,12 +1,14 @@
 -- What is told of a history in lines of JSON, put together.
-use Rattle.std.proofs.Common.{◌≡◌, ◌∙◌, ℕ, ◌-◌, inr, List, ◌++◌, Option, Some, length, take, Result, Ok, Err, OnOk, refl, ap, subst, append_assoc}
+use Rattle.std.proofs.Common.{◌≡◌, ◌≤◌, ◌∙◌, ℕ, ◌-◌, inl, inr, List, [], ◌++◌, Option, Some, length, take, Result, Ok, Err, OnOk, refl, sym, ap, subst, append_assoc}
 use Rattle.std.specs.Prelude.{slice_get}
+use Rattle.std.proofs.lemmas.List.{append-nil}
 use Rattle.pif_script_model.specs.declared.faults.CliFault.TheVariants.{Differs}
 use Rattle.pif_types.specs.Bounds.{Bounds}
 use Rattle.pif_history_model.specs.declared.labels.Label.{Label}
 use Rattle.pif_history_model.specs.declared.lines.Line.{Line}
 use Rattle.pif_history_model.specs.Lines.{thread_of}
 use Rattle.pif_allow_model.specs.Verdicts.{IsLegalWith}
+use Rattle.pif_history.specs.declared.verdicts.Verdict.{Verdict}
 use Rattle.pif_history.specs.declared.verdicts.Verdict.TheVariants.{Illegal, Undecided}
 use Rattle.pif_allow.specs.Verdicts.{IsVerdictWith}
 use Rattle.pif_history_text.specs.Histories.{Heard, limits_of}
@@ -15,7 +17,7 @@ use Rattle.pif_history_page.specs.declared.verdicts.Known.{Known}
 use Rattle.pif_history_page.specs.Verdicts.{illegal_object, legal_object, undecided_object}
 use Rattle.pif_job_judge.specs.declared.forms.Form.{Form}
 use Rattle.pif_job_judge.specs.declared.faults.JudgeFault.TheVariants as fault
-use Rattle.pif_job_judge.specs.Objects.{AppendsBefore, AppendsObjects, AppendsSteps, began_with, left_out_of}
+use Rattle.pif_job_judge.specs.Objects.{AppendsBefore, AppendsObjects, AppendsSteps, HasNoWitness, began_with, left_out_of}
 use Rattle.pif_job_judge.specs.Objects.AreObjects.{legal, illegal, undecided}
 use Rattle.pif_job_judge.specs.Why.{IsKnown, IsNumbered, open_of}
 
@@ -32,7 +34,23 @@ before_told h before left_out l lines labels given old new limits are same_label
     let one = subst (λ (k : Bounds). IsLegalWith h.allowed k lines labels) limits by in
     let two = subst (λ (ls : List Line). IsLegalWith h.allowed (limits_of h) ls labels) are one in
     let steps = subst (λ (xs : List Label). AppendsSteps h left_out xs old new) same_labels told in
-    (steps.0, inr (labels, two, steps.1), steps.2)
+    (steps.0, inl (labels, two, steps.1), steps.2)
+
+-- what has no witness
+pub none_illegal : (v : Verdict) (n : ℕ) → v ≡ Illegal n → HasNoWitness v
+none_illegal v n e = subst (λ (z : Verdict). HasNoWitness z) (sym e) tt
+
+pub none_undecided : (v : Verdict) (n : ℕ) → v ≡ Undecided n → HasNoWitness v
+none_undecided v n e = subst (λ (z : Verdict). HasNoWitness z) (sym e) tt
+
+-- no run that shows them was found
+pub before_untold : (h : Heard) (before left_out : ℕ) (l : Bounds) (lines : List Line) (v : Verdict) (old new : List ℕ)
+    → l ≡ limits_of h → lines ≡ take before h.shown → IsVerdictWith h.allowed l lines v → HasNoWitness v → new ≡ old
+    → AppendsBefore h before left_out old new
+before_untold h before left_out l lines v old new limits are is none same =
+    let one = subst (λ (k : Bounds). IsVerdictWith h.allowed k lines v) limits is in
+    let two = subst (λ (ls : List Line). IsVerdictWith h.allowed (limits_of h) ls v) are one in
+    ([], inr (v, two, none, refl), same ∙ sym (append-nil old))
 
 -- two texts, one behind the other
 pub both : (old mid new one two : List ℕ) → mid ≡ old ++ one → new ≡ mid ++ two → new ≡ old ++ (one ++ two)
@@ -69,15 +87,16 @@ illegal_told form h n number line known began left m old mid new is there number
       both old mid new object run.0 (first ∙ ap (λ (l : List ℕ). old ++ l) number_is) run.2,
     )
 
-pub undecided_told : (form : Form) (h : Heard) (n number left m : ℕ) (old mid new : List ℕ)
-    → IsVerdictWith h.allowed (limits_of h) h.shown (Undecided n) → IsNumbered h n number → left ≡ left_out_of form (n - 1) → m ≡ left
-    → mid ≡ old ++ undecided_object number m → AppendsBefore h (n - 1) left mid new
+pub undecided_told : (form : Form) (h : Heard) (n unfound number from left m : ℕ) (old mid new : List ℕ)
+    → IsVerdictWith h.allowed (limits_of h) h.shown (Undecided n) → IsNumbered h n number → n ≤ unfound → IsNumbered h unfound from
+    → left ≡ left_out_of form (n - 1) → m ≡ left
+    → mid ≡ old ++ undecided_object number from m → AppendsBefore h (n - 1) left mid new
     → AppendsObjects form h (Err (fault.Undecided number)) old new
-undecided_told form h n number left m old mid new is numbered out written first told =
-    let object : List ℕ = undecided_object number (left_out_of form (n - 1)) in
-    let number_is = ap (λ (k : ℕ). undecided_object number k) (written ∙ out) in
+undecided_told form h n unfound number from left m old mid new is numbered behind there out written first told =
+    let object : List ℕ = undecided_object number from (left_out_of form (n - 1)) in
+    let number_is = ap (λ (k : ℕ). undecided_object number from k) (written ∙ out) in
     let run = subst (λ (k : ℕ). AppendsBefore h (n - 1) k mid new) out told in (
       object ++ run.0,
-      undecided n number run.0 is numbered run.1 refl refl,
+      undecided n number unfound from run.0 is numbered behind there run.1 refl refl,
       both old mid new object run.0 (first ∙ ap (λ (l : List ℕ). old ++ l) number_is) run.2,
     )

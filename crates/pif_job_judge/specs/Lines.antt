@@ -1,5 +1,5 @@
 -- What is told of a history in lines for a person.
-use Rattle.std.specs.Prelude.{ℕ, ◌≡◌, ◌-◌, ◌⊎◌, List, [], ◌++◌, slice_get, Option, Some, None, Result, Ok, Err}
+use Rattle.std.specs.Prelude.{ℕ, ◌≡◌, ◌≤◌, ◌-◌, List, [], ◌++◌, slice_get, Option, Some, None, Result, Ok, Err, codes, decimal}
 use Rattle.pif_script_model.specs.declared.faults.CliFault.TheVariants.{Differs}
 use Rattle.pif_types.specs.Bounds.{Bounds}
 use Rattle.pif_history_model.specs.declared.labels.Label.{Label}
@@ -46,20 +46,24 @@ abbrev pub TellsWhy : (h : Heard) → (before : ℕ) → Line → (text : List �
 TellsWhy h before line text =
     (known : Known) × IsKnown h before line known × (text ≡ why_text known (open_of (thread_of line) h before))
 
--- A text tells nothing; or, if the witness is wanted, perhaps a run with these rules, whose steps have these labels,
--- newest first.
+-- A text tells a run with these rules, whose steps have these labels, newest first, if the witness is wanted; else nothing.
 abbrev pub TellsRun : Form → Rules → Bounds → List Label → (text : List ℕ) → Type 0
-TellsRun Witness r l labels text = (text ≡ []) ⊎ ((last : WideConfiguration) × IsRunTold r l labels last text)
+TellsRun Witness r l labels text = (last : WideConfiguration) × IsRunTold r l labels last text
 TellsRun form r l labels text = text ≡ []
 
--- A verdict that there is a run, which a text tells, or which isn't told.
+-- From the line of this number on no search found a witness. It claims nothing: there may be one.
+abbrev pub unfound_line : (number : ℕ) → List ℕ
+unfound_line number = codes "no witness found from " ++ decimal number ++ codes " on\n"
+
+-- A verdict that there is a run, which a text tells if it is wanted.
 abbrev pub TellsVerdict : Form → Rules → Bounds → Verdict → (text : List ℕ) → Type 0
 TellsVerdict form r l (Legal witness) text = TellsRun form r l witness.items text
 TellsVerdict form r l (Illegal n) text = ⊥
 TellsVerdict form r l (Undecided n) text = ⊥
 
 -- What is told of a history in lines, and how that ends: the verdict on it with the rules that it allows. Behind the line
--- of a legal one its witness may be told.
+-- of a legal one its witness is told, if it is wanted. Where the search was given up, its line or one behind it is named
+-- as the first for which no witness was found.
 pub data IsTold (form : Form) (h : Heard) (text : List ℕ) (end : Result (Unit {0}) JudgeFault) : Type 0 where
   legal : (v : Verdict) (witness : List ℕ) → IsVerdictWith h.allowed (limits_of h) h.shown v
       → TellsVerdict form h.allowed (limits_of h) v witness → text ≡ legal_line h.count ++ witness → end ≡ Ok tt
@@ -67,8 +71,9 @@ pub data IsTold (form : Form) (h : Heard) (text : List ℕ) (end : Result (Unit 
   illegal : (n number : ℕ) (line : Line) (why : List ℕ) → IsVerdictWith h.allowed (limits_of h) h.shown (Illegal n)
       → slice_get h.shown (n - 1) ≡ Some line → IsNumbered h n number → TellsWhy h (n - 1) line why
       → text ≡ illegal_line number line ++ why → end ≡ Err (fault.Cli (Differs number)) → IsTold form h text end
-  undecided : (n number : ℕ) → IsVerdictWith h.allowed (limits_of h) h.shown (Undecided n) → IsNumbered h n number
-      → text ≡ undecided_line number → end ≡ Err (fault.Undecided number) → IsTold form h text end
+  undecided : (n number unfound from : ℕ) → IsVerdictWith h.allowed (limits_of h) h.shown (Undecided n) → IsNumbered h n number
+      → n ≤ unfound → IsNumbered h unfound from → text ≡ undecided_line number ++ unfound_line from
+      → end ≡ Err (fault.Undecided number) → IsTold form h text end
 
 -- Bytes grew by what is told in lines of a history that ends so.
 abbrev pub AppendsLines : Form → Heard → (end : Result (Unit {0}) JudgeFault) → (old new : List ℕ) → Type 0
@@ -86,3 +91,9 @@ TellsIllegal h n old new end =
     (number : ℕ) × (line : Line) × (why : List ℕ) × (slice_get h.shown (n - 1) ≡ Some line) × IsNumbered h n number
     × TellsWhy h (n - 1) line why × (new ≡ old ++ (illegal_line number line ++ why))
     × (end ≡ fault.Cli (Differs number))
+
+-- Bytes grew by what is told of a history whose search was given up at its nth line, and this is how it ends.
+abbrev pub TellsUndecided : Heard → (n : ℕ) → (old new : List ℕ) → JudgeFault → Type 0
+TellsUndecided h n old new end =
+    (number : ℕ) × (unfound : ℕ) × (from : ℕ) × IsNumbered h n number × (n ≤ unfound) × IsNumbered h unfound from
+    × (new ≡ old ++ (undecided_line number ++ unfound_line from)) × (end ≡ fault.Undecided number)

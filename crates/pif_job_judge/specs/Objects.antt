@@ -1,12 +1,13 @@
 -- What is told of a history in lines of JSON.
-use Rattle.std.specs.Prelude.{ℕ, ◌≡◌, ◌-◌, ◌⊎◌, List, [], ◌++◌, length, take, slice_get, Option, Some, None, Result, Ok, Err}
+use Rattle.std.specs.Prelude.{⊤, ℕ, ◌≡◌, ◌≤◌, ◌-◌, ◌⊎◌, List, [], ◌++◌, length, take, slice_get, Option, Some, None, Result, Ok, Err}
 use Rattle.pif_script_model.specs.declared.faults.CliFault.TheVariants.{Differs}
 use Rattle.pif_history_model.specs.declared.labels.Label.{Label}
 use Rattle.pif_history_model.specs.declared.lines.Line.{Line}
 use Rattle.pif_history_model.specs.Lines.{thread_of}
 use Rattle.pif_allow_model.specs.Allowed.{WideConfiguration}
 use Rattle.pif_allow_model.specs.Verdicts.{IsLegalWith}
-use Rattle.pif_history.specs.declared.verdicts.Verdict.TheVariants.{Illegal, Undecided}
+use Rattle.pif_history.specs.declared.verdicts.Verdict.{Verdict}
+use Rattle.pif_history.specs.declared.verdicts.Verdict.TheVariants.{Legal, Illegal, Undecided}
 use Rattle.pif_allow.specs.Verdicts.{IsVerdictWith}
 use Rattle.pif_history_text.specs.Histories.{Heard, limits_of}
 use Rattle.pif_history_page.specs.declared.verdicts.Began.{Began}
@@ -30,18 +31,24 @@ abbrev pub left_out_of : Form → (lines : ℕ) → ℕ
 left_out_of Page lines = lines - page_lines
 left_out_of form lines = 0
 
--- A text tells nothing, or a run whose steps have these labels, newest first. So many of its lines are left out.
+-- A text tells a run whose steps have these labels, newest first. So many of its lines are left out.
 abbrev pub TellsSteps : Heard → (left_out : ℕ) → List Label → (text : List ℕ) → Type 0
 TellsSteps h left_out labels text =
-    (text ≡ [])
-    ⊎ ((last : WideConfiguration) × (told : Telling) × IsRunTold h.allowed (limits_of h) h.numbers left_out labels last told
-    × (text ≡ told.done))
+    (last : WideConfiguration) × (told : Telling) × IsRunTold h.allowed (limits_of h) h.numbers left_out labels last told
+    × (text ≡ told.done)
 
--- A text tells nothing, or a run that shows the first `before` lines of a history.
+-- A verdict has no witness: no run shows the lines, or the search was given up.
+abbrev pub HasNoWitness : Verdict → Type 0
+HasNoWitness (Legal witness) = ⊥
+HasNoWitness (Illegal n) = ⊤
+HasNoWitness (Undecided n) = ⊤
+
+-- A text tells a run that shows the first `before` lines of a history; or nothing, if the verdict on these lines has no
+-- witness. Where some run shows them, that is a search that was given up.
 abbrev pub TellsBefore : Heard → (before left_out : ℕ) → (text : List ℕ) → Type 0
 TellsBefore h before left_out text =
-    (text ≡ [])
-    ⊎ ((labels : List Label) × IsLegalWith h.allowed (limits_of h) (take before h.shown) labels × TellsSteps h left_out labels text)
+    ((labels : List Label) × IsLegalWith h.allowed (limits_of h) (take before h.shown) labels × TellsSteps h left_out labels text)
+    ⊎ ((v : Verdict) × IsVerdictWith h.allowed (limits_of h) (take before h.shown) v × HasNoWitness v × (text ≡ []))
 
 -- The open call that is told with what is known of an illegal line: none, if the line is refused.
 abbrev pub began_with : Known → Option Began → Option Began
@@ -50,7 +57,8 @@ began_with (Numbers numbers) began = began
 began_with Nothing began = began
 
 -- What is told of a history in lines of JSON, and how that ends: the verdict, and behind it a run that shows all lines,
--- or those before the line of the verdict.
+-- or those before the line of the verdict, if it was found. Where the search was given up, its line or one behind it is
+-- named as the first for which no witness was found.
 pub data AreObjects (form : Form) (h : Heard) (text : List ℕ) (end : Result (Unit {0}) JudgeFault) : Type 0 where
   legal : (labels : List Label) (run : List ℕ) → IsLegalWith h.allowed (limits_of h) h.shown labels
       → TellsSteps h (left_out_of form (length h.shown)) labels run
@@ -63,21 +71,21 @@ pub data AreObjects (form : Form) (h : Heard) (text : List ℕ) (end : Result (U
       ≡ illegal_object number line known (began_with known (open_of (thread_of line) h (n - 1))) (left_out_of form (n - 1))
       ++ run
       → end ≡ Err (fault.Cli (Differs number)) → AreObjects form h text end
-  undecided : (n number : ℕ) (run : List ℕ) → IsVerdictWith h.allowed (limits_of h) h.shown (Undecided n) → IsNumbered h n number
-      → TellsBefore h (n - 1) (left_out_of form (n - 1)) run
-      → text ≡ undecided_object number (left_out_of form (n - 1)) ++ run → end ≡ Err (fault.Undecided number)
+  undecided : (n number unfound from : ℕ) (run : List ℕ) → IsVerdictWith h.allowed (limits_of h) h.shown (Undecided n)
+      → IsNumbered h n number → n ≤ unfound → IsNumbered h unfound from → TellsBefore h (n - 1) (left_out_of form (n - 1)) run
+      → text ≡ undecided_object number from (left_out_of form (n - 1)) ++ run → end ≡ Err (fault.Undecided number)
       → AreObjects form h text end
 
 -- Bytes grew by what is told in lines of JSON of a history that ends so.
 abbrev pub AppendsObjects : Form → Heard → (end : Result (Unit {0}) JudgeFault) → (old new : List ℕ) → Type 0
 AppendsObjects form h end old new = (text : List ℕ) × AreObjects form h text end × (new ≡ old ++ text)
 
--- Bytes grew by a run whose steps have these labels, or by nothing.
+-- Bytes grew by a run whose steps have these labels.
 abbrev pub AppendsSteps : Heard → (left_out : ℕ) → List Label → (old new : List ℕ) → Type 0
 AppendsSteps h left_out labels old new =
     (text : List ℕ) × TellsSteps h left_out labels text × (new ≡ old ++ text)
 
--- Bytes grew by a run that shows the first `before` lines of a history, or by nothing.
+-- Bytes grew by a run that shows the first `before` lines of a history, or by nothing if none was found.
 abbrev pub AppendsBefore : Heard → (before left_out : ℕ) → (old new : List ℕ) → Type 0
 AppendsBefore h before left_out old new =
     (text : List ℕ) × TellsBefore h before left_out text × (new ≡ old ++ text)

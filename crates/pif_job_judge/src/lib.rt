@@ -23,5 +23,5 @@ mod telling;
 
 pub use faults::JudgeFault;
 pub use forms::{Form, Judging};
-pub use judging::judge;
+pub use judging::{Numbered, allowing, front, judge, judge_fault, tell_history, write_told};
 pub use pif_history::{Unwatched, Watch};

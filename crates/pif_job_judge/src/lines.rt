@@ -1,14 +1,15 @@
 ghost use Rattle.std.specs.Prelude.{◌≡◌, ◌≤◌, IfErr, IfOk, OnOk, vec_len};
 ghost use Rattle.pif_allow.specs.Verdicts.{IsVerdictWith};
+ghost use Rattle.pif_history_run.specs.Ways.{IsRun};
 ghost use Rattle.pif_history_text.specs.Histories.{limits_of};
 ghost use Rattle.pif_history_text.specs.Reading.{IsPaired, heard_of};
-ghost use Rattle.pif_job_judge.specs.Lines.{AppendsLines, TellsIllegal, TellsLegal, TellsRun};
+ghost use Rattle.pif_job_judge.specs.Lines.{AppendsLines, TellsIllegal, TellsLegal, TellsRun, TellsUndecided};
 
 use crate::faults::JudgeFault;
 use crate::forms::{Form, Judging};
 use crate::known::known_of;
-use crate::places::{line_at, number_at};
-use crate::telling::{began_before, tell_legal, tell_why};
+use crate::places::{line_at, number_at, unfound_of};
+use crate::telling::{began_before, tell_legal, tell_unfound, tell_why};
 use pif_history::Verdict;
 use pif_history_model::{HistoryLimits, Label};
 use pif_history_text::{History, push_illegal, push_undecided};
@@ -16,23 +17,6 @@ use pif_history_witness::witness_text;
 use pif_rules_model::Rules;
 use pif_script_model::CliFault;
 use std::alloc::Global;
-
-/// What is told of a run whose steps have these labels, newest first: nothing, if there is no such run.
-fn told_witness(
-    alloc: Global,
-    rules: &Rules,
-    limits: HistoryLimits,
-    witness: &[Label],
-) -> Result<Vec<u8>, CliFault>
-    ensures told { IfOk result (λ text. TellsRun Form.Witness rules.now limits witness.now text.items) }
-    ensures failed { IfErr result (λ fault. fault ≡ CliFault.NoMemory) }
-{
-    match witness_text(alloc, rules, limits, witness) {
-        Ok(Some(text)) => Ok(text),
-        Ok(None) => Ok(Vec::new(alloc)),
-        Err(_) => Err(CliFault::NoMemory),
-    }
-}
 
 /// What is told of a run that shows a history, by the labels of its steps, newest first: nothing if that is not asked
 /// for.
@@ -43,11 +27,15 @@ fn told_run(
     limits: HistoryLimits,
     witness: &[Label],
 ) -> Result<Vec<u8>, CliFault>
+    requires run { IsRun rules.now limits witness.now }
     ensures told { IfOk result (λ text. TellsRun form rules.now limits witness.now text.items) }
     ensures failed { IfErr result (λ fault. fault ≡ CliFault.NoMemory) }
 {
     match form {
-        Form::Witness => told_witness(alloc, rules, limits, witness),
+        Form::Witness => match witness_text(alloc, rules, limits, witness) {
+            Ok(text) => Ok(text),
+            Err(_) => Err(CliFault::NoMemory),
+        },
         Form::Text | Form::Json | Form::Page => Ok(Vec::new(alloc)),
     }
 }
@@ -60,6 +48,7 @@ fn tell_verdict_legal(
     witness: &[Label],
     out: &mut Vec<u8>,
 ) -> Result<(), CliFault>
+    requires run { IsRun history.now.allowed (limits_of (heard_of history.now)) witness.now }
     ensures told { OnOk result (TellsLegal asked.now.form (heard_of history.now) witness.now out.old.items out.new.items) }
     ensures failed { IfErr result (λ fault. fault ≡ CliFault.NoMemory) }
 {
@@ -98,7 +87,32 @@ fn tell_illegal(
     }
 }
 
-/// Appends what is told in lines of a history with this verdict. Answers how that ends.
+/// Appends what is told of a history whose search was given up at its nth line, if a search found runs for the first
+/// `shown` lines. Answers how that ends.
+fn tell_undecided(
+    history: &History,
+    count: usize,
+    shown: usize,
+    out: &mut Vec<u8>,
+) -> Result<JudgeFault, CliFault>
+    requires within { (1 ≤ count) × (count ≤ vec_len history.now.numbers) }
+    ensures told { IfOk result (TellsUndecided (heard_of history.now) count out.old.items out.new.items) }
+    ensures failed { IfErr result (λ fault. fault ≡ CliFault.NoMemory) }
+{
+    let number = number_at(history, count);
+    let from = number_at(history, unfound_of(history, count, shown));
+    match push_undecided(out, number) {
+        Ok(()) => {}
+        Err(_) => return Err(CliFault::NoMemory),
+    }
+    match tell_unfound(from, out) {
+        Ok(()) => Ok(JudgeFault::Undecided(u64::from(number))),
+        Err(_) => Err(CliFault::NoMemory),
+    }
+}
+
+/// Appends what is told in lines of a history with this verdict, if a search found runs for its first `shown` lines.
+/// Answers how that ends.
 ///
 /// # Errors
 ///
@@ -108,6 +122,7 @@ pub fn tell_lines(
     asked: &Judging<'_>,
     history: &History,
     verdict: Verdict,
+    shown: usize,
     out: &mut Vec<u8>,
 ) -> Result<Result<(), JudgeFault>, CliFault>
     requires paired { IsPaired history.now }
@@ -130,12 +145,9 @@ pub fn tell_lines(
             Ok(end) => Ok(Err(end)),
             Err(fault) => Err(fault),
         },
-        Verdict::Undecided(count) => {
-            let number = number_at(history, count);
-            match push_undecided(out, number) {
-                Ok(()) => Ok(Err(JudgeFault::Undecided(u64::from(number)))),
-                Err(_) => Err(CliFault::NoMemory),
-            }
-        }
+        Verdict::Undecided(count) => match tell_undecided(history, count, shown, out) {
+            Ok(end) => Ok(Err(end)),
+            Err(fault) => Err(fault),
+        },
     }
 }

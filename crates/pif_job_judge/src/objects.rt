@@ -2,6 +2,7 @@ ghost use Rattle.std.specs.Prelude.{◌≡◌, ◌≤◌, ◌-◌, Err, IfErr, I
 ghost use Rattle.pif_history.specs.declared.verdicts.Verdict.TheVariants.{Illegal, Undecided};
 ghost use Rattle.pif_allow.specs.Verdicts.{IsVerdictWith};
 ghost use Rattle.pif_allow_model.specs.Verdicts.{IsLegalWith};
+ghost use Rattle.pif_history_run.specs.Ways.{IsRun};
 ghost use Rattle.pif_history_text.specs.Histories.{limits_of};
 ghost use Rattle.pif_history_text.specs.Reading.{IsPaired, heard_of};
 ghost use Rattle.pif_job_judge.specs.Objects.{AppendsBefore, AppendsObjects, AppendsSteps, began_with, left_out_of};
@@ -9,7 +10,7 @@ ghost use Rattle.pif_job_judge.specs.Objects.{AppendsBefore, AppendsObjects, App
 use crate::faults::JudgeFault;
 use crate::forms::{Form, Judging};
 use crate::known::known_of;
-use crate::places::{line_at, number_at};
+use crate::places::{line_at, number_at, unfound_of};
 use crate::telling::began_before;
 use pif_allow::judge_allowing;
 use pif_history::{Unwatched, Verdict};
@@ -52,8 +53,7 @@ fn began_with(known: &Known, began: Option<Began>) -> Option<Began>
     }
 }
 
-/// Appends the lines of a run whose steps have these labels, newest first, but for so many of its first lines; nothing,
-/// if there is no such run.
+/// Appends the lines of a run whose steps have these labels, newest first, but for so many of its first lines.
 fn append_steps(
     alloc: Global,
     history: &History,
@@ -61,6 +61,7 @@ fn append_steps(
     labels: &[Label],
     out: &mut Vec<u8>,
 ) -> Result<(), CliFault>
+    requires run { IsRun history.now.allowed (limits_of (heard_of history.now)) labels.now }
     ensures told { OnOk result (AppendsSteps (heard_of history.now) left_out labels.now out.old.items out.new.items) }
     ensures failed { IfErr result (λ fault. fault ≡ CliFault.NoMemory) }
 {
@@ -72,11 +73,10 @@ fn append_steps(
         left_out,
         labels,
     ) {
-        Ok(Some(lines)) => match out.extend_from_slice(lines.as_slice()) {
+        Ok(lines) => match out.extend_from_slice(lines.as_slice()) {
             Ok(()) => Ok(()),
             Err(_) => Err(CliFault::NoMemory),
         },
-        Ok(None) => Ok(()),
         Err(_) => Err(CliFault::NoMemory),
     }
 }
@@ -107,7 +107,8 @@ fn append_before(
         Ok(Verdict::Legal(witness)) => {
             append_steps(alloc, history, left_out, witness.as_slice(), out)
         }
-        Ok(Verdict::Illegal(_) | Verdict::Undecided(_)) => Ok(()),
+        Ok(Verdict::Illegal(_)) => Ok(()),
+        Ok(Verdict::Undecided(_)) => Ok(()),
         Err(_) => Err(CliFault::NoMemory),
     }
 }
@@ -160,13 +161,14 @@ fn append_illegal_history(
     Ok(JudgeFault::Cli(CliFault::Differs(u64::from(number))))
 }
 
-/// Appends what is told of a history that was given up at its nth line, and of a run that shows the lines before it.
-/// Answers how that ends.
+/// Appends what is told of a history that was given up at its nth line, and of a run that shows the lines before it, if a
+/// search found runs for the first `shown` lines. Answers how that ends.
 fn append_undecided_history(
     alloc: Global,
     asked: &Judging<'_>,
     history: &History,
     count: usize,
+    shown: usize,
     out: &mut Vec<u8>,
 ) -> Result<JudgeFault, CliFault>
     requires paired { IsPaired history.now }
@@ -176,7 +178,8 @@ fn append_undecided_history(
 {
     let number = number_at(history, count);
     let left = left_out(asked.form, count - 1);
-    match append_undecided(number, written(left)?, out) {
+    let from = number_at(history, unfound_of(history, count, shown));
+    match append_undecided(number, from, written(left)?, out) {
         Ok(()) => {}
         Err(_) => return Err(CliFault::NoMemory),
     }
@@ -184,7 +187,8 @@ fn append_undecided_history(
     Ok(JudgeFault::Undecided(u64::from(number)))
 }
 
-/// Appends what is told in lines of JSON of a history with this verdict. Answers how that ends.
+/// Appends what is told in lines of JSON of a history with this verdict, if a search found runs for its first `shown`
+/// lines. Answers how that ends.
 ///
 /// # Errors
 ///
@@ -194,6 +198,7 @@ pub fn tell_objects(
     asked: &Judging<'_>,
     history: &History,
     verdict: Verdict,
+    shown: usize,
     out: &mut Vec<u8>,
 ) -> Result<Result<(), JudgeFault>, CliFault>
     requires paired { IsPaired history.now }
@@ -211,7 +216,7 @@ pub fn tell_objects(
             Ok(Err(end))
         }
         Verdict::Undecided(count) => {
-            let end = append_undecided_history(alloc, asked, history, count, out)?;
+            let end = append_undecided_history(alloc, asked, history, count, shown, out)?;
             Ok(Err(end))
         }
     }

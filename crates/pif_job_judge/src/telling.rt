@@ -3,7 +3,7 @@ ghost use Rattle.std.specs.Prelude.{◌≡◌, ◌≤◌, ◌++◌, OnOk, Some, 
 ghost use Rattle.pif_history_model.specs.Lines.{thread_of};
 ghost use Rattle.pif_history_text.specs.Reading.{IsPaired, heard_of};
 ghost use Rattle.pif_history_text.specs.Verdicts.{legal_line};
-ghost use Rattle.pif_job_judge.specs.Lines.{began_text, known_text, why_text};
+ghost use Rattle.pif_job_judge.specs.Lines.{began_text, known_text, unfound_line, why_text};
 ghost use Rattle.pif_job_judge.specs.Why.{open_of, said_of};
 
 use pif_history_model::Line;
@@ -11,6 +11,7 @@ use pif_history_page::{Began, Known};
 use pif_history_text::{
     History, push_began, push_legal, push_possible, push_possible_undecided, push_refused,
 };
+use pif_text::{Text, append_number};
 use pif_types::{Request, Tid};
 use std::alloc::AllocError;
 
@@ -135,4 +136,19 @@ pub fn tell_legal(lines: u32, witness: &[u8], out: &mut Vec<u8>) -> Result<(), A
 {
     push_legal(out, lines)?;
     out.extend_from_slice(witness)
+}
+
+/// Appends the line that says from the line of which number on no witness was found.
+///
+/// # Errors
+///
+/// A growth of memory was refused.
+pub fn tell_unfound(number: u32, out: &mut Vec<u8>) -> Result<(), AllocError>
+    ensures { OnOk result (out.new.items ≡ out.old.items ++ unfound_line number) }
+{
+    let mut text = Text::new();
+    append_number(&mut text, number);
+    out.extend_from_slice(b"no witness found from ")?;
+    out.extend_from_slice(text.as_slice())?;
+    out.extend_from_slice(b" on\n")
 }

@@ -1,30 +1,16 @@
 -- Judging a history with sets of rules, put together.
-use Rattle.std.proofs.Common.{◌≡◌, ◌∙◌, ℕ, ◌+◌, ◌≤◌, inr, arith, true, List, ◌++◌, length, length-append, Option, Result, Err, refl, ap, subst}
-use Rattle.std.specs.Io.KnownBytes.{Consumes}
-use Rattle.std.proofs.KnownBytes.{Consumes-kept, Consumes-trans}
+use Rattle.std.proofs.Common.{◌≡◌, ◌∙◌, ℕ, inr, List, ◌++◌, Option, Result, Ok, Err, refl, ap, subst}
 use Rattle.pif_script_model.specs.declared.faults.CliFault.{CliFault}
-use Rattle.pif_script_model.specs.declared.faults.CliFault.TheVariants.{Differs, NoMemory, Read, Script, Write}
-use Rattle.pif_script_model.specs.Migrating.{ReadsMore}
 use Rattle.pif_rules_model.specs.declared.rules.Rules.{Rules}
+use Rattle.pif_history_text.specs.Histories.{Heard}
 use Rattle.pif_job_judge.specs.declared.faults.JudgeFault.{JudgeFault}
-use Rattle.pif_job_judge.specs.Judging.{WritesText}
-use Rattle.pif_job_least.specs.Bytes.{FailsToRead}
-use Rattle.pif_job_least.specs.Judging.{AppendsNeededOf, Judges, JudgesWhole, is_told}
+use Rattle.pif_job_judge.specs.declared.forms.Form.{Form}
+use Rattle.pif_job_judge.specs.declared.forms.Form.TheVariants.{Text}
+use Rattle.pif_job_judge.specs.Judging.{AppendsTold, Judges, WritesText, allowing, front_of}
+use Rattle.pif_job_judge.specs.Lines.{IsTold as AreLines}
+use Rattle.pif_job_least.specs.Judging.{JudgesLeast}
 use Rattle.pif_job_least.specs.Judging.IsTold.{judged, needed}
-
--- READING
-
-pub reading-fails : (a b c : Option (List ℕ)) (most : ℕ) (old new : List ℕ) (f : CliFault) → Consumes a b old
-    → length old + most ≤ 268435457 → ReadsMore b c most old new (Err f) → FailsToRead a c f
-reading-fails a b c most old new Read p h r = (old, (Consumes-kept a b c old p r, omega arith))
-reading-fails a b c most old new NoMemory p h r =
-    let most-read : length r.0 ≤ most = r.2 in
-    (old ++ r.0, (Consumes-trans a b c old r.0 p r.1, omega (arith, length-append old r.0)))
-reading-fails a b c most old new Write p h r = absurd r
-reading-fails a b c most old new (Script l x) p h r = absurd r
-reading-fails a b c most old new (Differs l) p h r = absurd r
-
--- WRITING
+use Rattle.pif_job_least.specs.Telling.{AppendsNeeded}
 
 abbrev Ended : Type 0
 Ended = Result (Unit {0}) JudgeFault
@@ -32,19 +18,40 @@ Ended = Result (Unit {0}) JudgeFault
 abbrev badly : JudgeFault → Ended
 badly f = Err f
 
-pub needed_written : (a : Rules) (bytes : List ℕ) (held holds : Option (List ℕ)) (front old new given : List ℕ) (end result : Ended)
-    → old ≡ front → AppendsNeededOf a bytes end old new → given ≡ new → WritesText held holds given end result
-    → Judges a bytes held holds front result
-needed_written a bytes held holds front old new given end result e t same w =
+-- what is told with all rules, behind its front
+pub told_in_lines : (form : Form) (h : Heard) (end : Ended) (front old new : List ℕ) → form ≡ Text → old ≡ front
+    → AppendsTold form h end old new → AppendsTold Text h end front new
+told_in_lines form h end front old new f e t =
+    subst (λ (l : List ℕ). AppendsTold Text h end l new) e (subst (λ (x : Form). AppendsTold x h end old new) f t)
+
+pub fault_in_lines : (form : Form) (given name : Option (List ℕ)) (f : CliFault) (held holds : Option (List ℕ)) (result : Ended)
+    → form ≡ Text → given ≡ name → Judges form (Err f) held holds (front_of given form) result
+    → Judges Text (Err f) held holds (front_of name Text) result
+fault_in_lines form given name f held holds result e same j =
+    subst (λ (n : Option (List ℕ)). Judges Text (Err f) held holds (front_of n Text) result) same
+    (subst (λ (x : Form). Judges x (Err f) held holds (front_of given x) result) e j)
+
+-- WRITING
+
+pub needed_written : (a : Rules) (h : Heard) (held holds : Option (List ℕ)) (front old new given : List ℕ) (end result : Ended)
+    → old ≡ front → AppendsNeeded a h end old new → given ≡ new → WritesText held holds given end result
+    → JudgesLeast a (Ok h) held holds front result
+needed_written a h held holds front old new given end result e t same w =
     inr (
-      new,
+      t.0,
       end,
-      needed t.0 t.2.0 t.1 t.2.1 (t.2.2 ∙ ap (λ (l : List ℕ). l ++ t.2.0) e),
-      subst (λ (l : List ℕ). WritesText held holds l end result) same w,
+      needed t.1,
+      subst (λ (l : List ℕ). WritesText held holds l end result) (same ∙ (t.2 ∙ ap (λ (l : List ℕ). l ++ t.0) e)) w,
     )
 
-pub judged_written : (a : Rules) (bytes : List ℕ) (held holds : Option (List ℕ)) (front text given : List ℕ) (f : JudgeFault)
-    (result : Ended) → is_told f ≡ true → JudgesWhole a bytes front text (badly f) → given ≡ text
-    → WritesText held holds given (badly f) result → Judges a bytes held holds front result
-judged_written a bytes held holds front text given f result told j same w =
-    inr (text, badly f, judged f told j refl, subst (λ (l : List ℕ). WritesText held holds l (badly f) result) same w)
+pub judged_written : (a : Rules) (h all : Heard) (held holds : Option (List ℕ)) (front text given : List ℕ) (f : JudgeFault)
+    (end result : Ended) → all ≡ allowing a h → end ≡ badly f → AppendsTold Text all end front text → given ≡ text
+    → WritesText held holds given (badly f) result → JudgesLeast a (Ok h) held holds front result
+judged_written a h all held holds front text given f end result of e t same w =
+    let told = subst (λ (x : Ended). AreLines Text all t.0 x) e t.1 in
+    inr (
+      t.0,
+      badly f,
+      judged f (subst (λ (x : Heard). AreLines Text x t.0 (badly f)) of told) refl,
+      subst (λ (l : List ℕ). WritesText held holds l (badly f) result) (same ∙ t.2) w,
+    )

@@ -2,12 +2,10 @@
 //!
 //! | Module | What it has |
 //! |---|---|
-//! | `bytes` | the bytes of a history, read whole |
 //! | `telling` | what is told of the rules that a history needs |
 //! | `judging` | a history, read and judged with sets of rules |
 #![tactic(auto)]
 
-mod bytes;
 mod judging;
 mod telling;
 

@@ -1,31 +1,17 @@
-ghost use Rattle.std.specs.Prelude.{◌≡◌, ◌≤◌, ◌++◌, IfErr, IfOk, OnOk, option_copied, vec_len};
+ghost use Rattle.std.specs.Prelude.{◌≡◌, ◌≤◌, ◌++◌, IfErr, IfOk, OnOk, vec_len};
 ghost use Rattle.pif_history_text.specs.Histories.{limits_of};
 ghost use Rattle.pif_history_text.specs.Reading.{IsPaired, heard_of};
-ghost use Rattle.pif_job_judge.specs.Judging.{front_of};
 ghost use Rattle.pif_job_judge.specs.Why.{IsNumbered};
 ghost use Rattle.pif_job_least.specs.Telling.{AppendsNeeded};
 ghost use Rattle.pif_least.specs.Least.{IsLeast};
 ghost use Rattle.pif_least.specs.Texts.{legal_with, undecided_with};
 
 use pif_history_text::History;
-use pif_job_judge::{Form, JudgeFault};
+use pif_job_judge::JudgeFault;
 use pif_least::{Needed, push_legal_with, push_undecided_with};
 use pif_rules_model::Rules;
 use pif_script_model::CliFault;
-use std::alloc::{AllocError, Global};
-
-/// Appends the name that stands in front of what is told, if there is one.
-pub fn push_front(name: Option<&[u8]>, out: &mut Vec<u8>) -> Result<(), AllocError>
-    ensures { OnOk result (out.new.items ≡ out.old.items ++ front_of (option_copied name.entry) Form.Text) }
-{
-    match name {
-        Some(name) => {
-            out.extend_from_slice(name)?;
-            out.extend_from_slice(b": ")
-        }
-        None => Ok(()),
-    }
-}
+use std::alloc::Global;
 
 /// The number of a line, the nth, in the text of its history.
 fn number_at(history: &History, count: usize) -> u32

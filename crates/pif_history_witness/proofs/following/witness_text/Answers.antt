@@ -1,17 +1,54 @@
-use Rattle.std.proofs.Common.{◌≡◌, ℕ, Option, IfSome, arith, drop, subst}
-use Rattle.std.proofs.lemmas.List.Elements.{All-pop}
-use Rattle.pif_history_witness.specs.declared.following.Traced.{Traced}
+use Rattle.std.proofs.Common.{ℕ, suc, ◌≡◌, ◌<◌, ◌-◌, ◌∙◌, arith, drop, length, subst, sym}
+use Rattle.std.proofs.Math.Seq.{drop-length}
+use Rattle.pif_history_run.proofs.Chosen.{is_there, is_step, labels_left, leads_on}
 use Rattle.pif_history_witness.specs.Tellings.{IsTold}
+use Rattle.pif_history_witness.proofs.TellingLemmas.{IsTold-start, IsTold-step}
 use Rattle.pif_history_witness.proofs.following.witness_text.Goals as goal
 
-pub returns-in-Some : goal.returns-in-Some
-returns-in-Some c =
+pub loop-left-init : goal.loop-left-init
+loop-left-init c = (
+  c.in_ok-chosen.ensures,
+  c.in_ok-position.ensures ∙ sym c.in_ok-chosen.ensures.starts,
+  omega arith,
+  IsTold-start c.args.rules.now c.args.limits _ c.in_ok-position.position c.new-text.result.items (drop-length c.args.witness.now)
+      c.in_ok-position.ensures c.new-text.ensures.items,
+)
+
+pub loop-left-preserved : goal.loop-left-preserved
+loop-left-preserved c =
     let r = c.args.rules.now in
     let l = c.args.limits in
-    let P : Traced → Type 0 = λ t. IsTold r l (drop c.loop-left.left c.args.witness.now) t.position t.text.items in
-    let parts = All-pop P c.loop-left.all.items c.pop.new.self.items c.pop.result c.pop.ensures.items c.loop-left.invariant.0 in
-    let one : P c.in-Some.traced = subst (λ (o : Option Traced). IfSome o P) c.in-Some.is parts.1 in
+    let labels = c.args.witness.now in
+    let way = c.loop-left.invariant.0 in
+    let before = c.loop-left.left in
+    let left = before - 1 in
+    let next : before ≡ suc left = omega (arith, c.loop-left-test.true) in
+    let within : left < length labels = omega (arith, c.loop-left-test.true, c.loop-left.invariant.2) in
+    let e = c.in_ok-position-2.ensures in
+    let leads = leads_on r l labels c.in_ok-chosen.chosen.items way left before c.index-witness-left.result c.index.result.now
+    c.loop-left.position next within c.index-witness-left.is c.index.ensures c.loop-left.invariant.1 e.0 e.1 in
+    let by = is_step r l labels c.in_ok-chosen.chosen.items way left before c.index-witness-left.result c.index.result.now
+    c.loop-left.position next within c.index-witness-left.is c.index.ensures c.loop-left.invariant.1 e.0 e.1 in
+    let more = labels_left r l labels c.in_ok-chosen.chosen.items way left before c.index-witness-left.result c.index.result.now
+    c.loop-left.position next within c.index-witness-left.is c.index.ensures c.loop-left.invariant.1 in (
+      way,
+      sym e.2 ∙ leads,
+      omega (arith, c.loop-left.invariant.2),
+      IsTold-step r l (drop before labels) (drop left labels) c.index-witness-left.result c.loop-left.position
+          _ e.0 c.loop-left.text.items c.take_step.new.text.items more by e.2 e.3 c.loop-left.invariant.3,
+    )
+
+pub take_step-requires : goal.take_step-requires
+take_step-requires c =
+    let before = c.loop-left.left in
+    is_there c.args.rules.now c.args.limits c.args.witness.now c.in_ok-chosen.chosen.items c.loop-left.invariant.0 (before - 1) before
+    c.index-witness-left.result c.index.result.now c.loop-left.position (omega (arith, c.loop-left-test.true))
+    (omega (arith, c.loop-left-test.true, c.loop-left.invariant.2)) c.index-witness-left.is c.index.ensures c.loop-left.invariant.1
+
+pub returns : goal.returns
+returns c =
     let none : c.loop-left.left ≡ 0 = omega (arith, c.loop-left-test.false) in (
-      c.in-Some.traced.position,
-      subst (λ (n : ℕ). IsTold r l (drop n c.args.witness.now) c.in-Some.traced.position c.in-Some.traced.text.items) none one,
+      c.loop-left.position,
+      subst (λ (n : ℕ). IsTold c.args.rules.now c.args.limits (drop n c.args.witness.now) c.loop-left.position c.loop-left.text.items) none
+          c.loop-left.invariant.3,
     )

@@ -2,6 +2,7 @@ use Rattle.std.proofs.Common.{List, subst, sym, arith}
 use Rattle.pif_history_model.specs.declared.labels.Label.{Label}
 use Rattle.pif_history.specs.declared.verdicts.Verdict.{Verdict}
 use Rattle.pif_allow.specs.Verdicts.{IsVerdictWith}
+use Rattle.pif_history_run.specs.Ways.{IsRun}
 use Rattle.pif_history_text.specs.Histories.{limits_of}
 use Rattle.pif_history_text.specs.Reading.{heard_of}
 use Rattle.pif_job_judge.specs.Lines.{TellsRun, TellsVerdict}
@@ -25,14 +26,13 @@ returns-in-Ok-tell_illegal-clause-told c =
     (subst (λ (v : Verdict). IsVerdictWith h.allowed (limits_of h) h.shown v) c.in-Illegal.is c.requires.verdict)
     c.in-Ok-tell_illegal.ensures.told
 
-pub returns-in-Ok-push_undecided-clause-told : goal.returns-in-Ok-push_undecided-clause-told
-returns-in-Ok-push_undecided-clause-told c =
+pub returns-in-Ok-tell_undecided-clause-told : goal.returns-in-Ok-tell_undecided-clause-told
+returns-in-Ok-tell_undecided-clause-told c =
     let form = c.args.asked.now.form in
     let h = heard_of c.args.history.now in
-    rw c.from.ensures (told_undecided form h c.in-Undecided.count c.number_at-number.result c.args.out.now.items
-    c.push_undecided.new.out.items
+    told_undecided form h c.in-Undecided.count c.args.out.now.items c.tell_undecided.new.out.items c.in-Ok-tell_undecided.end
     (subst (λ (v : Verdict). IsVerdictWith h.allowed (limits_of h) h.shown v) c.in-Undecided.is c.requires.verdict)
-    c.number_at-number.ensures c.in-Ok-push_undecided.ensures)
+    c.in-Ok-tell_undecided.ensures.told
 
 pub tell_illegal-requires-clause-within : goal.tell_illegal-requires-clause-within
 tell_illegal-requires-clause-within c =
@@ -40,8 +40,14 @@ tell_illegal-requires-clause-within c =
     let v = subst (λ (v : Verdict). IsVerdictWith h.allowed (limits_of h) h.shown v) c.in-Illegal.is c.requires.verdict in
     (v.0, omega (arith, v.1, c.args.history.now.shown.ok.0))
 
-pub number_at-number-requires : goal.number_at-number-requires
-number_at-number-requires c =
+pub tell_undecided-requires : goal.tell_undecided-requires
+tell_undecided-requires c =
     let h = heard_of c.args.history.now in
     let v = subst (λ (v : Verdict). IsVerdictWith h.allowed (limits_of h) h.shown v) c.in-Undecided.is c.requires.verdict in
     record { within = (v.0, omega (arith, v.1, c.args.history.now.shown.ok.0, c.args.history.now.numbers.ok.0, c.requires.paired)) }
+
+pub tell_verdict_legal-requires : goal.tell_verdict_legal-requires
+tell_verdict_legal-requires c =
+    let h = heard_of c.args.history.now in
+    let v = subst (λ (v : Verdict). IsVerdictWith h.allowed (limits_of h) h.shown v) c.in-Legal.is c.requires.verdict in
+    record { run = subst (λ (ls : List Label). IsRun h.allowed (limits_of h) ls) (sym c.as_slice.ensures.value) (v.last, v.run) }

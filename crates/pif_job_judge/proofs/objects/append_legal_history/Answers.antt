@@ -12,3 +12,6 @@ returns-clause-told c =
     (legal_told c.args.form (heard_of c.args.history.now) c.args.labels.now c.left_out-left.result c.in_ok-written.field-0
     c.args.out.now.items c.append_legal.new.out.items c.append_steps.new.out.items left c.in_ok-written.ensures.is
     c.requires c.in-Ok.ensures) c.append_steps.ensures.told
+
+pub append_steps-requires : goal.append_steps-requires
+append_steps-requires c = record { run = (c.requires.last, c.requires.run) }

@@ -1,5 +1,5 @@
-use Rattle.std.proofs.Common.{◌∙◌, List, ℕ, ◌++◌, ap}
 use Rattle.std.specs.Prelude.{option_copied}
+use Rattle.pif_history_text.specs.Reading.{heard_of}
 use Rattle.pif_job_judge.specs.declared.forms.Form.TheVariants.{Text}
 use Rattle.pif_job_judge.specs.Judging.{front_of}
 use Rattle.pif_job_least.proofs.JobLemmas.{needed_written}
@@ -7,9 +7,7 @@ use Rattle.pif_job_least.proofs.judging.write_least.Goals as goal
 
 pub returns-in-Ok-tell_least : goal.returns-in-Ok-tell_least
 returns-in-Ok-tell_least g c =
-    let front = front_of (option_copied c.args.asked.now.name) Text in
-    needed_written c.args.asked.now.allowed c.args.bytes.now (g.W.Write.contents c.args.writer.now)
-    (g.W.Write.contents c.write_told.new.writer) front c.push_front.new.out.items c.tell_least.new.out.items
-    c.as_slice.result.now c.in-Ok-tell_least.end c.write_told.result
-    (◌∙◌ {A = List ℕ} c.in-Ok.ensures (ap (λ (bytes : List ℕ). bytes ++ front) c.new-out.ensures.items)) c.in-Ok-tell_least.ensures.told
-    c.as_slice.ensures.value c.write_told.ensures
+    needed_written c.args.asked.now.allowed (heard_of c.args.history.now) (g.W.Write.contents c.args.writer.now)
+    (g.W.Write.contents c.write_told.new.writer) (front_of (option_copied c.args.asked.now.name) Text) c.in-Ok.out.items
+    c.tell_least.new.out.items c.as_slice.result.now c.in-Ok-tell_least.end c.write_told.result c.in-Ok.ensures
+    c.in-Ok-tell_least.ensures.told c.as_slice.ensures.value c.write_told.ensures
