@@ -6,6 +6,8 @@
 //! | `asks` | none: what tables are made of, by numbers |
 //! | `cloud` | none: all states in which the POSIX machine may be, after what was seen |
 //! | `beside` | the machine beside a core, on random events |
+//! | `furthest` | how many lines of a history some run shows, by a search that reduces nothing |
+//! | `judged` | random histories, in which each answer is replaced by each other one |
 //! | `examples` | worked examples: their answers are possible, and no others at the last call |
 //! | `replaced` | a history in which each answer is replaced by each other one |
 #![tactic(auto)]
@@ -18,5 +20,9 @@ mod beside;
 mod cloud;
 #[cfg(test)]
 mod examples;
+#[cfg(test)]
+mod furthest;
+#[cfg(test)]
+mod judged;
 #[cfg(test)]
 mod replaced;
