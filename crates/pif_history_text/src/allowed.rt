@@ -104,21 +104,21 @@ fn have_common_others(a: &Rules, b: &Rules) -> bool
 }
 
 /// Whether a rule is one of both.
-pub(crate) fn have_common(a: &Rules, b: &Rules) -> bool
+pub fn have_common(a: &Rules, b: &Rules) -> bool
     ensures { result ≡ have_common a.now b.now }
 {
     have_common_locks(a, b) || have_common_wakes(a, b) || have_common_others(a, b)
 }
 
 /// Whether there is a rule.
-pub(crate) fn is_any(rules: &Rules) -> bool
+pub fn is_any(rules: &Rules) -> bool
     ensures { result ≡ is_any rules.now }
 {
     have_common(rules, rules)
 }
 
 /// Whether the number of `recursion` is below its range.
-pub(crate) fn is_too_small(recursion: Option<u32>) -> bool
+pub fn is_too_small(recursion: Option<u32>) -> bool
     ensures { result ≡ is_too_small recursion }
 {
     match recursion {

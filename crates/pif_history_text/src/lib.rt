@@ -20,6 +20,7 @@ mod texts;
 mod verdicts;
 mod writing;
 
+pub use allowed::{have_common, is_any, is_too_small};
 pub use heard::{History, MOST_BYTES};
 pub use lines::{answer_of, said_of};
 pub use reading::read_history;

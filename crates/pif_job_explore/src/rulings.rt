@@ -1,5 +1,5 @@
 //! What is found of the claims of a file.
-ghost use Rattle.std.specs.Prelude.{◌≡◌, IfOk, length, map, true};
+ghost use Rattle.std.specs.Prelude.{◌≡◌, ◌<◌, IfOk, length, map, true};
 ghost use Rattle.pif_explore.specs.Explored.{AreFinalBelow};
 ghost use Rattle.pif_explore_model.specs.Exploring.{Steps};
 ghost use Rattle.pif_explore_model.specs.Forgetting.{AreSameSoFar};
@@ -38,7 +38,7 @@ pub fn rulings(
     claims: &[Claim],
 ) -> Result<Vec<Ruling>, Stop>
     requires { AreFinalBelow plan.now explored.now.nodes.items explored.now.finals.items (length explored.now.nodes.items) }
-    ensures { IfOk result (λ v. (start : Situated) → (explored.now.is_whole ≡ true → IsWhole (Steps plan.now) AreSameSoFar start explored.now.nodes.items) → AreRuled plan.now start explored.now.nodes.items (map claim_view claims.now) v.items) }
+    ensures { IfOk result (λ v. (start : Situated) → (0 < length claims.now → explored.now.is_whole ≡ true → IsWhole (Steps plan.now) AreSameSoFar start explored.now.nodes.items) → AreRuled plan.now start explored.now.nodes.items (map claim_view claims.now) v.items) }
 {
     let mut all = Vec::new(alloc);
     for claim in claims {

@@ -1,9 +1,10 @@
 //! Small programs, and their races, deadlocks, lost wake-ups and livelocks, which were worked out by hand.
 use super::programs::{Scene, Wish, call, plan_of, start_of};
-use pif_explore::explore;
 use pif_explore_faults::{Faults, faults_of};
 use pif_explore_model::Point;
+use pif_explore_reduced::explore_reduced;
 use pif_reach::Unwatched;
+use pif_rules::no_rules;
 use pif_search::{Stop, push};
 use pif_types::{Kind, Request};
 use std::alloc::Global;
@@ -37,8 +38,8 @@ fn points_of(alloc: Global, turns: &[Turn]) -> Result<Vec<Point>, Stop> {
 fn faults(alloc: Global, scene: &Scene, turns: &[Turn], limit: usize) -> Result<Faults, Stop> {
     let points = points_of(alloc, turns)?;
     let start = start_of(alloc, scene, points.len())?;
-    let plan = plan_of(alloc, points);
-    let explored = explore(&plan, alloc, start, limit, &mut Unwatched)?;
+    let plan = plan_of(alloc, points, &scene.rules);
+    let explored = explore_reduced(&plan, alloc, start, limit, false, &mut Unwatched)?;
     faults_of(&plan, alloc, &explored)
 }
 
@@ -94,6 +95,7 @@ fn have(
         starts,
         ends: 0,
         cells: 2,
+        rules: no_rules(),
     };
     let faults = faults(alloc, &scene, turns, 100_000)?;
     Ok(expected.is(&faults))
@@ -211,6 +213,7 @@ fn a_livelock_behind_the_start(alloc: Global) -> Result<bool, Stop> {
         starts: &[0, 1],
         ends: 0,
         cells: 2,
+        rules: no_rules(),
     };
     let all = faults(alloc, &scene, &LOOPING, 4)?;
     let some = faults(alloc, &scene, &LOOPING, 3)?;

@@ -6,6 +6,7 @@
 //! | `programs` | none: plans and starts, made of numbers |
 //! | `faults` | small programs, and their races, deadlocks, lost wake-ups and livelocks |
 //! | `outcomes` | small programs, and their outcomes, which were worked out by hand |
+//! | `reduced` | programs, explored with some steps alone: their outcomes are those of all interleavings |
 #![tactic(auto)]
 
 #[cfg(test)]
@@ -16,3 +17,5 @@ mod faults;
 mod outcomes;
 #[cfg(test)]
 mod programs;
+#[cfg(test)]
+mod reduced;

@@ -3,6 +3,8 @@ use super::programs::{Scene, Wish, call, plan_of, start_of};
 use pif_explore::{Outcome, explore};
 use pif_explore_model::{Fate, Point};
 use pif_reach::Unwatched;
+use pif_rules::{no_rules, rules_named};
+use pif_rules_model::Rules;
 use pif_search::{Stop, push};
 use pif_types::{Health, Kind, Request};
 use std::alloc::Global;
@@ -36,7 +38,7 @@ fn have(
     expected: &[Expected],
 ) -> Result<bool, Stop> {
     let start = start_of(alloc, scene, points.len())?;
-    let plan = plan_of(alloc, points);
+    let plan = plan_of(alloc, points, &scene.rules);
     let explored = explore(&plan, alloc, start, 100_000, &mut Unwatched)?;
     let told = explored.outcomes.as_slice();
     if !explored.is_whole || told.len() != expected.len() {
@@ -57,6 +59,9 @@ const NOT_OWNER: Option<u32> = Some(1);
 
 /// EDEADLK: who locks would close a cycle.
 const CYCLE: Option<u32> = Some(35);
+
+/// EBUSY: somebody owns the mutex that is tried.
+const BUSY: Option<u32> = Some(16);
 
 /// EOWNERDEAD: the owner of the mutex has ended.
 const DIED: Option<u32> = Some(130);
@@ -96,6 +101,7 @@ fn crossing(alloc: Global) -> Result<bool, Stop> {
         starts: &[0, 4],
         ends: 0,
         cells: 0,
+        rules: no_rules(),
     };
     let free = [(0, Health::Fine), (0, Health::Fine)];
     let none = [ZERO; 8];
@@ -140,6 +146,7 @@ fn lost_wake_up(alloc: Global) -> Result<bool, Stop> {
         starts: &[0, 3],
         ends: 0,
         cells: 0,
+        rules: no_rules(),
     };
     let lost = [Fate::IsBlockedOn(1), Fate::IsThrough];
     let rows = [
@@ -147,6 +154,90 @@ fn lost_wake_up(alloc: Global) -> Result<bool, Stop> {
         told(&[ZERO, None, None, ZERO], &lost, &FREE),
     ];
     have(alloc, &scene, points, &rows)
+}
+
+/// The rules that a word names; none if it names none.
+fn allowed(word: &[u8]) -> Rules {
+    match rules_named(word) {
+        Some(rules) => rules,
+        None => no_rules(),
+    }
+}
+
+/// A thread waits, and another signals with the mutex. Each marks a cell: that it is behind its wait, or before its
+/// signal. A wait that wakes by itself may come to be behind its wait first.
+fn waits(alloc: Global, rules: Rules, rows: &[Expected]) -> Result<bool, Stop> {
+    // The check has to be told of the type of requests, which points hold.
+    let _no_request: Option<Request> = None;
+    let mut points = Vec::new(alloc);
+    call(&mut points, Wish::Lock(1), 1)?;
+    push(&mut points, Point::IfCell(1, 0, 2, 3))?;
+    call(&mut points, Wish::Wait(1, 1), 3)?;
+    push(&mut points, Point::IfCell(1, 1, 4, 5))?;
+    push(&mut points, Point::Set(2, 1, 5))?;
+    call(&mut points, Wish::Unlock(1), 10)?;
+    call(&mut points, Wish::Lock(1), 7)?;
+    push(&mut points, Point::Set(1, 1, 8))?;
+    call(&mut points, Wish::Signal(1), 9)?;
+    call(&mut points, Wish::Unlock(1), 10)?;
+    let scene = Scene {
+        mutexes: &[(Kind::Normal, false)],
+        conds: &[1],
+        starts: &[0, 6],
+        ends: 0,
+        cells: 3,
+        rules,
+    };
+    have(alloc, &scene, points, rows)
+}
+
+/// The outcomes of `waits` without rules, and the one that `spurious` adds.
+fn a_wait_that_wakes(alloc: Global) -> Result<bool, Stop> {
+    let waited = [ZERO, None, ZERO, None, None, ZERO, ZERO, None, ZERO, ZERO];
+    let late = [ZERO, None, None, None, None, ZERO, ZERO, None, ZERO, ZERO];
+    let first = marked(&waited, &[0, 1, 1]);
+    let second = marked(&late, &[0, 1, 1]);
+    let third = marked(&waited, &[0, 1, 0]);
+    Ok(
+        waits(alloc, no_rules(), &[first, second])?
+            && waits(alloc, allowed(b"spurious"), &[first, second, third])?
+            && waits(alloc, allowed(b"steal"), &[first, second])?,
+    )
+}
+
+/// An outcome that is expected of two threads that are through and leave the mutex free.
+fn marked<'a>(answers: &'a [Option<u32>], cells: &'a [u8]) -> Expected<'a> {
+    Expected {
+        answers,
+        fates: &THROUGH,
+        mutexes: &FREE,
+        cells,
+    }
+}
+
+/// A thread tries an errorcheck mutex that it owns: EBUSY, or with the rule also EDEADLK.
+fn tries_own(alloc: Global, rules: Rules, rows: &[Expected]) -> Result<bool, Stop> {
+    let points = calls(alloc, &[(Wish::Lock(1), 1), (Wish::TryLock(1), 2)])?;
+    let scene = Scene {
+        mutexes: &[(Kind::ErrorCheck, false)],
+        conds: &[],
+        starts: &[0],
+        ends: 0,
+        cells: 0,
+        rules,
+    };
+    have(alloc, &scene, points, rows)
+}
+
+fn an_own_mutex_that_is_tried(alloc: Global) -> Result<bool, Stop> {
+    let held = [(1, Health::Fine)];
+    let through = [Fate::IsThrough];
+    let busy = told(&[ZERO, BUSY], &through, &held);
+    let cycle = told(&[ZERO, CYCLE], &through, &held);
+    Ok(
+        tries_own(alloc, no_rules(), &[busy])?
+            && tries_own(alloc, allowed(b"own_errorcheck"), &[busy, cycle])?,
+    )
 }
 
 /// Two threads lock a robust mutex and keep it, and one of them may end at any point.
@@ -158,6 +249,7 @@ fn hand_over(alloc: Global) -> Result<bool, Stop> {
         starts: &[0, 1],
         ends: 1,
         cells: 0,
+        rules: no_rules(),
     };
     let first = [(1, Health::Fine)];
     let second = [(2, Health::Fine)];
@@ -188,6 +280,7 @@ fn beside_a_cell(alloc: Global, points: Vec<Point>, rows: &[Expected]) -> Result
         starts: &[0, 0],
         ends: 0,
         cells: 2,
+        rules: no_rules(),
     };
     have(alloc, &scene, points, rows)
 }
@@ -244,5 +337,12 @@ fn a_robust_mutex_whose_owner_ends(rt: HostRuntime) -> Result<(), Stop> {
 fn updates_that_are_lost_or_not(rt: HostRuntime) -> Result<(), Stop> {
     assert!(rt; additions(rt.alloc())?);
     assert!(rt; updates(rt.alloc())?);
+    Ok(())
+}
+
+#[test]
+fn waits_and_locks_with_rules(rt: HostRuntime) -> Result<(), Stop> {
+    assert!(rt; a_wait_that_wakes(rt.alloc())?);
+    assert!(rt; an_own_mutex_that_is_tried(rt.alloc())?);
     Ok(())
 }

@@ -4,6 +4,7 @@ use pif_explore_model::Point;
 use pif_model::Entry;
 use pif_posix::State;
 use pif_posix_model::HistoryLimits;
+use pif_rules_model::Rules;
 use pif_search::{Stop, push};
 use pif_types::{CondId, Kind, MutexId, Prio, Request, Tid};
 use std::alloc::Global;
@@ -28,12 +29,15 @@ pub struct Scene<'a> {
     pub ends: u32,
     /// How many cells there are.
     pub cells: usize,
+    /// The rules that are allowed.
+    pub rules: Rules,
 }
 
 /// A request of a call, by numbers.
 #[derive(Clone, Copy)]
 pub enum Wish {
     Lock(u32),
+    TryLock(u32),
     Unlock(u32),
     Wait(u32, u32),
     Signal(u32),
@@ -43,6 +47,7 @@ pub enum Wish {
 fn request(wish: Wish) -> Option<Request> {
     Some(match wish {
         Wish::Lock(m) => Request::Lock(MutexId::new(m)?),
+        Wish::TryLock(m) => Request::TryLock(MutexId::new(m)?),
         Wish::Unlock(m) => Request::Unlock(MutexId::new(m)?),
         Wish::Wait(c, m) => Request::Wait(CondId::new(c)?, MutexId::new(m)?),
         Wish::Signal(c) => Request::Signal(CondId::new(c)?),
@@ -72,11 +77,12 @@ fn small(number: usize) -> Result<u32, Stop> {
     }
 }
 
+/// Threads of rising priorities.
 fn with_threads(alloc: Global, world: State, count: usize) -> Result<State, Stop> {
     let mut world = world;
     for number in 0..count {
         let thread = Tid::new(small(number + 1)?).ok_or(Stop::Range)?;
-        let prio = Prio::new(10).ok_or(Stop::Range)?;
+        let prio = Prio::new(small(number.saturating_add(10))?).ok_or(Stop::Range)?;
         world = enter(alloc, &world, &Entry::Thread(thread, prio))?;
     }
     Ok(world)
@@ -128,6 +134,7 @@ pub fn start_of(alloc: Global, scene: &Scene, points: usize) -> Result<Situation
         answers: all(alloc, None, points)?,
         cells: all(alloc, 0, scene.cells)?,
         lost: all(alloc, false, world.variable_count())?,
+        gone: Vec::new(alloc),
         ends: scene.ends,
         ticked: 0,
         world,
@@ -135,12 +142,13 @@ pub fn start_of(alloc: Global, scene: &Scene, points: usize) -> Result<Situation
     })
 }
 
-/// A plan of these points, without ticks and without a limit of uses.
-pub fn plan_of(alloc: Global, points: Vec<Point>) -> Plan {
+/// A plan of these points and rules, without ticks and without a limit of uses.
+pub fn plan_of(alloc: Global, points: Vec<Point>, rules: &Rules) -> Plan {
     Plan {
         points,
         ticks: Vec::new(alloc),
         limits: LIMITS,
         counts_uses: false,
+        rules: *rules,
     }
 }

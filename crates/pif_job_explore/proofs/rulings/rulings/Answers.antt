@@ -1,3 +1,4 @@
+use Rattle.std.proofs.Common.{arith}
 use Rattle.pif_job_explore.proofs.ExploringLemmas.{all_ruled, none_ruled, ruled_more}
 use Rattle.pif_job_explore.proofs.rulings.rulings.Goals as goal
 
@@ -9,7 +10,7 @@ pub loop-claim-preserved : goal.loop-claim-preserved
 loop-claim-preserved c = λ start whole.
     ruled_more c.args.plan.now start c.args.explored.now.nodes.items c.args.claims.now c.loop-claim.claim-index
     c.claim-item.result c.ruling-next.result c.loop-claim.all.items _ c.loop-claim-test.true c.claim-item.is
-    c.in_ok-push.ensures (c.loop-claim.invariant start whole) (c.ruling-next.ensures start whole)
+    c.in_ok-push.ensures (c.loop-claim.invariant start whole) (c.ruling-next.ensures start (whole (omega (arith, c.loop-claim-test.true))))
 
 pub returns : goal.returns
 returns c = λ start whole.

@@ -1,4 +1,4 @@
-use Rattle.std.proofs.Common.{◌≡◌, map, take, true}
+use Rattle.std.proofs.Common.{◌≡◌, ◌<◌, length, map, take, true}
 use Rattle.pif_explore_model.specs.Exploring.{Steps}
 use Rattle.pif_explore_model.specs.Forgetting.{AreSameSoFar}
 use Rattle.pif_explore_model.specs.Situations.{Situation}
@@ -10,5 +10,5 @@ use Rattle.pif_job_explore.proofs.rulings.rulings.Given as goal
 abbrev pub invariant-loop-claim : goal.invariant-loop-claim
 invariant-loop-claim l =
     (start : Situation)
-    → (l.explored.is_whole ≡ true → IsWhole (Steps l.plan) AreSameSoFar start l.explored.nodes.items)
+    → (0 < length l.claims → l.explored.is_whole ≡ true → IsWhole (Steps l.plan) AreSameSoFar start l.explored.nodes.items)
     → AreRuled l.plan start l.explored.nodes.items (map claim_view (take l.claim-index l.claims)) l.all.items
