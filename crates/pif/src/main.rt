@@ -1,22 +1,19 @@
 //! The program `pif`: `pif_cli`'s command line over the process's words and its standard streams.
 #![tactic(auto)]
 
-use pif_cli::{Input, Output, Progress, Status, WatchFiles, command_at_terminal};
-use pif_job_explore::Watch as WatchStates;
-use pif_job_judge::Watch;
-use pif_watch::WatchSteps;
+use pif_cli::{
+    Input, Output, Progress, Runtime, Status, WatchFiles, WatchJob, command_at_terminal,
+};
 use std::io::{IsTerminal, Read, Write};
 use std::rt::{Env, Files};
-use std::sync::Wait;
-use std::thread::Threads;
 
 /// The program over a process, with what it reads, what it writes, and who is told how far it has come.
 fn answer<
-    P: Env + AllocGlobal + Files + Threads + Wait + Sync,
+    P: Env + AllocGlobal + Files + Runtime + Sync,
     R: Read,
     W: Write,
     E: Write,
-    V: Watch + WatchFiles + WatchStates + WatchSteps,
+    V: WatchFiles + WatchJob,
 >(
     process: &P,
     is_terminal: bool,

@@ -1,3 +1,5 @@
+pub mod AgainLemmas
+pub mod ApartLemmas
 pub mod Driving
 pub mod FilesLemmas
 pub mod NotesLemmas

@@ -1,5 +1,5 @@
 -- What the program does by its words, what is written, and its status.
-use Rattle.std.specs.Prelude.{ℕ, zero, suc, ◌≡◌, ◌⊎◌, ◌==◌, MatchBool, OnOk, Bool, List, [], ◌∷◌, Option, Some, None, Result, Ok, Err, codes, bytes_eq, if◌then◌else◌}
+use Rattle.std.specs.Prelude.{ℕ, ◌≡◌, ◌⊎◌, ◌==◌, MatchBool, OnOk, Bool, List, [], ◌∷◌, Option, Some, None, Result, Ok, Err, codes, bytes_eq, if◌then◌else◌}
 use Rattle.std.specs.Io.KnownBytes.{Appends, Keeps}
 use Rattle.clap.specs.Words.{IsAmong, Kinds, Text}
 use Rattle.clap.specs.declared.error.kind.ErrorKind.{ErrorKind}
@@ -83,15 +83,10 @@ as_explored (Ok x) = Ok x
 as_explored (Err (explore_fault.Cli e)) = Err (Cli e)
 as_explored (Err explore_fault.Undecided) = Err (Undecided 1)
 
--- a number, if it isn't 0
-abbrev pub some_number : ℕ → Option ℕ
-some_number zero = None
-some_number (suc n) = Some (suc n)
-
 -- a program was explored
 abbrev pub ExploresAsked : Exploring → (before after held holds : Option (List ℕ)) → Result (Unit {0}) JobFault → Type 0
 ExploresAsked asked before after held holds result =
-    (done : Result (Unit {0}) ExploreFault) × ExploresTo asked.witness (some_number asked.core) before after held holds done
+    (done : Result (Unit {0}) ExploreFault) × ExploresTo asked.witness asked.core before after held holds done
     × (result ≡ as_explored done)
 
 -- a job over an input of this name, by the bytes that were read and written; `random` and `drive` read nothing

@@ -37,6 +37,15 @@ pub fn message_of(job: Job, name: &str, fault: JobFault, notice: &Notice) -> Mes
     given.message(fault, notice)
 }
 
+/// Whether a job reads a story, and shows no line of it where its form is at fault.
+fn is_of_story(job: Job) -> bool {
+    match job {
+        Job::Check | Job::Strict | Job::Fill | Job::FillSeveral => true,
+        Job::Picture(_) | Job::Draw(_) => true,
+        _ => false,
+    }
+}
+
 impl<'n, 's> Given<'n, 's> {
     /// What a person is told of a fault of the job. `notice` keeps the line that ended it, if there is one.
     pub fn message(&self, fault: JobFault, notice: &Notice) -> Message {
@@ -91,15 +100,7 @@ impl<'n, 's> Given<'n, 's> {
             (Job::Draw(_), Cause::Size) => {
                 say_line(&place, 1, size_of_drawing(self.story), b"", &mut message)
             }
-            (
-                Job::Check
-                | Job::Strict
-                | Job::Fill
-                | Job::FillSeveral
-                | Job::Picture(_)
-                | Job::Draw(_),
-                _,
-            ) => {
+            (job, _) if is_of_story(job) => {
                 let column = column_of(cause, b"");
                 say_line(&place, column, plain_cause(cause), b"", &mut message)
             }
@@ -232,6 +233,9 @@ fn column_of(cause: Cause, line: &[u8]) -> usize {
 fn undecided_words(job: Job) -> &'static str {
     match job {
         Job::Explore(_) => "there are more states than may be kept",
+        Job::Judge(asked) if asked.seconds.is_some() => {
+            "too many states were made to decide it, or the time was over"
+        }
         _ => "too many states were made to decide it",
     }
 }

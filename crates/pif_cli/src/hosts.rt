@@ -1,5 +1,13 @@
 use crate::streams::Output;
 use std::alloc::Global;
+use std::sync::Wait;
+use std::thread::Threads;
+use std::time::Clock;
+
+/// What starts threads and waits for them, and has a clock.
+pub trait Runtime: Threads + Wait + Clock {}
+
+impl<P: Threads + Wait + Clock> Runtime for P {}
 
 /// What a run of the program works with besides its input, lent to one job after the other. Each reference has a
 /// lifetime of its own.

@@ -4,10 +4,12 @@
 //! and what a person is told of a fault (`message_of`), is public too, so that tests in a crate above can call it.
 #![tactic(auto)]
 
+mod apart;
 mod causes;
 mod drive;
 mod files;
 mod hosts;
+mod judging;
 mod messages;
 mod notes;
 mod places;
@@ -18,9 +20,11 @@ mod rewriting;
 mod shelves;
 mod statuses;
 mod streams;
+mod times;
 mod words;
 
 pub use causes::message_of;
+pub use hosts::Runtime;
 pub use messages::Message;
 pub use pif_cli_words::{Job, Recipe, random_lines_have_a_bound, words_of_the_program};
 pub use pif_job_drive::{DriveFault, Ending, Served, drive_book, end_of};
@@ -30,7 +34,8 @@ pub use pif_script::{CliFault, run};
 pub use pif_script_model::Picture;
 pub use pif_text::Cause;
 pub use process::{command_at_terminal, command_of_process};
-pub use progress::{Progress, WatchFiles};
+pub use progress::{Progress, WatchFiles, WatchJob};
 pub use statuses::{JobFault, Status};
 pub use streams::{Input, Output};
+pub use times::Timed;
 pub use words::command;

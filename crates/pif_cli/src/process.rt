@@ -3,21 +3,16 @@ ghost use Rattle.std.specs.declared.io.ErrorKind.{ErrorKind as IoErrorKind};
 ghost use Rattle.pif_cli.specs.Words.{EndsOver, HadNoWords};
 
 use crate::files::command_over_files;
-use crate::hosts::Host;
+use crate::hosts::{Host, Runtime};
 use crate::messages::Message;
-use crate::progress::{Unwatched, WatchFiles};
+use crate::progress::{Unwatched, WatchFiles, WatchJob};
 use crate::shelves::FileShelf;
 use crate::statuses::Status;
 use crate::streams::{Input, Output};
 use crate::words::{fail, show};
-use pif_job_explore::Watch as WatchStates;
-use pif_job_judge::Watch;
 use pif_script::CliFault;
-use pif_watch::WatchSteps;
 use std::io::{ErrorKind, Read, Write};
 use std::rt::{Env, Files};
-use std::sync::Wait;
-use std::thread::Threads;
 use std::{env, io};
 
 /// What is said if a word is no text.
@@ -29,11 +24,11 @@ const NO_TEXT: &str = "error: a word is not UTF-8\n";
 /// explore` explores how many states and steps were found. Of each line of `pif random` and each command of `pif draw` it
 /// is told that it is made. What it tells a person is no part of what `errors` is told.
 pub fn command_at_terminal<
-    P: Env + AllocGlobal + Files + Threads + Wait + Sync,
+    P: Env + AllocGlobal + Files + Runtime + Sync,
     R: Read,
     W: Write,
     E: Write,
-    V: Watch + WatchFiles + WatchStates + WatchSteps,
+    V: WatchFiles + WatchJob,
 >(
     process: &P,
     is_terminal: bool,
@@ -75,7 +70,7 @@ pub fn command_at_terminal<
 /// is told; 4 if it is out of memory; and 3 if they cannot be read, or if `errors` cannot be told of such a word. At
 /// 4, and where the words cannot be read, `errors` is told so in one line, as by `command`.
 pub fn command_of_process<
-    P: Env + AllocGlobal + Files + Threads + Wait + Sync,
+    P: Env + AllocGlobal + Files + Runtime + Sync,
     R: Read,
     W: Write,
     E: Write,

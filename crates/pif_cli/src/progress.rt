@@ -12,6 +12,11 @@ pub trait WatchFiles {
     fn file(&mut self, done: usize, count: usize);
 }
 
+/// Who is told how far any job over one input has come.
+pub trait WatchJob: Watch + WatchStates + WatchSteps {}
+
+impl<V: Watch + WatchStates + WatchSteps> WatchJob for V {}
+
 /// Nobody is told of anything.
 #[derive(Drop)]
 pub struct Unwatched;

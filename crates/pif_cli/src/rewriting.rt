@@ -5,22 +5,18 @@ ghost use Rattle.pif_cli.specs.Messages.{TellsLine};
 ghost use Rattle.pif_cli.specs.Words.{RewroteFile};
 
 use crate::causes::unwritten;
-use crate::hosts::Host;
+use crate::hosts::{Host, Runtime};
+use crate::progress::WatchJob;
 use crate::streams::{Input, words_of};
 use crate::words::do_and_tell;
 use pif_cli_words::Job;
 use pif_job_check::fill;
-use pif_job_explore::Watch as WatchStates;
-use pif_job_judge::Watch;
 use pif_job_shell::Shelf;
 use pif_script::{CliFault, read_all, write_whole};
-use pif_watch::WatchSteps;
 use std::alloc::{AllocError, Global};
 use std::fs::{File, OpenFile, Permissions};
 use std::io::{ErrorKind, Write};
 use std::rt::Files;
-use std::sync::Wait;
-use std::thread::Threads;
 use std::{fs, io};
 
 /// Why the answers of a story are not written into its file.
@@ -181,13 +177,10 @@ fn tell_written<E: Write>(name: &str, done: Result<(), Unwritten>, errors: &mut 
 /// The file stays as it is if the story has a fault, which is told as `check --print` tells it; and if it is no plain
 /// file, can't be read, or can't be written, of which the errors are told in one line. It is not written if the answers
 /// are there.
-pub fn rewrite_file<
-    P: Files + Threads + Wait + Sync,
-    S: Shelf,
-    W: Write,
-    E: Write,
-    V: Watch + WatchStates + WatchSteps,
->(name: &str, host: &mut Host<P, S, W, E, V>) -> u8
+pub fn rewrite_file<P: Files + Runtime + Sync, S: Shelf, W: Write, E: Write, V: WatchJob>(
+    name: &str,
+    host: &mut Host<P, S, W, E, V>,
+) -> u8
     ensures same_output { host.new.output.ghost_name ≡ host.old.output.ghost_name }
     ensures same_errors { host.new.errors.ghost_name ≡ host.old.errors.ghost_name }
     ensures did { RewroteFile name.now (W.contents host.old.output.now) (W.contents host.new.output.now)

@@ -1,4 +1,4 @@
-ghost use Rattle.std.specs.Prelude.{◌≡◌, ◌⊎◌, [], None, Some, Ok, OnOk, if◌then◌else◌, map, option_copied};
+ghost use Rattle.std.specs.Prelude.{◌≡◌, ◌⊎◌, [], Ok, OnOk, map};
 ghost use Rattle.clap.specs.Words.{kind_of};
 ghost use Rattle.pif_cli_words.specs.Words.{refusals_of, rewrites, job_of, name_of};
 ghost use Rattle.pif_script_model.specs.Running.{RunsTo};
@@ -6,16 +6,17 @@ ghost use Rattle.pif_story_model.specs.Checks.{TellsTo, check_telling};
 ghost use Rattle.pif_story_model.specs.Showing.{ShowsStoryTo};
 ghost use Rattle.pif_story_notes.specs.Notes.{ShowsNoting, TellsNoting};
 ghost use Rattle.pif_job_draw.specs.Pictures.{DrawsTo};
-ghost use Rattle.pif_cli.specs.Messages.{TellsAt, TellsFault, TellsLine, TellsNotes};
-ghost use Rattle.pif_cli.specs.Statuses.{fault_status};
-ghost use Rattle.pif_cli.specs.Words.{some_number, Did, DidOrRefused, Does, EndsAsCli, HasNotes, JudgesAs, JudgesNamed, RunsTold, as_job, as_judged, form_of, EndsBy, HadNoMemory, RefusedFor, RefusesInput, Shows, ShowsHelp, ExploresAsked, as_explored};
+ghost use Rattle.pif_cli.specs.Messages.{TellsAt, TellsFault, TellsLine, TellsNotes, TellsOf};
+ghost use Rattle.pif_cli.specs.Statuses.{fault_status, job_status};
+ghost use Rattle.pif_cli.specs.Words.{Did, DidOrRefused, Does, EndsAsCli, HasNotes, RunsTold, as_job, EndsBy, HadNoMemory, RefusedFor, RefusesInput, Shows, ShowsHelp, ExploresAsked, as_explored};
 
 use crate::causes::{Given, plain_message};
 use crate::drive::drive;
-use crate::hosts::{Host, Means};
+use crate::hosts::{Host, Means, Runtime};
+use crate::judging::judge_input;
 use crate::messages::Message;
 use crate::notes::Notes;
-use crate::progress::Unwatched;
+use crate::progress::{Unwatched, WatchJob};
 use crate::random::write_random;
 use crate::statuses::{JobFault, fault_status, is_output, job_fault_status};
 use crate::streams::{Input, Output};
@@ -24,8 +25,6 @@ use pif_cli_words::{Job, first_name, near_command, read_words};
 use pif_job_check::{check_noting, check_strictly, fill_as_one_of_several, fill_noting};
 use pif_job_draw::{Drawn, write_drawn, write_picture};
 use pif_job_explore::{ExploreFault, Exploring, Watch as WatchStates, explore_text};
-use pif_job_judge::{Form, JudgeFault, Judging, Watch, judge};
-use pif_job_least::judge_least;
 use pif_job_replay::{migrate_noting, replay_noting};
 use pif_job_run::run_noted;
 use pif_job_shell::{NoShelf, Shelf, shell};
@@ -37,8 +36,6 @@ use pif_watch::WatchSteps;
 use std::alloc::{AllocError, Global};
 use std::convert::AsStr;
 use std::io::{Read, Write};
-use std::sync::Wait;
-use std::thread::Threads;
 
 /// The fault of a job over a script or a trace.
 fn as_job(done: Result<(), CliFault>) -> Result<(), JobFault>
@@ -50,78 +47,6 @@ fn as_job(done: Result<(), CliFault>) -> Result<(), JobFault>
     }
 }
 
-/// The fault of a job over a history.
-fn as_judged(done: Result<(), JudgeFault>) -> Result<(), JobFault>
-    ensures { result ≡ as_judged done }
-{
-    match done {
-        Ok(()) => Ok(()),
-        Err(JudgeFault::Cli(fault)) => Err(JobFault::Cli(fault)),
-        Err(JudgeFault::Undecided(line)) => Err(JobFault::Undecided(line)),
-    }
-}
-
-/// The name that is told of a history, where there are several.
-fn told_name(several: bool, name: &str) -> Option<&[u8]>
-    ensures { option_copied result ≡ if several then Some name.now else None }
-{
-    if several { Some(name.as_bytes()) } else { None }
-}
-
-/// The form in which a verdict is told.
-fn form_of(asked: pif_cli_words::Judging) -> Form
-    ensures { result ≡ form_of asked }
-{
-    if asked.html {
-        Form::Page
-    } else if asked.json {
-        Form::Json
-    } else if asked.witness {
-        Form::Witness
-    } else {
-        Form::Text
-    }
-}
-
-/// Judges a history whose name is told, if there is one: in a form, or by the rules that it needs.
-fn judge_as<R: Read, W: Write, V: Watch>(
-    alloc: Global,
-    asked: pif_cli_words::Judging,
-    name: Option<&[u8]>,
-    input: &mut R,
-    output: &mut W,
-    watch: &mut V,
-) -> Result<(), JudgeFault>
-    ensures { JudgesAs asked (option_copied name.entry) (R.remaining input.old) (R.remaining input.new) (W.contents output.old) (W.contents output.new) result }
-{
-    let judging = Judging {
-        name,
-        form: form_of(asked),
-        states: asked.states,
-        allowed: asked.allowed,
-    };
-    if asked.least {
-        judge_least(alloc, &judging, input, output, watch)
-    } else {
-        judge(alloc, &judging, input, output, watch)
-    }
-}
-
-/// Judges the history of this name.
-fn judge_input<R: Read, W: Write, V: Watch>(
-    alloc: Global,
-    asked: pif_cli_words::Judging,
-    name: &str,
-    input: &mut R,
-    output: &mut W,
-    watch: &mut V,
-) -> Result<(), JobFault>
-    ensures { JudgesNamed asked name.now (R.remaining input.old) (R.remaining input.new) (W.contents output.old) (W.contents output.new) result }
-{
-    let told = told_name(asked.several, name);
-    as_judged(judge_as(alloc, asked, told, input, output, watch))
-}
-
 /// How exploring a program ends.
 fn as_explored(done: Result<(), ExploreFault>) -> Result<(), JobFault>
     ensures { result ≡ as_explored done }
@@ -131,13 +56,6 @@ fn as_explored(done: Result<(), ExploreFault>) -> Result<(), JobFault>
         Err(ExploreFault::Cli(fault)) => Err(JobFault::Cli(fault)),
         Err(ExploreFault::Undecided) => Err(JobFault::Undecided(1)),
     }
-}
-
-/// A number, if it isn't 0.
-fn some(number: u32) -> Option<u32>
-    ensures { result ≡ some_number number }
-{
-    if number == 0 { None } else { Some(number) }
 }
 
 /// Explores a program.
@@ -153,7 +71,7 @@ fn explore_input<R: Read, W: Write, V: WatchStates>(
     let exploring = Exploring {
         witness: asked.witness,
         states: asked.states,
-        core: some(asked.core),
+        core: asked.core,
     };
     as_explored(explore_text(alloc, &exploring, input, output, watch))
 }
@@ -242,13 +160,7 @@ fn show_input<R: Read, W: Write>(
 }
 
 /// Does a job over an input of this name, and has `notice` keep the line that ends it, and `notes` those of the job.
-fn do_job<
-    P: Threads + Wait + Sync,
-    S: Shelf,
-    R: Read,
-    W: Write,
-    V: Watch + WatchStates + WatchSteps,
->(
+fn do_job<P: Runtime + Sync, S: Shelf, R: Read, W: Write, V: WatchJob>(
     job: Job,
     name: &str,
     means: &Means<P, S>,
@@ -263,6 +175,7 @@ fn do_job<
     ensures noted { OnOk result (HasNotes job name.now (R.remaining input.old) (R.remaining input.new) (W.contents output.old) (W.contents output.new) notes.new) }
 {
     let alloc = means.alloc;
+    let told = name.as_bytes();
     match job {
         Job::Run => run_input(alloc, name, input, output, notice, notes),
         Job::Replay => as_job(replay_noting(alloc, input, output, notice)),
@@ -275,16 +188,12 @@ fn do_job<
         Job::Draw(asked) => draw_input(alloc, asked, input, output, notice, watch),
         Job::Shell => as_job(shell(alloc, means.shelf, means.is_terminal, input, output)),
         Job::Check => check_input(alloc, name, input, output, notice, notes),
-        Job::Strict => as_job(check_strictly(alloc, name.as_bytes(), input, output, notice)),
-        Job::Fill => as_job(fill_noting(alloc, name.as_bytes(), input, output, notice)),
-        Job::FillSeveral => as_job(fill_as_one_of_several(
-            alloc,
-            name.as_bytes(),
-            input,
-            output,
-            notice,
-        )),
-        Job::Judge(asked) => judge_input(alloc, asked, name, input, output, watch),
+        Job::Strict => as_job(check_strictly(alloc, told, input, output, notice)),
+        Job::Fill => as_job(fill_noting(alloc, told, input, output, notice)),
+        Job::FillSeveral => as_job(fill_as_one_of_several(alloc, told, input, output, notice)),
+        Job::Judge(asked) => {
+            judge_input(alloc, means.process, asked, name, input, output, watch)
+        },
         Job::Explore(asked) => explore_input(alloc, asked, input, output, watch),
         Job::Random(recipe) => write_random(alloc, recipe, output, watch),
         Job::Drive(clients) => drive(alloc, means.process, clients, output),
@@ -302,23 +211,29 @@ fn keeps_text(job: Job) -> bool {
 
 /// How a job has ended.
 #[derive(Drop)]
-struct Ended {
+pub struct Ended {
     /// How it has ended.
-    done: Result<(), JobFault>,
+    pub done: Result<(), JobFault>,
     /// What is told of its fault, if it has one.
-    message: Message,
+    pub message: Message,
     /// What is told if it was done.
-    notes: Notes,
+    pub notes: Notes,
+}
+
+/// What is told of the fault of a job, if it has one.
+pub fn message_at_end(
+    done: Result<(), JobFault>,
+    given: &Given<'_, '_>,
+    notice: &Notice,
+) -> Message {
+    match done {
+        Ok(()) => Message::empty(),
+        Err(fault) => given.message(fault, notice),
+    }
 }
 
 /// Does a job over an input of this name.
-fn do_noting<
-    P: Threads + Wait + Sync,
-    S: Shelf,
-    R: Read,
-    W: Write,
-    V: Watch + WatchStates + WatchSteps,
->(
+fn do_noting<P: Runtime + Sync, S: Shelf, R: Read, W: Write, V: WatchJob>(
     job: Job,
     name: &str,
     means: &Means<P, S>,
@@ -342,21 +257,15 @@ fn do_noting<
         &mut notice,
         &mut notes,
     );
-    let message = match done {
-        Ok(()) => Message::empty(),
-        Err(fault) => {
-            let given = Given {
-                job,
-                name,
-                story: input.text(),
-                why: input.why(),
-            };
-            given.message(fault, &notice)
-        }
+    let given = Given {
+        job,
+        name,
+        story: input.text(),
+        why: input.why(),
     };
     Ended {
         done,
-        message,
+        message: message_at_end(done, &given, &notice),
         notes,
     }
 }
@@ -381,33 +290,20 @@ fn tell_fault<E: Write>(fault: JobFault, is_quiet: bool, message: Message, error
     }
 }
 
-/// Does a job over an input of this name. Standard error gets the notes of the job, or is told of its fault. That the
-/// output cannot be written is told once, and not if nobody reads it any more. Answers the status, which is that of the
-/// job, also if standard error cannot be written.
-pub fn do_and_tell<
-    P: Threads + Wait + Sync,
-    S: Shelf,
-    R: Read,
-    W: Write,
-    E: Write,
-    V: Watch + WatchStates + WatchSteps,
->(job: Job, name: &str, input: &mut Input<R>, host: &mut Host<P, S, W, E, V>) -> u8
+/// Tells the errors how a job has ended: its notes, or its fault. That the output cannot be written is told once, and not
+/// if nobody reads it any more. Answers the status of the job.
+pub fn tell_end<P, S, W: Write, E: Write, V>(ended: Ended, host: &mut Host<P, S, W, E, V>) -> u8
     ensures same_output { host.new.output.ghost_name ≡ host.old.output.ghost_name }
     ensures same_errors { host.new.errors.ghost_name ≡ host.old.errors.ghost_name }
-    ensures did { Did job name.now (R.remaining input.old) (R.remaining input.new) (W.contents host.old.output.now)
-        (W.contents host.new.output.now) (E.contents host.old.errors.now) (E.contents host.new.errors.now) result }
+    ensures unwritten { W.contents host.new.output.now ≡ W.contents host.old.output.now }
+    ensures status { result ≡ job_status ended.done }
+    ensures told { TellsOf ended.notes ended.done (E.contents host.old.errors.now) (E.contents host.new.errors.now) }
 {
-    let means = Means {
-        alloc: host.alloc,
-        process: host.process,
-        shelf: host.shelf,
-        is_terminal: host.is_terminal,
-    };
     let Ended {
         done,
         message,
         notes,
-    } = do_noting(job, name, &means, input, host.output, host.watch);
+    } = ended;
     match done {
         Ok(()) => {
             tell_notes(notes.text(), host.errors);
@@ -420,6 +316,30 @@ pub fn do_and_tell<
             job_fault_status(fault)
         }
     }
+}
+
+/// Does a job over an input of this name. Standard error gets the notes of the job, or is told of its fault. That the
+/// output cannot be written is told once, and not if nobody reads it any more. Answers the status, which is that of the
+/// job, also if standard error cannot be written.
+pub fn do_and_tell<P: Runtime + Sync, S: Shelf, R: Read, W: Write, E: Write, V: WatchJob>(
+    job: Job,
+    name: &str,
+    input: &mut Input<R>,
+    host: &mut Host<P, S, W, E, V>,
+) -> u8
+    ensures same_output { host.new.output.ghost_name ≡ host.old.output.ghost_name }
+    ensures same_errors { host.new.errors.ghost_name ≡ host.old.errors.ghost_name }
+    ensures did { Did job name.now (R.remaining input.old) (R.remaining input.new) (W.contents host.old.output.now)
+        (W.contents host.new.output.now) (E.contents host.old.errors.now) (E.contents host.new.errors.now) result }
+{
+    let means = Means {
+        alloc: host.alloc,
+        process: host.process,
+        shelf: host.shelf,
+        is_terminal: host.is_terminal,
+    };
+    let ended = do_noting(job, name, &means, input, host.output, host.watch);
+    tell_end(ended, host)
 }
 
 /// Tells `errors` of a fault by its own text. Answers the status of the fault, also where `errors` fails.
@@ -463,14 +383,13 @@ fn refuse_input<E: Write>(errors: &mut E) -> u8
 
 /// Does a job over an input of this name, and tells the errors of a fault, as `do_and_tell` does; or refuses the input,
 /// if what is made of it is to be written into its file. Answers the status.
-pub fn do_or_refuse<
-    P: Threads + Wait + Sync,
-    S: Shelf,
-    R: Read,
-    W: Write,
-    E: Write,
-    V: Watch + WatchStates + WatchSteps,
->(rewrite: bool, job: Job, name: &str, input: &mut Input<R>, host: &mut Host<P, S, W, E, V>) -> u8
+pub fn do_or_refuse<P: Runtime + Sync, S: Shelf, R: Read, W: Write, E: Write, V: WatchJob>(
+    rewrite: bool,
+    job: Job,
+    name: &str,
+    input: &mut Input<R>,
+    host: &mut Host<P, S, W, E, V>,
+) -> u8
     ensures same_output { host.new.output.ghost_name ≡ host.old.output.ghost_name }
     ensures same_errors { host.new.errors.ghost_name ≡ host.old.errors.ghost_name }
     ensures did { DidOrRefused rewrite job name.now (R.remaining input.old) (R.remaining input.new) (W.contents host.old.output.now)
@@ -565,7 +484,7 @@ pub fn refuse<W: Write, E: Write>(
 /// the reason why the words are refused, if that could not be written. It is nothing if nobody reads `output` any more.
 /// No memory is taken for the line, but a story is kept in memory for the place of its fault. A script that is run is
 /// kept for its notes. If memory is refused for these, one line says so in their place.
-pub fn command<T: Threads + Wait + Sync, S: AsStr, R: Read, W: Write, E: Write>(
+pub fn command<T: Runtime + Sync, S: AsStr, R: Read, W: Write, E: Write>(
     alloc: Global,
     rt: &T,
     words: &[S],
@@ -578,7 +497,8 @@ pub fn command<T: Threads + Wait + Sync, S: AsStr, R: Read, W: Write, E: Write>(
         (job_of (map S.text words.now)) (name_of (map S.text words.now)) (R.remaining input.old) (R.remaining input.new)
         (W.contents output.old) (W.contents output.new) (E.contents errors.old) (E.contents errors.new) result }
 {
-    match read_words(alloc, words) {
+    let mut room = Vec::new(alloc);
+    match read_words(alloc, words, &mut room) {
         Ok(asked) => {
             let name = first_name(asked.files.as_slice());
             let mut host = Host {

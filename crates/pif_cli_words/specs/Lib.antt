@@ -1,4 +1,5 @@
 pub mod Commands
+pub mod Defaults
 pub mod Options
 pub mod Random
 pub mod Rules

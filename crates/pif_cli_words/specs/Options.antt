@@ -1,5 +1,5 @@
 -- Options of the program's commands: flags and numbers.
-use Rattle.std.specs.Prelude.{ℕ, Bool, true, false, List, [], ◌∷◌, Option, Some, None, codes, bytes_eq, if◌then◌else◌}
+use Rattle.std.specs.Prelude.{ℕ, ◌==◌, Bool, true, false, List, [], ◌∷◌, Option, Some, None, codes, bytes_eq, if◌then◌else◌}
 use Rattle.std.specs.Str.Parse.{digits_value, without_leading_plus}
 use Rattle.clap.specs.ValueTests.{is_unsigned_in}
 use Rattle.clap.specs.Words.{Row, Rule, Text, first_of, new_rule}
@@ -28,6 +28,10 @@ abbrev pub number_between : (low high : ℕ) → Option Text → ℕ
 number_between low high (Some text) =
     if is_unsigned_in low high text then digits_value 10 (without_leading_plus text) else 0
 number_between low high None = 0
+
+-- a number, if it isn't 0
+abbrev pub unless_zero : ℕ → Option ℕ
+unless_zero n = if n == 0 then None else Some n
 
 -- a flag's value says that it was given
 abbrev pub is_yes : Option Text → Bool

@@ -14,7 +14,8 @@ use Rattle.pif_cli_words.specs.declared.jobs.Exploring.{Exploring}
 use Rattle.pif_cli_words.specs.declared.jobs.Judging.{Judging}
 use Rattle.pif_cli_words.specs.declared.jobs.Job.{Job}
 use Rattle.pif_cli_words.specs.declared.jobs.Job.TheVariants.{Run, Replay, Trace, Migrate, Show, Picture, Draw, Shell, Check, Strict, Fill, FillSeveral, Judge, Explore, Random, Drive}
-use Rattle.pif_cli_words.specs.Options.{chosen_rule, flag_in, flag_rule, number_between, number_rule}
+use Rattle.pif_cli_words.specs.Defaults.{completed}
+use Rattle.pif_cli_words.specs.Options.{chosen_rule, flag_in, flag_rule, number_between, number_rule, unless_zero}
 use Rattle.pif_cli_words.specs.Random.{random_app, recipe_in}
 use Rattle.pif_cli_words.specs.Rules.{allow_rule, allowed_in, are_rules}
 
@@ -60,11 +61,17 @@ abbrev pub check_app : App
 check_app = with_rule checked_app files_rule
 
 -- the command `judge` for a person or, by a flag, for programs or with a page; its flag for the rules that histories need;
--- its option for how many states may be made for a line; and that for rules
+-- its options for how many states may be made for a line, for how many seconds the search goes on, and for how many
+-- histories are judged side by side; and that for rules
+abbrev pub flagged_app : App
+flagged_app =
+    with_rule (with_rule (with_rule (with_rule (new_app (codes "judge")) (flag_rule (codes "witness"))) (flag_rule (codes "json")))
+    (flag_rule (codes "html"))) (flag_rule (codes "least"))
+
 abbrev pub judged_app : App
 judged_app =
-    with_rule (with_rule (with_rule (with_rule (with_rule (new_app (codes "judge")) (flag_rule (codes "witness"))) (flag_rule (codes "json")))
-    (flag_rule (codes "html"))) (flag_rule (codes "least"))) (chosen_rule (codes "states") 1 16777216 (codes "200000"))
+    with_rule (with_rule (with_rule flagged_app (chosen_rule (codes "states") 1 16777216 (codes "200000")))
+    (number_rule (codes "seconds") 0 86400)) (number_rule (codes "jobs") 1 64)
 
 abbrev pub judge_app : App
 judge_app = with_rule (with_rule judged_app allow_rule) files_rule
@@ -146,6 +153,8 @@ judging_in rows = record {
   html = flag_in (codes "html") rows;
   least = flag_in (codes "least") rows;
   states = number_between 1 16777216 (first_of (codes "states") rows);
+  seconds = unless_zero (number_between 0 86400 (first_of (codes "seconds") rows));
+  jobs = unless_zero (number_between 1 64 (first_of (codes "jobs") rows));
   several = has_several rows;
   allowed = allowed_in rows;
 }
@@ -181,16 +190,20 @@ abbrev pub clash_by : Option (Text × List Row) → Option Clash
 clash_by (Some command) = if bytes_eq command.0 (codes "judge") then judging_clash command.1 else None
 clash_by None = None
 
+-- the command that the words name, and what was given to it
+abbrev pub command_of : List (List ℕ) → Option (Text × List Row)
+command_of words = subcommand_of program (completed words)
+
 -- why the words are refused, the program's name first; none where they ask for a job
 abbrev pub refusals_of : List (List ℕ) → Kinds
-refusals_of words = or_else (fault_of program words) (clash_kinds (clash_by (subcommand_of program words)))
+refusals_of words = or_else (fault_of program (completed words)) (clash_kinds (clash_by (command_of words)))
 
 -- how programs are explored
 abbrev pub exploring_in : List Row → Exploring
 exploring_in rows = record {
   witness = flag_in (codes "witness") rows;
   states = number_between 1 16777216 (first_of (codes "states") rows);
-  core = number_between 1 1000000 (first_of (codes "core") rows);
+  core = unless_zero (number_between 1 1000000 (first_of (codes "core") rows));
 }
 
 -- how stories are filled in and printed: several are told apart
@@ -227,7 +240,7 @@ job_by None = Run
 
 -- the job that the words ask for
 abbrev pub job_of : List (List ℕ) → Job
-job_of words = job_by (subcommand_of program words)
+job_of words = job_by (command_of words)
 
 -- the files that are given to a command
 abbrev pub files_in : List Row → List Text
@@ -239,7 +252,7 @@ files_by None = []
 
 -- the files that the words name, in their order
 abbrev pub files_of : List (List ℕ) → List Text
-files_of words = files_by (subcommand_of program words)
+files_of words = files_by (command_of words)
 
 -- whether what is made of each file is to take its place
 abbrev pub rewrites_by : Option (Text × List Row) → Bool
@@ -248,7 +261,7 @@ rewrites_by None = false
 
 -- whether the words ask for that
 abbrev pub rewrites : List (List ℕ) → Bool
-rewrites words = rewrites_by (subcommand_of program words)
+rewrites words = rewrites_by (command_of words)
 
 -- the name of the standard input
 abbrev pub standard_name : Text

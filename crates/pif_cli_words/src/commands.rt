@@ -1,6 +1,6 @@
 //! The program's commands, as `clap` takes them. A command is handed on as it was made, so that only `with_arg`,
 //! `with_subcommand` and `with_command` ask whether memory was refused.
-ghost use Rattle.std.specs.Prelude.{◌≡◌, IfOk, codes, false};
+ghost use Rattle.std.specs.Prelude.{◌≡◌, IfOk, false};
 ghost use Rattle.clap.specs.Words.{App, app_of, new_app, rule_of, with_rule, with_subcommand};
 ghost use Rattle.pif_cli_words.specs.Commands.{IsApp, IsCommand};
 ghost use Rattle.pif_cli_words.specs.Options.{flag_rule, number_rule};
@@ -9,13 +9,13 @@ ghost use Rattle.pif_cli_words.specs.Words.{bare_program, check_app, clients_rul
 use crate::helps::{
     ABOUT, ABOUT_ALL, ABOUT_ALLOW, ABOUT_CHECK, ABOUT_CLIENTS, ABOUT_CORE, ABOUT_DOT, ABOUT_DRAW,
     ABOUT_DRIVE, ABOUT_EXPLORE, ABOUT_FILE, ABOUT_FILES, ABOUT_FROM, ABOUT_HISTORIES, ABOUT_HTML,
-    ABOUT_JSON, ABOUT_JUDGE, ABOUT_KEPT, ABOUT_LEAST, ABOUT_MIGRATE, ABOUT_PRINT, ABOUT_REPLAY,
-    ABOUT_RUN, ABOUT_RUN_HTML, ABOUT_RUN_JSON, ABOUT_SCHEDULES, ABOUT_SHELL, ABOUT_SHOW,
-    ABOUT_STATES, ABOUT_STRICT, ABOUT_TO, ABOUT_TRACE, ABOUT_WITNESS, ABOUT_WRITE, EXAMPLE,
-    MORE_CHECK, MORE_DRAW, MORE_DRIVE, MORE_EXPLORE, MORE_JUDGE, MORE_MIGRATE, MORE_REPLAY,
-    MORE_RUN, MORE_SHELL, MORE_SHOW, MORE_TRACE, USAGE_CHECK, USAGE_DRAW, USAGE_DRIVE,
-    USAGE_EXPLORE, USAGE_JUDGE, USAGE_MIGRATE, USAGE_REPLAY, USAGE_RUN, USAGE_SHELL, USAGE_SHOW,
-    USAGE_TRACE, VERSION,
+    ABOUT_JOBS, ABOUT_JSON, ABOUT_JUDGE, ABOUT_KEPT, ABOUT_LEAST, ABOUT_MIGRATE, ABOUT_PRINT,
+    ABOUT_REPLAY, ABOUT_RUN, ABOUT_RUN_HTML, ABOUT_RUN_JSON, ABOUT_SCHEDULES, ABOUT_SECONDS,
+    ABOUT_SHELL, ABOUT_SHOW, ABOUT_STATES, ABOUT_STRICT, ABOUT_TO, ABOUT_TRACE, ABOUT_WITNESS,
+    ABOUT_WRITE, EXAMPLE, MORE_CHECK, MORE_DRAW, MORE_DRIVE, MORE_EXPLORE, MORE_JUDGE,
+    MORE_MIGRATE, MORE_REPLAY, MORE_RUN, MORE_SHELL, MORE_SHOW, MORE_TRACE, USAGE_CHECK,
+    USAGE_DRAW, USAGE_DRIVE, USAGE_EXPLORE, USAGE_JUDGE, USAGE_MIGRATE, USAGE_REPLAY, USAGE_RUN,
+    USAGE_SHELL, USAGE_SHOW, USAGE_TRACE, VERSION,
 };
 use crate::options::{flag_given, number_given};
 use crate::random::{random_command, with_chosen};
@@ -173,6 +173,20 @@ fn check_command<'a>(alloc: Global) -> Made<'a>
     with_arg(write, files_given(alloc, ABOUT_FILES))
 }
 
+/// A command with an option for a number from `low` to `high`.
+fn with_number<'a>(
+    alloc: Global,
+    made: Made<'a>,
+    name: &'a str,
+    low: u64,
+    high: u64,
+    help: &'a str,
+) -> Made<'a>
+    ensures { (app : App) → IsApp app made.entry → IsApp (with_rule app (number_rule name.now low high)) result }
+{
+    with_arg(made, number_given(alloc, name, "N", low, high, help))
+}
+
 /// The command `judge`.
 fn judge_command<'a>(alloc: Global) -> Made<'a>
     ensures { IsApp judge_app result }
@@ -192,18 +206,10 @@ fn judge_command<'a>(alloc: Global) -> Made<'a>
         "200000",
         ABOUT_STATES,
     );
-    let allow = with_arg(states, rules_given(alloc, ABOUT_ALLOW));
+    let seconds = with_number(alloc, states, "seconds", 0, 86_400, ABOUT_SECONDS);
+    let jobs = with_number(alloc, seconds, "jobs", 1, 64, ABOUT_JOBS);
+    let allow = with_arg(jobs, rules_given(alloc, ABOUT_ALLOW));
     with_arg(allow, files_given(alloc, ABOUT_HISTORIES))
-}
-
-/// With the option for how many schedules are played on cores.
-fn with_core<'a>(alloc: Global, made: Made<'a>) -> Made<'a>
-    ensures { (app : App) → IsApp app made.entry → IsApp (with_rule app (number_rule (codes "core") 1 1000000)) result }
-{
-    with_arg(
-        made,
-        number_given(alloc, "core", "N", 1, 1_000_000, ABOUT_CORE),
-    )
 }
 
 /// The command `explore`.
@@ -215,7 +221,7 @@ fn explore_command<'a>(alloc: Global) -> Made<'a>
     let states = with_chosen(
         alloc, witness, "states", "N", 1, 16_777_216, "1000000", ABOUT_KEPT,
     );
-    let core = with_core(alloc, states);
+    let core = with_number(alloc, states, "core", 1, 1_000_000, ABOUT_CORE);
     with_file(alloc, core)
 }
 

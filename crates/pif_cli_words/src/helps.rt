@@ -64,8 +64,14 @@ pub const ABOUT_RUN_HTML: &str = "Writes a page with the verdict and a run; of o
 /// What the flag of `judge` for rules does.
 pub const ABOUT_LEAST: &str = "Says which of the rules of --allow a history needs";
 
-/// What the option of `judge` does.
+/// What the option of `judge` for states does.
 pub const ABOUT_STATES: &str = "Most states for a line, 1 to 16777216";
+
+/// What the option of `judge` for a time does.
+pub const ABOUT_SECONDS: &str = "Most seconds for a history, 0 to 86400; 0 is no limit";
+
+/// What the option of `judge` for several histories does.
+pub const ABOUT_JOBS: &str = "Most histories judged side by side, 1 to 64";
 
 /// What the option of `judge` for rules does.
 pub const ABOUT_ALLOW: &str = "Allows a rule, as 'steal' or 'recursion=300', or 'all'";
@@ -80,7 +86,7 @@ pub const ABOUT_EXPLORE: &str = "Reads a small program that locks, and tells all
 pub const ABOUT_SCHEDULES: &str = "Writes a schedule of each outcome, too";
 
 /// What the option of `explore` for cores does.
-pub const ABOUT_CORE: &str = "Plays N schedules on the core, too, 1 to 1000000";
+pub const ABOUT_CORE: &str = "Plays N schedules on the core, too, 1 to 1000000; 10000 without N";
 
 /// What the option of `explore` for states does.
 pub const ABOUT_KEPT: &str = "Most states that are kept, 1 to 16777216";
@@ -108,7 +114,7 @@ pub const USAGE_JUDGE: &str =
     "pif judge [--witness | --json | --html | --least] [OPTIONS] [FILE]...";
 
 /// How `explore` is called.
-pub const USAGE_EXPLORE: &str = "pif explore [--witness] [--states N] [--core N] [FILE]";
+pub const USAGE_EXPLORE: &str = "pif explore [--witness] [--states N] [--core [N]] [FILE]";
 
 /// How `run` is called.
 pub const USAGE_RUN: &str = "pif run [FILE]";
@@ -380,7 +386,9 @@ For each history it prints:
     which one does, and 'refused WORD' says why there is none, whatever was
     answered
   undecided at L
-    more states than --states were made for line L
+    more states than --states were made for line L, or the time of --seconds was
+    over before it; 'no witness found from M on' says that no run was found for
+    the lines up to M, and claims nothing
   fault L CAUSE
     line L is the first that is a fault
 With --json it prints an object for the verdict, and one for each line of a run
@@ -392,6 +400,8 @@ With --least it looks among the rules of --allow for the fewest with which the
 history is legal: 'legal N with steal spurious', or 'legal N' if it needs none.
 If it is illegal with all of them, that is told. If the search is given up for
 some rules, it prints 'undecided at L with' and these rules.
+Several files are judged side by side, by as many threads as there are
+processors, or as --jobs says. What is printed is the same, in their order.
 
 Example:
   printf 'thread 10\\nmutex normal\\nbegin t1 lock m1\\nanswer t1 0\\n' | pif judge
@@ -406,8 +416,9 @@ pub const MORE_EXPLORE: &str =
     "A file has what there is, a program for each thread, and what must hold. Its
 lines:
   limits T M C S              first, or not at all
+  allow RULE ..               as in histories, before all programs
   thread P, mutex K [robust], cond mN
-                              as in scripts, before all others
+                              as in scripts, before all programs
   do tN: S; S; ..             what the thread does. S is a call, as 'lock m1',
                               'set x1 1' or 'add x1 1' for a cell of 0 to 255,
                               or has a block: 'if T { .. } else { .. }' and
@@ -437,7 +448,8 @@ is stuck, and mutexes and cells. Then, and last:
 It begins with 'undecided: ' if there are more states than --states. The first
 line that is a fault is told by 'fault L CAUSE', alone. With --core a line for
 each outcome follows, 'outcome K: seen on the core' or 'not seen on the core',
-one for each claim, and 'N schedules on the core'.
+one for each claim, and 'N schedules on the core', where N is 10000 if no number
+stands behind --core.
 
 Example:
   printf 'thread 10\\nmutex normal\\ndo t1: lock m1\\n' | pif explore

@@ -1,11 +1,12 @@
 //! Jobs: what the words ask for, and over which files.
-ghost use Rattle.std.specs.Prelude.{◌≡◌, IfOk, Some, map};
+ghost use Rattle.std.specs.Prelude.{◌≡◌, [], IfOk, Some, map};
 ghost use Rattle.clap.specs.Words.{FailsBy, found_of, rows_of};
 ghost use Rattle.pif_cli_words.specs.Words.{refusals_of, job_of, job_named, checking_in, filling_in, rewrites, rewrites_by, files_in, files_of, first_name, drawn_in, exploring_in, judging_in, shown_in};
 
 use crate::clashes::clash_in;
 use crate::commands::program;
-use crate::options::{has_several, is_given, small_number_between};
+use crate::defaults::complete;
+use crate::options::{has_several, is_given, number_if_given, small_number_between};
 use crate::random::{Recipe, recipe_in};
 use crate::rules::allowed_in;
 use pif_rules_model::Rules;
@@ -29,6 +30,10 @@ pub struct Judging {
     pub least: bool,
     /// How many states may be made for a line.
     pub states: u32,
+    /// Behind how many seconds the search for a run of a history is given up, 1 to 86,400, if at all.
+    pub seconds: Option<u32>,
+    /// How many histories are judged side by side at most, 1 to 64; as many as there are processors if it isn't said.
+    pub jobs: Option<u32>,
     /// Whether there are several files, so that the name of each is told.
     pub several: bool,
     /// The rules that hold beside those of each history.
@@ -42,8 +47,8 @@ pub struct Exploring {
     pub witness: bool,
     /// How many states may be kept.
     pub states: u32,
-    /// How many schedules are played on a core of their own; 0 if none is.
-    pub core: u32,
+    /// How many schedules are played on a core of their own, 1 to 1,000,000, if any are.
+    pub core: Option<u32>,
 }
 
 /// What of a story is drawn, and how.
@@ -116,14 +121,21 @@ fn files_in<'a>(alloc: Global, given: &clap::ArgMatches<'a>) -> Result<Vec<&'a s
     }
 }
 
-/// The job that the words ask for, the program's name first, and the files over which it is to be done.
-pub fn read_words<'a, S: AsStr>(alloc: Global, words: &'a [S]) -> Result<Asked<'a>, clap::Error>
+/// The job that the words ask for, the program's name first, and the files over which it is to be done. `room`, which is
+/// empty at first, gets the words with the numbers that were left out.
+pub fn read_words<'r, 'a, S: AsStr>(
+    alloc: Global,
+    words: &'a [S],
+    room: &'r mut Vec<&'a str>,
+) -> Result<Asked<'r>, clap::Error>
+    requires { room.old.items ≡ [] }
     ensures refusals { FailsBy (refusals_of (map S.text words.now)) result }
     ensures job { IfOk result (λ asked. asked.job ≡ job_of (map S.text words.now)) }
     ensures files { IfOk result (λ asked. map (λ file. file.now) asked.files.items ≡ files_of (map S.text words.now)) }
     ensures rewrites { IfOk result (λ asked. asked.rewrites ≡ rewrites (map S.text words.now)) }
 {
-    let matches = program(alloc)?.try_get_matches_from(words)?;
+    complete(words, room)?;
+    let matches = program(alloc)?.try_get_matches_from(room.as_slice())?;
     match matches.subcommand() {
         Some((name, given)) => match clash_in(name, given) {
             Some(clash) => Err(clash.error(alloc)),
@@ -174,6 +186,8 @@ fn judging_in(given: &clap::ArgMatches) -> Judging
         html: is_given(given, "html"),
         least: is_given(given, "least"),
         states: small_number_between(given, "states", 1, 16_777_216),
+        seconds: number_if_given(given, "seconds", 0, 86_400),
+        jobs: number_if_given(given, "jobs", 1, 64),
         several: has_several(given),
         allowed: allowed_in(given),
     }
@@ -186,7 +200,7 @@ fn exploring_in(given: &clap::ArgMatches) -> Exploring
     Exploring {
         witness: is_given(given, "witness"),
         states: small_number_between(given, "states", 1, 16_777_216),
-        core: small_number_between(given, "core", 1, 1_000_000),
+        core: number_if_given(given, "core", 1, 1_000_000),
     }
 }
 

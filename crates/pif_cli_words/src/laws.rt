@@ -1,5 +1,5 @@
 //! Laws on words: which job they ask for, and why they are refused.
-ghost use Rattle.std.specs.Prelude.{◌≡◌, ◌≤◌, ℕ, List, [], ◌∷◌, codes, true, false};
+ghost use Rattle.std.specs.Prelude.{◌≡◌, ◌≤◌, ℕ, List, [], ◌∷◌, None, Some, codes, true, false};
 ghost use Rattle.clap.specs.declared.error.kind.ErrorKind.TheVariants.{ArgumentConflict, DisplayHelp, DisplayVersion, InvalidSubcommand, InvalidValue, MissingRequiredArgument, MissingSubcommand, TooManyValues, ValueValidation};
 ghost use Rattle.pif_rules_model.specs.Rules.{no_rules};
 ghost use Rattle.pif_cli_words.specs.Random.{plain_shape};
@@ -11,10 +11,10 @@ use pif_script_model::{Detail, Picture};
 
 /// Which words ask for which job: `run`, `show`, `draw`, `shell`, `replay`, `trace` and `migrate` alone, `show` with
 /// each of its flags, `draw` with all of its options, `run` with a file, `check` alone, with each of its flags and with
-/// two files, `judge` alone, with its options and two files, with `--least`, and with `--html` and one, `explore` alone and with its
-/// options, `random` with a seed and from 1 to 262,144 lines, and `drive` with a number from 1 to 64 do; no word,
-/// `--help`, `--version`, `judge --html` with another form or two files, `judge --least` with `--json`, and `judge
-/// --allow` with no rule don't.
+/// two files, `judge` alone, with its options and two files, with `--least`, and with `--html` and one, `explore` alone,
+/// with its options, and with `--core` without its number, `random` with a seed and from 1 to 262,144 lines, and `drive`
+/// with a number from 1 to 64 do; no word, `--help`, `--version`, `judge --html` with another form or two files, `judge
+/// --least` with `--json`, and `judge --allow` with no rule don't.
 #[tactic(auto, unfolding(clap::proofs::OnLiterals::clap_on_literals))]
 pub fn words_of_the_program()
     ensures run { (name : List ℕ) → (refusals_of (name ∷ codes "run" ∷ []) ≡ []) × (job_of (name ∷ codes "run" ∷ []) ≡ Job.Run) }
@@ -46,30 +46,46 @@ pub fn words_of_the_program()
         × (job_of (name ∷ codes "check" ∷ codes "--write" ∷ codes "a" ∷ []) ≡ Job.Fill)
         × (rewrites (name ∷ codes "check" ∷ codes "--write" ∷ codes "a" ∷ []) ≡ true) }
     ensures judge { (name : List ℕ) → (refusals_of (name ∷ codes "judge" ∷ []) ≡ [])
-        × (job_of (name ∷ codes "judge" ∷ []) ≡ Job.Judge (record { witness = false; json = false; html = false; least = false; states = 200000; several = false; allowed = no_rules })) }
+        × (job_of (name ∷ codes "judge" ∷ []) ≡ Job.Judge (record { witness = false; json = false; html = false; least = false; states = 200000; seconds = None; jobs = None; several = false; allowed = no_rules })) }
     ensures judges { (name : List ℕ) → (refusals_of (name ∷ codes "judge" ∷ codes "--witness" ∷ codes "--states=7" ∷ codes "a" ∷ codes "b" ∷ []) ≡ [])
         × (job_of (name ∷ codes "judge" ∷ codes "--witness" ∷ codes "--states=7" ∷ codes "a" ∷ codes "b" ∷ [])
-        ≡ Job.Judge (record { witness = true; json = false; html = false; least = false; states = 7; several = true; allowed = no_rules })) }
+        ≡ Job.Judge (record { witness = true; json = false; html = false; least = false; states = 7; seconds = None; jobs = None; several = true; allowed = no_rules })) }
     ensures objects { (name : List ℕ) → (refusals_of (name ∷ codes "judge" ∷ codes "--json" ∷ codes "a" ∷ codes "b" ∷ []) ≡ [])
         × (job_of (name ∷ codes "judge" ∷ codes "--json" ∷ codes "a" ∷ codes "b" ∷ [])
-        ≡ Job.Judge (record { witness = false; json = true; html = false; least = false; states = 200000; several = true; allowed = no_rules })) }
+        ≡ Job.Judge (record { witness = false; json = true; html = false; least = false; states = 200000; seconds = None; jobs = None; several = true; allowed = no_rules })) }
     ensures judge_page { (name : List ℕ) → (refusals_of (name ∷ codes "judge" ∷ codes "--html" ∷ codes "a" ∷ []) ≡ [])
         × (job_of (name ∷ codes "judge" ∷ codes "--html" ∷ codes "a" ∷ [])
-        ≡ Job.Judge (record { witness = false; json = false; html = true; least = false; states = 200000; several = false; allowed = no_rules })) }
+        ≡ Job.Judge (record { witness = false; json = false; html = true; least = false; states = 200000; seconds = None; jobs = None; several = false; allowed = no_rules })) }
     ensures judge_least { (name : List ℕ) → (refusals_of (name ∷ codes "judge" ∷ codes "--least" ∷ codes "a" ∷ codes "b" ∷ []) ≡ [])
         × (job_of (name ∷ codes "judge" ∷ codes "--least" ∷ codes "a" ∷ codes "b" ∷ [])
-        ≡ Job.Judge (record { witness = false; json = false; html = false; least = true; states = 200000; several = true; allowed = no_rules })) }
+        ≡ Job.Judge (record { witness = false; json = false; html = false; least = true; states = 200000; seconds = None; jobs = None; several = true; allowed = no_rules })) }
     ensures least_or_json { (name : List ℕ) → refusals_of (name ∷ codes "judge" ∷ codes "--least" ∷ codes "--json" ∷ []) ≡ ArgumentConflict ∷ [] }
     ensures no_rule { (name : List ℕ) → refusals_of (name ∷ codes "judge" ∷ codes "--allow" ∷ codes "theft" ∷ []) ≡ InvalidValue ∷ [] }
     ensures page_or_json { (name : List ℕ) → refusals_of (name ∷ codes "judge" ∷ codes "--html" ∷ codes "--json" ∷ []) ≡ ArgumentConflict ∷ [] }
     ensures page_or_witness { (name : List ℕ) → refusals_of (name ∷ codes "judge" ∷ codes "--html" ∷ codes "--witness" ∷ []) ≡ ArgumentConflict ∷ [] }
     ensures page_of_one { (name : List ℕ) → refusals_of (name ∷ codes "judge" ∷ codes "--html" ∷ codes "a" ∷ codes "b" ∷ []) ≡ TooManyValues ∷ [] }
+    ensures judge_timed { (name : List ℕ) → (refusals_of (name ∷ codes "judge" ∷ codes "--seconds=5" ∷ codes "--jobs=3" ∷ codes "a" ∷ codes "b" ∷ []) ≡ [])
+        × (job_of (name ∷ codes "judge" ∷ codes "--seconds=5" ∷ codes "--jobs=3" ∷ codes "a" ∷ codes "b" ∷ [])
+        ≡ Job.Judge (record { witness = false; json = false; html = false; least = false; states = 200000; seconds = Some 5; jobs = Some 3; several = true; allowed = no_rules })) }
+    ensures judge_untimed { (name : List ℕ) → (refusals_of (name ∷ codes "judge" ∷ codes "--seconds=0" ∷ []) ≡ [])
+        × (job_of (name ∷ codes "judge" ∷ codes "--seconds=0" ∷ []) ≡ job_of (name ∷ codes "judge" ∷ [])) }
+    ensures too_many_seconds { (name : List ℕ) → refusals_of (name ∷ codes "judge" ∷ codes "--seconds=86401" ∷ []) ≡ ValueValidation ∷ [] }
+    ensures no_jobs { (name : List ℕ) → refusals_of (name ∷ codes "judge" ∷ codes "--jobs=0" ∷ []) ≡ ValueValidation ∷ [] }
+    ensures too_many_jobs { (name : List ℕ) → refusals_of (name ∷ codes "judge" ∷ codes "--jobs=65" ∷ []) ≡ ValueValidation ∷ [] }
     ensures no_states { (name : List ℕ) → refusals_of (name ∷ codes "judge" ∷ codes "--states=0" ∷ []) ≡ ValueValidation ∷ [] }
     ensures too_many_states { (name : List ℕ) → refusals_of (name ∷ codes "judge" ∷ codes "--states=16777217" ∷ []) ≡ ValueValidation ∷ [] }
     ensures explore { (name : List ℕ) → (refusals_of (name ∷ codes "explore" ∷ []) ≡ [])
-        × (job_of (name ∷ codes "explore" ∷ []) ≡ Job.Explore (record { witness = false; states = 1000000; core = 0 })) }
+        × (job_of (name ∷ codes "explore" ∷ []) ≡ Job.Explore (record { witness = false; states = 1000000; core = None })) }
     ensures explores { (name : List ℕ) → (refusals_of (name ∷ codes "explore" ∷ codes "--witness" ∷ codes "--states=7" ∷ codes "--core=5" ∷ codes "a" ∷ []) ≡ [])
-        × (job_of (name ∷ codes "explore" ∷ codes "--witness" ∷ codes "--states=7" ∷ codes "--core=5" ∷ codes "a" ∷ []) ≡ Job.Explore (record { witness = true; states = 7; core = 5 })) }
+        × (job_of (name ∷ codes "explore" ∷ codes "--witness" ∷ codes "--states=7" ∷ codes "--core=5" ∷ codes "a" ∷ []) ≡ Job.Explore (record { witness = true; states = 7; core = Some 5 })) }
+    ensures explores_plainly { (name : List ℕ) → (refusals_of (name ∷ codes "explore" ∷ codes "--core" ∷ []) ≡ [])
+        × (job_of (name ∷ codes "explore" ∷ codes "--core" ∷ []) ≡ Job.Explore (record { witness = false; states = 1000000; core = Some 10000 })) }
+    ensures explores_file { (name : List ℕ) → (refusals_of (name ∷ codes "explore" ∷ codes "--core" ∷ codes "a" ∷ []) ≡ [])
+        × (job_of (name ∷ codes "explore" ∷ codes "--core" ∷ codes "a" ∷ []) ≡ Job.Explore (record { witness = false; states = 1000000; core = Some 10000 }))
+        × (files_of (name ∷ codes "explore" ∷ codes "--core" ∷ codes "a" ∷ []) ≡ codes "a" ∷ []) }
+    ensures explores_so_often { (name : List ℕ) → (refusals_of (name ∷ codes "explore" ∷ codes "--core" ∷ codes "5" ∷ []) ≡ [])
+        × (job_of (name ∷ codes "explore" ∷ codes "--core" ∷ codes "5" ∷ []) ≡ Job.Explore (record { witness = false; states = 1000000; core = Some 5 })) }
+    ensures explores_strange_file { (name : List ℕ) → files_of (name ∷ codes "explore" ∷ codes "--" ∷ codes "--core" ∷ []) ≡ codes "--core" ∷ [] }
     ensures file { (name : List ℕ) → (refusals_of (name ∷ codes "run" ∷ codes "a" ∷ []) ≡ [])
         × (files_of (name ∷ codes "run" ∷ codes "a" ∷ []) ≡ codes "a" ∷ []) }
     ensures files { (name : List ℕ) → (refusals_of (name ∷ codes "check" ∷ codes "a" ∷ codes "b" ∷ []) ≡ [])

@@ -6,6 +6,7 @@
 //! | `jobs` | words as a job and its files |
 //! | `commands` | the commands, as `clap` takes them |
 //! | `random` | the command `random`, and the script that it asks for |
+//! | `defaults` | numbers that may be left out of the words |
 //! | `options` | flags, numbers and files |
 //! | `rules` | the rules that `judge` is told to allow |
 //! | `clashes` | words that ask for what cannot be had together |
@@ -16,6 +17,7 @@
 
 mod clashes;
 mod commands;
+mod defaults;
 mod helps;
 mod jobs;
 mod laws;

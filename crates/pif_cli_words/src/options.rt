@@ -1,6 +1,6 @@
 ghost use Rattle.std.specs.Prelude.{◌≡◌, ◌≤◌, false, option_map};
 ghost use Rattle.clap.specs.Words.{first_of, found_of, rows_of, rule_of};
-ghost use Rattle.pif_cli_words.specs.Options.{flag_in, flag_rule, number_between, number_rule};
+ghost use Rattle.pif_cli_words.specs.Options.{flag_in, flag_rule, number_between, number_rule, unless_zero};
 ghost use Rattle.pif_cli_words.specs.Words.{has_several};
 
 use clap::ArgAction;
@@ -85,6 +85,14 @@ pub fn small_number_between(given: &clap::ArgMatches, name: &str, low: u32, high
     ensures { result ≡ number_between low high (first_of name.now (rows_of (found_of given.now))) }
 {
     number_between(given, name, u64::from(low), u64::from(high)) as u32
+}
+
+/// The same if it isn't 0.
+pub fn number_if_given(given: &clap::ArgMatches, name: &str, low: u32, high: u32) -> Option<u32>
+    ensures { result ≡ unless_zero (number_between low high (first_of name.now (rows_of (found_of given.now)))) }
+{
+    let number = small_number_between(given, name, low, high);
+    if number == 0 { None } else { Some(number) }
 }
 
 /// Whether several files are given to a command.

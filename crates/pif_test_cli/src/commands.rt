@@ -7,16 +7,15 @@ mod saves;
 mod shows;
 mod terminals;
 mod texts;
+mod times;
 mod words_of_processes;
 
 use arrayvec::ArrayVec;
-use pif_cli::{Input, Output, Status, command, command_of_process};
+use pif_cli::{Input, Output, Runtime, Status, command, command_of_process};
 use std::alloc::Global;
 use std::io::{Read, Write};
 use std::process::{Abort, ExitCode};
 use std::rt::{Env, Files};
-use std::sync::Wait;
-use std::thread::Threads;
 
 /// Keeps what is written, and allocates nothing; past its room it takes no byte.
 pub type Kept = ArrayVec<u8, 4096>;
@@ -37,7 +36,7 @@ const NO_NOTES: &str = "pif: out of memory for notes\n";
 
 /// Asks the program for a job with these words over a reader. Answers the status.
 fn ask_over<R: Read, W: Write, E: Write>(
-    rt: &(impl Threads + Wait + Sync),
+    rt: &(impl Runtime + Sync),
     alloc: Global,
     words: &[&str],
     reader: &mut R,
@@ -50,7 +49,7 @@ fn ask_over<R: Read, W: Write, E: Write>(
 
 /// Asks the program for a job with these words over an input. Answers the status.
 fn ask<W: Write, E: Write>(
-    rt: &(impl Threads + Wait + Sync),
+    rt: &(impl Runtime + Sync),
     alloc: Global,
     words: &[&str],
     input: &[u8],
@@ -62,7 +61,7 @@ fn ask<W: Write, E: Write>(
 }
 
 /// Lets a process do what its words ask for over an input. Answers its status.
-fn ask_process<P: Env + AllocGlobal + Files + Threads + Wait + Sync, W: Write, E: Write>(
+fn ask_process<P: Env + AllocGlobal + Files + Runtime + Sync, W: Write, E: Write>(
     process: &P,
     input: &str,
     output: &mut W,
@@ -89,7 +88,7 @@ fn check_status(rt: &impl Abort, ended: Status, status: u8) {
 
 /// The program over the words of a process and this input ends with a status, and writes this to the output and to the
 /// errors.
-fn check_process<P: Env + AllocGlobal + Files + Threads + Wait + Sync>(
+fn check_process<P: Env + AllocGlobal + Files + Runtime + Sync>(
     rt: &impl Abort,
     process: &P,
     input: &str,
@@ -106,7 +105,7 @@ fn check_process<P: Env + AllocGlobal + Files + Threads + Wait + Sync>(
 
 /// Does what these words ask for, at an output that takes four bytes: the status.
 pub(crate) fn fill(
-    rt: &(impl Threads + Wait + Sync),
+    rt: &(impl Runtime + Sync),
     alloc: Global,
     words: &[&str],
     text: &[u8],
@@ -123,7 +122,7 @@ pub(crate) fn check_cut(rt: &impl Abort, ended: u8, written: &[u8], expected: &[
 /// What a job writes to the output and to the errors, or that it is out of memory: then nothing is written but the
 /// message. If only the notes are refused memory, that is said.
 fn check_written(
-    rt: &(impl Abort + Threads + Wait + Sync),
+    rt: &(impl Abort + Runtime + Sync),
     alloc: Global,
     words: &[&str],
     input: &[u8],

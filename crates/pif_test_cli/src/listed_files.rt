@@ -8,6 +8,7 @@ use std::rt::Files;
 use std::sync::Wait;
 use std::sync::atomic::{AtomicBool, AtomicUsize, Ordering};
 use std::thread::Threads;
+use std::time::{Clock, Duration};
 
 /// What files are asked, and what they answer.
 #[derive(Clone, Copy)]
@@ -94,6 +95,16 @@ impl<'a, R> ListedFiles<'a, R> {
 impl<'a, R: Threads> Threads for ListedFiles<'a, R> {}
 
 impl<'a, R: Wait> Wait for ListedFiles<'a, R> {}
+
+impl<'a, R: Clock> Clock for ListedFiles<'a, R> {
+    fn monotonic(&self) -> io::Result<Duration> {
+        self.rt.monotonic()
+    }
+
+    fn since_1970(&self) -> io::Result<Duration> {
+        self.rt.since_1970()
+    }
+}
 
 /// A file that was opened or made.
 #[derive(Drop)]

@@ -8,6 +8,7 @@ use std::io::ErrorKind;
 use std::rt::{Env, Files};
 use std::sync::Wait;
 use std::thread::Threads;
+use std::time::{Clock, Duration};
 
 /// A process of these words, its name first, and of a last one if there is one, which may be no text. It starts threads
 /// and opens files as `rt` does.
@@ -45,6 +46,16 @@ impl<'a, R> Process<'a, R> {
 impl<'a, R: Threads> Threads for Process<'a, R> {}
 
 impl<'a, R: Wait> Wait for Process<'a, R> {}
+
+impl<'a, R: Clock> Clock for Process<'a, R> {
+    fn monotonic(&self) -> io::Result<Duration> {
+        self.rt.monotonic()
+    }
+
+    fn since_1970(&self) -> io::Result<Duration> {
+        self.rt.since_1970()
+    }
+}
 
 impl<'a, R> Env for Process<'a, R> {
     fn arg(&self, i: usize, buf: &mut [u8]) -> Result<usize, FillError> {

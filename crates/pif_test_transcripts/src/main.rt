@@ -2,18 +2,16 @@
 //! names a file of transcripts. Printed are the names that stand in it, what differs, and how many jobs were done.
 #![tactic(auto)]
 
-use pif_cli::{Input, Output, command};
+use pif_cli::{Input, Output, Runtime, command};
 use pif_test_blocks::{Block, Kept, Sink, Source};
 use std::alloc::Global;
 use std::io::{Read, Write};
 use std::rt::Files;
 use std::str::from_utf8;
-use std::sync::Wait;
-use std::thread::Threads;
 use std::{env, fs, io};
 
 /// Asks the program for a job with these words over an input. Answers the status.
-fn ask<R: Threads + Wait + Sync, I: Read, O: Write>(
+fn ask<R: Runtime + Sync, I: Read, O: Write>(
     rt: &R,
     alloc: Global,
     words: &[&str],
@@ -26,7 +24,7 @@ fn ask<R: Threads + Wait + Sync, I: Read, O: Write>(
 }
 
 /// Does what a block asks for. Answers the status, and how many bytes of the input are left.
-fn do_job<R: Threads + Wait + Sync>(
+fn do_job<R: Runtime + Sync>(
     rt: &R,
     alloc: Global,
     block: &Block<'_>,
@@ -62,11 +60,7 @@ fn print_difference(rt: &impl Print, status: u8, output: &[u8], errors: &[u8]) -
 }
 
 /// Does what a block asks for, and compares. Answers whether it asks for a job.
-fn play<R: Threads + Wait + Sync + Print>(
-    rt: &R,
-    alloc: Global,
-    block: &Block<'_>,
-) -> io::Result<bool> {
+fn play<R: Runtime + Sync + Print>(rt: &R, alloc: Global, block: &Block<'_>) -> io::Result<bool> {
     if block.words.is_empty() {
         return Ok(false);
     }
@@ -80,11 +74,7 @@ fn play<R: Threads + Wait + Sync + Print>(
 }
 
 /// Plays the blocks of a text, between which an empty line stands. Answers how many jobs were done.
-fn play_all<R: Threads + Wait + Sync + Print>(
-    rt: &R,
-    alloc: Global,
-    text: &str,
-) -> io::Result<u32> {
+fn play_all<R: Runtime + Sync + Print>(rt: &R, alloc: Global, text: &str) -> io::Result<u32> {
     let mut count = 0_u32;
     for lines in text.split("\n\n") {
         let block = Block::of(lines);
@@ -99,7 +89,7 @@ fn play_all<R: Threads + Wait + Sync + Print>(
 }
 
 /// Plays the file of this name.
-fn play_file<R: Threads + Wait + Sync + Print + Files + AllocGlobal>(
+fn play_file<R: Runtime + Sync + Print + Files + AllocGlobal>(
     rt: &R,
     name: &str,
 ) -> io::Result<()> {

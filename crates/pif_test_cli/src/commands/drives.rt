@@ -1,14 +1,13 @@
 //! The command `drive`: clients in real threads.
 use super::{BOOSTED, Kept, ask_over, check_bytes, check_cut, fill};
 use arrayvec::ArrayVec;
+use pif_cli::Runtime;
 use std::alloc::Global;
 use std::process::Abort;
-use std::sync::Wait;
-use std::thread::Threads;
 
 /// Drives so many clients: the status, and whether all of the input is left.
 fn drive(
-    rt: &(impl Threads + Wait + Sync),
+    rt: &(impl Runtime + Sync),
     alloc: Global,
     clients: &str,
     output: &mut Kept,
@@ -22,7 +21,7 @@ fn drive(
 
 /// Checks the status of a drive of so many clients, and what it writes.
 fn check_drive(
-    rt: &(impl Abort + Threads + Wait + Sync),
+    rt: &(impl Abort + Runtime + Sync),
     alloc: Global,
     clients: &str,
     status: u8,

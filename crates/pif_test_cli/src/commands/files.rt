@@ -1,11 +1,10 @@
 use super::{Kept, ask_process, check_bytes, check_process, check_status};
 use crate::processes::Process;
+use pif_cli::Runtime;
 use std::io;
 use std::io::{ErrorKind, Write};
 use std::process::Abort;
 use std::rt::{Env, Files};
-use std::sync::Wait;
-use std::thread::Threads;
 
 const STORY: &str = "thread 10 = t1\n";
 
@@ -15,12 +14,20 @@ const UNREAD: &str = "pif: no/such: No such file or directory\n";
 const UNREAD_AND_NO_HISTORY: &str = "pif: no/such: No such file or directory\n\
     -:1:1: no line of a history, or one that stands too late or twice\n";
 
+/// What is written of the standard input and of a file without lines.
+const SIDE_BY_SIDE: &str = "-: fault 1 command\n/dev/null: legal 0\n";
+
+/// What is told of a file that isn't there, of the standard input, and of a folder.
+const UNREAD_SIDE_BY_SIDE: &str = "pif: no/such: No such file or directory\n\
+    -:1:1: no line of a history, or one that stands too late or twice\n\
+    pif: /: Is a directory\n";
+
 const NO_FILE: &str = "error: 'check --write' writes into files, and the standard input is none\n";
 
 const NO_PLAIN_FILE: &str = "pif: /: is no plain file\n";
 
 /// What is asked, the status, and what is written to the output and to the errors.
-const ASKED: [(&[&str], u8, (&str, &str)); 22] = [
+const ASKED: [(&[&str], u8, (&str, &str)); 26] = [
     (&["pif", "check"], 0, ("ok - 1\n", "")),
     (&["pif", "check", "-"], 0, ("ok - 1\n", "")),
     (&["pif", "check", "-", "-"], 0, ("ok - 1\nok - 0\n", "")),
@@ -31,6 +38,54 @@ const ASKED: [(&[&str], u8, (&str, &str)); 22] = [
         ("-: fault 1 command\n", UNREAD_AND_NO_HISTORY),
     ),
     (&["pif", "judge", "no/such"], 3, ("", UNREAD)),
+    (
+        &["pif", "judge", "no/such", "-", "/dev/null", "/"],
+        3,
+        (SIDE_BY_SIDE, UNREAD_SIDE_BY_SIDE),
+    ),
+    (
+        &[
+            "pif",
+            "judge",
+            "--jobs",
+            "1",
+            "no/such",
+            "-",
+            "/dev/null",
+            "/",
+        ],
+        3,
+        (SIDE_BY_SIDE, UNREAD_SIDE_BY_SIDE),
+    ),
+    (
+        &[
+            "pif",
+            "judge",
+            "--jobs",
+            "3",
+            "no/such",
+            "-",
+            "/dev/null",
+            "/",
+        ],
+        3,
+        (SIDE_BY_SIDE, UNREAD_SIDE_BY_SIDE),
+    ),
+    (
+        &[
+            "pif",
+            "judge",
+            "--json",
+            "--jobs=2",
+            "/dev/null",
+            "/dev/null",
+        ],
+        0,
+        (
+            "{\"verdict\":\"legal\",\"lines\":0,\"left_out\":0}\n{\"verdict\":\"legal\",\"lines\":0,\"left_out\":0}\n",
+            "",
+        ),
+    ),
     (
         &["pif", "check", "--print", "-"],
         0,
@@ -114,7 +169,7 @@ const FAILING: [(ErrorKind, &str); 2] = [
 ];
 
 /// Checks three stories, and compares what is told of their output.
-fn check_failing<P: Env + AllocGlobal + Files + Threads + Wait + Sync>(
+fn check_failing<P: Env + AllocGlobal + Files + Runtime + Sync>(
     rt: &impl Abort,
     process: &P,
     why: ErrorKind,
@@ -135,4 +190,27 @@ fn an_output_that_fails_is_told_once(rt: HostRuntime) {
         let process = (Process::of(words.as_slice(), None, &rt), rt.alloc());
         check_failing(&rt, &process, why, told);
     }
+}
+
+/// How many words ask for many files.
+const MANY: usize = 44;
+
+/// Judges many files, as these words ask: each has its verdict.
+fn check_many<P: Env + AllocGlobal + Files + Runtime + Sync>(rt: &impl Abort, process: &P) {
+    let (mut output, mut errors) = (Kept::new(), Kept::new());
+    let ended = ask_process(process, "", &mut output, &mut errors);
+    check_status(rt, ended, 0);
+    for verdict in output.as_slice().chunks("/dev/null: legal 0\n".len()) {
+        check_bytes(rt, verdict, b"/dev/null: legal 0\n", "a verdict");
+    }
+    assert!(rt; output.len() == (MANY - 3) * "/dev/null: legal 0\n".len() && errors.is_empty());
+}
+
+/// Many files are judged by two threads, a part of them at a time.
+#[test]
+fn many_files_are_judged_side_by_side(rt: HostRuntime) {
+    let mut words = ["/dev/null"; MANY];
+    (words[0], words[1], words[2]) = ("pif", "judge", "--jobs=2");
+    let process = (Process::of(words.as_slice(), None, &rt), rt.alloc());
+    check_many(&rt, &process);
 }

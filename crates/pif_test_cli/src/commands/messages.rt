@@ -1,11 +1,9 @@
 use super::{Kept, ask, check_bytes};
 use arrayvec::ArrayVec;
-use pif_cli::{Cause, CliFault, Job, JobFault, message_of};
+use pif_cli::{Cause, CliFault, Job, JobFault, Runtime, message_of};
 use pif_script::Notice;
 use std::alloc::Global;
 use std::process::Abort;
-use std::sync::Wait;
-use std::thread::Threads;
 
 /// A job has this status.
 fn check_job(rt: &impl Abort, ended: u8, status: u8, message: &str) {
@@ -31,7 +29,7 @@ fn a_message_that_cannot_be_written_leaves_the_status(rt: HostRuntime) {
 
 /// Does a job whose errors take four bytes, and checks its status, and that these are written.
 fn check_cut_message(
-    rt: &(impl Abort + Threads + Wait + Sync),
+    rt: &(impl Abort + Runtime + Sync),
     alloc: Global,
     words: &[&str],
     text: &str,

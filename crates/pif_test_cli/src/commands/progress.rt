@@ -4,7 +4,7 @@ use super::terminals::ask_at_terminal;
 use super::{Kept, check_bytes, check_status};
 use crate::processes::Process;
 use arrayvec::ArrayVec;
-use pif_cli::{Progress, WatchFiles};
+use pif_cli::{Progress, Runtime, WatchFiles};
 use pif_job_explore::Watch as WatchStates;
 use pif_job_judge::Watch;
 use pif_watch::WatchSteps;
@@ -13,8 +13,6 @@ use std::io;
 use std::io::ErrorKind;
 use std::process::Abort;
 use std::rt::{Env, Files};
-use std::sync::Wait;
-use std::thread::Threads;
 use std::time::{Clock, Duration};
 
 /// A clock that shows so many milliseconds, or none.
@@ -134,7 +132,7 @@ fn check_begun(rt: &impl Abort, begun: &Begun) {
 }
 
 /// A process that reads three files tells of each.
-fn check_files<P: Env + AllocGlobal + Files + Threads + Wait + Sync>(rt: &impl Abort, process: &P) {
+fn check_files<P: Env + AllocGlobal + Files + Runtime + Sync>(rt: &impl Abort, process: &P) {
     let (mut output, mut errors) = (Kept::new(), Kept::new());
     let mut begun = Begun {
         files: ArrayVec::new(),

@@ -1,13 +1,12 @@
 //! Random scripts.
 use super::{Kept, NO_MEMORY, ask, check_bytes, check_end, check_ended};
+use pif_cli::Runtime;
 use std::alloc::Global;
 use std::process::Abort;
-use std::sync::Wait;
-use std::thread::Threads;
 
 /// Writes the random script of these words; the program ends with status 0, and says nothing to the errors.
 fn write_script(
-    rt: &(impl Abort + Threads + Wait + Sync),
+    rt: &(impl Abort + Runtime + Sync),
     alloc: Global,
     words: &[&str],
     script: &mut Kept,
@@ -220,7 +219,7 @@ fn check_same(rt: &impl Abort, one: &Kept, two: &Kept, same: bool) {
 }
 
 /// Runs a script: the status, and how many lines are written.
-fn answered(rt: &(impl Threads + Wait + Sync), alloc: Global, script: &Kept) -> (u8, usize) {
+fn answered(rt: &(impl Runtime + Sync), alloc: Global, script: &Kept) -> (u8, usize) {
     let mut answers = Kept::new();
     let words = &["pif", "run"];
     let status = ask(

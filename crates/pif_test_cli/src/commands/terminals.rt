@@ -1,15 +1,13 @@
 //! The program at a terminal: `pif shell` greets, and writes a prompt before each line.
 use super::{Kept, check_bytes, check_status};
 use crate::processes::Process;
-use pif_cli::{Input, Output, Progress, Status, WatchFiles, command_at_terminal};
+use pif_cli::{Input, Output, Progress, Runtime, Status, WatchFiles, command_at_terminal};
 use pif_job_explore::Watch as WatchStates;
 use pif_job_judge::Watch;
 use pif_watch::WatchSteps;
 use std::io::Write;
 use std::process::Abort;
 use std::rt::{Env, Files};
-use std::sync::Wait;
-use std::thread::Threads;
 use std::time::Clock;
 
 const SHELL: &[&str] = &["pif", "shell"];
@@ -23,7 +21,7 @@ const ASKED: [(bool, &str); 2] = [(true, GREETED), (false, "none\n")];
 
 /// Lets a process do what its words ask for over one command, perhaps at a terminal.
 pub(super) fn ask_at_terminal<
-    P: Env + AllocGlobal + Files + Threads + Wait + Sync,
+    P: Env + AllocGlobal + Files + Runtime + Sync,
     W: Write,
     E: Write,
     V: Watch + WatchFiles + WatchStates + WatchSteps,
@@ -33,7 +31,7 @@ pub(super) fn ask_at_terminal<
 }
 
 /// A process that opens no file answers one command, and says nothing else.
-fn check_asked<P: Env + AllocGlobal + Files + Threads + Wait + Sync>(
+fn check_asked<P: Env + AllocGlobal + Files + Runtime + Sync>(
     rt: &(impl Abort + Clock),
     process: &P,
     is_terminal: bool,

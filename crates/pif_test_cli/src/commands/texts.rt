@@ -1,9 +1,8 @@
 use super::{BOOSTED, ask};
 use arrayvec::ArrayVec;
+use pif_cli::Runtime;
 use std::alloc::Global;
 use std::process::Abort;
-use std::sync::Wait;
-use std::thread::Threads;
 
 /// What asks for more than can be written, and how many bytes are written to the output.
 const UNWRITTEN: [(&[&str], usize); 3] = [
@@ -14,7 +13,7 @@ const UNWRITTEN: [(&[&str], usize); 3] = [
 
 /// Asks so where each stream takes four bytes: the status, and how many bytes are written to the output and to the
 /// errors.
-fn cut(rt: &(impl Threads + Wait + Sync), alloc: Global, words: &[&str]) -> (u8, usize, usize) {
+fn cut(rt: &(impl Runtime + Sync), alloc: Global, words: &[&str]) -> (u8, usize, usize) {
     let mut output = ArrayVec::<u8, 4>::new();
     let mut errors = ArrayVec::<u8, 4>::new();
     let input = BOOSTED.as_bytes();

@@ -68,9 +68,9 @@ returns-in-Ok-clause-errors g c =
     subst (λ errors. TellsAt c.do_or_refuse.result (g.E.Write.contents c.args.errors.now) (g.E.Write.contents errors))
     (search rules) (did_tells _ _ _ _ _ _ _ _ _ _ c.do_or_refuse.ensures.did)
 
-pub returns-in-Err-clause-errors : goal.returns-in-Err-clause-errors
-returns-in-Err-clause-errors g c = refusal_tells (kind_of c.in-Err.error) _ _ _ _ _ c.refuse.ensures
+pub returns-clause-errors : goal.returns-clause-errors
+returns-clause-errors g c = refusal_tells (kind_of c.in-Err.error) _ _ _ _ _ c.refuse.ensures
 
-pub returns-in-Err-clause-ends : goal.returns-in-Err-clause-ends
-returns-in-Err-clause-ends g c =
+pub returns-clause-ends : goal.returns-clause-ends
+returns-clause-ends g c =
     EndsIf-refused _ _ (kind_of c.in-Err.error) _ _ _ _ _ _ c.in-Err.ensures.refusals c.refuse.ensures

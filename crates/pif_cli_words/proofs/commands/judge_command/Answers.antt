@@ -17,5 +17,7 @@ returns c =
     (c.with_arg.ensures _
     (subst (λ (r : Rule). IsApp (with_rule judged_app r) c.with_arg-allow.result) c.rules_given.ensures.rule
     (c.with_arg-allow.ensures _
+    (c.with_number-jobs.ensures _
+    (c.with_number-seconds.ensures _
     (c.with_chosen-states.ensures _
-    (c.with_flag-least.ensures _ (c.with_flag-html.ensures _ (c.with_flag-json.ensures _ (c.with_flag-witness.ensures _ c.described-judge.ensures))))))))
+    (c.with_flag-least.ensures _ (c.with_flag-html.ensures _ (c.with_flag-json.ensures _ (c.with_flag-witness.ensures _ c.described-judge.ensures))))))))))

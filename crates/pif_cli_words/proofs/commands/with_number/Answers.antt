@@ -1,7 +1,7 @@
 use Rattle.std.proofs.Common.{subst}
 use Rattle.clap.specs.Words.{Rule, with_rule}
 use Rattle.pif_cli_words.specs.Commands.{IsApp}
-use Rattle.pif_cli_words.proofs.commands.with_core.Goals as goal
+use Rattle.pif_cli_words.proofs.commands.with_number.Goals as goal
 
 pub with_arg-requires : goal.with_arg-requires
 with_arg-requires c = c.number_given.ensures.local

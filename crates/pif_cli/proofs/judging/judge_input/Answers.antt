@@ -1,6 +1,6 @@
 use Rattle.std.proofs.Common.{ℕ, List, Option, subst}
 use Rattle.pif_cli.specs.Words.{JudgesAs}
-use Rattle.pif_cli.proofs.words.judge_input.Goals as goal
+use Rattle.pif_cli.proofs.judging.judge_input.Goals as goal
 
 pub returns : goal.returns
 returns g c = (

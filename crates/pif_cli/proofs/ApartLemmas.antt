@@ -1,0 +1,160 @@
+-- Histories that were judged into texts of their own, which are written in their turns.
+use Rattle.std.proofs.Common.{◌≡◌, inl, inr, ℕ, Bool, true, false, List, [], MatchBool, IfSome, OnOk, Option, Some, None, Result, Ok, Err, refl, slice_index_or, subst, sym, ap, ◌∙◌}
+use Rattle.std.specs.Borrow.{Bor}
+use Rattle.std.specs.Slice.{IsItemAt}
+use Rattle.clap.specs.Words.{Text}
+use Rattle.pif_script_model.specs.declared.faults.CliFault.{CliFault}
+use Rattle.pif_script_model.specs.declared.faults.CliFault.TheVariants as fault
+use Rattle.pif_rules_model.specs.declared.rules.Rules.{Rules}
+use Rattle.pif_history_text.specs.Histories.{Heard}
+use Rattle.pif_history_text.specs.Reading.{ReadsHistory}
+use Rattle.pif_job_judge.specs.declared.faults.JudgeFault.{JudgeFault}
+use Rattle.pif_job_judge.specs.declared.faults.JudgeFault.TheVariants as judge
+use Rattle.pif_job_judge.specs.declared.forms.Form.{Form}
+use Rattle.pif_job_judge.specs.declared.forms.Form.TheVariants as form
+use Rattle.pif_job_judge.specs.Judging.{Judges, JudgesTo, front_of, heard_allowing}
+use Rattle.pif_job_least.specs.Judging.{JudgesLeast, JudgesLeastTo}
+use Rattle.pif_cli_words.specs.declared.jobs.Job.{Job}
+use Rattle.pif_cli_words.specs.declared.jobs.Job.TheVariants.{Judge}
+use Rattle.pif_cli_words.specs.declared.jobs.Judging.{Judging}
+use Rattle.pif_cli.specs.declared.apart.Apart.{Apart}
+use Rattle.pif_cli.specs.declared.apart.Apart.TheVariants as apart
+use Rattle.pif_cli.specs.declared.apart.Judged.{Judged}
+use Rattle.pif_cli.specs.declared.statuses.JobFault.{JobFault}
+use Rattle.pif_cli.specs.declared.statuses.JobFault.TheVariants.{Cli}
+use Rattle.pif_cli.specs.Apart.{AreApart, IsApart, IsJudged, WritesJudged}
+use Rattle.pif_cli.specs.Words.{Did, DidFile, JudgesAs, JudgesNamed, as_judged, form_of}
+use Rattle.pif_cli.specs.Messages.{TellsOf}
+use Rattle.pif_cli.specs.Statuses.{job_status}
+use Rattle.pif_cli.proofs.AgainLemmas.{Again, again-fault, again-refused, again-text}
+
+abbrev Done : Type 0
+Done = Result (Unit {0}) JudgeFault
+
+abbrev unwritten : Done
+unwritten = Err (judge.Cli fault.Write)
+
+abbrev refused : Done
+refused = Err (judge.Cli fault.NoMemory)
+
+module _ (text : List ℕ) (done : Done) (held holds : Option (List ℕ)) (result : Done)
+    (again : Again unwritten refused text done held holds result) where
+  -- what was told of a history
+  judges-again : (shape : Form) (r : Rules) (before after : Option (List ℕ)) (history : Result Heard CliFault) (front : List ℕ)
+      → ReadsHistory before after history → Judges shape (heard_allowing r history) (Some []) (Some text) front done
+      → Judges shape (heard_allowing r history) held holds front result
+  judges-again shape r before after (Ok h) front reads judged =
+      elim judged [
+        | inl none ↦ inl (again-refused unwritten refused text done held holds result again none.0 none.1)
+        | inr told ↦ elim (again-text unwritten refused text done held holds result again _ told.1 told.3) [
+          | inl none ↦ inl none
+          | inr written ↦ inr (told.0, told.1, told.2, written)
+        ]
+      ]
+  judges-again shape r before after (Err (fault.Script line cause)) front reads judged =
+      elim judged [
+        | inl none ↦ inl (again-refused unwritten refused text done held holds result again none.0 none.1)
+        | inr told ↦ again-text unwritten refused text done held holds result again _ _ told
+      ]
+  judges-again shape r before after (Err fault.Read) front reads judged =
+      again-fault unwritten refused text done held holds result again _ judged.0 (λ e. cc) judged.1
+  judges-again shape r before after (Err fault.NoMemory) front reads judged =
+      again-fault unwritten refused text done held holds result again _ judged.0 (λ e. cc) judged.1
+  judges-again shape r before after (Err fault.Write) front reads judged = absurd reads
+  judges-again shape r before after (Err (fault.Differs line)) front reads judged = absurd reads
+
+  -- what was told of the rules that it needs
+  least-again : (a : Rules) (before after : Option (List ℕ)) (front : List ℕ)
+      → JudgesLeastTo a before after (Some []) (Some text) front done → JudgesLeastTo a before after held holds front result
+  least-again a before after front judged = (judged.0, judged.1, by_history judged.0 judged.1 judged.2)
+    where
+      by_history : (history : Result Heard CliFault) → ReadsHistory before after history
+          → JudgesLeast a history (Some []) (Some text) front done → JudgesLeast a history held holds front result
+      by_history (Ok h) reads told =
+          elim told [
+            | inl none ↦ inl (again-refused unwritten refused text done held holds result again none.0 none.1)
+            | inr t ↦ elim (again-text unwritten refused text done held holds result again _ t.1 t.3) [
+              | inl none ↦ inl none
+              | inr written ↦ inr (t.0, t.1, t.2, written)
+            ]
+          ]
+      by_history (Err f) reads told = judges-again form.Text a before after (Err f) front reads told
+
+  -- either
+  as-again : (asked : Judging) (name : Option (List ℕ)) (before after : Option (List ℕ))
+      → JudgesAs asked name before after (Some []) (Some text) done → JudgesAs asked name before after held holds result
+  as-again asked name before after = by_test asked.least
+    where
+      by_test : (b : Bool)
+          → MatchBool b (JudgesLeastTo asked.allowed before after (Some []) (Some text) (front_of name form.Text) done)
+          (JudgesTo (form_of asked) asked.allowed before after (Some []) (Some text) (front_of name (form_of asked)) done)
+          → MatchBool b (JudgesLeastTo asked.allowed before after held holds (front_of name form.Text) result)
+          (JudgesTo (form_of asked) asked.allowed before after held holds (front_of name (form_of asked)) result)
+      by_test true judged = least-again asked.allowed before after (front_of name form.Text) judged
+      by_test false judged = (
+        judged.0,
+        judged.1,
+        judges-again (form_of asked) asked.allowed before after judged.0 (front_of name (form_of asked)) judged.1 judged.2,
+      )
+
+-- how a job ends that ended as a history, and the end of the history
+as-before : (done : Done) (end : Result (Unit {0}) JobFault) → end ≡ as_judged done → end ≡ Err (Cli fault.Write) → done ≡ unwritten
+as-before (Ok x) end is e = cc
+as-before (Err (judge.Cli f)) end is e = cc
+as-before (Err (judge.Undecided line)) end is e = cc
+
+-- what was judged of a history of this name is written again
+pub written-again : (asked : Judging) (name : Text) (judged : Judged) (held holds : Option (List ℕ)) (result : Result (Unit {0}) JobFault)
+    → (made : IsJudged asked name judged) → WritesJudged judged held holds result
+    → JudgesNamed asked name made.0 made.1 held holds result
+written-again asked name judged held holds result made written =
+    let done : Done = made.2.0 in
+    let is : judged.done ≡ as_judged done = made.2.2 in
+    elim written [
+      | inl none ↦ (
+        refused,
+        as-again judged.text.items done held holds refused
+            (inl (as-before done judged.done is none.0, refl, none.2)) asked _ made.0 made.1 made.2.1,
+        none.1,
+      )
+      | inr w ↦ elim w.1 [
+        | inl all ↦ (
+          done,
+          as-again judged.text.items done held holds done
+              (inr (λ e. w.0 (is ∙ ap as_judged e), inl (refl, all.1))) asked _ made.0 made.1 made.2.1,
+          all.0 ∙ is,
+        )
+        | inr part ↦ (
+          unwritten,
+          as-again judged.text.items done held holds unwritten
+              (inr (λ e. w.0 (is ∙ ap as_judged e), inr (refl, part.1))) asked _ made.0 made.1 made.2.1,
+          part.0,
+        )
+      ]
+    ]
+
+-- what is found at a place is of the file of this place
+pub apart-at : {A : Type 0} (name : A → Text) (job : Job) (files : List A) (found : List Apart) (i : ℕ) (file : A)
+    (one : Option (Bor Apart)) → AreApart name job files found → IsItemAt found i one
+    → IfSome one (λ x. IsApart job (name (slice_index_or files i file)) x.now)
+apart-at name job files found i file None are item = tt
+apart-at name job files found i file (Some one) are item =
+    subst (λ (x : Apart). IsApart job (name (slice_index_or files i file)) x) (sym item.1) (are i file one.now item.3.0)
+
+-- a job that was done has no notes
+no-notes : (notes : List ℕ) (done : Result (Unit {0}) JobFault) → notes ≡ [] → OnOk done (notes ≡ [])
+no-notes notes (Ok x) e = e
+no-notes notes (Err fault) e = tt
+
+-- what was judged of a file, and written in its turn, is what is done in its turn
+pub did-judged : (job : Job) (name : Text) (judged : Judged) (held holds errors_held errors_hold : Option (List ℕ))
+    (done : Result (Unit {0}) JobFault) (status : ℕ)
+    → IsApart job name (apart.Judged judged) → WritesJudged judged held holds done → status ≡ job_status done
+    → TellsOf [] done errors_held errors_hold → DidFile job name held holds errors_held errors_hold status
+unfolding IsApart
+did-judged job name judged held holds errors_held errors_hold done status one written is told =
+    let asked : Judging = one.0 in
+    let made : IsJudged asked name judged = one.2 in
+    let did : Did (Judge asked) name made.0 made.1 held holds errors_held errors_hold status =
+    (done, [], written-again asked name judged held holds done made written, no-notes [] done refl, is, told) in
+    subst (λ (j : Job). DidFile j name held holds errors_held errors_hold status) (sym one.1) (inl (made.0, made.1, did))

@@ -1,0 +1,238 @@
+//! Histories that are judged side by side, in threads, each into a text of its own. What is written, and in which order,
+//! is as of one after the other.
+ghost use Rattle.std.specs.Prelude.{◌≡◌, ◌<◌, ◌≤◌, IfOk, length, vec_len};
+ghost use Rattle.pif_cli.specs.Apart.{AreApart, IsApart, IsJudged, WritesJudged};
+
+use crate::hosts::Runtime;
+use crate::judging::judge_input;
+use crate::progress::Unwatched;
+use crate::statuses::JobFault;
+use pif_cli_words::{Job, Judging, STANDARD_NAME};
+use pif_history_text::MOST_BYTES;
+use pif_script::{CliFault, write_whole};
+use std::alloc::{AllocError, Global};
+use std::io::{Read, Write};
+use std::rt::Files;
+use std::thread::Threads;
+use std::{fs, thread};
+
+/// The most threads that judge histories.
+const MOST_JOBS: usize = 64;
+
+/// How many histories each thread judges before their verdicts are written.
+const FILES_EACH: usize = 4;
+
+/// The most bytes that are read at once.
+const CHUNK: usize = 4096;
+
+/// What judging a history into a text came to.
+#[derive(Drop)]
+pub struct Judged {
+    /// What is to be written.
+    pub text: Vec<u8>,
+    /// How it ended.
+    pub done: Result<(), JobFault>,
+}
+
+/// What was done with a file before its turn.
+#[derive(Drop)]
+pub enum Apart {
+    /// Nothing: all is done in its turn. So it is with the standard input, and with a file that can't be read.
+    Left,
+    /// Its history was judged.
+    Judged(Judged),
+}
+
+/// How many threads judge so many histories: as many as are asked for, or as there are processors; one for another job.
+pub fn jobs_of<P: Threads>(process: &P, job: Job, count: usize) -> usize
+    ensures { 0 < result }
+{
+    let Job::Judge(asked) = job else {
+        return 1;
+    };
+    let jobs = match asked.jobs {
+        Some(jobs) => jobs as usize,
+        None => processors(process),
+    };
+    jobs.min(count).min(MOST_JOBS).max(1)
+}
+
+/// How many processors there are; one if that isn't known.
+fn processors<P: Threads>(process: &P) -> usize {
+    match thread::available_parallelism(process) {
+        Ok(count) => count.get(),
+        Err(_) => 1,
+    }
+}
+
+/// How many files are taken at once by so many threads: all that are left if there is one thread.
+pub fn taken_at_once(jobs: usize, left: usize) -> usize
+    requires { 0 < left }
+    ensures { (0 < result) × (result ≤ left) }
+{
+    if jobs > 1 {
+        jobs.saturating_mul(FILES_EACH).min(left)
+    } else {
+        left
+    }
+}
+
+/// The bytes of a history, or as many as are too many for one; none if a read fails, or memory is refused.
+fn bytes_of<R: Read>(alloc: Global, reader: &mut R) -> Option<Vec<u8>> {
+    let mut bytes = Vec::new(alloc);
+    let mut chunk = [0u8; CHUNK];
+    for _ in 0..u64::MAX {
+        let count = reader.read(&mut chunk).ok()?;
+        if count == 0 || bytes.len() > MOST_BYTES {
+            return Some(bytes);
+        }
+        bytes.extend_from_slice(&chunk[..count]).ok()?;
+    }
+    None
+}
+
+/// The bytes of the file of this name; none of the standard input, and if they can't be had.
+fn content_of<P: Files>(alloc: Global, process: &P, name: &str) -> Option<Vec<u8>> {
+    if name == STANDARD_NAME {
+        return None;
+    }
+    let mut file = fs::open(process, name).ok()?;
+    bytes_of(alloc, &mut file)
+}
+
+/// The bytes of each file of these names, if they can be had.
+fn contents_of<P: Files>(
+    alloc: Global,
+    process: &P,
+    names: &[&str],
+) -> Result<Vec<Option<Vec<u8>>>, AllocError> {
+    let mut contents = Vec::new(alloc);
+    for name in names {
+        contents.push(content_of(alloc, process, *name))?;
+    }
+    Ok(contents)
+}
+
+/// Judges the history of these bytes into a text.
+fn judge_bytes<P: Runtime>(
+    alloc: Global,
+    process: &P,
+    asked: Judging,
+    name: &str,
+    bytes: &[u8],
+) -> Judged
+    ensures { IsJudged asked name.now result }
+{
+    let mut reader = bytes;
+    let mut text = Vec::new(alloc);
+    let done = judge_input(
+        alloc,
+        process,
+        asked,
+        name,
+        &mut reader,
+        &mut text,
+        &mut Unwatched,
+    );
+    Judged { text, done }
+}
+
+/// Judges the history of these bytes, if there are any, which is of this name.
+#[tactic(auto, unfolding(crate::specs::Apart::IsApart))]
+fn judge_apart<P: Runtime>(
+    alloc: Global,
+    process: &P,
+    asked: Judging,
+    name: &str,
+    content: Option<&Option<Vec<u8>>>,
+) -> Apart
+    ensures { IsApart (Job.Judge asked) name.now result }
+{
+    match content {
+        Some(Some(bytes)) => {
+            Apart::Judged(judge_bytes(alloc, process, asked, name, bytes.as_slice()))
+        }
+        _ => Apart::Left,
+    }
+}
+
+/// As many as there are names, with which nothing was done.
+fn left_alone(alloc: Global, names: &[&str]) -> Result<Vec<Apart>, AllocError>
+    ensures { IfOk result (λ found. vec_len found ≡ length names.now) }
+{
+    let mut found = Vec::new(alloc);
+    for _name in names {
+        found.push(Apart::Left)?;
+    }
+    Ok(found)
+}
+
+/// Judges the histories of these names and contents by at most so many threads.
+fn judge_in_threads<P: Runtime + Sync>(
+    alloc: Global,
+    process: &P,
+    asked: Judging,
+    jobs: usize,
+    names: &[&str],
+    contents: &[Option<Vec<u8>>],
+    found: &mut [Apart],
+)
+    requires jobs { 0 < jobs }
+    requires each { length found.old ≡ length names.now }
+    ensures { AreApart (λ name. name.now) (Job.Judge asked) names.now found.new }
+{
+    thread::for_each_mut(
+        process,
+        found,
+        jobs,
+        &|place, one| {
+            *one = judge_apart(alloc, process, asked, names[place], contents.get(place));
+        },
+    );
+}
+
+/// What is done with the files of these names before their turns: their histories are read, and then judged by so many
+/// threads. Nothing is done for another job, by one thread, or if memory is refused.
+pub fn done_apart<P: Files + Runtime + Sync>(
+    alloc: Global,
+    process: &P,
+    job: Job,
+    jobs: usize,
+    names: &[&str],
+) -> Vec<Apart>
+    ensures { AreApart (λ name. name.now) job names.now result.items }
+{
+    if jobs < 2 {
+        return Vec::new(alloc);
+    }
+    let (Job::Judge(asked), Ok(mut found)) = (job, left_alone(alloc, names)) else {
+        return Vec::new(alloc);
+    };
+    let Ok(contents) = contents_of(alloc, process, names) else {
+        return Vec::new(alloc);
+    };
+    judge_in_threads(
+        alloc,
+        process,
+        asked,
+        jobs,
+        names,
+        contents.as_slice(),
+        found.as_mut_slice(),
+    );
+    found
+}
+
+/// Writes the text of a history that was judged. If a write to the text itself failed, memory was refused for it: then
+/// nothing is written.
+pub fn write_judged<W: Write>(judged: &Judged, output: &mut W) -> Result<(), JobFault>
+    ensures { WritesJudged judged.now (W.contents output.old) (W.contents output.new) result }
+{
+    if let Err(JobFault::Cli(CliFault::Write)) = judged.done {
+        return Err(JobFault::Cli(CliFault::NoMemory));
+    }
+    match write_whole(output, judged.text.as_slice()) {
+        Ok(()) => judged.done,
+        Err(fault) => Err(JobFault::Cli(fault)),
+    }
+}
