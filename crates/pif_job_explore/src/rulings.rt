@@ -1,6 +1,6 @@
 //! What is found of the claims of a file.
 ghost use Rattle.std.specs.Prelude.{◌≡◌, ◌<◌, IfOk, length, map, true};
-ghost use Rattle.pif_explore.specs.Explored.{AreFinalBelow};
+ghost use Rattle.pif_explore_model.specs.Spaces.{AreFinalBelow};
 ghost use Rattle.pif_explore_model.specs.Exploring.{Steps};
 ghost use Rattle.pif_explore_model.specs.Forgetting.{AreSameSoFar};
 ghost use Rattle.pif_explore_model.specs.Situations.{Situation as Situated};

@@ -4,6 +4,7 @@ ghost use Rattle.pif_waiting.specs.Waiting.{all_in, order_in};
 
 use pif_core::{Core, Order};
 use pif_text_json::{Sequence, append_names};
+use pif_waiting::nth;
 use std::alloc::AllocError;
 
 /// The numbers of the threads of an order.
@@ -16,9 +17,8 @@ struct Threads<'a> {
 impl Sequence for Threads<'_> {
     ghost members = { λ list. all_in list.order.now list.core.now };
 
-    #[tactic(auto, using(pif_waiting::proofs::OrderLemmas::in_order))]
     fn at(&self, place: u32) -> Option<u32> {
-        match self.core.nth(*self.order, place) {
+        match nth(self.core, self.order, place) {
             Some(thread) => Some(thread.get()),
             None => None,
         }

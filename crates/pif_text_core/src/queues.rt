@@ -7,6 +7,7 @@ use crate::names::Names;
 use crate::pages::Page;
 use pif_core::{Core, Order};
 use pif_types::Tid;
+use pif_waiting::nth;
 use std::io::Write;
 
 /// Writes the threads of an order with `head` before the first; nothing where there is none.
@@ -21,7 +22,7 @@ pub fn show_queue<W: Write>(
     ensures { Tells page.old page.new (W.contents writer.old) (W.contents writer.new) (threads_text names.now head.now (order_in order.now core.now)) }
 {
     for place in 0..core.threads() {
-        match core.nth(*order, place) {
+        match nth(core, order, place) {
             Some(thread) => show_place(names, place, thread, head, page, writer),
             None => return,
         }

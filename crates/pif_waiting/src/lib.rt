@@ -4,13 +4,16 @@
 //! |---|---|
 //! | `counts` | how many mutexes and condition variables were added |
 //! | `holds` | whether a thread holds a mutex |
+//! | `orders` | which thread stands at a place of an order |
 //! | `waits` | for which mutex a thread waits, and where a chain of waiting begins |
 #![tactic(auto)]
 
 mod counts;
 mod holds;
+mod orders;
 mod waits;
 
 pub use counts::{conds_added, mutexes_added};
 pub use holds::has;
+pub use orders::nth;
 pub use waits::{awaited, begins_chain};
