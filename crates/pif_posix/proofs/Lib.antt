@@ -5,5 +5,6 @@ pub mod Inheriting
 pub mod Listed
 pub mod Loops
 pub mod Matching
+pub mod Nobody
 pub mod Results
 pub mod Waits

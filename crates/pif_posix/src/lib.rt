@@ -15,6 +15,7 @@ mod lists;
 mod moves;
 mod mutexes;
 mod parts;
+mod playing;
 mod progress;
 mod readers;
 mod refusals;
