@@ -1,4 +1,5 @@
 mod Settling
 mod Telling
-mod Taken
+mod Searched
 pub mod Guided
+mod Playing

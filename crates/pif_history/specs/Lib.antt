@@ -1,3 +1,4 @@
 pub mod Told
 pub mod Verdicts
 pub mod Guided
+pub mod Played

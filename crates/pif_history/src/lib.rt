@@ -4,11 +4,13 @@
 //! | Function | What it answers |
 //! |---|---|
 //! | `judge_lines` | a witness, the first line up to which no run exists, or that the search gave up |
+//! | `find_run` | a witness, if the guided search finds one |
 //! | `refusal` | why no run has a line, whatever was answered |
 //! | `possible_answers`, `possible_priorities` | with which answers, or priorities, a line would be shown |
 //!
-//! The searches are `find` and `judge` of `pif_search`, over the state of `pif_posix`: the first is guided by what
-//! later lines say, and finds witnesses alone; the second is exact. A verdict is a theorem: `IsVerdictOf`.
+//! A player that keeps one state of `pif_posix` comes first. Then come the searches `find` and `judge` of `pif_search`:
+//! the first is guided by what later lines say, as the player is, and both find witnesses alone; the second is exact. A
+//! verdict is a theorem: `IsVerdictOf`. `Later` and `Scene` say what is worth trying, for other guided searches too.
 #![tactic(auto)]
 
 mod dying;
@@ -17,21 +19,27 @@ mod guide;
 mod judge;
 mod later;
 mod machine;
+mod needed;
 mod needs;
 mod plans;
+mod player;
 mod position;
 mod refused;
 mod scene;
-mod unqueued;
+mod untold;
 mod verdicts;
 
 pub use dying::{are_same, dying_after, is_among};
 pub use judge::{
-    answers_of, judge_lines, labels_of, numbers_of, possible_answers, possible_priorities,
-    priorities_of, settled,
+    answers_of, efforts, find_run, judge_lines, labels_of, numbers_of, possible_answers,
+    possible_priorities, priorities_of, settled,
 };
+pub use later::Later;
 pub use machine::{HistoryMachine, push_labelled, thread_numbered};
+pub use needs::Need;
 pub use pif_search::{Stop, Unwatched, Watch};
+pub use plans::{Plan, Trial};
 pub use position::Position;
 pub use refused::refusal;
+pub use scene::Scene;
 pub use verdicts::Verdict;

@@ -14,6 +14,11 @@ mod Aside
 mod Even
 mod Unqueued
 mod Queues
+mod Lagging
+mod LaggingMoves
+mod LaggingEntries
+mod Noting
+mod Needed
 pub mod Taking
 mod LineLemmas
 pub mod Labelled

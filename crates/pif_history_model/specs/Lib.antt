@@ -5,5 +5,6 @@ pub mod Refused
 pub mod Verdicts
 pub mod Forgetting
 pub mod Queues
+pub mod Notes
 pub mod Listed
 pub mod Numbers

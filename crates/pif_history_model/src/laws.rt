@@ -13,6 +13,7 @@ ghost use Rattle.pif_history_model.specs.Refused.{refusal_of_line};
 ghost use Rattle.pif_history_model.specs.Verdicts.{is_answer};
 ghost use Rattle.pif_history_model.specs.Forgetting.{StandsFor};
 ghost use Rattle.pif_history_model.specs.Queues.{Takes, tells_of_no_waiters};
+ghost use Rattle.pif_history_model.specs.Notes.{Needs, tells_of_no_rest};
 
 /// A law: lines that the machine that is searched can show, some run of the POSIX machine shows.
 pub fn searched_lines_are_shown()
@@ -39,14 +40,20 @@ pub fn shown_priorities_are_priorities()
     ensures { (limits : Bounds) (before : List Line) (thread priority : ℕ) → IsShown limits (Prio thread priority ∷ before) → (1 ≤ priority) × (priority ≤ 99) }
 {}
 
-/// A law: it is enough to search all steps that are taken, and to leave out a state for which another stands that is
+/// A law: it is enough to search all steps that are needed, and to leave out a state for which another stands that is
 /// kept. It stands for it if they differ only in what no step sees.
 pub fn what_no_step_sees_is_forgotten()
-    ensures { (limits : Bounds) (all : Bool) (start : Configuration) → IsEnough (Takes limits all) hides (Takes limits all) StandsFor start }
+    ensures { (limits : Bounds) (all : Bool) (start : Configuration) → IsEnough (Needs limits all) hides (Needs limits all) StandsFor start }
 {}
 
 /// A law: lines that tell of no waiters are shown without them, if they are shown at all. Threads all have the same base
 /// priority, or nobody signals.
 pub fn waiters_show_nothing_more()
     ensures { (limits : Bounds) (same : Option ℕ) (lines : List Line) (last : Configuration) → list_all (tells_of_no_waiters same) lines ≡ true → CanShow (Advances limits) hides (start_of limits) (map (λ line. Shown line) lines) last → (other : Configuration) × CanShow (Takes limits false) hides (start_of limits) (map (λ line. Shown line) lines) other }
+{}
+
+/// A law: lines that don't tell who rests are shown by runs in which a wait is noted only if that may matter, if they
+/// are shown at all.
+pub fn notes_show_nothing_more()
+    ensures { (limits : Bounds) (all : Bool) (lines : List Line) (last : Configuration) → list_all tells_of_no_rest lines ≡ true → CanShow (Takes limits all) hides (start_of limits) (map (λ line. Shown line) lines) last → (other : Configuration) × CanShow (Needs limits all) hides (start_of limits) (map (λ line. Shown line) lines) other }
 {}

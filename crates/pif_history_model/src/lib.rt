@@ -20,9 +20,9 @@ mod refusals;
 
 pub use labels::Label;
 pub use laws::{
-    refused_lines_are_not_shown, searched_lines_are_shown, shown_answers_are_answers,
-    shown_lines_are_searched, shown_priorities_are_priorities, waiters_show_nothing_more,
-    what_no_step_sees_is_forgotten,
+    notes_show_nothing_more, refused_lines_are_not_shown, searched_lines_are_shown,
+    shown_answers_are_answers, shown_lines_are_searched, shown_priorities_are_priorities,
+    waiters_show_nothing_more, what_no_step_sees_is_forgotten,
 };
 pub use lines::Line;
 pub use pif_posix_model::HistoryLimits;

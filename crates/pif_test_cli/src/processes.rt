@@ -7,8 +7,23 @@ use std::io;
 use std::io::ErrorKind;
 use std::rt::{Env, Files};
 use std::sync::Wait;
+use std::sync::atomic::{AtomicU64, Ordering};
 use std::thread::Threads;
 use std::time::{Clock, Duration};
+
+/// A clock that shows `step` milliseconds more at each reading, and 0 at the first.
+#[derive(Drop)]
+struct Ticking {
+    step: u64,
+    time: AtomicU64,
+}
+
+impl Ticking {
+    /// What it shows.
+    fn reading(&self) -> Duration {
+        Duration::from_millis(self.time.fetch_add(self.step, Ordering::SeqCst))
+    }
+}
 
 /// A process of these words, its name first, and of a last one if there is one, which may be no text. It starts threads
 /// and opens files as `rt` does.
@@ -19,6 +34,8 @@ pub struct Process<'a, R> {
     rt: &'a R,
     /// Whether it may open no file.
     is_shut: bool,
+    /// Its clock; that of `rt` if there is none.
+    clock: Option<Ticking>,
 }
 
 impl<'a, R> Process<'a, R> {
@@ -29,6 +46,21 @@ impl<'a, R> Process<'a, R> {
             last,
             rt,
             is_shut: false,
+            clock: None,
+        }
+    }
+
+    /// A process of these words, whose clock shows so many milliseconds more at each reading.
+    pub fn ticking(words: &'a [&'a str], rt: &'a R, step: u64) -> Process<'a, R> {
+        Process {
+            words,
+            last: None,
+            rt,
+            is_shut: false,
+            clock: Some(Ticking {
+                step,
+                time: AtomicU64::new(0),
+            }),
         }
     }
 
@@ -39,6 +71,7 @@ impl<'a, R> Process<'a, R> {
             last: None,
             rt,
             is_shut: true,
+            clock: None,
         }
     }
 }
@@ -49,7 +82,10 @@ impl<'a, R: Wait> Wait for Process<'a, R> {}
 
 impl<'a, R: Clock> Clock for Process<'a, R> {
     fn monotonic(&self) -> io::Result<Duration> {
-        self.rt.monotonic()
+        match &self.clock {
+            Some(clock) => Ok(clock.reading()),
+            None => self.rt.monotonic(),
+        }
     }
 
     fn since_1970(&self) -> io::Result<Duration> {

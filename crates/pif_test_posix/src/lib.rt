@@ -6,9 +6,11 @@
 //! | `asks` | none: what tables are made of, by numbers |
 //! | `cloud` | none: all states in which the POSIX machine may be, after what was seen |
 //! | `beside` | the machine beside a core, on random events |
+//! | `blocked` | waits that are blocked make few states |
 //! | `furthest` | how many lines of a history some run shows, by a search that reduces nothing |
 //! | `judged` | random histories, in which each answer is replaced by each other one |
 //! | `examples` | worked examples: their answers are possible, and no others at the last call |
+//! | `in_place` | moves and entries in place, which come or don't |
 //! | `replaced` | a history in which each answer is replaced by each other one |
 #![tactic(auto)]
 
@@ -17,11 +19,15 @@ mod asks;
 #[cfg(test)]
 mod beside;
 #[cfg(test)]
+mod blocked;
+#[cfg(test)]
 mod cloud;
 #[cfg(test)]
 mod examples;
 #[cfg(test)]
 mod furthest;
+#[cfg(test)]
+mod in_place;
 #[cfg(test)]
 mod judged;
 #[cfg(test)]

@@ -1,36 +1,10 @@
 //! The time of a search, by a clock that goes on by as much at each reading.
 
-use super::{Kept, ask_over, check_bytes, check_ended};
-use std::alloc::Global;
-use std::io;
+use super::{Kept, ask_process, check_bytes, check_status};
+use crate::processes::Process;
+use pif_cli::Runtime;
 use std::process::Abort;
-use std::sync::Wait;
-use std::sync::atomic::{AtomicU64, Ordering};
-use std::thread::Threads;
-use std::time::{Clock, Duration};
-
-/// Starts threads as `rt` does. At each reading its clock shows `step` milliseconds more.
-#[derive(Drop)]
-struct Ticking<'a, R> {
-    rt: &'a R,
-    step: u64,
-    time: AtomicU64,
-}
-
-impl<'a, R: Threads> Threads for Ticking<'a, R> {}
-
-impl<'a, R: Wait> Wait for Ticking<'a, R> {}
-
-impl<'a, R> Clock for Ticking<'a, R> {
-    fn monotonic(&self) -> io::Result<Duration> {
-        let time = self.time.fetch_add(self.step, Ordering::SeqCst);
-        Ok(Duration::from_millis(time))
-    }
-
-    fn since_1970(&self) -> io::Result<Duration> {
-        self.monotonic()
-    }
-}
+use std::rt::{Env, Files};
 
 /// A legal history of four lines.
 const LEGAL: &str = "thread 10\nmutex normal\nbegin t1 lock m1\nanswer t1 0\n";
@@ -48,8 +22,9 @@ const OVER: &str = "undecided at 1\nno witness found from 1 on\n";
 /// What is said if it is over before line 3 of the exact search: the guided ones had come to line 4.
 const LATER: &str = "undecided at 3\nno witness found from 4 on\n";
 
-/// The searches ask before each line: two that are guided, and then the exact one. So the eleventh question is that of
-/// the exact one before line 3. What is asked over which history, by a clock of how many milliseconds a reading; and the status and what is written.
+/// What is asked over which history, by a clock of how many milliseconds a reading; and the status and what is written.
+/// The searches ask before each line: three that are guided, and then the exact one. So the fifteenth question is that
+/// of the exact one before line 3.
 const TIMED: [(&[&str], &str, u64, (u8, &str)); 9] = [
     (
         &["pif", "judge", "--seconds", "5"],
@@ -78,7 +53,7 @@ const TIMED: [(&[&str], &str, u64, (u8, &str)); 9] = [
         (7, OVER),
     ),
     (
-        &["pif", "judge", "--seconds", "11"],
+        &["pif", "judge", "--seconds", "15"],
         ILLEGAL,
         1000,
         (7, LATER),
@@ -97,36 +72,25 @@ const TIMED: [(&[&str], &str, u64, (u8, &str)); 9] = [
     ),
 ];
 
-/// Judges a history by such a clock, and compares what is written.
-fn check_timed<R: Threads + Wait + Sync>(
+/// Judges a history by such a clock, and compares what is written. The errors are told of what isn't legal.
+fn check_timed<P: Env + AllocGlobal + Files + Runtime + Sync>(
     rt: &impl Abort,
-    clock: &Ticking<'_, R>,
-    alloc: Global,
-    words: &[&str],
+    process: &P,
     history: &str,
     ended: (u8, &str),
 ) {
     let (mut output, mut errors) = (Kept::new(), Kept::new());
-    let mut bytes = history.as_bytes();
-    let status = ask_over(clock, alloc, words, &mut bytes, &mut output, &mut errors);
-    check_ended(
-        rt,
-        (status, errors.is_empty()),
-        (ended.0, ended.0 == 0),
-        ended.1,
-    );
+    let status = ask_process(process, history, &mut output, &mut errors);
+    check_status(rt, status, ended.0);
     check_bytes(rt, output.as_slice(), ended.1.as_bytes(), "the output");
+    assert!(rt; errors.is_empty() == (ended.0 == 0), "{history:?}");
 }
 
 /// The search is given up before the first line at which its time is over, and else there is the verdict.
 #[test]
 fn a_search_ends_with_its_time(rt: HostRuntime) {
     for (words, history, step, ended) in TIMED {
-        let clock = Ticking {
-            rt: &rt,
-            step,
-            time: AtomicU64::new(0),
-        };
-        check_timed(&rt, &clock, rt.alloc(), words, history, ended);
+        let process = (Process::ticking(words, &rt, step), rt.alloc());
+        check_timed(&rt, &process, history, ended);
     }
 }
