@@ -1,2 +1,2 @@
-pub mod Listing
+mod Guiding
 mod Settling

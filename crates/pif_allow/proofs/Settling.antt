@@ -1,12 +1,15 @@
 -- What the search answers of labels, said of lines; and verdicts on plain histories as ones with rules.
-use Rattle.std.proofs.Common.{ℕ, zero, suc, ◌≡◌, ◌∙◌, ◌≤◌, ◌-◌, true, Bool, List, [], ◌∷◌, map, reverse, take, length, refl, sym, subst, ap, inl, inr, arith}
+use Rattle.std.proofs.Common.{ℕ, zero, suc, ◌≡◌, ◌∙◌, ◌≤◌, ◌-◌, true, List, [], ◌∷◌, map, reverse, take, length, refl, sym, subst, ap, inl, inr, arith}
 use Rattle.std.specs.List.{Contains}
 use Rattle.std.proofs.lemmas.List.{length-map, take_all}
 use Rattle.std.proofs.lemmas.List.Elements.{Contains-append_cases}
 use Rattle.pif_types.specs.Bounds.{Bounds}
 use Rattle.pif_search.specs.declared.verdicts.Verdict.{Verdict as Found}
 use Rattle.pif_search.specs.declared.verdicts.Verdict.TheVariants as found
-use Rattle.pif_search.specs.Runs.{Runs, shown, CanShow}
+use Rattle.pif_search.specs.declared.guide.Found.{Found as Finding}
+use Rattle.pif_search.specs.declared.guide.Found.TheVariants as finding
+use Rattle.pif_search.specs.Trails.{IsFinding}
+use Rattle.pif_search.specs.Runs.{CanShow}
 use Rattle.pif_search.specs.Verdicts.{IsWitness, IsFirstImpossible, IsVerdict, CanFollow, IsSelection, AreNext}
 use Rattle.pif_posix_model.proofs.DoingLists.{among_is, among_from, in_one, not_in_none}
 use Rattle.pif_rules_model.specs.declared.rules.Rules.{Rules}
@@ -15,14 +18,14 @@ use Rattle.pif_history_model.specs.declared.lines.Line.{Line}
 use Rattle.pif_history_model.specs.declared.lines.Line.TheVariants.{Answer, Prio}
 use Rattle.pif_history_model.specs.declared.labels.Label.{Label}
 use Rattle.pif_history_model.specs.declared.labels.Label.TheVariants.{Shown}
-use Rattle.pif_history_model.specs.Searched.{Configuration, Advances, start_of, hides}
+use Rattle.pif_history_model.specs.Searched.{hides}
 use Rattle.pif_history_model.specs.Verdicts.{answers, is_answer, AreJust, ArePossibleAnswers, ArePossiblePriorities, IsLegalBy, IsIllegalAt}
 use Rattle.pif_history_model.proofs.Fitting.{answer-from_shown, priority-from_shown}
 use Rattle.pif_history_model.proofs.Judging.{labels_of, labels-first}
 use Rattle.pif_history.specs.declared.verdicts.Verdict.{Verdict}
 use Rattle.pif_history.specs.declared.verdicts.Verdict.TheVariants.{Legal, Illegal, Undecided}
 use Rattle.pif_history.specs.Verdicts.{IsVerdictOf, verdict_from}
-use Rattle.pif_history_model.specs.Numbers.{number_of, numbers_in, up_to}
+use Rattle.pif_history_model.specs.Numbers.{numbers_in, up_to}
 use Rattle.pif_history_model.proofs.Numbers.{kept, just_kept, answers_rise, in_up_to, up_to-rises}
 use Rattle.pif_allow_model.specs.Allowed.{WideConfiguration, WideAdvances, wide_start_of, IsShownWith}
 use Rattle.pif_allow_model.specs.Verdicts.{IsLegalWith, IsIllegalWith, ArePossibleAnswersWith, ArePossiblePrioritiesWith}
@@ -86,6 +89,37 @@ verdict_by r q l k start lines labels v w some a b c e is x =
     let x4 = subst (λ (p : Rules). IsVerdict (WideAdvances p l) hides (wide_start_of l) (labels_of lines) v) a x3 in
     subst (λ (z : Verdict). IsVerdictWith r l lines z) (sym is) (verdict_of r l lines v some x4)
 
+-- WHAT A GUIDED SEARCH FINDS
+
+-- a witness, or no more than the number of a line
+abbrev pub IsFindingWith : Rules → Bounds → List Line → Finding Label → Type 0
+IsFindingWith r l lines (finding.Witness witness) = IsLegalWith r l lines witness.items
+IsFindingWith r l lines (finding.Nothing n) = (1 ≤ n) × (n ≤ length (labels_of lines))
+
+finding_of : (r : Rules) (l : Bounds) (lines : List Line) (f : Finding Label)
+    → IsFinding (WideAdvances r l) hides (wide_start_of l) (labels_of lines) f → IsFindingWith r l lines f
+finding_of r l lines (finding.Witness witness) x = legal_with r l lines witness.items x
+finding_of r l lines (finding.Nothing n) x = x
+
+-- what a guide with these rules and limits finds from where it starts, on labels that are the lines
+pub finding_by : (r q : Rules) (l k : Bounds) (start : WideConfiguration) (lines : List Line) (labels : List Label) (f : Finding Label)
+    → q ≡ r → k ≡ l → start ≡ wide_start_of l → labels ≡ labels_of lines → IsFinding (WideAdvances q k) hides start labels f
+    → IsFindingWith r l lines f
+finding_by r q l k start lines labels f a b c e x =
+    let x1 = subst (λ (ls : List Label). IsFinding (WideAdvances q k) hides start ls f) e x in
+    let x2 = subst (λ (s : WideConfiguration). IsFinding (WideAdvances q k) hides s (labels_of lines) f) c x1 in
+    let x3 = subst (λ (j : Bounds). IsFinding (WideAdvances q j) hides (wide_start_of l) (labels_of lines) f) b x2 in
+    let x4 = subst (λ (p : Rules). IsFinding (WideAdvances p l) hides (wide_start_of l) (labels_of lines) f) a x3 in
+    finding_of r l lines f x4
+
+-- no lines are shown by the run of no steps
+pub empty_by_length : {X : Type 0} (xs : List X) → length xs ≡ 0 → xs ≡ []
+empty_by_length [] e = refl
+empty_by_length (x ∷ xs) e = absurd (omega (arith, e))
+
+pub nothing_is_legal : (r : Rules) (l : Bounds) → IsLegalWith r l [] []
+nothing_is_legal r l = record { last = wide_start_of l; run = refl; shows = refl }
+
 -- VERDICTS ON PLAIN HISTORIES
 
 -- a witness of the plain machine is one with any rules
@@ -113,23 +147,6 @@ pub verdict_without : (r : Rules) (l : Bounds) (lines : List Line) (v : Verdict)
     → IsVerdictWith r l lines v
 verdict_without r l lines v none x =
     subst (λ (p : Rules). IsVerdictWith p l lines v) (sym none) (plain_verdict l lines v x)
-
--- a witness of the plain machine, as it is told
-pub legal_by : (r : Rules) (l : Bounds) (lines : List Line) (v w : Verdict) (witness : List Label) → v ≡ w → IsVerdictOf l lines v
-    → (IsVerdictOf l lines w → IsLegalBy l lines witness) → IsLegalWith r l lines witness
-legal_by r l lines v w witness is x f =
-    legal_widely r l lines witness (f (subst (λ (z : Verdict). IsVerdictOf l lines z) is x))
-
--- a history that is not found legal has lines
-pub some_illegal : (l : Bounds) (lines : List Line) (v : Verdict) (n : ℕ) → v ≡ Illegal n → IsVerdictOf l lines v → 1 ≤ length lines
-some_illegal l lines v n is x =
-    let y : (1 ≤ n) × (n ≤ length lines) × IsIllegalAt l lines n = subst (λ (z : Verdict). IsVerdictOf l lines z) is x in
-    omega (arith, y.0, y.1)
-
-pub some_undecided : (l : Bounds) (lines : List Line) (v : Verdict) (n : ℕ) → v ≡ Undecided n → IsVerdictOf l lines v → 1 ≤ length lines
-some_undecided l lines v n is x =
-    let y : (1 ≤ n) × (n ≤ length lines) = subst (λ (z : Verdict). IsVerdictOf l lines z) is x in
-    omega (arith, y.0, y.1)
 
 -- what is just so is just what is the same
 just_as : (P Q : ℕ → Type 0) (ns : List ℕ) → ((n : ℕ) → P n → Q n) → ((n : ℕ) → Q n → P n) → AreJust P ns → AreJust Q ns

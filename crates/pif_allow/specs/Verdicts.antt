@@ -1,5 +1,5 @@
 -- What is said of the lines of a history that allows rules, oldest first.
-use Rattle.std.specs.Prelude.{ℕ, ◌≤◌, List, length}
+use Rattle.std.specs.Prelude.{◌≤◌, List, length}
 use Rattle.pif_types.specs.Bounds.{Bounds}
 use Rattle.pif_rules_model.specs.declared.rules.Rules.{Rules}
 use Rattle.pif_history_model.specs.declared.lines.Line.{Line}

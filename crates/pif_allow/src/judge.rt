@@ -1,21 +1,26 @@
-ghost use Rattle.std.specs.Prelude.{◌≡◌, ◌≤◌, true, false, map, length, All, IfOk, IfSome};
+ghost use Rattle.std.specs.Prelude.{◌≡◌, ◌≤◌, [], true, false, map, length, All, IfOk, IfSome};
+ghost use Rattle.pif_types.specs.Bounds.{Bounds};
+ghost use Rattle.pif_rules_model.specs.declared.rules.Rules.{Rules as Allowed};
 ghost use Rattle.pif_rules_model.specs.Rules.{no_rules};
 ghost use Rattle.pif_history_model.specs.declared.labels.Label.TheVariants.{Shown};
 ghost use Rattle.pif_history_model.specs.Searched.{hides};
 ghost use Rattle.pif_search.specs.Verdicts.{AreNext};
 ghost use Rattle.pif_allow_model.specs.Allowed.{WideAdvances, wide_start_of};
-ghost use Rattle.pif_allow_model.specs.Verdicts.{ArePossibleAnswersWith, ArePossiblePrioritiesWith};
+ghost use Rattle.pif_allow_model.specs.Verdicts.{ArePossibleAnswersWith, ArePossiblePrioritiesWith, IsLegalWith};
 ghost use Rattle.pif_allow.specs.Verdicts.{IsVerdictWith};
 
+use crate::guide::AllowingGuide;
 use crate::machine::AllowingMachine;
 use crate::position::WidePosition;
 use pif_history::{
-    Verdict, answers_of, judge_lines, labels_of, numbers_of, possible_answers, possible_priorities,
-    priorities_of, settled,
+    Verdict, answers_of, efforts, find_run, judge_lines, labels_of, numbers_of, possible_answers,
+    possible_priorities, priorities_of, settled,
 };
 use pif_history_model::{HistoryLimits, Label, Line};
 use pif_rules_model::Rules;
-use pif_search::{Stop, Unwatched, Watch, judge, possible, searches_all_steps};
+use pif_search::{
+    Effort, Found, Stop, Unwatched, Watch, find, judge, possible, searches_all_steps,
+};
 use pif_types::{Answer, Tid};
 use std::alloc::Global;
 
@@ -37,6 +42,92 @@ pub fn are_none(rules: &Rules) -> bool
         } => true,
         _ => false,
     }
+}
+
+/// A run with these rules that shows these lines, of which these are the labels, if the guided search finds one with
+/// this effort.
+fn guided<W: Watch>(
+    alloc: Global,
+    rules: &Rules,
+    limits: HistoryLimits,
+    lines: &[Line],
+    labels: &[Label],
+    effort: &Effort,
+    watch: &mut W,
+) -> Result<Option<Vec<Label>>, Stop>
+    requires { labels.now ≡ map (λ x. Shown x) lines.now }
+    ensures { IfOk result (λ o. IfSome o (λ v. IsLegalWith rules.now limits lines.now v.items)) }
+{
+    let guide = AllowingGuide::new(alloc, rules, limits, lines)?;
+    let start = WidePosition::start(alloc, limits)?;
+    match find(&guide, alloc, start, labels, effort, watch)? {
+        Found::Witness(witness) => Ok(Some(witness)),
+        Found::Nothing(_) => Ok(None),
+    }
+}
+
+/// A run with these rules that shows these lines, if the guided search finds one. At most `states` states are looked at
+/// for one line.
+fn witness_of<W: Watch>(
+    alloc: Global,
+    rules: &Rules,
+    limits: HistoryLimits,
+    lines: &[Line],
+    states: usize,
+    watch: &mut W,
+) -> Result<Option<Vec<Label>>, Stop>
+    ensures { IfOk result (λ o. IfSome o (λ v. IsLegalWith rules.now limits lines.now v.items)) }
+{
+    let labels = labels_of(alloc, lines)?;
+    for effort in efforts(states).as_slice() {
+        let found = guided(
+            alloc,
+            rules,
+            limits,
+            lines,
+            labels.as_slice(),
+            effort,
+            watch,
+        )?;
+        if let Some(witness) = found {
+            return Ok(Some(witness));
+        }
+    }
+    Ok(None)
+}
+
+/// A run with these rules, under these limits, that shows the lines of a history, oldest first, if a guided search finds
+/// one: its labels, newest first. At most `states` states are looked at for one line. None says nothing. `watch` is told
+/// how far a search has come: up to three without rules, and up to two with them, each from the first line.
+///
+/// # Errors
+///
+/// Memory ran out, or a number of a state got too great for it.
+pub fn find_run_allowing<W: Watch>(
+    alloc: Global,
+    rules: &Rules,
+    limits: HistoryLimits,
+    lines: &[Line],
+    states: usize,
+    watch: &mut W,
+) -> Result<Option<Vec<Label>>, Stop>
+    ensures { IfOk result (λ o. IfSome o (λ v. IsLegalWith rules.now limits lines.now v.items)) }
+{
+    if let Some(witness) = find_run(alloc, limits, lines, states, watch)? {
+        return Ok(Some(witness));
+    }
+    if are_none(rules) {
+        return Ok(None);
+    }
+    let found = witness_of(alloc, rules, limits, lines, states, watch)?;
+    Ok(found)
+}
+
+/// The verdict on no lines: a run of no steps shows them.
+fn no_lines(alloc: Global) -> Verdict
+    ensures { (r : Allowed) (l : Bounds) → IsVerdictWith r l [] result }
+{
+    Verdict::Legal(Vec::new(alloc))
 }
 
 /// The verdict on these lines, of which there are some, by a search of all steps.
@@ -63,8 +154,8 @@ fn searched<W: Watch>(
 ///
 /// `Legal` has a witness: the labels of such a run, newest first. `Illegal(n)` says that no run shows the first n lines,
 /// and that some run shows the first n - 1. `Undecided(n)` says nothing of the first n lines: more than `states` states
-/// were made for one line. `watch` is told how far a search has come: those of `judge_lines` come first, since what is
-/// legal without rules is legal with them, and then the one with rules, each from the first line.
+/// were made for one line. `watch` is told how far a search has come: up to three that are guided come first,
+/// without rules, then up to two with them, and then the exact one, each from the first line.
 ///
 /// # Errors
 ///
@@ -79,15 +170,17 @@ pub fn judge_allowing<W: Watch>(
 ) -> Result<Verdict, Stop>
     ensures { IfOk result (IsVerdictWith rules.now limits lines.now) }
 {
-    let plain = judge_lines(alloc, limits, lines, states, watch)?;
     if are_none(rules) {
+        let plain = judge_lines(alloc, limits, lines, states, watch)?;
         return Ok(plain);
     }
-    match plain {
-        Verdict::Legal(witness) => Ok(Verdict::Legal(witness)),
-        Verdict::Illegal(_) => searched(alloc, rules, limits, lines, states, watch),
-        Verdict::Undecided(_) => searched(alloc, rules, limits, lines, states, watch),
+    if lines.len() == 0 {
+        return Ok(no_lines(alloc));
     }
+    if let Some(witness) = find_run_allowing(alloc, rules, limits, lines, states, watch)? {
+        return Ok(Verdict::Legal(witness));
+    }
+    searched(alloc, rules, limits, lines, states, watch)
 }
 
 /// The candidates that can come behind these lines; none if the search gave up.

@@ -5,16 +5,20 @@
 //! | `judge_allowing` | a witness, the first line up to which no run exists, or that the search gave up |
 //! | `possible_answers_allowing`, `possible_priorities_allowing` | with which answers, or priorities, a line would be shown |
 //!
-//! The search is `judge` of `pif_search` over the states of `pif_posix` with what rules remember. What is legal without
-//! rules is legal with them, so the plain search of `pif_history` comes first.
+//! The searches are `find` and `judge` of `pif_search`, over the states of `pif_posix` with what rules remember. The
+//! first is guided by what later lines say, and finds witnesses alone; the second is exact. What is legal without rules
+//! is legal with them, so the guided search of `pif_history` comes before both.
 #![tactic(auto)]
 
+mod extras;
+mod guide;
 mod judge;
 mod machine;
 mod position;
 
 pub use judge::{
-    are_none, judge_allowing, possible_answers_allowing, possible_priorities_allowing,
+    are_none, find_run_allowing, judge_allowing, possible_answers_allowing,
+    possible_priorities_allowing,
 };
 pub use machine::AllowingMachine;
 pub use position::WidePosition;

@@ -1,1 +1,2 @@
 pub mod Widening
+pub mod Listing

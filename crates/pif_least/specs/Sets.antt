@@ -2,8 +2,8 @@
 use Rattle.std.specs.Prelude.{ℕ, zero, suc, ◌&&◌, Bool, true, false, not, nat_lt, List, [], ◌∷◌, ◌++◌, filter, length, Option, Some, None}
 use Rattle.pif_rules_model.specs.declared.rules.Rules.{Rules}
 use Rattle.pif_rules.specs.declared.rules.Rule.{Rule}
-use Rattle.pif_rules.specs.declared.rules.Rule.TheVariants.{Steal, AnyWaiter, Spurious, Recursion, OwnErrorcheck, AnyConsistent, HeldWait, LostSignal, Revives}
-use Rattle.pif_rules.specs.Sets.{both, has, only}
+use Rattle.pif_rules.specs.declared.rules.Rule.TheVariants.{Recursion}
+use Rattle.pif_rules.specs.Sets.{rules_in_order, both, has, only}
 
 -- Whether the second number is the greater, or is there alone.
 abbrev pub greater_number : Option ℕ → Option ℕ → Bool
@@ -17,13 +17,9 @@ abbrev pub adds : (base a : Rules) → Rule → Bool
 adds base a Recursion = greater_number base.recursion a.recursion
 adds base a rule = has a rule && not (has base rule)
 
--- All rules, in the order of their table.
-abbrev pub table : List Rule
-table = Steal ∷ AnyWaiter ∷ Spurious ∷ Recursion ∷ OwnErrorcheck ∷ AnyConsistent ∷ HeldWait ∷ LostSignal ∷ Revives ∷ []
-
 -- The rules of a that add to those of base.
 abbrev pub added : (base a : Rules) → List Rule
-added base a = filter (adds base a) table
+added base a = filter (adds base a) rules_in_order
 
 -- The sets of so many of these rules, which are some of a, each with those that are held: first those that have the first
 -- rule.

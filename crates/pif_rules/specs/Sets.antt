@@ -1,9 +1,14 @@
 -- Rules one by one, and sets of them.
-use Rattle.std.specs.Prelude.{ℕ, ◌||◌, Bool, is_some, nat_lt, List, Option, Some, None, if◌then◌else◌, codes}
+use Rattle.std.specs.Prelude.{ℕ, ◌||◌, Bool, is_some, nat_lt, List, [], ◌∷◌, Option, Some, None, if◌then◌else◌, codes}
 use Rattle.pif_rules_model.specs.declared.rules.Rules.{Rules}
 use Rattle.pif_rules_model.specs.Rules.{no_rules}
 use Rattle.pif_rules.specs.declared.rules.Rule.{Rule}
 use Rattle.pif_rules.specs.declared.rules.Rule.TheVariants.{Steal, AnyWaiter, Spurious, Recursion, OwnErrorcheck, AnyConsistent, HeldWait, LostSignal, Revives}
+
+-- All rules, in the order in which they are told and tried: that of the constant RULES.
+abbrev pub rules_in_order : List Rule
+rules_in_order =
+    Steal ∷ AnyWaiter ∷ Spurious ∷ Recursion ∷ OwnErrorcheck ∷ AnyConsistent ∷ HeldWait ∷ LostSignal ∷ Revives ∷ []
 
 -- The name of a rule.
 abbrev pub name_of : Rule → List ℕ
