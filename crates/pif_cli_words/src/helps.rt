@@ -86,7 +86,7 @@ pub const ABOUT_EXPLORE: &str = "Reads a small program that locks, and tells all
 pub const ABOUT_SCHEDULES: &str = "Writes a schedule of each outcome, too";
 
 /// What the option of `explore` for cores does.
-pub const ABOUT_CORE: &str = "Plays N schedules on the core, too, 1 to 1000000; 10000 without N";
+pub const ABOUT_CORE: &str = "Plays N schedules on the core, 1 to 1000000; 10000 without N";
 
 /// What the option of `explore` for states does.
 pub const ABOUT_KEPT: &str = "Most states that are kept, 1 to 16777216";
@@ -388,7 +388,8 @@ For each history it prints:
   undecided at L
     more states than --states were made for line L, or the time of --seconds was
     over before it; 'no witness found from M on' says that no run was found for
-    the lines up to M, and claims nothing
+    the lines up to M, and 'found there: A ..' with which answers in it one was:
+    they claim nothing of others
   fault L CAUSE
     line L is the first that is a fault
 With --json it prints an object for the verdict, and one for each line of a run

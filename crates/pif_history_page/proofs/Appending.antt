@@ -1,12 +1,11 @@
 -- What is appended piece by piece.
-use Rattle.std.proofs.Common.{◌≡◌, ◌∙◌, ◌-◌, ℕ, Bool, Option, List, ◌++◌, length, ap, append_assoc, codes, decimal, Result, Ok, Err, OnOk, is_ok, if◌then◌else◌}
+use Rattle.std.proofs.Common.{◌≡◌, ◌∙◌, ◌-◌, ℕ, Bool, Option, List, ◌++◌, length, ap, append_assoc, Result, Ok, Err, OnOk, is_ok, if◌then◌else◌}
 use Rattle.pif_model.specs.World.{World, effective_of, is_living, rests, thread_at}
 use Rattle.pif_history_model.specs.declared.lines.Line.{Line}
 use Rattle.pif_history_text.specs.Texts.{line_text}
 use Rattle.pif_rules.specs.declared.rules.Rule.{Rule}
 use Rattle.pif_history_page.specs.Objects.{call_members, change_lists, change_members, thread_object, thread_text}
 use Rattle.pif_history_page.specs.Runs.{line_members, line_object}
-use Rattle.pif_history_page.specs.Verdicts.{at_number, undecided_object}
 
 -- Bytes that grew by these.
 pub record Grown (old xs new : List ℕ) : Type 0 where
@@ -57,13 +56,3 @@ unfolding line_object
 line_appended whole number line moves rule w v old new n text counted read all =
     all ∙ ap (λ k. old ++ line_members whole k text moves rule w v) counted
     ∙ ap (λ l. old ++ line_members whole number l moves rule w v) read
-
--- A verdict that is undecided, by the number that was written.
-pub undecided_appended : (old new : List ℕ) (number unfound n left_out : ℕ) → n ≡ unfound
-    → new ≡ old ++ (at_number (codes "{\"verdict\":\"undecided\",\"line\":") number left_out ++ codes ",\"no_witness_from\":" ++ decimal n
-    ++ codes "}\n")
-    → new ≡ old ++ undecided_object number unfound left_out
-unfolding undecided_object
-undecided_appended old new number unfound n left_out same all =
-    all ∙ ap (λ (k : ℕ). old ++ (at_number (codes "{\"verdict\":\"undecided\",\"line\":") number left_out
-    ++ codes ",\"no_witness_from\":" ++ decimal k ++ codes "}\n")) same

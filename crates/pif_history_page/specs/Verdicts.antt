@@ -1,5 +1,6 @@
 -- Verdicts on histories, as lines of JSON.
 use Rattle.std.specs.Prelude.{ℕ, List, [], ◌∷◌, ◌++◌, Option, Some, None, flat_map, codes, decimal}
+use Rattle.std.specs.Global.{Vec}
 use Rattle.pif_history_model.specs.declared.lines.Line.{Line}
 use Rattle.pif_history_model.specs.declared.lines.Line.TheVariants.{Begin}
 use Rattle.pif_history_text.specs.Texts.{line_text}
@@ -7,6 +8,7 @@ use Rattle.pif_history_text.specs.Verdicts.{line_refusal_word}
 use Rattle.pif_text_json.specs.Json.{quoted}
 use Rattle.pif_history_page.specs.declared.verdicts.Began.{Began}
 use Rattle.pif_history_page.specs.declared.verdicts.Known.{Known}
+use Rattle.pif_history_page.specs.declared.verdicts.Unfound.{Unfound}
 use Rattle.pif_history_page.specs.declared.verdicts.Known.TheVariants.{Refused, Numbers, Nothing}
 
 -- How many lines of the history, from its first one, are left out behind the verdict.
@@ -57,9 +59,17 @@ abbrev pub illegal_object : (number : ℕ) → Line → Known → Option Began �
 illegal_object number line known began left_out =
     illegal_front number line left_out ++ illegal_end known began
 
--- At the line of this number the search was given up, and no witness was found from the line of another number on, which
--- claims nothing.
-unfoldable pub undecided_object : (number unfound left_out : ℕ) → List ℕ
+-- With these numbers, in place of an answer or a priority, a search found a run, if it looked. It claims nothing of others.
+unfoldable pub found_member : Option (Vec ℕ) → List ℕ
+found_member None = []
+found_member (Some ns) = codes ",\"found\":[" ++ numbers_text ns.items ++ codes "]"
+
+-- The number of a line behind what it numbers, and what a search found in its place.
+abbrev pub found_at : (head : List ℕ) → (number : ℕ) → Option (Vec ℕ) → List ℕ
+found_at head number found = head ++ decimal number ++ found_member found
+
+-- At the line of this number the search was given up, and that is the first one for which no run was found.
+abbrev pub undecided_object : (number : ℕ) → Unfound → (left_out : ℕ) → List ℕ
 undecided_object number unfound left_out =
-    at_number (codes "{\"verdict\":\"undecided\",\"line\":") number left_out ++ codes ",\"no_witness_from\":" ++ decimal unfound
-    ++ codes "}\n"
+    at_number (codes "{\"verdict\":\"undecided\",\"line\":") number left_out
+    ++ found_at (codes ",\"no_witness_from\":") unfound.number unfound.found ++ codes "}\n"

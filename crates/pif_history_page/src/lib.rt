@@ -25,4 +25,4 @@ mod verdicts;
 
 pub use pages::{PAGE_LINES, append_page, first_shown};
 pub use runs::run_text;
-pub use verdicts::{Began, Known, append_illegal, append_legal, append_undecided};
+pub use verdicts::{Began, Known, Unfound, append_illegal, append_legal, append_undecided};

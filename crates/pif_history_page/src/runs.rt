@@ -1,40 +1,45 @@
-ghost use Rattle.std.specs.Prelude.{◌≡◌, ◌<◌, Some, length, slice_get, IfOk};
+ghost use Rattle.std.specs.Prelude.{◌≡◌, ◌≤◌, ◌-◌, ◌∷◌, Option, drop, length, IfOk};
 ghost use Rattle.pif_allow_model.specs.Allowed.{WideConfiguration};
-ghost use Rattle.pif_history_run.specs.Steps.{steps_of};
-ghost use Rattle.pif_history_run.specs.Ways.{IsRun};
-ghost use Rattle.pif_history_run.specs.declared.leading.Step.{Step};
+ghost use Rattle.pif_rules.specs.declared.rules.Rule.{Rule};
+ghost use Rattle.pif_history_run.specs.Steps.{IsStepBy};
+ghost use Rattle.pif_history_run.specs.Ways.{HasCome, IsRun};
 ghost use Rattle.pif_history_page.specs.Runs.{IsTold, Telling, with_step};
 
 use crate::tellings::{Frame, Leap, Telling};
 use pif_allow::WidePosition;
 use pif_history_model::{HistoryLimits, Label};
-use pif_history_run::{choices, step_at};
+use pif_history_run::{choices, next_step};
 use pif_rules_model::Rules;
 use pif_search::Stop;
 use std::alloc::Global;
 
-/// Tells the step at this place among those of a label from a position, and answers to which one it leads.
+/// Tells the next step of a run with these labels and choices, and answers to which position it leads.
 fn take_step(
     alloc: Global,
     rules: &Rules,
     limits: HistoryLimits,
     frame: &Frame<'_>,
-    label: &Label,
-    place: usize,
+    labels: &[Label],
+    choices: &[usize],
+    left: usize,
     from: &WidePosition,
     told: &mut Telling,
 ) -> Result<WidePosition, Stop>
-    requires { place < length (steps_of rules.now limits from.now label.now) }
-    ensures { IfOk result (λ to. (step : Step) × (slice_get (steps_of rules.now limits from.now label.now) place ≡ Some step) × (step.position ≡ to)
-        × (told.new ≡ with_step frame.now.from frame.now.numbers.now label.now step.rule from.now.wide.world step.position.wide.world told.old)) }
+    requires some { 1 ≤ left }
+    requires within { left ≤ length labels.now }
+    requires come { HasCome rules.now limits labels.now choices.now left from.now }
+    ensures come { IfOk result (λ to. HasCome rules.now limits labels.now choices.now (left - 1) to) }
+    ensures told { IfOk result (λ to. (x : Label) × (rule : Option Rule) × (drop (left - 1) labels.now ≡ x ∷ drop left labels.now)
+        × IsStepBy rules.now limits from.now x rule to
+        × (told.new ≡ with_step frame.now.from frame.now.numbers.now x rule from.now.wide.world to.wide.world told.old)) }
 {
-    let step = step_at(alloc, rules, limits, from, label, place)?;
+    let step = next_step(alloc, rules, limits, labels, choices, left, from)?;
     let leap = Leap {
         rule: step.rule,
         from: from.world(),
         to: step.position.world(),
     };
-    told.add(frame, label, &leap)?;
+    told.add(frame, &labels[left - 1], &leap)?;
     Ok(step.position)
 }
 
@@ -63,17 +68,18 @@ pub fn run_text(
     let mut told = Telling::new(alloc);
     let mut left = witness.len();
     while left > 0 {
-        left -= 1;
         position = take_step(
             alloc,
             rules,
             limits,
             &frame,
-            &witness[left],
-            chosen[left],
+            witness,
+            chosen.as_slice(),
+            left,
             &position,
             &mut told,
         )?;
+        left -= 1;
     }
     Ok(told.into_lines())
 }

@@ -296,6 +296,7 @@ function tell() {
   if (verdict.possible === null) why.push('possible there: undecided');
   if (verdict.began) why.push('its call began at ' + verdict.began.line + ': ' + verdict.began.text);
   if (verdict.no_witness_from) why.push('no witness found from ' + verdict.no_witness_from + ' on');
+  if (verdict.found) why.push('found there: ' + (verdict.found.join(' ') || 'none'));
   if (verdict.verdict !== 'legal') why.push('The run shows the lines before it.');
   if (verdict.left_out) why.push('The first ' + verdict.left_out + ' lines of the history are left out.');
   at('why').replaceChildren(...why.map(text => Object.assign(document.createElement('p'), {textContent: text})));

@@ -3,7 +3,7 @@ ghost use Rattle.std.specs.Prelude.{◌≡◌, ◌++◌, OnOk, codes, decimal, d
 ghost use Rattle.pif_text_model.specs.Replies.{text_of};
 ghost use Rattle.pif_history_text.specs.Verdicts.{line_refusal_word};
 ghost use Rattle.pif_text_json.specs.Json.{quoted};
-ghost use Rattle.pif_history_page.specs.Verdicts.{at_line, at_number, began_member, illegal_end, illegal_front, illegal_object, known_member, left_out_member, legal_object, numbers_text, undecided_object};
+ghost use Rattle.pif_history_page.specs.Verdicts.{at_line, at_number, began_member, found_at, found_member, illegal_end, illegal_front, illegal_object, known_member, left_out_member, legal_object, numbers_text, undecided_object};
 
 use pif_history_model::{Line, LineRefusal};
 use pif_history_text::line_text;
@@ -22,6 +22,15 @@ pub enum Known {
     Numbers(Option<Vec<u32>>),
     /// Nothing more.
     Nothing,
+}
+
+/// The first line for which no search found a run that shows the lines up to it. It claims nothing: there may be one.
+#[derive(Drop)]
+pub struct Unfound {
+    /// The number of the line, from 1.
+    pub number: u32,
+    /// With these numbers, in place of its answer or its priority, a search found a run; none if none was looked for.
+    pub found: Option<Vec<u32>>,
 }
 
 /// The begin of a call that is open.
@@ -210,19 +219,48 @@ pub fn append_legal(lines: u32, left_out: u32, out: &mut Vec<u8>) -> Result<(), 
     out.extend_from_slice(b"}\n")
 }
 
-/// Appends the verdict on a history that was given up at the line of this number. From the line of number `unfound` on no
-/// witness was found, which claims nothing.
+/// Appends with which numbers, in place of an answer or a priority, a search found a run, as a member, if it looked.
+#[tactic(auto, unfolding(crate::specs::Verdicts::found_member))]
+fn append_found(found: &Option<Vec<u32>>, out: &mut Vec<u8>) -> Result<(), AllocError>
+    ensures { OnOk result (out.new.items ≡ out.old.items ++ found_member found.now) }
+{
+    match found {
+        Some(numbers) => {
+            out.extend_from_slice(b",\"found\":[")?;
+            append_numbers(numbers.as_slice(), out)?;
+            out.extend_from_slice(b"]")
+        }
+        None => Ok(()),
+    }
+}
+
+/// Appends the number of a line behind what it numbers, and what a search found in its place.
+fn append_found_at(
+    head: &[u8],
+    number: u32,
+    found: &Option<Vec<u32>>,
+    out: &mut Vec<u8>,
+) -> Result<(), AllocError>
+    ensures { OnOk result (out.new.items ≡ out.old.items ++ found_at head.now number found.now) }
+{
+    out.extend_from_slice(head)?;
+    append_decimal(out, u64::from(number))?;
+    append_found(found, out)
+}
+
+/// Appends the verdict on a history that was given up at the line of this number, and the first line for which no run was
+/// found, which claims nothing.
 ///
 /// # Errors
 ///
 /// A growth of memory was refused.
 pub fn append_undecided(
     number: u32,
-    unfound: u32,
+    unfound: &Unfound,
     left_out: u32,
     out: &mut Vec<u8>,
 ) -> Result<(), AllocError>
-    ensures { OnOk result (out.new.items ≡ out.old.items ++ undecided_object number unfound left_out) }
+    ensures { OnOk result (out.new.items ≡ out.old.items ++ undecided_object number unfound.now left_out) }
 {
     append_at(
         b"{\"verdict\":\"undecided\",\"line\":",
@@ -230,7 +268,11 @@ pub fn append_undecided(
         left_out,
         out,
     )?;
-    out.extend_from_slice(b",\"no_witness_from\":")?;
-    append_decimal(out, u64::from(unfound))?;
+    append_found_at(
+        b",\"no_witness_from\":",
+        unfound.number,
+        &unfound.found,
+        out,
+    )?;
     out.extend_from_slice(b"}\n")
 }

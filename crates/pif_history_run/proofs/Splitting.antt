@@ -1,6 +1,6 @@
 -- A step with rules needs none of them, or is there if one of them alone is allowed. What is listed without rules is
 -- listed first with any.
-use Rattle.std.proofs.Common.{ℕ, ◌≡◌, ◌∙◌, Bool, true, false, List, [], ◌++◌, map, Option, Some, None, is_some, refl, sym, ap, inl, inr, ◌⊎◌, if◌then◌else◌}
+use Rattle.std.proofs.Common.{ℕ, ◌≡◌, ◌∙◌, Bool, true, false, List, [], ◌++◌, map, Option, Some, None, is_some, sym, ap, inl, inr, ◌⊎◌, if◌then◌else◌}
 use Rattle.std.specs.List.{flat_map}
 use Rattle.std.proofs.lemmas.List.{append-nil, map-append}
 use Rattle.pif_types.specs.Bounds.{Bounds}
@@ -10,13 +10,12 @@ use Rattle.pif_model.specs.declared.events.Entry.{Entry}
 use Rattle.pif_model.specs.declared.events.Entry.TheVariants as entry
 use Rattle.pif_posix_model.specs.Doing.{moved, is_allowed, robust_of, ended}
 use Rattle.pif_rules_model.specs.declared.rules.Rules.{Rules}
-use Rattle.pif_rules_model.specs.Rules.{Wide, WideMoves, WideEnters, MovesByRule, EndsOrRevives, no_rules}
+use Rattle.pif_rules_model.specs.Rules.{Wide, WideEnters, MovesByRule, no_rules}
 use Rattle.pif_rules_model.specs.Rules.WideMoves.{plain, ruled}
 use Rattle.pif_rules_model.specs.Rules.WideEnters.{ended as wide_end, other as wide_other}
 use Rattle.pif_rules_model.specs.Rules.EndsOrRevives.{as_ever, after_reviving}
 use Rattle.pif_rules_model.specs.Rules.MovesByRule.{steal, any_waiter, spurious, recursion, own_errorcheck, any_consistent, held_wait, lost_signal}
 use Rattle.pif_rules_model.specs.Ruled.{beside, remembering, moved_by_rule, ended_after_reviving}
-use Rattle.pif_history_model.specs.declared.lines.Line.{Line}
 use Rattle.pif_history_model.specs.declared.lines.Line.TheVariants.{Thread, Mutex, Cond, Begin, Answer, Dying, End, Tick, Rests, Prio}
 use Rattle.pif_history_model.specs.declared.labels.Label.{Label}
 use Rattle.pif_history_model.specs.declared.labels.Label.TheVariants.{Shown, Moves, Ends}

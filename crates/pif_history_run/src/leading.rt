@@ -101,11 +101,7 @@ fn listed(
 }
 
 /// The step at this place among those of a label from a position.
-///
-/// # Errors
-///
-/// Memory ran out, or a number got too great for a state.
-pub fn step_at(
+pub(crate) fn step_at(
     alloc: Global,
     rules: &Rules,
     limits: HistoryLimits,

@@ -11,5 +11,5 @@
 mod leading;
 mod ways;
 
-pub use leading::{Step, step_at, steps};
-pub use ways::choices;
+pub use leading::{Step, steps};
+pub use ways::{choices, next_step};

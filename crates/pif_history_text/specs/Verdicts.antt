@@ -56,6 +56,10 @@ abbrev pub possible_line : Option (List ℕ) → List ℕ
 possible_line (Some ns) = codes "possible there:" ++ possible_text ns ++ codes "\n"
 possible_line None = codes "possible there: undecided\n"
 
+-- With these in place of the answer or the priority a search found a run. It claims nothing of others.
+abbrev pub found_line : List ℕ → List ℕ
+found_line ns = codes "found there:" ++ possible_text ns ++ codes "\n"
+
 -- The open call of a thread began at the line of this number.
 abbrev pub began_line : (number thread : ℕ) → Request → List ℕ
 began_line number thread request =

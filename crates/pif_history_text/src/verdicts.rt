@@ -1,6 +1,6 @@
 //! The lines of verdicts. Each is appended to `out`; where memory is refused, a part of it may be.
 ghost use Rattle.std.specs.Prelude.{◌≡◌, ◌++◌, None, OnOk, Some, decimal};
-ghost use Rattle.pif_history_text.specs.Verdicts.{at_number, began_line, colon_line, fault_line, illegal_line, legal_line, line_refusal_word, possible_line, possible_text, refused_line, undecided_line};
+ghost use Rattle.pif_history_text.specs.Verdicts.{at_number, began_line, colon_line, fault_line, found_line, illegal_line, legal_line, line_refusal_word, possible_line, possible_text, refused_line, undecided_line};
 
 use crate::writing::line_text;
 use itoa::Buffer;
@@ -151,6 +151,19 @@ pub fn push_possible_undecided(out: &mut Vec<u8>) -> Result<(), AllocError>
     ensures { OnOk result (out.new.items ≡ out.old.items ++ possible_line None) }
 {
     out.extend_from_slice(b"possible there: undecided\n")
+}
+
+/// Appends the line that says with which numbers, in the place of an answer or a priority, a search found a run.
+///
+/// # Errors
+///
+/// A growth of memory was refused.
+pub fn push_found(out: &mut Vec<u8>, numbers: &[u32]) -> Result<(), AllocError>
+    ensures { OnOk result (out.new.items ≡ out.old.items ++ found_line numbers.now) }
+{
+    out.extend_from_slice(b"found there:")?;
+    push_numbers(out, numbers)?;
+    out.extend_from_slice(b"\n")
 }
 
 /// Appends the line that says where the open call of a thread began.

@@ -6,7 +6,6 @@ use Rattle.pif_history_model.specs.declared.labels.Label.{Label}
 use Rattle.pif_rules_model.specs.declared.rules.Rules.{Rules}
 use Rattle.pif_allow_model.specs.Allowed.{WideConfiguration, wide_start_of}
 use Rattle.pif_rules.specs.declared.rules.Rule.{Rule}
-use Rattle.pif_history_run.specs.declared.leading.Step.{Step}
 use Rattle.pif_history_run.specs.Steps.{IsStepBy}
 use Rattle.pif_history_witness.specs.Tellings.{IsTold, if_other, others_below, step_telling}
 use Rattle.pif_history_witness.specs.Tellings.IsTold.{start as told_start, then as told_then}
@@ -21,14 +20,12 @@ others-more moving n w v old mid new e f =
     ∙ ap (λ (j : ℕ). old ++ others_below j moving w v) next))
 
 -- one step more
-pub IsTold-step : (r : Rules) (l : Bounds) (xs ys : List Label) (x : Label) (s to : WideConfiguration) (step : Step)
-    (old text : List ℕ) → ys ≡ x ∷ xs → IsStepBy r l s x step.rule step.position → step.position ≡ to
-    → text ≡ old ++ step_telling step.rule x s.wide.world step.position.wide.world → IsTold r l xs s old → IsTold r l ys to text
-IsTold-step r l xs ys x s to step old text more by leads grown told =
-    let one : IsTold r l (x ∷ xs) step.position text =
-    subst (λ (b : List ℕ). IsTold r l (x ∷ xs) step.position b) (sym grown) (told_then x step.rule step.position told by) in
-    subst (λ (z : WideConfiguration). IsTold r l ys z text) leads
-    (subst (λ (zs : List Label). IsTold r l zs step.position text) (sym more) one)
+pub IsTold-step : (r : Rules) (l : Bounds) (xs ys : List Label) (x : Label) (rule : Option Rule) (s to : WideConfiguration)
+    (old text : List ℕ) → ys ≡ x ∷ xs → IsStepBy r l s x rule to → text ≡ old ++ step_telling rule x s.wide.world to.wide.world
+    → IsTold r l xs s old → IsTold r l ys to text
+IsTold-step r l xs ys x rule s to old text more by grown told =
+    subst (λ (zs : List Label). IsTold r l zs to text) (sym more)
+    (subst (λ (b : List ℕ). IsTold r l (x ∷ xs) to b) (sym grown) (told_then x rule to told by))
 
 -- before the first step
 pub IsTold-start : (r : Rules) (l : Bounds) (xs : List Label) (s : WideConfiguration) (text : List ℕ) → xs ≡ []

@@ -20,16 +20,17 @@ use Rattle.pif_history_page.specs.Pages.{IsPageOf}
 use Rattle.pif_history_page.specs.declared.verdicts.Began.{Began}
 use Rattle.pif_history_page.specs.declared.verdicts.Known.{Known}
 use Rattle.pif_history_page.specs.declared.verdicts.Known.TheVariants.{Numbers}
+use Rattle.pif_history_page.specs.declared.verdicts.Unfound.{Unfound}
 use Rattle.pif_job_judge.specs.declared.telling.Says.{Says}
 use Rattle.pif_job_judge.specs.declared.faults.JudgeFault.{JudgeFault}
 use Rattle.pif_job_judge.specs.declared.faults.JudgeFault.TheVariants as fault
 use Rattle.pif_job_judge.specs.declared.forms.Form.{Form}
 use Rattle.pif_job_judge.specs.declared.forms.Form.TheVariants.{Text, Witness, Json, Page}
 use Rattle.pif_job_judge.specs.Judging.{AppendsTold, Judges, WritesText}
-use Rattle.pif_job_judge.specs.Lines.{AppendsLines, TellsIllegal, TellsUndecided, TellsVerdict, unfound_line, why_text}
+use Rattle.pif_job_judge.specs.Lines.{AppendsLines, TellsIllegal, TellsUndecided, TellsVerdict, unfound_text, why_text}
 use Rattle.pif_job_judge.specs.Lines.IsTold.{legal, illegal, undecided}
 use Rattle.pif_job_judge.specs.Objects.{AppendsObjects, AreObjects}
-use Rattle.pif_job_judge.specs.Why.{ArePossible, IsKnown, IsNumbered, has_number, open_behind, open_call, open_of, said_of}
+use Rattle.pif_job_judge.specs.Why.{ArePossible, IsKnown, IsNumbered, IsUnfound, has_number, open_behind, open_call, open_of, said_of}
 
 -- the lines of an illegal history
 pub tells_illegal : (h : Heard) (n : ℕ) (old mid new : List ℕ) (number : ℕ) (line : Line) (known : Known)
@@ -49,17 +50,15 @@ tells_illegal h n old mid new number line known began there numbered is began_is
     )
 
 -- the lines of one that was given up
-pub tells_undecided : (h : Heard) (n unfound : ℕ) (old mid new : List ℕ) (number from : ℕ) → IsNumbered h n number → n ≤ unfound
-    → IsNumbered h unfound from → mid ≡ old ++ undecided_line number → new ≡ mid ++ unfound_line from
+pub tells_undecided : (h : Heard) (n : ℕ) (old mid new : List ℕ) (number : ℕ) (unfound : Unfound) → IsNumbered h n number
+    → IsUnfound h n unfound → mid ≡ old ++ undecided_line number → new ≡ mid ++ unfound_text unfound
     → TellsUndecided h n old new (fault.Undecided number)
-tells_undecided h n unfound old mid new number from numbered behind there first second = (
+tells_undecided h n old mid new number unfound numbered there first second = (
   number,
   unfound,
-  from,
   numbered,
-  behind,
   there,
-  second ∙ ap (λ (l : List ℕ). l ++ unfound_line from) first ∙ append_assoc old (undecided_line number) (unfound_line from),
+  second ∙ ap (λ (l : List ℕ). l ++ unfound_text unfound) first ∙ append_assoc old (undecided_line number) (unfound_text unfound),
   refl,
 )
 
@@ -77,7 +76,7 @@ told_illegal form h n old new end is t =
 pub told_undecided : (form : Form) (h : Heard) (n : ℕ) (old new : List ℕ) (end : JudgeFault)
     → IsVerdictWith h.allowed (limits_of h) h.shown (Undecided n) → TellsUndecided h n old new end → AppendsLines form h (Err end) old new
 told_undecided form h n old new end is t =
-    (_, undecided n t.0 t.1 t.2 is t.3 t.4 t.5 refl (ap (λ (e : JudgeFault). Err e) t.7), t.6)
+    (_, undecided n t.0 t.1 is t.2 t.3 refl (ap (λ (e : JudgeFault). Err e) t.5), t.4)
 
 -- what is told in each form
 pub lines_told : (form : Form) (h : Heard) (r : Result (Result (Unit {0}) JudgeFault) CliFault) (old new : List ℕ)

@@ -1,5 +1,5 @@
 -- What is told of a history in lines of JSON, put together.
-use Rattle.std.proofs.Common.{◌≡◌, ◌≤◌, ◌∙◌, ℕ, ◌-◌, inl, inr, List, [], ◌++◌, Option, Some, length, take, Result, Ok, Err, OnOk, refl, sym, ap, subst, append_assoc}
+use Rattle.std.proofs.Common.{◌≡◌, ◌∙◌, ℕ, ◌-◌, inl, inr, List, [], ◌++◌, Option, Some, length, take, Result, Ok, Err, OnOk, refl, sym, ap, subst, append_assoc}
 use Rattle.std.specs.Prelude.{slice_get}
 use Rattle.std.proofs.lemmas.List.{append-nil}
 use Rattle.pif_script_model.specs.declared.faults.CliFault.TheVariants.{Differs}
@@ -14,12 +14,13 @@ use Rattle.pif_allow.specs.Verdicts.{IsVerdictWith}
 use Rattle.pif_history_text.specs.Histories.{Heard, limits_of}
 use Rattle.pif_history_page.specs.declared.verdicts.Began.{Began}
 use Rattle.pif_history_page.specs.declared.verdicts.Known.{Known}
+use Rattle.pif_history_page.specs.declared.verdicts.Unfound.{Unfound}
 use Rattle.pif_history_page.specs.Verdicts.{illegal_object, legal_object, undecided_object}
 use Rattle.pif_job_judge.specs.declared.forms.Form.{Form}
 use Rattle.pif_job_judge.specs.declared.faults.JudgeFault.TheVariants as fault
 use Rattle.pif_job_judge.specs.Objects.{AppendsBefore, AppendsObjects, AppendsSteps, HasNoWitness, began_with, left_out_of}
 use Rattle.pif_job_judge.specs.Objects.AreObjects.{legal, illegal, undecided}
-use Rattle.pif_job_judge.specs.Why.{IsKnown, IsNumbered, open_of}
+use Rattle.pif_job_judge.specs.Why.{IsKnown, IsNumbered, IsUnfound, open_of}
 
 -- what follows from what holds behind a call that ended well
 pub on_ok : {T E : Type 0} (r : Result T E) (P Q : Type 0) → (P → Q) → OnOk r P → OnOk r Q
@@ -87,16 +88,16 @@ illegal_told form h n number line known began left m old mid new is there number
       both old mid new object run.0 (first ∙ ap (λ (l : List ℕ). old ++ l) number_is) run.2,
     )
 
-pub undecided_told : (form : Form) (h : Heard) (n unfound number from left m : ℕ) (old mid new : List ℕ)
-    → IsVerdictWith h.allowed (limits_of h) h.shown (Undecided n) → IsNumbered h n number → n ≤ unfound → IsNumbered h unfound from
+pub undecided_told : (form : Form) (h : Heard) (n number : ℕ) (unfound : Unfound) (left m : ℕ) (old mid new : List ℕ)
+    → IsVerdictWith h.allowed (limits_of h) h.shown (Undecided n) → IsNumbered h n number → IsUnfound h n unfound
     → left ≡ left_out_of form (n - 1) → m ≡ left
-    → mid ≡ old ++ undecided_object number from m → AppendsBefore h (n - 1) left mid new
+    → mid ≡ old ++ undecided_object number unfound m → AppendsBefore h (n - 1) left mid new
     → AppendsObjects form h (Err (fault.Undecided number)) old new
-undecided_told form h n unfound number from left m old mid new is numbered behind there out written first told =
-    let object : List ℕ = undecided_object number from (left_out_of form (n - 1)) in
-    let number_is = ap (λ (k : ℕ). undecided_object number from k) (written ∙ out) in
+undecided_told form h n number unfound left m old mid new is numbered there out written first told =
+    let object : List ℕ = undecided_object number unfound (left_out_of form (n - 1)) in
+    let number_is = ap (λ (k : ℕ). undecided_object number unfound k) (written ∙ out) in
     let run = subst (λ (k : ℕ). AppendsBefore h (n - 1) k mid new) out told in (
       object ++ run.0,
-      undecided n number unfound from run.0 is numbered behind there run.1 refl refl,
+      undecided n number unfound run.0 is numbered there run.1 refl refl,
       both old mid new object run.0 (first ∙ ap (λ (l : List ℕ). old ++ l) number_is) run.2,
     )

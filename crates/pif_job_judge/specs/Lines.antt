@@ -1,5 +1,6 @@
 -- What is told of a history in lines for a person.
-use Rattle.std.specs.Prelude.{ℕ, ◌≡◌, ◌≤◌, ◌-◌, List, [], ◌++◌, slice_get, Option, Some, None, Result, Ok, Err, codes, decimal}
+use Rattle.std.specs.Prelude.{ℕ, ◌≡◌, ◌-◌, List, [], ◌++◌, slice_get, Option, Some, None, Result, Ok, Err, codes, decimal}
+use Rattle.std.specs.Global.{Vec}
 use Rattle.pif_script_model.specs.declared.faults.CliFault.TheVariants.{Differs}
 use Rattle.pif_types.specs.Bounds.{Bounds}
 use Rattle.pif_history_model.specs.declared.labels.Label.{Label}
@@ -11,16 +12,17 @@ use Rattle.pif_allow.specs.Verdicts.{IsVerdictWith}
 use Rattle.pif_history_model.specs.Lines.{thread_of}
 use Rattle.pif_allow_model.specs.Allowed.{WideConfiguration}
 use Rattle.pif_history_text.specs.Histories.{Heard, limits_of}
-use Rattle.pif_history_text.specs.Verdicts.{began_line, illegal_line, legal_line, possible_line, refused_line, undecided_line}
+use Rattle.pif_history_text.specs.Verdicts.{began_line, found_line, illegal_line, legal_line, possible_line, refused_line, undecided_line}
 use Rattle.pif_history_witness.specs.Tellings.{IsTold as IsRunTold}
 use Rattle.pif_history_page.specs.declared.verdicts.Began.{Began}
 use Rattle.pif_history_page.specs.declared.verdicts.Known.{Known}
 use Rattle.pif_history_page.specs.declared.verdicts.Known.TheVariants.{Refused, Numbers, Nothing}
+use Rattle.pif_history_page.specs.declared.verdicts.Unfound.{Unfound}
 use Rattle.pif_job_judge.specs.declared.forms.Form.{Form}
 use Rattle.pif_job_judge.specs.declared.forms.Form.TheVariants.{Witness}
 use Rattle.pif_job_judge.specs.declared.faults.JudgeFault.{JudgeFault}
 use Rattle.pif_job_judge.specs.declared.faults.JudgeFault.TheVariants as fault
-use Rattle.pif_job_judge.specs.Why.{IsKnown, IsNumbered, open_of}
+use Rattle.pif_job_judge.specs.Why.{IsKnown, IsNumbered, IsUnfound, open_of}
 
 -- The line that says what is known of a line.
 abbrev pub known_text : Known → List ℕ
@@ -55,6 +57,15 @@ TellsRun form r l labels text = text ≡ []
 abbrev pub unfound_line : (number : ℕ) → List ℕ
 unfound_line number = codes "no witness found from " ++ decimal number ++ codes " on\n"
 
+-- With these numbers in place of the answer or the priority a search found a run, if it looked.
+abbrev pub found_text : Option (Vec ℕ) → List ℕ
+found_text None = []
+found_text (Some numbers) = found_line numbers.items
+
+-- The first line for which no run was found.
+abbrev pub unfound_text : Unfound → List ℕ
+unfound_text unfound = unfound_line unfound.number ++ found_text unfound.found
+
 -- A verdict that there is a run, which a text tells if it is wanted.
 abbrev pub TellsVerdict : Form → Rules → Bounds → Verdict → (text : List ℕ) → Type 0
 TellsVerdict form r l (Legal witness) text = TellsRun form r l witness.items text
@@ -71,9 +82,8 @@ pub data IsTold (form : Form) (h : Heard) (text : List ℕ) (end : Result (Unit 
   illegal : (n number : ℕ) (line : Line) (why : List ℕ) → IsVerdictWith h.allowed (limits_of h) h.shown (Illegal n)
       → slice_get h.shown (n - 1) ≡ Some line → IsNumbered h n number → TellsWhy h (n - 1) line why
       → text ≡ illegal_line number line ++ why → end ≡ Err (fault.Cli (Differs number)) → IsTold form h text end
-  undecided : (n number unfound from : ℕ) → IsVerdictWith h.allowed (limits_of h) h.shown (Undecided n) → IsNumbered h n number
-      → n ≤ unfound → IsNumbered h unfound from → text ≡ undecided_line number ++ unfound_line from
-      → end ≡ Err (fault.Undecided number) → IsTold form h text end
+  undecided : (n number : ℕ) (unfound : Unfound) → IsVerdictWith h.allowed (limits_of h) h.shown (Undecided n)
+      → IsNumbered h n number → IsUnfound h n unfound → text ≡ undecided_line number ++ unfound_text unfound → end ≡ Err (fault.Undecided number) → IsTold form h text end
 
 -- Bytes grew by what is told in lines of a history that ends so.
 abbrev pub AppendsLines : Form → Heard → (end : Result (Unit {0}) JudgeFault) → (old new : List ℕ) → Type 0
@@ -95,5 +105,5 @@ TellsIllegal h n old new end =
 -- Bytes grew by what is told of a history whose search was given up at its nth line, and this is how it ends.
 abbrev pub TellsUndecided : Heard → (n : ℕ) → (old new : List ℕ) → JudgeFault → Type 0
 TellsUndecided h n old new end =
-    (number : ℕ) × (unfound : ℕ) × (from : ℕ) × IsNumbered h n number × (n ≤ unfound) × IsNumbered h unfound from
-    × (new ≡ old ++ (undecided_line number ++ unfound_line from)) × (end ≡ fault.Undecided number)
+    (number : ℕ) × (unfound : Unfound) × IsNumbered h n number × IsUnfound h n unfound
+    × (new ≡ old ++ (undecided_line number ++ unfound_text unfound)) × (end ≡ fault.Undecided number)

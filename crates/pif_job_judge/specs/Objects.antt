@@ -1,5 +1,5 @@
 -- What is told of a history in lines of JSON.
-use Rattle.std.specs.Prelude.{⊤, ℕ, ◌≡◌, ◌≤◌, ◌-◌, ◌⊎◌, List, [], ◌++◌, length, take, slice_get, Option, Some, None, Result, Ok, Err}
+use Rattle.std.specs.Prelude.{⊤, ℕ, ◌≡◌, ◌-◌, ◌⊎◌, List, [], ◌++◌, length, take, slice_get, Option, Some, None, Result, Ok, Err}
 use Rattle.pif_script_model.specs.declared.faults.CliFault.TheVariants.{Differs}
 use Rattle.pif_history_model.specs.declared.labels.Label.{Label}
 use Rattle.pif_history_model.specs.declared.lines.Line.{Line}
@@ -13,6 +13,7 @@ use Rattle.pif_history_text.specs.Histories.{Heard, limits_of}
 use Rattle.pif_history_page.specs.declared.verdicts.Began.{Began}
 use Rattle.pif_history_page.specs.declared.verdicts.Known.{Known}
 use Rattle.pif_history_page.specs.declared.verdicts.Known.TheVariants.{Refused, Numbers, Nothing}
+use Rattle.pif_history_page.specs.declared.verdicts.Unfound.{Unfound}
 use Rattle.pif_history_page.specs.Runs.{Telling}
 use Rattle.pif_history_page.specs.Runs.{IsTold as IsRunTold}
 use Rattle.pif_history_page.specs.Verdicts.{illegal_object, legal_object, undecided_object}
@@ -20,7 +21,7 @@ use Rattle.pif_job_judge.specs.declared.forms.Form.{Form}
 use Rattle.pif_job_judge.specs.declared.forms.Form.TheVariants.{Page}
 use Rattle.pif_job_judge.specs.declared.faults.JudgeFault.{JudgeFault}
 use Rattle.pif_job_judge.specs.declared.faults.JudgeFault.TheVariants as fault
-use Rattle.pif_job_judge.specs.Why.{IsKnown, IsNumbered, open_of}
+use Rattle.pif_job_judge.specs.Why.{IsKnown, IsNumbered, IsUnfound, open_of}
 
 -- How many lines of a history a page shows at most.
 abbrev pub page_lines : ℕ
@@ -71,9 +72,9 @@ pub data AreObjects (form : Form) (h : Heard) (text : List ℕ) (end : Result (U
       ≡ illegal_object number line known (began_with known (open_of (thread_of line) h (n - 1))) (left_out_of form (n - 1))
       ++ run
       → end ≡ Err (fault.Cli (Differs number)) → AreObjects form h text end
-  undecided : (n number unfound from : ℕ) (run : List ℕ) → IsVerdictWith h.allowed (limits_of h) h.shown (Undecided n)
-      → IsNumbered h n number → n ≤ unfound → IsNumbered h unfound from → TellsBefore h (n - 1) (left_out_of form (n - 1)) run
-      → text ≡ undecided_object number from (left_out_of form (n - 1)) ++ run → end ≡ Err (fault.Undecided number)
+  undecided : (n number : ℕ) (unfound : Unfound) (run : List ℕ) → IsVerdictWith h.allowed (limits_of h) h.shown (Undecided n)
+      → IsNumbered h n number → IsUnfound h n unfound → TellsBefore h (n - 1) (left_out_of form (n - 1)) run
+      → text ≡ undecided_object number unfound (left_out_of form (n - 1)) ++ run → end ≡ Err (fault.Undecided number)
       → AreObjects form h text end
 
 -- Bytes grew by what is told in lines of JSON of a history that ends so.

@@ -1,5 +1,5 @@
 -- What is known of a line of a history up to which there is no run, and which call is open there.
-use Rattle.std.specs.Prelude.{ℕ, ◌≡◌, ◌-◌, ◌==◌, Bool, true, false, List, [], ◌∷◌, reverse, take, slice_get, Option, Some, None, if◌then◌else◌}
+use Rattle.std.specs.Prelude.{ℕ, ◌≡◌, ◌≤◌, ◌-◌, ◌==◌, Bool, true, false, List, [], ◌∷◌, reverse, take, slice_get, Option, Some, None, if◌then◌else◌}
 use Rattle.pif_history_model.specs.declared.lines.Line.{Line}
 use Rattle.pif_history_model.specs.declared.lines.Line.TheVariants.{Answer, Begin, Prio}
 use Rattle.pif_allow_model.specs.Verdicts.{ArePossibleAnswersWith, ArePossiblePrioritiesWith}
@@ -8,12 +8,18 @@ use Rattle.pif_history_text.specs.Histories.{Heard, limits_of}
 use Rattle.pif_history_page.specs.declared.verdicts.Began.{Began}
 use Rattle.pif_history_page.specs.declared.verdicts.Known.{Known}
 use Rattle.pif_history_page.specs.declared.verdicts.Known.TheVariants.{Refused, Numbers, Nothing}
+use Rattle.pif_history_page.specs.declared.verdicts.Unfound.{Unfound}
 use Rattle.pif_job_judge.specs.declared.telling.Says.{Says}
 use Rattle.pif_job_judge.specs.declared.telling.Says.TheVariants as says
 
 -- A line of a history, the nth, has this number in the text.
 abbrev pub IsNumbered : Heard → (n : ℕ) → (number : ℕ) → Type 0
 IsNumbered h n number = slice_get h.numbers (n - 1) ≡ Some number
+
+-- For the line of this number, the nth or one behind it, no search found a run that shows the lines up to it. It claims
+-- nothing: there may be one.
+abbrev pub IsUnfound : Heard → (n : ℕ) → Unfound → Type 0
+IsUnfound h n unfound = (place : ℕ) × (n ≤ place) × IsNumbered h place unfound.number
 
 -- Exactly these numbers may stand, by the rules that a history allows, in a line behind its first `before` lines: as its
 -- answer, or its priority.

@@ -7,6 +7,7 @@
 //! | `known` | what is known of an illegal line |
 //! | `places` | the lines of a history, and their numbers |
 //! | `telling` | what is told in lines of an illegal line |
+//! | `unfound` | what is found of the first line for which no run was |
 //! | `lines` | verdicts in lines for a person |
 //! | `objects` | verdicts in lines of JSON |
 //! | `judging` | a history, read and judged |
@@ -20,6 +21,7 @@ mod lines;
 mod objects;
 mod places;
 mod telling;
+mod unfound;
 
 pub use faults::JudgeFault;
 pub use forms::{Form, Judging};

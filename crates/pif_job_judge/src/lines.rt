@@ -6,10 +6,11 @@ ghost use Rattle.pif_history_text.specs.Reading.{IsPaired, heard_of};
 ghost use Rattle.pif_job_judge.specs.Lines.{AppendsLines, TellsIllegal, TellsLegal, TellsRun, TellsUndecided};
 
 use crate::faults::JudgeFault;
-use crate::forms::{Form, Judging};
+use crate::forms::{Form, Judging, Reach};
 use crate::known::known_of;
-use crate::places::{line_at, number_at, unfound_of};
+use crate::places::{line_at, number_at};
 use crate::telling::{began_before, tell_legal, tell_unfound, tell_why};
+use crate::unfound::unfound_at;
 use pif_history::Verdict;
 use pif_history_model::{HistoryLimits, Label};
 use pif_history_text::{History, push_illegal, push_undecided};
@@ -87,12 +88,14 @@ fn tell_illegal(
     }
 }
 
-/// Appends what is told of a history whose search was given up at its nth line, if a search found runs for the first
-/// `shown` lines. Answers how that ends.
+/// Appends what is told of a history whose search was given up at its nth line, if searches came so far. Answers how that
+/// ends.
 fn tell_undecided(
+    alloc: Global,
+    asked: &Judging<'_>,
     history: &History,
     count: usize,
-    shown: usize,
+    reach: &Reach,
     out: &mut Vec<u8>,
 ) -> Result<JudgeFault, CliFault>
     requires within { (1 ≤ count) × (count ≤ vec_len history.now.numbers) }
@@ -100,19 +103,18 @@ fn tell_undecided(
     ensures failed { IfErr result (λ fault. fault ≡ CliFault.NoMemory) }
 {
     let number = number_at(history, count);
-    let from = number_at(history, unfound_of(history, count, shown));
+    let unfound = unfound_at(alloc, asked.states as usize, history, count, reach)?;
     match push_undecided(out, number) {
         Ok(()) => {}
         Err(_) => return Err(CliFault::NoMemory),
     }
-    match tell_unfound(from, out) {
+    match tell_unfound(&unfound, out) {
         Ok(()) => Ok(JudgeFault::Undecided(u64::from(number))),
         Err(_) => Err(CliFault::NoMemory),
     }
 }
 
-/// Appends what is told in lines of a history with this verdict, if a search found runs for its first `shown` lines.
-/// Answers how that ends.
+/// Appends what is told in lines of a history with this verdict, if searches came so far. Answers how that ends.
 ///
 /// # Errors
 ///
@@ -122,7 +124,7 @@ pub fn tell_lines(
     asked: &Judging<'_>,
     history: &History,
     verdict: Verdict,
-    shown: usize,
+    reach: &Reach,
     out: &mut Vec<u8>,
 ) -> Result<Result<(), JudgeFault>, CliFault>
     requires paired { IsPaired history.now }
@@ -145,9 +147,11 @@ pub fn tell_lines(
             Ok(end) => Ok(Err(end)),
             Err(fault) => Err(fault),
         },
-        Verdict::Undecided(count) => match tell_undecided(history, count, shown, out) {
-            Ok(end) => Ok(Err(end)),
-            Err(fault) => Err(fault),
-        },
+        Verdict::Undecided(count) => {
+            match tell_undecided(alloc, asked, history, count, reach, out) {
+                Ok(end) => Ok(Err(end)),
+                Err(fault) => Err(fault),
+            }
+        }
     }
 }

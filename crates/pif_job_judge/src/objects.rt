@@ -8,10 +8,11 @@ ghost use Rattle.pif_history_text.specs.Reading.{IsPaired, heard_of};
 ghost use Rattle.pif_job_judge.specs.Objects.{AppendsBefore, AppendsObjects, AppendsSteps, began_with, left_out_of};
 
 use crate::faults::JudgeFault;
-use crate::forms::{Form, Judging};
+use crate::forms::{Form, Judging, Reach};
 use crate::known::known_of;
-use crate::places::{line_at, number_at, unfound_of};
+use crate::places::{line_at, number_at};
 use crate::telling::began_before;
+use crate::unfound::unfound_at;
 use pif_allow::judge_allowing;
 use pif_history::{Unwatched, Verdict};
 use pif_history_model::Label;
@@ -161,14 +162,14 @@ fn append_illegal_history(
     Ok(JudgeFault::Cli(CliFault::Differs(u64::from(number))))
 }
 
-/// Appends what is told of a history that was given up at its nth line, and of a run that shows the lines before it, if a
-/// search found runs for the first `shown` lines. Answers how that ends.
+/// Appends what is told of a history that was given up at its nth line, and of a run that shows the lines before it, if
+/// searches came so far. Answers how that ends.
 fn append_undecided_history(
     alloc: Global,
     asked: &Judging<'_>,
     history: &History,
     count: usize,
-    shown: usize,
+    reach: &Reach,
     out: &mut Vec<u8>,
 ) -> Result<JudgeFault, CliFault>
     requires paired { IsPaired history.now }
@@ -178,8 +179,8 @@ fn append_undecided_history(
 {
     let number = number_at(history, count);
     let left = left_out(asked.form, count - 1);
-    let from = number_at(history, unfound_of(history, count, shown));
-    match append_undecided(number, from, written(left)?, out) {
+    let unfound = unfound_at(alloc, asked.states as usize, history, count, reach)?;
+    match append_undecided(number, &unfound, written(left)?, out) {
         Ok(()) => {}
         Err(_) => return Err(CliFault::NoMemory),
     }
@@ -187,8 +188,7 @@ fn append_undecided_history(
     Ok(JudgeFault::Undecided(u64::from(number)))
 }
 
-/// Appends what is told in lines of JSON of a history with this verdict, if a search found runs for its first `shown`
-/// lines. Answers how that ends.
+/// Appends what is told in lines of JSON of a history with this verdict, if searches came so far. Answers how that ends.
 ///
 /// # Errors
 ///
@@ -198,7 +198,7 @@ pub fn tell_objects(
     asked: &Judging<'_>,
     history: &History,
     verdict: Verdict,
-    shown: usize,
+    reach: &Reach,
     out: &mut Vec<u8>,
 ) -> Result<Result<(), JudgeFault>, CliFault>
     requires paired { IsPaired history.now }
@@ -216,7 +216,7 @@ pub fn tell_objects(
             Ok(Err(end))
         }
         Verdict::Undecided(count) => {
-            let end = append_undecided_history(alloc, asked, history, count, shown, out)?;
+            let end = append_undecided_history(alloc, asked, history, count, reach, out)?;
             Ok(Err(end))
         }
     }

@@ -3,13 +3,14 @@ ghost use Rattle.std.specs.Prelude.{◌≡◌, ◌≤◌, ◌++◌, OnOk, Some, 
 ghost use Rattle.pif_history_model.specs.Lines.{thread_of};
 ghost use Rattle.pif_history_text.specs.Reading.{IsPaired, heard_of};
 ghost use Rattle.pif_history_text.specs.Verdicts.{legal_line};
-ghost use Rattle.pif_job_judge.specs.Lines.{began_text, known_text, unfound_line, why_text};
+ghost use Rattle.pif_job_judge.specs.Lines.{began_text, known_text, unfound_line, unfound_text, why_text};
 ghost use Rattle.pif_job_judge.specs.Why.{open_of, said_of};
 
 use pif_history_model::Line;
-use pif_history_page::{Began, Known};
+use pif_history_page::{Began, Known, Unfound};
 use pif_history_text::{
-    History, push_began, push_legal, push_possible, push_possible_undecided, push_refused,
+    History, push_began, push_found, push_legal, push_possible, push_possible_undecided,
+    push_refused,
 };
 use pif_text::{Text, append_number};
 use pif_types::{Request, Tid};
@@ -138,12 +139,8 @@ pub fn tell_legal(lines: u32, witness: &[u8], out: &mut Vec<u8>) -> Result<(), A
     out.extend_from_slice(witness)
 }
 
-/// Appends the line that says from the line of which number on no witness was found.
-///
-/// # Errors
-///
-/// A growth of memory was refused.
-pub fn tell_unfound(number: u32, out: &mut Vec<u8>) -> Result<(), AllocError>
+/// Appends the line that says from the line of which number on no run was found.
+fn tell_unfound_line(number: u32, out: &mut Vec<u8>) -> Result<(), AllocError>
     ensures { OnOk result (out.new.items ≡ out.old.items ++ unfound_line number) }
 {
     let mut text = Text::new();
@@ -151,4 +148,19 @@ pub fn tell_unfound(number: u32, out: &mut Vec<u8>) -> Result<(), AllocError>
     out.extend_from_slice(b"no witness found from ")?;
     out.extend_from_slice(text.as_slice())?;
     out.extend_from_slice(b" on\n")
+}
+
+/// Appends what is told of the first line for which no run was found.
+///
+/// # Errors
+///
+/// A growth of memory was refused.
+pub fn tell_unfound(unfound: &Unfound, out: &mut Vec<u8>) -> Result<(), AllocError>
+    ensures { OnOk result (out.new.items ≡ out.old.items ++ unfound_text unfound.now) }
+{
+    tell_unfound_line(unfound.number, out)?;
+    match &unfound.found {
+        Some(numbers) => push_found(out, numbers.as_slice()),
+        None => Ok(()),
+    }
 }

@@ -1,14 +1,13 @@
-use Rattle.std.proofs.Common.{ℕ, suc, ◌≡◌, ◌<◌, ◌-◌, ◌∙◌, arith, drop, length, subst, sym}
+use Rattle.std.proofs.Common.{ℕ, ◌≡◌, ◌-◌, ◌∙◌, arith, List, drop, subst, sym}
 use Rattle.std.proofs.Math.Seq.{drop-length}
-use Rattle.pif_history_run.proofs.Chosen.{is_there, is_step, labels_left, leads_on}
+use Rattle.pif_history_run.specs.Ways.{HasCome}
 use Rattle.pif_history_witness.specs.Tellings.{IsTold}
 use Rattle.pif_history_witness.proofs.TellingLemmas.{IsTold-start, IsTold-step}
 use Rattle.pif_history_witness.proofs.following.witness_text.Goals as goal
 
 pub loop-left-init : goal.loop-left-init
 loop-left-init c = (
-  c.in_ok-chosen.ensures,
-  c.in_ok-position.ensures ∙ sym c.in_ok-chosen.ensures.starts,
+  (c.in_ok-chosen.ensures, c.in_ok-position.ensures ∙ sym c.in_ok-chosen.ensures.starts),
   omega arith,
   IsTold-start c.args.rules.now c.args.limits _ c.in_ok-position.position c.new-text.result.items (drop-length c.args.witness.now)
       c.in_ok-position.ensures c.new-text.ensures.items,
@@ -16,39 +15,26 @@ loop-left-init c = (
 
 pub loop-left-preserved : goal.loop-left-preserved
 loop-left-preserved c =
-    let r = c.args.rules.now in
-    let l = c.args.limits in
-    let labels = c.args.witness.now in
-    let way = c.loop-left.invariant.0 in
-    let before = c.loop-left.left in
-    let left = before - 1 in
-    let next : before ≡ suc left = omega (arith, c.loop-left-test.true) in
-    let within : left < length labels = omega (arith, c.loop-left-test.true, c.loop-left.invariant.2) in
+    let left = c.loop-left.left in
     let e = c.in_ok-position-2.ensures in
-    let leads = leads_on r l labels c.in_ok-chosen.chosen.items way left before c.index-witness-left.result c.index.result.now
-    c.loop-left.position next within c.index-witness-left.is c.index.ensures c.loop-left.invariant.1 e.0 e.1 in
-    let by = is_step r l labels c.in_ok-chosen.chosen.items way left before c.index-witness-left.result c.index.result.now
-    c.loop-left.position next within c.index-witness-left.is c.index.ensures c.loop-left.invariant.1 e.0 e.1 in
-    let more = labels_left r l labels c.in_ok-chosen.chosen.items way left before c.index-witness-left.result c.index.result.now
-    c.loop-left.position next within c.index-witness-left.is c.index.ensures c.loop-left.invariant.1 in (
-      way,
-      sym e.2 ∙ leads,
-      omega (arith, c.loop-left.invariant.2),
-      IsTold-step r l (drop before labels) (drop left labels) c.index-witness-left.result c.loop-left.position
-          _ e.0 c.loop-left.text.items c.take_step.new.text.items more by e.2 e.3 c.loop-left.invariant.3,
+    let told = e.told in (
+      subst (λ (choices : List ℕ). HasCome c.args.rules.now c.args.limits c.args.witness.now choices (left - 1) c.in_ok-position-2.position)
+          c.as_slice.ensures.value
+          e.come,
+      omega (arith, c.loop-left.invariant.1),
+      IsTold-step c.args.rules.now c.args.limits (drop left c.args.witness.now) (drop (left - 1) c.args.witness.now) told.0 told.1 c.loop-left.position
+          _ c.loop-left.text.items c.take_step.new.text.items told.2 told.3 told.4 c.loop-left.invariant.2,
     )
 
-pub take_step-requires : goal.take_step-requires
-take_step-requires c =
-    let before = c.loop-left.left in
-    is_there c.args.rules.now c.args.limits c.args.witness.now c.in_ok-chosen.chosen.items c.loop-left.invariant.0 (before - 1) before
-    c.index-witness-left.result c.index.result.now c.loop-left.position (omega (arith, c.loop-left-test.true))
-    (omega (arith, c.loop-left-test.true, c.loop-left.invariant.2)) c.index-witness-left.is c.index.ensures c.loop-left.invariant.1
+pub take_step-requires-clause-come : goal.take_step-requires-clause-come
+take_step-requires-clause-come c =
+    subst (λ (choices : List ℕ). HasCome c.args.rules.now c.args.limits c.args.witness.now choices c.loop-left.left c.loop-left.position)
+    (sym c.as_slice.ensures.value) c.loop-left.invariant.0
 
 pub returns : goal.returns
 returns c =
     let none : c.loop-left.left ≡ 0 = omega (arith, c.loop-left-test.false) in (
       c.loop-left.position,
       subst (λ (n : ℕ). IsTold c.args.rules.now c.args.limits (drop n c.args.witness.now) c.loop-left.position c.loop-left.text.items) none
-          c.loop-left.invariant.3,
+          c.loop-left.invariant.2,
     )

@@ -1,11 +1,11 @@
-use Rattle.std.proofs.Common.{◌≡◌, ◌≤◌, drop, length}
-use Rattle.pif_history_run.specs.Ways.{AreChosen}
+use Rattle.std.proofs.Common.{◌≤◌, drop, length}
+use Rattle.pif_history_run.specs.Ways.{HasCome}
 use Rattle.pif_history_witness.specs.Tellings.{IsTold}
 use Rattle.pif_history_witness.proofs.following.witness_text.Given as goal
 
 abbrev pub invariant-loop-left : goal.invariant-loop-left
 invariant-loop-left c =
-    (way : AreChosen c.fn.rules c.fn.limits c.fn.witness c.chosen.items) × (c.position ≡ way.at c.left) × (c.left ≤ length c.witness)
+    HasCome c.fn.rules c.fn.limits c.fn.witness c.chosen.items c.left c.position × (c.left ≤ length c.witness)
     × IsTold c.fn.rules c.fn.limits (drop c.left c.witness) c.position c.text.items
 
 abbrev pub decreases-loop-left : goal.decreases-loop-left

@@ -4,6 +4,6 @@ use Rattle.pif_job_judge.proofs.lines.tell_undecided.Goals as goal
 
 pub returns-in-Ok-tell_unfound-clause-told : goal.returns-in-Ok-tell_unfound-clause-told
 returns-in-Ok-tell_unfound-clause-told c =
-    rw c.from.ensures (tells_undecided (heard_of c.args.history.now) c.args.count c.unfound_of.result c.args.out.now.items
-    c.push_undecided.new.out.items c.tell_unfound.new.out.items c.number_at-number.result c.number_at-from.result
-    c.number_at-number.ensures c.unfound_of.ensures.behind c.number_at-from.ensures c.in-Ok.ensures c.in-Ok-tell_unfound.ensures)
+    rw c.from.ensures (tells_undecided (heard_of c.args.history.now) c.args.count c.args.out.now.items
+    c.push_undecided.new.out.items c.tell_unfound.new.out.items c.number_at-number.result c.in_ok-unfound.unfound
+    c.number_at-number.ensures c.in_ok-unfound.ensures.there c.in-Ok.ensures c.in-Ok-tell_unfound.ensures)
