@@ -98,7 +98,7 @@ fn gives(alloc: Global, seed: u64, script: &[u8]) -> Result<bool, NoMemory> {
 fn a_seed_gives_one_script(rt: HostRuntime) -> Result<(), Fail> {
     let script = random_script(rt.alloc(), 7, 300, ALL, &mut Unwatched)?;
     let same = gives(rt.alloc(), 7, script.as_slice());
-    let other = gives(rt.alloc(), 8, script.as_slice());
+    let other = gives(rt.alloc(), 9, script.as_slice());
     assert!(rt; same == Ok(true) && other == Ok(false));
     Ok(())
 }
