@@ -1,22 +1,26 @@
-"""Legal histories for `pif judge`, made by playing threads on one mutex and one variable, one effect at a time.
+"""Legal histories for `pif judge`, made by playing threads on mutexes, one effect at a time.
 
 A kind is `locks` (lock and unlock), `tries` (60 % of the locks are trylocks), `waits` (wait, signal and broadcast), `timed`
-(half of the waits have deadlines) or `mixed` (all of these, and locks with deadlines).
+(half of the waits have deadlines), `mixed` (all of these, and locks with deadlines), or `program` (a third of the locks are
+trylocks; wait, signal and broadcast). Each mutex has one variable, and a thread holds one mutex at a time.
 """
 
 import random
 
 KINDS = ("locks", "tries", "waits", "timed", "mixed")
+WAITS, TIMED = ("waits", "timed", "mixed", "program"), ("timed", "mixed")
 BUSY, TIMED_OUT = "EBUSY", "ETIMEDOUT"
 # of each kind how often a lock is a lock, a trylock and a timed lock
-LOCKS = {"locks": (1, 0, 0), "tries": (4, 6, 0), "waits": (1, 0, 0), "timed": (1, 0, 0), "mixed": (2, 1, 1)}
+LOCKS = {"locks": (1, 0, 0), "tries": (4, 6, 0), "waits": (1, 0, 0), "timed": (1, 0, 0), "mixed": (2, 1, 1), "program": (2, 1, 0)}
 
 
 class Thread:
-    """A thread: the call that it has open, how far that has come, and what it does with the mutex."""
+    """A thread: the call that it has open, how far that has come, and what it does with its mutex."""
 
-    def __init__(self, number):
+    def __init__(self, number, base):
         self.name = "t%d" % number
+        self.base = base
+        self.mutex = 1
         self.call = None
         self.stage = None
         self.answer = None
@@ -28,28 +32,31 @@ class Thread:
 class Play:
     """Threads that are played at random, and the lines that they leave."""
 
-    def __init__(self, kind, threads, chance):
+    def __init__(self, kind, threads, chance, mutexes, priorities):
         self.kind = kind
         self.chance = chance
-        self.threads = [Thread(n + 1) for n in range(threads)]
-        self.owner = None
+        self.threads = [Thread(n + 1, 10 + n % priorities) for n in range(threads)]
+        self.owners = {m: None for m in range(1, mutexes + 1)}
         self.time = 0
-        self.lines = ["thread 10"] * threads + ["mutex normal", "cond m1"]
+        self.lines = ["thread %d" % t.base for t in self.threads]
+        for m in self.owners:
+            self.lines += ["mutex normal", "cond m%d" % m]
 
-    def blocked(self):
-        """The threads that are blocked on the variable."""
-        return [t for t in self.threads if t.stage == "blocked"]
+    def blocked(self, mutex):
+        """The threads that are blocked on the variable of a mutex."""
+        return [t for t in self.threads if t.stage == "blocked" and t.mutex == mutex]
 
     def next_call(self, t):
         """The call that an idle thread begins: it takes the mutex, may use the variable, and gives the mutex up."""
         if not t.owns:
             t.used = False
+            t.mutex = self.chance.randint(1, len(self.owners))
             return self.chance.choices(("lock", "trylock", "timedlock"), LOCKS[self.kind])[0]
-        if self.kind in ("waits", "timed", "mixed") and not t.used:
+        if self.kind in WAITS and not t.used:
             t.used = True
             waiting = sum(1 for u in self.threads if u.call in ("wait", "timedwait"))
             if waiting < len(self.threads) // 2 and self.chance.random() < 0.5:
-                return "timedwait" if self.kind != "waits" and self.chance.random() < 0.5 else "wait"
+                return "timedwait" if self.kind in TIMED and self.chance.random() < 0.5 else "wait"
             return self.chance.choice(["signal", "signal", "broadcast"])
         return "unlock"
 
@@ -57,7 +64,9 @@ class Play:
         """An idle thread begins a call."""
         t.call = self.next_call(t)
         t.stage = "fresh"
-        words = {"signal": "c1", "broadcast": "c1", "wait": "c1 m1", "timedwait": "c1 m1"}.get(t.call, "m1")
+        mutex, cond = "m%d" % t.mutex, "c%d" % t.mutex
+        both = "%s %s" % (cond, mutex)
+        words = {"signal": cond, "broadcast": cond, "wait": both, "timedwait": both}.get(t.call, mutex)
         if t.call in ("timedwait", "timedlock"):
             t.deadline = self.time + self.chance.randint(0, 3)
             words += " %d" % t.deadline
@@ -68,10 +77,22 @@ class Play:
         t.stage, t.answer = "done", answer
 
     def take(self, t, answer):
-        """Takes the mutex, if nobody owns it."""
-        if self.owner is None:
-            self.owner, t.owns = t, True
+        """Takes its mutex, if nobody owns it."""
+        if self.owners[t.mutex] is None:
+            self.owners[t.mutex], t.owns = t, True
             self.done(t, answer)
+
+    def give_up(self, t):
+        """Gives its mutex up."""
+        self.owners[t.mutex], t.owns = None, False
+
+    def signalled(self, t):
+        """The threads that a signal or a broadcast unblocks: of a signal one of the greatest priority."""
+        woken = self.blocked(t.mutex)
+        if t.call == "signal" and woken:
+            most = max(u.base for u in woken)
+            woken = [self.chance.choice([u for u in woken if u.base == most])]
+        return woken
 
     def act(self, t):
         """One effect of an open call, if it can have one."""
@@ -85,21 +106,18 @@ class Play:
             if t.stage == "fresh" and t.call == "timedlock" and t.deadline <= self.time:
                 self.done(t, TIMED_OUT)
         elif t.call == "trylock":
-            if self.owner is None:
+            if self.owners[t.mutex] is None:
                 self.take(t, "0")
             else:
                 self.done(t, BUSY)
         elif t.call == "unlock":
-            self.owner, t.owns = None, False
+            self.give_up(t)
             self.done(t, "0")
         elif t.call in ("wait", "timedwait"):
-            self.owner, t.owns = None, False
+            self.give_up(t)
             t.stage = "blocked"
         else:
-            woken = self.blocked()
-            if t.call == "signal" and woken:
-                woken = [self.chance.choice(woken)]
-            for u in woken:
+            for u in self.signalled(t):
                 u.stage, u.answer = "owing", "0"
             self.done(t, "0")
 
@@ -110,7 +128,7 @@ class Play:
 
     def step(self):
         """One thread does one thing, or the time goes on."""
-        if self.kind in ("timed", "mixed") and self.chance.random() < 0.02:
+        if self.kind in TIMED and self.chance.random() < 0.02:
             self.time += 1
             self.lines.append("tick %d" % self.time)
         t = self.chance.choice(self.threads)
@@ -122,9 +140,31 @@ class Play:
             self.act(t)
 
 
-def history_of(kind, threads, lines, seed):
-    """The lines of a legal history of this kind."""
-    play = Play(kind, threads, random.Random(seed))
+def history_of(kind, threads, lines, seed, mutexes=1, priorities=1):
+    """The lines of a legal history of this kind. The threads have so many priorities, from 10 on."""
+    play = Play(kind, threads, random.Random(seed), mutexes, priorities)
     while len(play.lines) < lines:
         play.step()
     return play.lines
+
+
+# what three threads of one mutex do in each round of `pi_stress` of rt-tests: the greatest waits for the least
+INVERSION = (
+    ("begin", 0, "lock"), ("answer", 0), ("begin", 2, "lock"), ("begin", 0, "unlock"), ("answer", 0), ("answer", 2),
+    ("begin", 2, "unlock"), ("answer", 2), ("begin", 1, "lock"), ("answer", 1), ("begin", 1, "unlock"), ("answer", 1),
+)
+
+
+def inversions(threads, lines, seed):
+    """The lines of a legal history of inversions of priority, by threads in groups of three."""
+    chance, groups = random.Random(seed), threads // 3
+    made = ["thread %d" % (10 + n % 3) for n in range(3 * groups)] + ["mutex normal"] * groups
+    at = [0] * groups
+    while len(made) < lines:
+        group = chance.randrange(groups)
+        what = INVERSION[at[group]]
+        at[group] = (at[group] + 1) % len(INVERSION)
+        thread = "t%d" % (3 * group + what[1] + 1)
+        rest = "0" if what[0] == "answer" else "%s m%d" % (what[2], group + 1)
+        made.append("%s %s %s" % (what[0], thread, rest))
+    return made
