@@ -41,4 +41,4 @@ mod step;
 mod uses;
 mod wait;
 
-pub use step::{advance, advance_at};
+pub use step::{CondLines, advance};

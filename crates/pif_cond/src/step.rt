@@ -35,31 +35,13 @@ pub fn advance<K: PiKernel + Drop>(parts: &mut Parts<K>, t: Tid) -> Progress
         → (cell_at parts.new m).word.number ≢ 0 → (cell_at parts.new m).count ≡ 1 }
 {
     match parts.line(t) {
-        Line::At(request, place) => advance_at(parts, request, place, t),
+        Line::At(request, place) => parts.take::<CondLines>(request, place, t),
         Line::Idle => unreachable!(),
     }
 }
 
-/// The same for a caller that knows the call, which is this request, and the place of it at which the thread stands.
-#[inline(always)]
-pub fn advance_at<K: PiKernel + Drop>(
-    parts: &mut Parts<K>,
-    request: Request,
-    place: Place,
-    t: Tid,
-) -> Progress
-    requires living { is_living parts.old.kernel t ≡ true }
-    requires line { line_at parts.old t ≡ Line.At request place }
-    requires call { is_of_conditions (line_at parts.old t) ≡ true }
-    ensures line { outcome_of result parts.new ≡ go_outcome (line_at parts.old t) t parts.old }
-    ensures once { (m : ℕ) → (cell_at parts.new m).word.number ≢ (cell_at parts.old m).word.number
-        → (cell_at parts.new m).word.number ≢ 0 → (cell_at parts.new m).count ≡ 1 }
-{
-    parts.take::<CondLines>(request, place, t)
-}
-
 /// The lines of a wait, a signal and a broadcast.
-struct CondLines;
+pub struct CondLines;
 
 impl Lines for CondLines {
     ghost use Rattle.pif_cond.specs.Conditions.{is_of_conditions};

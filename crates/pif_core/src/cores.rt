@@ -12,9 +12,10 @@ ghost use Rattle.pif_model.specs.Calls.{add_thread_answer, add_thread_after, add
 ghost use Rattle.pif_mutex.specs.Outcomes.{outcome_of};
 ghost use Rattle.pif_model_simulation.specs.Calls.{finish_outcome};
 
+use pif_cond::CondLines;
 use pif_kernel_linked::LinkedKernel;
 use pif_model::{Entry, Event, Line, Place, Seen, Status};
-use pif_mutex::{Parts, Progress};
+use pif_mutex::{MutexLines, Parts, Progress};
 use pif_types::{
     AddFault, CondId, Health, Kind, Limits, MutexId, NoMemory, Prio, Refusal, Request, Tid,
 };
@@ -444,9 +445,9 @@ impl Core {
     {
         match request {
             Request::Wait(_, _) | Request::Signal(_) | Request::Broadcast(_) => {
-                pif_cond::advance_at(&mut self.parts, request, place, thread)
+                self.parts.take::<CondLines>(request, place, thread)
             }
-            _ => pif_mutex::advance_at(&mut self.parts, request, place, thread),
+            _ => self.parts.take::<MutexLines>(request, place, thread),
         }
     }
 

@@ -82,6 +82,6 @@ mod unlock;
 
 pub use deadlines::reported;
 pub use lines::{Lines, MutexLines};
-pub use parts::{Parts, advance, advance_at};
+pub use parts::{Parts, advance};
 pub use progress::Progress;
 pub use state::State;

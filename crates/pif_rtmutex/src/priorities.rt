@@ -29,6 +29,12 @@ impl Model for ThreadPriorities {
 }
 
 impl ThreadPriorities {
+    /// Those of a thread that was given none.
+    pub const NONE: ThreadPriorities = ThreadPriorities {
+        base: None,
+        local: None,
+    };
+
     /// Those of a thread that was given this base priority, with which it runs.
     pub fn of(prio: Prio) -> ThreadPriorities
         ensures both { result ≡ record { base = prio; local = prio } }

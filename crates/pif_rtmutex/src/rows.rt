@@ -57,10 +57,7 @@ impl Model for Row {
 
 /// What stands at place 0, which is nobody's, and of a thread that was not admitted.
 pub const NOBODY: Row = Row {
-    priorities: ThreadPriorities {
-        base: None,
-        local: None,
-    },
+    priorities: ThreadPriorities::NONE,
     wait: None,
 };
 
