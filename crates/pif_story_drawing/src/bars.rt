@@ -52,6 +52,7 @@ impl Bar {
             self.hold(owner, health, slot, moment);
         } else if health != self.health {
             self.close(moment, plan, sheet);
+            self.draw_loss(health, moment, plan, &mut sheet.arrows);
             self.hold(owner, health, self.slot, moment);
         }
     }
@@ -77,6 +78,9 @@ impl Bar {
 
     /// Draws that the mutex became unusable; nothing if it was so before, or isn't.
     fn draw_loss(&self, health: Health, moment: Moment, plan: &Plan, out: &mut Page) {
+        if self.health == Health::Unusable {
+            return;
+        }
         if let (Some(owner), Health::Unusable) = (self.owner, health) {
             out.fill(
                 "<g transform=\"translate({} {})\">",
