@@ -1,2 +1,1 @@
 pub mod NotingLemmas
-pub mod RowLemmas

@@ -40,7 +40,7 @@ fn words_of(alloc: Global, story: &[u8]) -> Result<Vec<u8>, CliFault>
 }
 
 /// How a check ends that finds these flaws.
-pub fn check_end(flaws: &[Flaw<'_>]) -> Result<(), CliFault>
+fn check_end(flaws: &[Flaw<'_>]) -> Result<(), CliFault>
     ensures { result ≡ check_end (flaws_of flaws.now) }
 {
     match flaws {
@@ -53,7 +53,7 @@ pub fn check_end(flaws: &[Flaw<'_>]) -> Result<(), CliFault>
 }
 
 /// Has `notice` keep the command of the first flaw, if that is a fault or a refusal.
-pub fn note(flaws: &[Flaw<'_>], notice: &mut Notice) {
+fn note(flaws: &[Flaw<'_>], notice: &mut Notice) {
     if let Some(flaw) = flaws.first() {
         match *flaw {
             Flaw::Fault(_, command, _) | Flaw::Refused(_, command, _) => {
@@ -102,7 +102,7 @@ fn too_large<'a>(alloc: Global, line: u64) -> Result<Vec<Flaw<'a>>, AllocError>
 ///
 /// A growth of memory was refused.
 #[tactic(auto, unfolding(pif_story_model::specs::Checks::flaws_beside))]
-pub fn judge<'a>(
+fn judge<'a>(
     alloc: Global,
     strict: bool,
     story: &[u8],

@@ -6,11 +6,9 @@
 //! | Module | What it has |
 //! |---|---|
 //! | `checking` | stories checked, and filled in |
-//! | `asked` | a core as a listener, with what it was asked last and what it answered |
 //! | `rows` | the commands of a story with their answers, for a caller that does the commands again |
 #![tactic(auto)]
 
-mod asked;
 mod checking;
 mod rows;
 

@@ -1,10 +1,13 @@
 ghost use Rattle.std.specs.Prelude.{◌≡◌, IfOk, true};
+ghost use Rattle.pif_story_model.specs.Rows.{AreRowsOf};
+ghost use Rattle.pif_story_model.specs.Stories.{rows_of};
 ghost use Rattle.pif_job_draw.specs.Pictures.{DrawsTo, FillsOrLarge, IsDrawn};
 
 use crate::pages::page_of;
 use crate::texts::{drawing_text, states_text};
 use pif_job_check::fill_rows;
 use pif_script::{CliFault, Notice, read_all, write_whole};
+use pif_story::plain_story;
 use pif_story_drawing::Span;
 use pif_story_model::AnsweredRow;
 use pif_text::Cause;
@@ -29,7 +32,7 @@ pub struct Drawn {
 
 /// The line of the first command that is too many to be drawn. A page has the states behind all commands, and so all
 /// are counted.
-fn line_too_far(page: bool, span: &Span, rows: &[AnsweredRow]) -> Option<u32> {
+fn line_too_far(page: bool, span: &Span, rows: &[AnsweredRow<'_>]) -> Option<u32> {
     let mut left = MOST_COMMANDS;
     for row in rows {
         if page || span.has(row.line) {
@@ -51,10 +54,10 @@ fn page_text<V: WatchSteps>(
     alloc: Global,
     span: &Span,
     story: &[u8],
-    plain: &[u8],
-    rows: &[AnsweredRow],
+    rows: &[AnsweredRow<'_>],
     watch: &mut V,
 ) -> Result<Vec<u8>, NoMemory>
+    requires { AreRowsOf (rows_of story.now) rows.now }
     ensures { IfOk result (λ text. IsDrawn true story.now text.items) }
 {
     let count = rows.len();
@@ -64,11 +67,15 @@ fn page_text<V: WatchSteps>(
         alloc,
         span,
         story,
-        plain,
         rows,
         &mut Part::new(watch, 0, twice, whole),
     )?;
-    let states = states_text(alloc, story, &mut Part::new(watch, twice, count, whole))?;
+    let states = states_text(
+        alloc,
+        story,
+        rows,
+        &mut Part::new(watch, twice, count, whole),
+    )?;
     match page_of(alloc, drawing.as_slice(), states.as_slice()) {
         Ok(page) => Ok(page),
         Err(_) => Err(NoMemory),
@@ -85,16 +92,16 @@ fn text_of<V: WatchSteps>(
     alloc: Global,
     span: &Span,
     story: &[u8],
-    plain: &[u8],
-    rows: &[AnsweredRow],
+    rows: &[AnsweredRow<'_>],
     watch: &mut V,
 ) -> Result<Vec<u8>, NoMemory>
+    requires { AreRowsOf (rows_of story.now) rows.now }
     ensures { IfOk result (λ text. IsDrawn page story.now text.items) }
 {
     if page {
-        page_text(alloc, span, story, plain, rows, watch)
+        page_text(alloc, span, story, rows, watch)
     } else {
-        drawing_text(alloc, span, story, plain, rows, watch)
+        drawing_text(alloc, span, story, rows, watch)
     }
 }
 
@@ -114,20 +121,14 @@ fn drawn_text<V: WatchSteps>(
     ensures shown { IfOk result (λ text. IsDrawn drawn.page story.now text.items) }
 {
     let span = Span::new(drawn.from, drawn.to);
-    let filled = fill_rows(alloc, story, notice)?;
-    let (plain, rows) = filled;
+    let Ok(plain) = plain_story(alloc, story) else {
+        return Err(CliFault::NoMemory);
+    };
+    let rows = fill_rows(alloc, story, plain.as_slice(), notice)?;
     if let Some(line) = line_too_far(drawn.page, &span, rows.as_slice()) {
         return Err(CliFault::Script(u64::from(line), Cause::Size));
     }
-    match text_of(
-        drawn.page,
-        alloc,
-        &span,
-        story,
-        plain.as_slice(),
-        rows.as_slice(),
-        watch,
-    ) {
+    match text_of(drawn.page, alloc, &span, story, rows.as_slice(), watch) {
         Ok(text) => Ok(text),
         Err(NoMemory) => Err(CliFault::NoMemory),
     }

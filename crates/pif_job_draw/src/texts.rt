@@ -1,6 +1,8 @@
 ghost use Rattle.std.specs.Prelude.{◌≡◌, IfOk, string_bytes};
 ghost use Rattle.pif_script_model.specs.declared.pictures.Picture.{Picture};
 ghost use Rattle.pif_job_check.specs.Rows.{FillsRows};
+ghost use Rattle.pif_story_model.specs.Rows.{AreRowsOf};
+ghost use Rattle.pif_story_model.specs.Stories.{rows_of};
 ghost use Rattle.pif_story_states.specs.States.{states_text};
 ghost use Rattle.pif_job_draw.specs.Pictures.{IsPictureOf};
 
@@ -16,7 +18,8 @@ use pif_types::NoMemory;
 use pif_watch::WatchSteps;
 use std::alloc::Global;
 
-/// The states behind the commands of a story, as lines of JSON. `watch` is told how far it has come.
+/// The states behind the commands of a story without a fault, which are these, as lines of JSON. `watch` is told how far
+/// it has come.
 ///
 /// # Errors
 ///
@@ -25,24 +28,22 @@ use std::alloc::Global;
 pub fn states_text<V: WatchSteps>(
     alloc: Global,
     story: &[u8],
+    rows: &[AnsweredRow<'_>],
     watch: &mut V,
 ) -> Result<Vec<u8>, NoMemory>
+    requires { AreRowsOf (rows_of story.now) rows.now }
     ensures { IfOk result (λ text. text.items ≡ states_text story.now) }
 {
-    let Ok(plain) = plain_story(alloc, story) else {
-        return Err(NoMemory);
-    };
     let Ok(names) = names_in(alloc, story) else {
         return Err(NoMemory);
     };
-    match states_of(alloc, names.as_slice(), plain.as_slice(), watch) {
+    match states_of(alloc, names.as_slice(), rows, watch) {
         Ok(text) => Ok(text),
         Err(_) => Err(NoMemory),
     }
 }
 
-/// The drawing of these lines of a story without a fault, whose commands stand there in `plain` and are answered so.
-/// `watch` is told how far it has come.
+/// The drawing of these lines of a story without a fault, whose commands are these. `watch` is told how far it has come.
 ///
 /// # Errors
 ///
@@ -51,21 +52,19 @@ pub fn drawing_text<V: WatchSteps>(
     alloc: Global,
     span: &Span,
     story: &[u8],
-    plain: &[u8],
-    rows: &[AnsweredRow],
+    rows: &[AnsweredRow<'_>],
     watch: &mut V,
 ) -> Result<Vec<u8>, NoMemory> {
     match names_in(alloc, story) {
         Ok(names) => {
-            let drawing = drawing_of(alloc, span, names.as_slice(), plain, rows, watch)?;
+            let drawing = drawing_of(alloc, span, names.as_slice(), rows, watch)?;
             Ok(drawing.into_bytes())
         }
         Err(_) => Err(NoMemory),
     }
 }
 
-/// This picture of a story without a fault, whose commands stand there in `plain` and are answered so. `watch` is told
-/// how far it has come.
+/// This picture of a story without a fault, whose commands are these. `watch` is told how far it has come.
 ///
 /// # Errors
 ///
@@ -74,16 +73,16 @@ fn text_of<V: WatchSteps>(
     picture: Picture,
     alloc: Global,
     story: &[u8],
-    plain: &[u8],
-    rows: &[AnsweredRow],
+    rows: &[AnsweredRow<'_>],
     watch: &mut V,
 ) -> Result<Vec<u8>, NoMemory>
+    requires { AreRowsOf (rows_of story.now) rows.now }
     ensures { IfOk result (λ text. IsPictureOf picture story.now text.items) }
 {
     match picture {
-        Picture::Drawing => { drawing_text(alloc, &Span::all(), story, plain, rows, watch) }
-        Picture::States => states_text(alloc, story, watch),
-        Picture::Graph => Ok(graph_of(alloc, plain, rows, watch)?.into_bytes()),
+        Picture::Drawing => drawing_text(alloc, &Span::all(), story, rows, watch),
+        Picture::States => states_text(alloc, story, rows, watch),
+        Picture::Graph => Ok(graph_of(alloc, rows, watch)?.into_bytes()),
     }
 }
 
@@ -103,16 +102,11 @@ pub fn picture_text<V: WatchSteps>(
     ensures filled { FillsRows story.now result }
     ensures shown { IfOk result (λ text. IsPictureOf picture story.now text.items) }
 {
-    let filled = fill_rows(alloc, story, notice)?;
-    let (plain, rows) = filled;
-    match text_of(
-        picture,
-        alloc,
-        story,
-        plain.as_slice(),
-        rows.as_slice(),
-        watch,
-    ) {
+    let Ok(plain) = plain_story(alloc, story) else {
+        return Err(CliFault::NoMemory);
+    };
+    let rows = fill_rows(alloc, story, plain.as_slice(), notice)?;
+    match text_of(picture, alloc, story, rows.as_slice(), watch) {
         Ok(text) => Ok(text),
         Err(NoMemory) => Err(CliFault::NoMemory),
     }

@@ -1,5 +1,5 @@
 //! The texts of stories: their lines, the script that is left of one, its answers beside the lines that a run prints,
-//! filling in, and the lines that say what a story comes to.
+//! filling in, and the lines that say what a story comes to. A core does their commands one by one.
 //!
 //! A line of a story is a command of scripts, with ` = ` and its answer behind it or without, or it has no words. Words
 //! stand between blanks, and `#` begins a comment. A CR at the end of a line and a byte order mark at the front are
@@ -16,25 +16,25 @@
 //! | `comparing` | the answers that are written, beside the lines that are printed |
 //! | `filling` | a story with the lines that are printed as its answers |
 //! | `titles` | a story behind a comment with its name |
-//! | `pairing` | the commands of a story beside what they ask for and are answered |
+//! | `commands` | a core that does the commands of a story one by one |
 //! | `verdicts` | what a story comes to, as lines |
 #![tactic(auto)]
 
 mod answers;
+mod commands;
 mod comparing;
 mod filling;
 mod lines;
-mod pairing;
 mod plain;
 mod reading;
 mod scripts;
 mod titles;
 mod verdicts;
 
+pub use commands::do_command;
 pub use comparing::{compare, count_commands};
 pub use filling::filled_text;
 pub use lines::{commentless, line_at_end, row_of, split_line, without_mark, without_return};
-pub use pairing::answered_rows;
 pub use plain::{append_plain, plain_story};
 pub use reading::{MOST, read_script_of_story};
 pub use scripts::script_of;

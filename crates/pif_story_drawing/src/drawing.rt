@@ -36,13 +36,12 @@ pub fn drawing_of<V: WatchSteps>(
     alloc: Global,
     span: &Span,
     names: &[u8],
-    story: &[u8],
-    rows: &[AnsweredRow],
+    rows: &[AnsweredRow<'_>],
     told: &mut V,
 ) -> Result<String, NoMemory> {
-    let plan = plan_of(alloc, span, names, story, rows, told)?;
+    let plan = plan_of(alloc, span, names, rows, told)?;
     let mut drawing = Drawing::new(alloc, *span, plan);
-    drawing.draw(alloc, names, story, rows, told)
+    drawing.draw(alloc, names, rows, told)
 }
 
 impl Drawing {
@@ -63,8 +62,7 @@ impl Drawing {
         &mut self,
         alloc: Global,
         names: &[u8],
-        story: &[u8],
-        rows: &[AnsweredRow],
+        rows: &[AnsweredRow<'_>],
         told: &mut V,
     ) -> Result<String, NoMemory> {
         if self.add_lanes().is_err() || self.add_bars().is_err() {
@@ -72,7 +70,7 @@ impl Drawing {
         }
         let count = rows.len();
         let mut half = Part::new(told, count, count, count.saturating_mul(2));
-        play(alloc, story, rows, self, &mut half)?;
+        play(alloc, rows, self, &mut half)?;
         let mut page = Page::new(alloc);
         write_drawing(&self.plan, names, &self.sheet, &mut page);
         page.text()

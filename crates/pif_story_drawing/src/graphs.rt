@@ -22,14 +22,13 @@ struct Graph {
 /// A growth of memory was refused.
 pub fn graph_of<V: WatchSteps>(
     alloc: Global,
-    story: &[u8],
-    rows: &[AnsweredRow],
+    rows: &[AnsweredRow<'_>],
     told: &mut V,
 ) -> Result<String, NoMemory> {
     let mut graph = Graph {
         page: Page::new(alloc),
     };
-    play(alloc, story, rows, &mut graph, told)?;
+    play(alloc, rows, &mut graph, told)?;
     graph.page.text()
 }
 

@@ -57,8 +57,7 @@ pub fn plan_of<V: WatchSteps>(
     alloc: Global,
     span: &Span,
     names: &[u8],
-    story: &[u8],
-    rows: &[AnsweredRow],
+    rows: &[AnsweredRow<'_>],
     told: &mut V,
 ) -> Result<Plan, NoMemory> {
     let mut planner = Planner {
@@ -67,7 +66,7 @@ pub fn plan_of<V: WatchSteps>(
         counts: Vec::new(alloc),
         failed: false,
     };
-    let mut plan = planner.make(alloc, story, rows, told)?;
+    let mut plan = planner.make(alloc, rows, told)?;
     plan.left = left_of(names, plan.threads);
     Ok(plan)
 }
@@ -88,13 +87,12 @@ impl Planner {
     fn make<V: WatchSteps>(
         &mut self,
         alloc: Global,
-        story: &[u8],
-        rows: &[AnsweredRow],
+        rows: &[AnsweredRow<'_>],
         told: &mut V,
     ) -> Result<Plan, NoMemory> {
         let count = rows.len();
         let mut half = Part::new(told, 0, count, count.saturating_mul(2));
-        play(alloc, story, rows, self, &mut half)?;
+        play(alloc, rows, self, &mut half)?;
         if self.failed {
             Err(NoMemory)
         } else {

@@ -24,14 +24,13 @@ pub trait Watch {
 /// A growth of memory was refused, and nothing was played.
 pub fn play<W: Watch, V: WatchSteps>(
     alloc: Global,
-    story: &[u8],
-    rows: &[AnsweredRow],
+    rows: &[AnsweredRow<'_>],
     watch: &mut W,
     told: &mut V,
 ) -> Result<(), NoMemory> {
     match Core::new(alloc, limits_of(rows)) {
         Ok(mut core) => {
-            play_rows(&mut core, story, rows, watch, told);
+            play_rows(&mut core, rows, watch, told);
             Ok(())
         }
         Err(_) => Err(NoMemory),
@@ -41,14 +40,13 @@ pub fn play<W: Watch, V: WatchSteps>(
 /// Plays the commands of a story.
 fn play_rows<W: Watch, V: WatchSteps>(
     core: &mut Core,
-    story: &[u8],
-    rows: &[AnsweredRow],
+    rows: &[AnsweredRow<'_>],
     watch: &mut W,
     told: &mut V,
 ) {
     for (place, answered) in rows.iter().enumerate() {
         told.step(place, rows.len());
-        if let Some(row) = row_of(answered, story) {
+        if let Some(row) = row_of(answered) {
             obey(core, row.command);
             watch.see(&row, core);
         }
@@ -95,7 +93,7 @@ fn run(core: &mut Core, thread: Tid, request: Option<Request>) {
 }
 
 /// The limits that a story begins with, or else those of scripts.
-fn limits_of(rows: &[AnsweredRow]) -> Limits {
+fn limits_of(rows: &[AnsweredRow<'_>]) -> Limits {
     match rows.first() {
         Some(row) => first_limits(row.command),
         None => default_limits(),

@@ -37,9 +37,9 @@ fn actor_of(event: Event) -> Option<Tid> {
     }
 }
 
-/// The command that stands there in a story; none if there is no text of that place.
-pub fn row_of<'a>(answered: &AnsweredRow, story: &'a [u8]) -> Option<Row<'a>> {
-    let words = from_utf8(story.get(answered.start..answered.end)?).ok()?;
+/// A command of a story, with its words as text; none if they are none.
+pub fn row_of<'a>(answered: &AnsweredRow<'a>) -> Option<Row<'a>> {
+    let words = from_utf8(answered.words).ok()?;
     Some(Row {
         line: answered.line,
         words,

@@ -9,4 +9,5 @@ pub mod OkLemmas
 pub mod OrderLemmas
 pub mod PlainLemmas
 pub mod RowLemmas
+pub mod RunningLemmas
 pub mod StoriesLemmas

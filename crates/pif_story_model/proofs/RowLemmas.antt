@@ -99,6 +99,10 @@ rows-lack number (line ∷ ls) p =
           (row-lacks line e.0 e.1 p.0, rows-lack (number + 1) ls p.1)
     ]
 
+-- of a text with nothing but its words
+pub text_ends : (text : List ℕ) → NoneEnds (rows_from 1 (lines text))
+text_ends text = rows-lack 1 (lines text) (lines-lack text)
+
 -- ---- lines with nothing but their words
 
 comment-lacks : (xs : List ℕ) → lacks 10 xs ≡ true → lacks 10 (without_comment xs) ≡ true

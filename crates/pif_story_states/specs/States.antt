@@ -7,7 +7,9 @@ use Rattle.pif_text_model.specs.declared.commands.Command.{Command}
 use Rattle.pif_text_model.specs.declared.replies.Cause.{Cause}
 use Rattle.pif_text_model.specs.declared.replies.Reply.{Reply}
 use Rattle.pif_text_model.specs.Commands.{command_in}
-use Rattle.pif_script_model.specs.Running.{Answer, command_answer, first_answer}
+use Rattle.pif_script_model.specs.Running.{Answer}
+use Rattle.pif_story_model.specs.declared.rows.AnsweredRow.{AnsweredRow}
+use Rattle.pif_story_model.specs.Rows.{outcome_behind}
 use Rattle.pif_story_model.specs.Stories.{NumberedRow, rows_of}
 use Rattle.pif_story_names.specs.Names.{names_in}
 use Rattle.pif_text_json.specs.Json.{names_array, numbers, quoted, separated}
@@ -44,8 +46,7 @@ without_fault (Err cause) = None
 
 -- what a command does: the first one makes the core
 abbrev pub answer_behind : Option Table → Command → Option Answer
-answer_behind None c = without_fault (first_answer c)
-answer_behind (Some s) c = command_answer c s
+answer_behind before c = without_fault (outcome_behind before c)
 
 -- what the words of a command do
 abbrev pub answer_to : Option Table → List ℕ → Option Answer
@@ -66,14 +67,9 @@ states_text story = states_from (names_in story) None (rows_of story)
 
 -- ---- the same, as the code has it
 
--- a command was done so: it had this answer, and led from one table to the other; or it is a fault
-abbrev pub IsPlayed : Option Answer → (before after : Option Table) → Option Reply → Type 0
-IsPlayed answer before after None = answer ≡ None
-IsPlayed answer before after (Some r) = (s : Table) × (answer ≡ Some (r, s)) × (after ≡ Some s)
-
--- the words of a command were done so, and told: the state behind it; or it is a fault, and nothing was
-abbrev pub IsTold : (names : List ℕ) → ℕ → (words : List ℕ) → (before after : Option Table) → (old new : List ℕ) → Bool → Type 0
-IsTold names number words before after old new true =
-    (r : Reply) × (s : Table) × (answer_to before words ≡ Some (r, s)) × (after ≡ Some s)
-    × (new ≡ old ++ state_line names number words r s)
-IsTold names number words before after old new false = (answer_to before words ≡ None) × (new ≡ old)
+-- a command that is handed on was done so, and told: the state behind it; or it is a fault, and nothing was
+abbrev pub IsTold : (names : List ℕ) → AnsweredRow → (before after : Option Table) → (old new : List ℕ) → Bool → Type 0
+IsTold names row before after old new true =
+    (r : Reply) × (s : Table) × (answer_behind before row.command ≡ Some (r, s)) × (after ≡ Some s)
+    × (new ≡ old ++ state_line names row.line row.words.now r s)
+IsTold names row before after old new false = (answer_behind before row.command ≡ None) × (new ≡ old)

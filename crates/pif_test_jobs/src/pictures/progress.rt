@@ -20,7 +20,7 @@ impl WatchSteps for Told {
     }
 }
 
-/// A story of two commands, and of 20 bytes.
+/// A story of two commands.
 const STORY: &str = "thread 10\nthread 20\n";
 
 /// A page of all commands.
@@ -33,22 +33,19 @@ const PAGE: Drawn = Drawn {
 /// Both commands are played twice for a drawing.
 const DRAWING: &[(usize, usize)] = &[(0, 4), (1, 4), (2, 4), (3, 4)];
 
-/// States are counted in bytes.
-const STATES: &[(usize, usize)] = &[(0, 20), (10, 20), (20, 20)];
-
-/// Both commands are played once for a graph.
-const GRAPH: &[(usize, usize)] = &[(0, 2), (1, 2)];
+/// Both commands are played once for the states, and for a graph.
+const ONCE: &[(usize, usize)] = &[(0, 2), (1, 2)];
 
 /// The states of a page are the last of three parts.
-const PARTS: &[(usize, usize)] = &[(0, 6), (1, 6), (2, 6), (3, 6), (4, 6), (5, 6), (6, 6)];
+const PARTS: &[(usize, usize)] = &[(0, 6), (1, 6), (2, 6), (3, 6), (4, 6), (5, 6)];
 
 /// A picture of the story, or for `None` its page, and what is told of it.
 type Steps = (Option<Picture>, &'static [(usize, usize)]);
 
 static PICTURES: [Steps; 4] = [
     (Some(Picture::Drawing), DRAWING),
-    (Some(Picture::States), STATES),
-    (Some(Picture::Graph), GRAPH),
+    (Some(Picture::States), ONCE),
+    (Some(Picture::Graph), ONCE),
     (None, PARTS),
 ];
 

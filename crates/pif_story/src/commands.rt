@@ -1,0 +1,33 @@
+ghost use Rattle.pif_story_model.specs.Rows.{IsDone, outcome_behind};
+
+use pif_core::Core;
+use pif_script::{Ending, OpenFault, obey, open_core};
+use pif_text::{Cause, Command, Reply};
+use std::alloc::Global;
+
+/// Has a core do what a command asks, or makes the core if it is the first one. Answers what the command is answered.
+///
+/// # Errors
+///
+/// The cause, if the command is a fault; and `NoMemory`.
+pub fn do_command(
+    alloc: Global,
+    core: &mut Option<Core>,
+    command: Command,
+) -> Result<Reply, OpenFault>
+    ensures { IsDone (outcome_behind core.old command) core.new result }
+{
+    match core {
+        Some(core) => match obey(core, command) {
+            Some(reply) => Ok(reply),
+            None => Err(OpenFault::Ended(Ending::Fault(Cause::Command))),
+        },
+        None => match open_core(alloc, command) {
+            Ok((made, reply)) => {
+                *core = Some(made);
+                Ok(reply)
+            }
+            Err(fault) => Err(fault),
+        },
+    }
+}
