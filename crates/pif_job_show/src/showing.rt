@@ -1,15 +1,19 @@
-ghost use Rattle.std.specs.Prelude.{◌≡◌, ◌+◌, ◌≤◌, None, Some, List, [], ℕ, OnOk, map};
+ghost use Rattle.std.specs.Prelude.{◌≡◌, ◌+◌, ◌≤◌, None, Option, Some, List, [], ℕ, OnOk, map, option_copied};
 ghost use Rattle.std.specs.Io.KnownBytes.{Appends, Keeps};
 ghost use Rattle.arrayvec.specs.ArrayVec.{array_vec_len};
+ghost use Rattle.pif_model.specs.Table.{Table};
 ghost use Rattle.pif_text_model.specs.Extends.{Stays};
-ghost use Rattle.pif_script_model.specs.declared.details.Detail.TheVariants.{All};
+ghost use Rattle.pif_script_model.specs.declared.details.Detail.TheVariants.{All, Changes};
 ghost use Rattle.pif_script_model.specs.Running.{script};
 ghost use Rattle.pif_script_model.specs.Runs.{Feeds, RunsFrom, Stops};
 ghost use Rattle.pif_script.specs.Scanners.{scan_of};
 ghost use Rattle.pif_script_model.specs.Showing.{OrUnwritten, ShowsTo, Silent};
+ghost use Rattle.pif_text_core.specs.Changes.{lines_text};
 ghost use Rattle.pif_text_core.specs.Texts.{state_text};
+ghost use Rattle.pif_job_show.specs.Leading.{LeadsTo};
 
 use crate::shown::Shown;
+use pif_core::Core;
 use pif_script::{
     CliFault, END_ROOM, End, MOST_LINE, Notice, OUTPUT_ROOM, Output, Scanner, Stop, append, stop,
     write_whole,
@@ -162,12 +166,30 @@ fn write_core<W: Write>(look: &Look<'_>, shown: &Shown, writer: &mut W) -> Resul
     ensures stays { Stays (W.contents writer.old) (W.contents writer.new) }
     ensures whole { look.now.detail ≡ All → OnOk result (Appends (W.contents writer.old) (W.contents writer.new)
         (state_text (map (λ name. name.now) look.now.names.now) shown.now)) }
+    ensures changes { look.now.detail ≡ Changes → OnOk result ((before : Option Table) × LeadsTo before shown.now
+        × Appends (W.contents writer.old) (W.contents writer.new)
+        (lines_text (map (λ name. name.now) look.now.names.now) before shown.now)) }
 {
-    match shown.before() {
-        Some(before) if look.detail == Detail::Changes => {
-            write_changes(look.names, before, shown.core(), writer)
-        }
-        _ => write_state(look.names, shown.core(), writer),
+    match look.detail {
+        Detail::Changes => write_since(look.names, shown.before(), shown.core(), writer),
+        Detail::All => write_state(look.names, shown.core(), writer),
+    }
+}
+
+/// Writes what has changed since a core did what `before` does, or all that it does if there is no core from before.
+fn write_since<W: Write>(
+    names: &[&str],
+    before: Option<&Core>,
+    core: &Core,
+    writer: &mut W,
+) -> Result<(), Unwritten>
+    ensures stays { Stays (W.contents writer.old) (W.contents writer.new) }
+    ensures told { OnOk result (Appends (W.contents writer.old) (W.contents writer.new)
+        (lines_text (map (λ name. name.now) names.now) (option_copied before.entry) core.now)) }
+{
+    match before {
+        Some(before) => write_changes(names, before, core, writer),
+        None => write_state(names, core, writer),
     }
 }
 

@@ -1,10 +1,10 @@
-ghost use Rattle.std.specs.Prelude.{◌≡◌, ◌+◌, ◌≤◌, IfErr, IfOk, IfSome, Option, Some, None};
+ghost use Rattle.std.specs.Prelude.{◌≡◌, ◌+◌, ◌≤◌, IfErr, IfOk, Some, None, option_copied};
 ghost use Rattle.arrayvec.specs.ArrayVec.{array_vec_len};
 ghost use Rattle.pif_model.specs.Table.{Table};
-ghost use Rattle.pif_text_model.specs.declared.commands.Command.{Command};
 ghost use Rattle.pif_script_model.specs.Running.{line_meaning, script};
 ghost use Rattle.pif_script_model.specs.Scripts.{Hears};
 ghost use Rattle.pif_script_model.specs.Showing.{as_done, state_behind};
+ghost use Rattle.pif_job_show.specs.Leading.{LeadsTo};
 
 use pif_core::{Core, Seen};
 use pif_script::{
@@ -43,7 +43,7 @@ impl Shown {
 
     /// The core as it was before the last command. `None` behind the first command, before which there was no core.
     pub fn before(&self) -> Option<&Core>
-        ensures { IfSome result (λ before. (last : Option Command) × (state_behind last before.now ≡ self.now)) }
+        ensures { LeadsTo (option_copied result) self.now }
     {
         match self.last {
             Some(_) => Some(&self.before),

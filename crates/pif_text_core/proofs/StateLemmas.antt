@@ -1,8 +1,18 @@
--- The text of a state, by its parts.
-use Rattle.std.proofs.Common.{◌≡◌, ℕ, List, [], ◌++◌, ap, append-nil}
+-- The text of a state, or of what has changed, by its parts.
+use Rattle.std.proofs.Common.{◌≡◌, ℕ, List, ◌++◌, Option, Some, None, refl, ap, append-nil}
+use Rattle.std.specs.Prelude.{[], codes, flat_map}
+use Rattle.pif_model.specs.Table.{Table}
+use Rattle.pif_model.specs.Calls.{threads_answer}
+use Rattle.pif_text_json.specs.Json.{numbers}
+use Rattle.pif_waiting.specs.Waiting.{conds_added, mutexes_added}
+use Rattle.pif_text_core.specs.Changes.{changes_text, lines_text, new_lines}
+use Rattle.pif_text_core.specs.Texts.{chain_line_at, cond_line, mutex_line, ready_line, state_text, thread_line, time_line}
 
--- where there was nothing before, no chain has gone
-pub pieces : (a b c d e f g z p q r s t u : List ℕ) → a ≡ p → b ≡ q → c ≡ r → d ≡ s → e ≡ t → f ≡ u → z ≡ []
-    → a ++ b ++ c ++ d ++ e ++ f ++ z ++ g ≡ p ++ q ++ r ++ s ++ t ++ u ++ g
-pieces a b c d e f g z p q r s t u a-is b-is c-is d-is e-is f-is z-is =
-    rw (a-is, b-is, c-is, d-is, e-is, f-is, z-is) (ap (λ l. l ++ g) (append-nil (p ++ q ++ r ++ s ++ t ++ u)))
+-- if there was nothing before, each line is new, and no chain is gone
+pub whole_lines : (names : List (List ℕ)) (before : Option Table) (now : Table) → new_lines names before now ≡ lines_text names before now
+unfolding state_text changes_text
+whole_lines names None now =
+    ap (λ l. l ++ codes "\n") (append-nil (time_line 0 now.time ++ flat_map (thread_line names now) (numbers (threads_answer now))
+    ++ flat_map (mutex_line names now) (numbers (mutexes_added now)) ++ flat_map (cond_line names now) (numbers (conds_added now))
+    ++ ready_line names [] now ++ flat_map (chain_line_at names now) (numbers (threads_answer now))))
+whole_lines names (Some before) now = refl

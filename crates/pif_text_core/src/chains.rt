@@ -1,8 +1,9 @@
-ghost use Rattle.std.specs.Prelude.{ℕ, ◌≡◌, ◌≤◌, [], List, None, false, flat_map, option_copied};
+ghost use Rattle.std.specs.Prelude.{◌≡◌, ◌≤◌, flat_map, option_copied};
 ghost use Rattle.pif_model.specs.Calls.{threads_answer};
 ghost use Rattle.pif_text_json.specs.Json.{numbers};
+ghost use Rattle.pif_text_core.specs.Changes.{chain_stays, chains_are_gone, has_waiting, is_waiting, link_stays, links_stay, new_chain_line, no_chain_line, was_there};
 ghost use Rattle.pif_text_core.specs.Pages.{Tells};
-ghost use Rattle.pif_text_core.specs.Texts.{chain_line, chain_line_at, links_text};
+ghost use Rattle.pif_text_core.specs.Texts.{chain_line, links_text};
 
 use crate::holders::{awaited_holder, holder_of};
 use crate::names::Names;
@@ -22,8 +23,8 @@ pub fn show_chains<W: Write>(
     page: &mut Page,
     writer: &mut W,
 )
-    ensures { (text : List ℕ) × (option_copied before.entry ≡ None → text ≡ flat_map (chain_line_at names.now core.now) (numbers (threads_answer core.now)))
-        × Tells page.old page.new (W.contents writer.old) (W.contents writer.new) text }
+    ensures { Tells page.old page.new (W.contents writer.old) (W.contents writer.new)
+        (flat_map (new_chain_line names.now (option_copied before.entry) core.now) (numbers (threads_answer core.now))) }
 {
     for place in 0..core.threads() {
         show_chain_if_new(names, before, core, place + 1, page, writer);
@@ -40,8 +41,8 @@ fn show_chain_if_new<W: Write>(
     writer: &mut W,
 )
     requires { 1 ≤ number }
-    ensures { (text : List ℕ) × (option_copied before.entry ≡ None → text ≡ chain_line_at names.now core.now number)
-        × Tells page.old page.new (W.contents writer.old) (W.contents writer.new) text }
+    ensures { Tells page.old page.new (W.contents writer.old) (W.contents writer.new)
+        (new_chain_line names.now (option_copied before.entry) core.now number) }
 {
     let Some(thread) = Tid::new(number) else {
         return;
@@ -56,26 +57,27 @@ fn show_chain_if_new<W: Write>(
 
 /// Writes that there are no chains if the last ones are gone.
 pub fn show_no_chain<W: Write>(before: Option<&Core>, core: &Core, page: &mut Page, writer: &mut W)
-    ensures { (text : List ℕ) × (option_copied before.entry ≡ None → text ≡ [])
-        × Tells page.old page.new (W.contents writer.old) (W.contents writer.new) text }
+    ensures { Tells page.old page.new (W.contents writer.old) (W.contents writer.new) (no_chain_line (option_copied before.entry) core.now) }
 {
-    if had_waiting(before) && !has_waiting(core) {
+    if chains_are_gone(before, core) {
         page.words("  chain: none\n", writer);
     }
 }
 
-/// Whether a thread waited for a mutex in a core, if there is one.
-fn had_waiting(before: Option<&Core>) -> bool
-    ensures { option_copied before.entry ≡ None → result ≡ false }
+/// Whether a thread waited for a mutex in a core from before, if there is one, and none does now.
+fn chains_are_gone(before: Option<&Core>, core: &Core) -> bool
+    ensures { result ≡ chains_are_gone (option_copied before.entry) core.now }
 {
     match before {
-        Some(before) => has_waiting(before),
+        Some(before) => has_waiting(before) && !has_waiting(core),
         None => false,
     }
 }
 
 /// Whether a thread waits for a mutex.
-fn has_waiting(core: &Core) -> bool {
+fn has_waiting(core: &Core) -> bool
+    ensures { result ≡ has_waiting core.now }
+{
     for place in 0..core.threads() {
         if is_waiting(core, place + 1) {
             return true;
@@ -85,7 +87,10 @@ fn has_waiting(core: &Core) -> bool {
 }
 
 /// Whether the thread of this number waits for a mutex.
-fn is_waiting(core: &Core, number: u32) -> bool {
+fn is_waiting(core: &Core, number: u32) -> bool
+    requires { 1 ≤ number }
+    ensures { result ≡ is_waiting core.now number }
+{
     match Tid::new(number) {
         Some(thread) => awaited(core, thread).is_some(),
         None => false,
@@ -94,7 +99,7 @@ fn is_waiting(core: &Core, number: u32) -> bool {
 
 /// Whether the chain that begins with this thread was there before.
 fn was_chain_there(before: Option<&Core>, core: &Core, thread: Tid) -> bool
-    ensures { option_copied before.entry ≡ None → result ≡ false }
+    ensures { result ≡ was_there chain_stays (option_copied before.entry) core.now thread }
 {
     match before {
         Some(before) => begins_chain(before, thread) && has_same_links(before, core, thread),
@@ -103,22 +108,28 @@ fn was_chain_there(before: Option<&Core>, core: &Core, thread: Tid) -> bool
 }
 
 /// Whether the chain from this thread has the same links in both cores.
-fn has_same_links(before: &Core, core: &Core, first: Tid) -> bool {
+fn has_same_links(before: &Core, core: &Core, first: Tid) -> bool
+    ensures { result ≡ links_stay (threads_answer core.now) before.now core.now first }
+{
     let mut next = first;
     for place in 0..core.threads() {
-        if awaited(before, next) != awaited(core, next) {
+        if !has_same_link(before, core, next) {
             return false;
         }
-        let holder = awaited_holder(core, next);
-        if awaited_holder(before, next) != holder {
-            return false;
-        }
-        match holder {
+        match awaited_holder(core, next) {
             Some(holder) => next = holder.owner,
             None => return true,
         }
     }
     true
+}
+
+/// Whether a thread waits for the same mutex in both cores, with the same holder.
+fn has_same_link(before: &Core, core: &Core, thread: Tid) -> bool
+    ensures { result ≡ link_stays before.now core.now thread }
+{
+    awaited(before, thread) == awaited(core, thread)
+        && awaited_holder(before, thread) == awaited_holder(core, thread)
 }
 
 /// Writes the chain that begins with this thread.

@@ -1,5 +1,6 @@
-ghost use Rattle.std.specs.Prelude.{◌≡◌, ◌≤◌, false, None, option_copied};
+ghost use Rattle.std.specs.Prelude.{◌≡◌, ◌≤◌, option_copied};
 ghost use Rattle.pif_model.specs.Calls.{owner_answer};
+ghost use Rattle.pif_text_core.specs.Changes.{cond_stays, doing, doing_by, doing_stays, hold_changes, holds_stay, mutex_stays, priorities_stay, thread_stays, was_there};
 ghost use Rattle.pif_text_core.specs.Texts.{held_times};
 
 use crate::holders::{awaited_holder, holder_of};
@@ -9,7 +10,9 @@ use pif_types::{CondId, MutexId, Tid};
 use pif_waiting::mutexes_added;
 
 /// What a thread of this status does, whatever woke it if it is ready.
-fn doing_by(status: Status) -> Status {
+fn doing_by(status: Status) -> Status
+    ensures { result ≡ doing_by status }
+{
     match status {
         Status::Ready(_) => Status::Ready(Woken::Fresh),
         status => status,
@@ -17,7 +20,9 @@ fn doing_by(status: Status) -> Status {
 }
 
 /// What a thread does, whatever woke it if it is ready.
-fn doing(core: &Core, thread: Tid) -> Option<Status> {
+fn doing(core: &Core, thread: Tid) -> Option<Status>
+    ensures { result ≡ doing thread core.now }
+{
     match core.status(thread) {
         Some(status) => Some(doing_by(status)),
         None => None,
@@ -26,7 +31,7 @@ fn doing(core: &Core, thread: Tid) -> Option<Status> {
 
 /// Whether the line of a thread was there before.
 pub fn was_thread_there(before: Option<&Core>, core: &Core, thread: Tid) -> bool
-    ensures { option_copied before.entry ≡ None → result ≡ false }
+    ensures { result ≡ was_there thread_stays (option_copied before.entry) core.now thread }
 {
     match before {
         Some(before) => is_same_thread(before, core, thread),
@@ -35,19 +40,25 @@ pub fn was_thread_there(before: Option<&Core>, core: &Core, thread: Tid) -> bool
 }
 
 /// Whether the line of a thread says the same in both cores.
-fn is_same_thread(before: &Core, core: &Core, thread: Tid) -> bool {
-    has_same_priority(before, core, thread)
+fn is_same_thread(before: &Core, core: &Core, thread: Tid) -> bool
+    ensures { result ≡ thread_stays before.now core.now thread }
+{
+    has_same_priorities(before, core, thread)
         && does_the_same(before, core, thread)
         && holds_the_same(before, core, thread)
 }
 
 /// Whether a thread has the same priorities in both cores.
-fn has_same_priority(before: &Core, core: &Core, thread: Tid) -> bool {
+fn has_same_priorities(before: &Core, core: &Core, thread: Tid) -> bool
+    ensures { result ≡ priorities_stay thread before.now core.now }
+{
     before.effective(thread) == core.effective(thread) && before.base(thread) == core.base(thread)
 }
 
 /// Whether a thread does the same in both cores.
-fn does_the_same(before: &Core, core: &Core, thread: Tid) -> bool {
+fn does_the_same(before: &Core, core: &Core, thread: Tid) -> bool
+    ensures { result ≡ doing_stays thread before.now core.now }
+{
     doing(before, thread) == doing(core, thread)
         && before.open_call(thread) == core.open_call(thread)
         && awaited_holder(before, thread) == awaited_holder(core, thread)
@@ -67,10 +78,20 @@ pub fn held_times(core: &Core, thread: Tid, number: u32) -> Option<u32>
     }
 }
 
+/// Whether a thread holds the mutex of this number in one core alone, or not as often in both.
+fn holds_otherwise(before: &Core, core: &Core, thread: Tid, number: u32) -> bool
+    requires { 1 ≤ number }
+    ensures { result ≡ hold_changes thread before.now core.now number }
+{
+    held_times(before, thread, number) != held_times(core, thread, number)
+}
+
 /// Whether a thread holds the same mutexes in both cores, and each as often.
-fn holds_the_same(before: &Core, core: &Core, thread: Tid) -> bool {
+fn holds_the_same(before: &Core, core: &Core, thread: Tid) -> bool
+    ensures { result ≡ holds_stay thread before.now core.now }
+{
     for place in 0..mutexes_added(core) {
-        if held_times(before, thread, place + 1) != held_times(core, thread, place + 1) {
+        if holds_otherwise(before, core, thread, place + 1) {
             return false;
         }
     }
@@ -79,7 +100,7 @@ fn holds_the_same(before: &Core, core: &Core, thread: Tid) -> bool {
 
 /// Whether the line of a mutex was there before.
 pub fn was_mutex_there(before: Option<&Core>, core: &Core, mutex: MutexId) -> bool
-    ensures { option_copied before.entry ≡ None → result ≡ false }
+    ensures { result ≡ was_there mutex_stays (option_copied before.entry) core.now mutex }
 {
     match before {
         Some(before) => is_same_mutex(before, core, mutex),
@@ -88,7 +109,9 @@ pub fn was_mutex_there(before: Option<&Core>, core: &Core, mutex: MutexId) -> bo
 }
 
 /// Whether the line of a mutex says the same in both cores.
-fn is_same_mutex(before: &Core, core: &Core, mutex: MutexId) -> bool {
+fn is_same_mutex(before: &Core, core: &Core, mutex: MutexId) -> bool
+    ensures { result ≡ mutex_stays before.now core.now mutex }
+{
     before.kind(mutex) == core.kind(mutex)
         && before.word(mutex) == core.word(mutex)
         && before.health(mutex) == core.health(mutex)
@@ -99,7 +122,7 @@ fn is_same_mutex(before: &Core, core: &Core, mutex: MutexId) -> bool {
 
 /// Whether the line of a condition variable was there before.
 pub fn was_cond_there(before: Option<&Core>, core: &Core, cond: CondId) -> bool
-    ensures { option_copied before.entry ≡ None → result ≡ false }
+    ensures { result ≡ was_there cond_stays (option_copied before.entry) core.now cond }
 {
     match before {
         Some(before) => is_same_cond(before, core, cond),
@@ -108,7 +131,9 @@ pub fn was_cond_there(before: Option<&Core>, core: &Core, cond: CondId) -> bool
 }
 
 /// Whether the line of a condition variable says the same in both cores.
-fn is_same_cond(before: &Core, core: &Core, cond: CondId) -> bool {
+fn is_same_cond(before: &Core, core: &Core, cond: CondId) -> bool
+    ensures { result ≡ cond_stays before.now core.now cond }
+{
     before.cond_word(cond) == core.cond_word(cond)
         && is_same_queue(before, core, &Order::Parked(cond))
 }

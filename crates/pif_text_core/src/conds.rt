@@ -1,6 +1,7 @@
-ghost use Rattle.std.specs.Prelude.{ℕ, ◌≡◌, ◌≤◌, List, None, flat_map, option_copied};
+ghost use Rattle.std.specs.Prelude.{◌≤◌, flat_map, option_copied};
 ghost use Rattle.pif_text_json.specs.Json.{numbers};
 ghost use Rattle.pif_waiting.specs.Waiting.{conds_added};
+ghost use Rattle.pif_text_core.specs.Changes.{new_cond_line};
 ghost use Rattle.pif_text_core.specs.Pages.{Tells};
 ghost use Rattle.pif_text_core.specs.Texts.{cond_line};
 
@@ -23,8 +24,8 @@ pub fn show_conds<W: Write>(
     page: &mut Page,
     writer: &mut W,
 )
-    ensures { (text : List ℕ) × (option_copied before.entry ≡ None → text ≡ flat_map (cond_line names.now core.now) (numbers (conds_added core.now)))
-        × Tells page.old page.new (W.contents writer.old) (W.contents writer.new) text }
+    ensures { Tells page.old page.new (W.contents writer.old) (W.contents writer.new)
+        (flat_map (new_cond_line names.now (option_copied before.entry) core.now) (numbers (conds_added core.now))) }
 {
     for place in 0..conds_added(core) {
         show_cond_if_new(names, before, core, place + 1, page, writer);
@@ -41,8 +42,8 @@ fn show_cond_if_new<W: Write>(
     writer: &mut W,
 )
     requires { 1 ≤ number }
-    ensures { (text : List ℕ) × (option_copied before.entry ≡ None → text ≡ cond_line names.now core.now number)
-        × Tells page.old page.new (W.contents writer.old) (W.contents writer.new) text }
+    ensures { Tells page.old page.new (W.contents writer.old) (W.contents writer.new)
+        (new_cond_line names.now (option_copied before.entry) core.now number) }
 {
     let Some(cond) = CondId::new(number) else {
         return;

@@ -1,4 +1,5 @@
 ghost use Rattle.std.specs.Prelude.{◌≡◌};
+ghost use Rattle.pif_text_core.specs.Changes.{awaited_holder};
 ghost use Rattle.pif_text_core.specs.Texts.{holder_of};
 
 use crate::parts::Holder;
@@ -16,7 +17,9 @@ pub fn holder_of(core: &Core, mutex: MutexId) -> Option<Holder>
 }
 
 /// Who holds the mutex for which a thread waits.
-pub fn awaited_holder(core: &Core, thread: Tid) -> Option<Holder> {
+pub fn awaited_holder(core: &Core, thread: Tid) -> Option<Holder>
+    ensures { result ≡ awaited_holder thread core.now }
+{
     match awaited(core, thread) {
         Some(mutex) => holder_of(core, mutex),
         None => None,

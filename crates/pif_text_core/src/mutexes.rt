@@ -1,10 +1,11 @@
-ghost use Rattle.std.specs.Prelude.{None, flat_map, unwrap_or, ℕ, ◌≡◌, ◌≤◌, ◌++◌, ◌==◌, [], false, List, Option, codes, decimal, option_copied, if◌then◌else◌};
+ghost use Rattle.std.specs.Prelude.{flat_map, unwrap_or, ◌≡◌, ◌≤◌, ◌==◌, [], false, codes, decimal, option_copied, if◌then◌else◌};
 ghost use Rattle.pif_model.specs.Calls.{kind_answer, owner_answer, word_answer};
 ghost use Rattle.pif_model.specs.Projection.{health_of};
 ghost use Rattle.pif_model.specs.Word.{health_word, word_of};
 ghost use Rattle.pif_text_model.specs.Replies.{health_text, thread_name};
 ghost use Rattle.pif_text_json.specs.Json.{numbers};
 ghost use Rattle.pif_waiting.specs.Waiting.{mutexes_added};
+ghost use Rattle.pif_text_core.specs.Changes.{new_mutex_line};
 ghost use Rattle.pif_text_core.specs.Pages.{Tells};
 ghost use Rattle.pif_text_core.specs.Texts.{has_own_line, health_at, health_part, if_some, lag_text, kind_by, lags, mutex_line, owner_text, state_by, times_text, word_front, word_text};
 
@@ -28,8 +29,8 @@ pub fn show_mutexes<W: Write>(
     page: &mut Page,
     writer: &mut W,
 )
-    ensures { (text : List ℕ) × (option_copied before.entry ≡ None → text ≡ flat_map (mutex_line names.now core.now) (numbers (mutexes_added core.now)))
-        × Tells page.old page.new (W.contents writer.old) (W.contents writer.new) text }
+    ensures { Tells page.old page.new (W.contents writer.old) (W.contents writer.new)
+        (flat_map (new_mutex_line names.now (option_copied before.entry) core.now) (numbers (mutexes_added core.now))) }
 {
     for place in 0..mutexes_added(core) {
         show_mutex_if_new(names, before, core, place + 1, page, writer);
@@ -46,8 +47,8 @@ fn show_mutex_if_new<W: Write>(
     writer: &mut W,
 )
     requires { 1 ≤ number }
-    ensures { (text : List ℕ) × (option_copied before.entry ≡ None → text ≡ mutex_line names.now core.now number)
-        × Tells page.old page.new (W.contents writer.old) (W.contents writer.new) text }
+    ensures { Tells page.old page.new (W.contents writer.old) (W.contents writer.new)
+        (new_mutex_line names.now (option_copied before.entry) core.now number) }
 {
     let Some(mutex) = MutexId::new(number) else {
         return;

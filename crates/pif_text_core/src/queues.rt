@@ -1,5 +1,7 @@
-ghost use Rattle.std.specs.Prelude.{ℕ, ◌≡◌, ◌++◌, ◌==◌, [], List, None, option_copied};
-ghost use Rattle.pif_waiting.specs.Waiting.{order_in};
+ghost use Rattle.std.specs.Prelude.{◌≡◌, ◌++◌, ◌==◌, nat_eq, option_copied, slice_get};
+ghost use Rattle.std.specs.Option.{option_eq};
+ghost use Rattle.pif_waiting.specs.Waiting.{all_in, order_in};
+ghost use Rattle.pif_text_core.specs.Changes.{new_ready_line, order_stays};
 ghost use Rattle.pif_text_core.specs.Pages.{Tells};
 ghost use Rattle.pif_text_core.specs.Texts.{front_of, person_text, ready_line, threads_text};
 
@@ -48,17 +50,25 @@ fn show_place<W: Write>(
 }
 
 /// Whether the same threads stand in an order in both cores, each at the same place.
-pub fn is_same_queue(before: &Core, core: &Core, order: &Order) -> bool {
+pub fn is_same_queue(before: &Core, core: &Core, order: &Order) -> bool
+    ensures { result ≡ order_stays order.now before.now core.now }
+{
     for place in 0..core.threads() {
-        let now = core.nth(*order, place);
-        if before.nth(*order, place) != now {
+        if !is_same_at(before, core, order, place) {
             return false;
         }
-        if now.is_none() {
+        if nth(core, order, place).is_none() {
             return true;
         }
     }
     true
+}
+
+/// Whether the same thread stands at a place of an order in both cores, or none does.
+fn is_same_at(before: &Core, core: &Core, order: &Order, place: u32) -> bool
+    ensures { result ≡ option_eq nat_eq (slice_get (all_in order.now before.now) place) (slice_get (all_in order.now core.now) place) }
+{
+    nth(before, order, place) == nth(core, order, place)
 }
 
 /// Writes the line of the run queue; nothing if no thread is ready. If there is a core from before, it is written only
@@ -70,8 +80,7 @@ pub fn show_run_queue<W: Write>(
     page: &mut Page,
     writer: &mut W,
 )
-    ensures { (text : List ℕ) × (option_copied before.entry ≡ None → text ≡ ready_line names.now [] core.now)
-        × Tells page.old page.new (W.contents writer.old) (W.contents writer.new) text }
+    ensures { Tells page.old page.new (W.contents writer.old) (W.contents writer.new) (new_ready_line names.now (option_copied before.entry) core.now) }
 {
     match before {
         Some(before) => {

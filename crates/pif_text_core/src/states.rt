@@ -1,6 +1,7 @@
-ghost use Rattle.std.specs.Prelude.{ℕ, ◌≡◌, List, None, map, OnOk, option_copied};
+ghost use Rattle.std.specs.Prelude.{◌≡◌, map, OnOk, option_copied};
 ghost use Rattle.std.specs.Io.KnownBytes.{Appends};
 ghost use Rattle.pif_text_model.specs.Extends.{Stays};
+ghost use Rattle.pif_text_core.specs.Changes.{changes_text, lines_text};
 ghost use Rattle.pif_text_core.specs.Pages.{Tells};
 ghost use Rattle.pif_text_core.specs.Texts.{state_text, time_before, time_line};
 
@@ -42,6 +43,7 @@ pub fn write_changes<W: Write>(
     writer: &mut W,
 ) -> Result<(), Unwritten>
     ensures stays { Stays (W.contents writer.old) (W.contents writer.new) }
+    ensures told { OnOk result (Appends (W.contents writer.old) (W.contents writer.new) (changes_text (map (λ name. name.now) names.now) before.now core.now)) }
 {
     write_lines(&Names::new(names), Some(before), core, writer)
 }
@@ -54,8 +56,7 @@ fn write_lines<W: Write>(
     writer: &mut W,
 ) -> Result<(), Unwritten>
     ensures stays { Stays (W.contents writer.old) (W.contents writer.new) }
-    ensures told { OnOk result ((text : List ℕ) × (option_copied before.entry ≡ None → text ≡ state_text names.now core.now)
-        × Appends (W.contents writer.old) (W.contents writer.new) text) }
+    ensures told { OnOk result (Appends (W.contents writer.old) (W.contents writer.new) (lines_text names.now (option_copied before.entry) core.now)) }
 {
     let mut page = Page::new();
     show_lines(names, before, core, &mut page, writer);
@@ -70,8 +71,7 @@ fn show_lines<W: Write>(
     page: &mut Page,
     writer: &mut W,
 )
-    ensures { (text : List ℕ) × (option_copied before.entry ≡ None → text ≡ state_text names.now core.now)
-        × Tells page.old page.new (W.contents writer.old) (W.contents writer.new) text }
+    ensures { Tells page.old page.new (W.contents writer.old) (W.contents writer.new) (lines_text names.now (option_copied before.entry) core.now) }
 {
     show_time(before, core, page, writer);
     show_threads(names, before, core, page, writer);

@@ -1,8 +1,9 @@
-ghost use Rattle.std.specs.Prelude.{None, flat_map, ℕ, ◌≡◌, ◌≤◌, ◌++◌, [], List, Option, codes, decimal, not, ◌&&◌, option_copied, if◌then◌else◌};
+ghost use Rattle.std.specs.Prelude.{flat_map, ◌≡◌, ◌≤◌, ◌++◌, [], codes, not, ◌&&◌, option_copied, if◌then◌else◌};
 ghost use Rattle.pif_model.specs.Calls.{base_answer, bound_answer, effective_answer, open_call_answer, status_answer, threads_answer};
 ghost use Rattle.pif_text_model.specs.Replies.{cond_name, mutex_name};
 ghost use Rattle.pif_text_json.specs.Json.{numbers};
 ghost use Rattle.pif_waiting.specs.Waiting.{has, mutexes_added};
+ghost use Rattle.pif_text_core.specs.Changes.{new_thread_line};
 ghost use Rattle.pif_text_core.specs.Pages.{Tells};
 ghost use Rattle.pif_text_core.specs.Texts.{base_text, call_text, front_of, held_name, held_text, holder_of, holder_text, holding_text, if_some, priority_by, status_text, thread_line, times_text};
 
@@ -25,8 +26,8 @@ pub fn show_threads<W: Write>(
     page: &mut Page,
     writer: &mut W,
 )
-    ensures { (text : List ℕ) × (option_copied before.entry ≡ None → text ≡ flat_map (thread_line names.now core.now) (numbers (threads_answer core.now)))
-        × Tells page.old page.new (W.contents writer.old) (W.contents writer.new) text }
+    ensures { Tells page.old page.new (W.contents writer.old) (W.contents writer.new)
+        (flat_map (new_thread_line names.now (option_copied before.entry) core.now) (numbers (threads_answer core.now))) }
 {
     for place in 0..core.threads() {
         show_thread_if_new(names, before, core, place + 1, page, writer);
@@ -43,8 +44,8 @@ fn show_thread_if_new<W: Write>(
     writer: &mut W,
 )
     requires { 1 ≤ number }
-    ensures { (text : List ℕ) × (option_copied before.entry ≡ None → text ≡ thread_line names.now core.now number)
-        × Tells page.old page.new (W.contents writer.old) (W.contents writer.new) text }
+    ensures { Tells page.old page.new (W.contents writer.old) (W.contents writer.new)
+        (new_thread_line names.now (option_copied before.entry) core.now number) }
 {
     let Some(thread) = Tid::new(number) else {
         return;

@@ -1,17 +1,13 @@
-use Rattle.std.proofs.Common.{[], ◌++◌}
-use Rattle.pif_text_core.specs.Texts.{thread_line}
+use Rattle.std.specs.Prelude.{option_copied}
+use Rattle.pif_text_core.specs.Changes.{new_thread_line}
 use Rattle.pif_text_core.proofs.ListLemmas.{flat_next, flat_none}
-use Rattle.pif_text_core.proofs.TellingLemmas.{nothing, then}
+use Rattle.pif_text_core.proofs.TellingLemmas.{nothing, same, then}
 use Rattle.pif_text_core.proofs.threads.show_threads.Goals as goal
 
 pub loop-place-init : goal.loop-place-init
-loop-place-init g c = ([], λ none. flat_none (thread_line c.args.names.now c.args.core.now), nothing _ _)
+loop-place-init g c = same (flat_none (new_thread_line c.args.names.now (option_copied c.args.before) c.args.core.now)) (nothing _ _)
 
 pub loop-place-preserved : goal.loop-place-preserved
 loop-place-preserved g c =
-    let front = c.loop-place.invariant.0 in
-    let text = c.show_thread_if_new.ensures.0 in (
-      front ++ text,
-      λ none. flat_next (thread_line c.args.names.now c.args.core.now) c.loop-place.place front text (c.loop-place.invariant.1 none) (c.show_thread_if_new.ensures.1 none),
-      then c.loop-place.invariant.2 c.show_thread_if_new.ensures.2,
-    )
+    same (flat_next (new_thread_line c.args.names.now (option_copied c.args.before) c.args.core.now) c.loop-place.place)
+    (then c.loop-place.invariant c.show_thread_if_new.ensures)

@@ -1,11 +1,10 @@
-use Rattle.std.proofs.Common.{◌≡◌, ℕ, List, None}
 use Rattle.std.specs.Prelude.{flat_map, option_copied}
 use Rattle.pif_text_json.specs.Json.{numbers}
+use Rattle.pif_text_core.specs.Changes.{new_thread_line}
 use Rattle.pif_text_core.specs.Pages.{Tells}
-use Rattle.pif_text_core.specs.Texts.{thread_line}
 use Rattle.pif_text_core.proofs.threads.show_threads.Given as goal
 
 abbrev pub invariant-loop-place : goal.invariant-loop-place
 invariant-loop-place g l =
-    (text : List ℕ) × (option_copied l.before ≡ None → text ≡ flat_map (thread_line l.names l.core) (numbers l.place))
-    × Tells l.initial.page l.page (g.W.Write.contents l.initial.writer) (g.W.Write.contents l.writer) text
+    Tells l.initial.page l.page (g.W.Write.contents l.initial.writer) (g.W.Write.contents l.writer)
+    (flat_map (new_thread_line l.names (option_copied l.before) l.core) (numbers l.place))
