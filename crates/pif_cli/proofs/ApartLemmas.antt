@@ -1,5 +1,7 @@
 -- Histories that were judged into texts of their own, which are written in their turns.
-use Rattle.std.proofs.Common.{◌≡◌, inl, inr, ℕ, Bool, true, false, List, [], MatchBool, IfSome, OnOk, Option, Some, None, Result, Ok, Err, refl, slice_index_or, subst, sym, ap, ◌∙◌}
+use Rattle.std.proofs.Common.{◌≡◌, ◌<◌, ◌≤◌, ◌-◌, ◌⊎◌, inl, inr, ℕ, Bool, true, false, List, [], MatchBool, IfSome, OnOk, Option, Some, None, Result, Ok, Err, arith, drop, get_or-take, refl, slice_index_or, subst, sym, take, ap, ◌∙◌}
+use Rattle.std.proofs.lemmas.Bool.{cases_lt}
+use Rattle.std.proofs.lemmas.List.{get_or-drop, get_or_past, length-take}
 use Rattle.std.specs.Borrow.{Bor}
 use Rattle.std.specs.Slice.{IsItemAt}
 use Rattle.clap.specs.Words.{Text}
@@ -134,12 +136,37 @@ written-again asked name judged held holds result made written =
     ]
 
 -- what is found at a place is of the file of this place
-pub apart-at : {A : Type 0} (name : A → Text) (job : Job) (files : List A) (found : List Apart) (i : ℕ) (file : A)
+apart-at : {A : Type 0} (name : A → Text) (job : Job) (files : List A) (found : List Apart) (i : ℕ) (file : A)
     (one : Option (Bor Apart)) → AreApart name job files found → IsItemAt found i one
     → IfSome one (λ x. IsApart job (name (slice_index_or files i file)) x.now)
 apart-at name job files found i file None are item = tt
 apart-at name job files found i file (Some one) are item =
     subst (λ (x : Apart). IsApart job (name (slice_index_or files i file)) x) (sym item.1) (are i file one.now item.3.0)
+
+-- what was done with the first files of a list was done with files of the list
+pub apart-front : {A : Type 0} (name : A → Text) (job : Job) (k : ℕ) (files : List A) (found : List Apart)
+    → AreApart name job (take k files) found → AreApart name job files found
+apart-front {A} name job k files found are i file one lt = by_order (cases_lt i k)
+  where
+    at : A
+    at = slice_index_or files i file
+
+    by_order : ((i < k) ⊎ (k ≤ i)) → IsApart job (name at) (slice_index_or found i one)
+    by_order (inl l) =
+        subst (λ (x : A). IsApart job (name x) (slice_index_or found i one)) (get_or-take k files i file l) (are i file one lt)
+    by_order (inr m) =
+        subst (λ (x : A). IsApart job (name x) (slice_index_or found i one))
+        (get_or_past (take k files) i at (omega (arith, length-take k files))) (are i at one lt)
+
+-- what is found of the file at a place, of those that were taken from an earlier place on
+pub apart-ahead : {A : Type 0} (name : A → Text) (job : Job) (files : List A) (begin place : ℕ) (found : List Apart) (file : A)
+    (one : Option (Bor Apart)) → begin ≤ place → AreApart name job (drop begin files) found → IsItemAt found (place - begin) one
+    → IfSome one (λ x. IsApart job (name (slice_index_or files place file)) x.now)
+apart-ahead {A} name job files begin place found file one past are item =
+    let at : slice_index_or (drop begin files) (place - begin) file ≡ slice_index_or files place file =
+    get_or-drop begin files (place - begin) file ∙ ap (λ i. slice_index_or files i file) (omega (arith, past)) in
+    subst (λ (x : A). IfSome one (λ (y : Bor Apart). IsApart job (name x) y.now)) at
+    (apart-at name job (drop begin files) found (place - begin) file one are item)
 
 -- a job that was done has no notes
 no-notes : (notes : List ℕ) (done : Result (Unit {0}) JobFault) → notes ≡ [] → OnOk done (notes ≡ [])

@@ -1,6 +1,6 @@
 -- A job over several files in turn.
-use Rattle.std.proofs.Common.{◌≡◌, ◌+◌, ◌-◌, ℕ, ◌<◌, ◌≤◌, ◌==◌, Bool, true, false, cond, List, [], ◌∷◌, ◌++◌, Option, get_or, length, map, refl, sym, take, drop, arith, ap, ◌∙◌, subst, eqb-true}
-use Rattle.std.proofs.lemmas.List.{drop-take, map-append, map_push, take-append-drop, take-take, take_all, take_more}
+use Rattle.std.proofs.Common.{◌≡◌, ◌+◌, ℕ, ◌<◌, ◌≤◌, ◌==◌, Bool, true, false, cond, List, [], ◌∷◌, ◌++◌, Option, get_or, length, map, refl, sym, take, ap, ◌∙◌, subst, eqb-true}
+use Rattle.std.proofs.lemmas.List.{map_push, take_all, take_more}
 use Rattle.clap.specs.Words.{Text}
 use Rattle.pif_cli_words.specs.declared.jobs.Job.{Job}
 use Rattle.pif_cli.specs.Words.{DidAll, DidOver, first_status}
@@ -38,25 +38,6 @@ DidAll-more rewrite job (first ∷ names) name a b c h i j d e f s t all one = (
   ap (λ x. first_status x t) all.7 ∙ status-again all.3 all.4 t,
 )
 
--- the files of a list, and then those of another
-pub DidAll-append : (rewrite : Bool) (job : Job) (names others : List Text) (a b c h i j d e f : Option (List ℕ)) (s t : ℕ)
-    → DidAll rewrite job names a b h i d e s → DidAll rewrite job others b c i j e f t
-    → DidAll rewrite job (names ++ others) a c h j d f (first_status s t)
-DidAll-append rewrite job [] others a b c h i j d e f s t all more =
-    let over = subst (λ x. DidAll rewrite job others x c h j d f t) all.1
-    (subst (λ x. DidAll rewrite job others b c x j d f t) all.2 (subst (λ x. DidAll rewrite job others b c i j x f t) all.3 more)) in
-    subst (λ x. DidAll rewrite job others a c h j d f x) (sym (ap (λ x. first_status x t) all.0)) over
-DidAll-append rewrite job (first ∷ names) others a b c h i j d e f s t all more = (
-  all.0,
-  all.1,
-  all.2,
-  all.3,
-  first_status all.4 t,
-  all.5,
-  DidAll-append rewrite job names others all.0 b c all.1 i j all.2 e f all.4 t all.6 more,
-  ap (λ x. first_status x t) all.7 ∙ status-again all.3 all.4 t,
-)
-
 -- the next file of a list
 pub DidAll-next : {A : Type 0} (name : A → Text) (rewrite : Bool) (job : Job) (files : List A) (n : ℕ) (x : A)
     (a b c h i j d e f : Option (List ℕ)) (s t : ℕ)
@@ -69,24 +50,6 @@ DidAll-next name rewrite job files n x a b c h i j d e f s t lt all one =
     ap (map name) (take_more files n x lt) ∙ map_push name (take n files) (get_or files n x) in
     subst (λ l. DidAll rewrite job l a c h j d f (first_status s t)) (sym names)
     (DidAll-more rewrite job (map name (take n files)) file a b c h i j d e f s t all one)
-
--- the next k files of a list
-pub DidAll-cut : {A : Type 0} (name : A → Text) (rewrite : Bool) (job : Job) (files : List A) (n k : ℕ)
-    (a b c h i j d e f : Option (List ℕ)) (s t : ℕ)
-    → DidAll rewrite job (map name (take n files)) a b h i d e s
-    → DidAll rewrite job (map name (take (n + k - n) (drop n files))) b c i j e f t
-    → DidAll rewrite job (map name (take (n + k) files)) a c h j d f (first_status s t)
-DidAll-cut name rewrite job files n k a b c h i j d e f s t all more =
-    let size : n + k - n ≡ k = omega arith in
-    let cut : take (n + k) files ≡ take n files ++ take k (drop n files) =
-    sym (take-append-drop n (take (n + k) files))
-    ∙ (ap (λ l. l ++ drop n (take (n + k) files)) (take-take n (n + k) files (omega arith))
-    ∙ ap (λ l. take n files ++ l) (drop-take n k files)) in
-    let names : map name (take (n + k) files) ≡ map name (take n files) ++ map name (take k (drop n files)) =
-    ap (map name) cut ∙ map-append name (take n files) (take k (drop n files)) in
-    subst (λ l. DidAll rewrite job l a c h j d f (first_status s t)) (sym names)
-    (DidAll-append rewrite job (map name (take n files)) (map name (take k (drop n files))) a b c h i j d e f s t all
-    (subst (λ (m : ℕ). DidAll rewrite job (map name (take m (drop n files))) b c i j e f t) size more))
 
 -- all files of a list were gone through
 pub DidAll-done : {A : Type 0} (name : A → Text) (rewrite : Bool) (job : Job) (files : List A) (n : ℕ)

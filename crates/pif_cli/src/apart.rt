@@ -1,6 +1,7 @@
 //! Histories that are judged side by side, in threads, each into a text of its own. What is written, and in which order,
 //! is as of one after the other.
-ghost use Rattle.std.specs.Prelude.{◌≡◌, ◌<◌, ◌≤◌, IfOk, length, vec_len};
+ghost use Rattle.std.specs.Prelude.{◌≡◌, ◌<◌, ◌≤◌, ◌-◌, [], IfOk, drop, length, vec_len};
+ghost use Rattle.std.specs.Slice.{IsItemAt};
 ghost use Rattle.pif_cli.specs.Apart.{AreApart, IsApart, IsJudged, WritesJudged};
 
 use crate::hosts::Runtime;
@@ -44,7 +45,7 @@ pub enum Apart {
 }
 
 /// How many threads judge so many histories: as many as are asked for, or as there are processors; one for another job.
-pub fn jobs_of<P: Threads>(process: &P, job: Job, count: usize) -> usize
+fn jobs_of<P: Threads>(process: &P, job: Job, count: usize) -> usize
     ensures { 0 < result }
 {
     let Job::Judge(asked) = job else {
@@ -66,7 +67,7 @@ fn processors<P: Threads>(process: &P) -> usize {
 }
 
 /// How many files are taken at once by so many threads: all that are left if there is one thread.
-pub fn taken_at_once(jobs: usize, left: usize) -> usize
+fn taken_at_once(jobs: usize, left: usize) -> usize
     requires { 0 < left }
     ensures { (0 < result) × (result ≤ left) }
 {
@@ -193,7 +194,7 @@ fn judge_in_threads<P: Runtime + Sync>(
 
 /// What is done with the files of these names before their turns: their histories are read, and then judged by so many
 /// threads. Nothing is done for another job, by one thread, or if memory is refused.
-pub fn done_apart<P: Files + Runtime + Sync>(
+fn done_apart<P: Files + Runtime + Sync>(
     alloc: Global,
     process: &P,
     job: Job,
@@ -221,6 +222,69 @@ pub fn done_apart<P: Files + Runtime + Sync>(
         found.as_mut_slice(),
     );
     found
+}
+
+/// What was done with the files that come next before their turns. A part of them is taken at once.
+#[derive(Drop)]
+pub struct Ahead {
+    /// Where memory comes from.
+    alloc: Global,
+    /// How many threads do it.
+    jobs: usize,
+    /// The place of the first file that was taken.
+    begin: usize,
+    /// The place behind the last of them.
+    end: usize,
+    /// What was done with each of them, or nothing at all.
+    found: Vec<Apart>,
+}
+
+impl Ahead {
+    /// Nothing yet, for a job over so many files.
+    pub fn new<P: Threads>(alloc: Global, process: &P, job: Job, count: usize) -> Ahead
+        ensures begin { result.begin ≡ 0 }
+        ensures found { result.found.items ≡ [] }
+    {
+        Ahead {
+            alloc,
+            jobs: jobs_of(process, job, count),
+            begin: 0,
+            end: 0,
+            found: Vec::new(alloc),
+        }
+    }
+
+    /// Comes to the file at this place among those of these names, in their order. If it was not taken yet, the next
+    /// part is, from here on.
+    pub fn reach<P: Files + Runtime + Sync>(
+        &mut self,
+        process: &P,
+        job: Job,
+        names: &[&str],
+        place: usize,
+    )
+        requires place { place < length names.now }
+        requires begin { self.old.begin ≤ place }
+        requires apart { AreApart (λ name. name.now) job (drop self.old.begin names.now) self.old.found.items }
+        ensures begin { self.new.begin ≤ place }
+        ensures apart { AreApart (λ name. name.now) job (drop self.new.begin names.now) self.new.found.items }
+    {
+        if place < self.end {
+            return;
+        }
+        let end = place + taken_at_once(self.jobs, names.len() - place);
+        self.found = done_apart(self.alloc, process, job, self.jobs, &names[place..end]);
+        self.begin = place;
+        self.end = end;
+    }
+
+    /// What was done with the file at this place, if that is known.
+    pub fn at(&self, place: usize) -> Option<&Apart>
+        requires { self.now.begin ≤ place }
+        ensures { IsItemAt self.now.found.items (place - self.now.begin) result }
+    {
+        self.found.get(place - self.begin)
+    }
 }
 
 /// Writes the text of a history that was judged. If a write to the text itself failed, memory was refused for it: then

@@ -30,16 +30,3 @@ pub struct Host<'p, 's, 'o, 'e, 'v, P, S, W, E, V> {
     /// Whether the errors were told that the output cannot be written.
     pub told_of_output: bool,
 }
-
-/// What a job works with besides what it reads and writes.
-#[derive(Clone, Copy)]
-pub struct Means<'p, 's, P, S> {
-    /// Where memory comes from.
-    pub alloc: Global,
-    /// What starts threads.
-    pub process: &'p P,
-    /// Where a shell saves its stories.
-    pub shelf: &'s S,
-    /// Whether a person sits at the input, for whom a shell writes a prompt.
-    pub is_terminal: bool,
-}

@@ -21,6 +21,7 @@ mod shelves;
 mod statuses;
 mod streams;
 mod times;
+mod told;
 mod words;
 
 pub use causes::message_of;

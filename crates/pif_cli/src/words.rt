@@ -1,37 +1,30 @@
-ghost use Rattle.std.specs.Prelude.{◌≡◌, ◌⊎◌, [], Ok, OnOk, map};
+ghost use Rattle.std.specs.Prelude.{◌≡◌, ◌⊎◌, [], OnOk, map};
 ghost use Rattle.clap.specs.Words.{kind_of};
 ghost use Rattle.pif_cli_words.specs.Words.{refusals_of, rewrites, job_of, name_of};
-ghost use Rattle.pif_script_model.specs.Running.{RunsTo};
-ghost use Rattle.pif_story_model.specs.Checks.{TellsTo, check_telling};
-ghost use Rattle.pif_story_model.specs.Showing.{ShowsStoryTo};
-ghost use Rattle.pif_story_notes.specs.Notes.{ShowsNoting, TellsNoting};
 ghost use Rattle.pif_job_draw.specs.Pictures.{DrawsTo};
 ghost use Rattle.pif_cli.specs.Messages.{TellsAt, TellsFault, TellsLine, TellsNotes, TellsOf};
 ghost use Rattle.pif_cli.specs.Statuses.{fault_status, job_status};
-ghost use Rattle.pif_cli.specs.Words.{Did, DidOrRefused, Does, EndsAsCli, HasNotes, RunsTold, as_job, EndsBy, HadNoMemory, RefusedFor, RefusesInput, Shows, ShowsHelp, ExploresAsked, as_explored};
+ghost use Rattle.pif_cli.specs.Words.{Did, Does, EndsAsCli, HasNotes, as_job, EndsBy, HadNoMemory, RefusedFor, RefusesInput, Shows, ShowsHelp, ExploresAsked, as_explored};
 
 use crate::causes::{Given, plain_message};
 use crate::drive::drive;
-use crate::hosts::{Host, Means, Runtime};
+use crate::hosts::{Host, Runtime};
 use crate::judging::judge_input;
 use crate::messages::Message;
-use crate::notes::Notes;
 use crate::progress::{Unwatched, WatchJob};
 use crate::random::write_random;
 use crate::statuses::{JobFault, fault_status, is_output, job_fault_status};
 use crate::streams::{Input, Output};
+use crate::told::Told;
 use clap::error::ErrorKind;
 use pif_cli_words::{Job, first_name, near_command, read_words};
-use pif_job_check::{check_noting, check_strictly, fill_as_one_of_several, fill_noting};
+use pif_job_check::{check_strictly, fill_as_one_of_several, fill_noting};
 use pif_job_draw::{Drawn, write_drawn, write_picture};
 use pif_job_explore::{ExploreFault, Exploring, Watch as WatchStates, explore_text};
 use pif_job_replay::{migrate_noting, replay_noting};
-use pif_job_run::run_noted;
 use pif_job_shell::{NoShelf, Shelf, shell};
-use pif_job_show::show_noting;
 use pif_job_trace::trace_story;
-use pif_script::{CliFault, Notice, write_whole};
-use pif_script_model::Detail;
+use pif_script::{CliFault, write_whole};
 use pif_watch::WatchSteps;
 use std::alloc::{AllocError, Global};
 use std::convert::AsStr;
@@ -76,127 +69,65 @@ fn explore_input<R: Read, W: Write, V: WatchStates>(
     as_explored(explore_text(alloc, &exploring, input, output, watch))
 }
 
-/// Draws a story.
+/// Draws a story, and has `told` keep the line that ends it.
 fn draw_input<R: Read, W: Write, V: WatchSteps>(
-    alloc: Global,
     asked: pif_cli_words::Drawn,
     input: &mut R,
     output: &mut W,
-    notice: &mut Notice,
+    told: &mut Told,
     watch: &mut V,
 ) -> Result<(), JobFault>
-    ensures { EndsAsCli (DrawsTo asked.html (R.remaining input.old) (R.remaining input.new) (W.contents output.old) (W.contents output.new)) result }
+    ensures did { EndsAsCli (DrawsTo asked.html (R.remaining input.old) (R.remaining input.new) (W.contents output.old) (W.contents output.new)) result }
+    ensures same_notes { told.new.notes ≡ told.old.notes }
 {
     let drawn = Drawn {
         page: asked.html,
         from: asked.from,
         to: asked.to,
     };
-    as_job(write_drawn(drawn, alloc, input, output, notice, watch))
+    as_job(write_drawn(drawn, told.alloc, input, output, &mut told.notice, watch))
 }
 
-/// Runs the script of this name, and keeps the notes on it.
-fn run_input<R: Read, W: Write>(
-    alloc: Global,
-    name: &str,
-    input: &mut R,
-    output: &mut W,
-    notice: &mut Notice,
-    notes: &mut Notes,
-) -> Result<(), JobFault>
-    ensures did { EndsAsCli (RunsTo (R.remaining input.old) (R.remaining input.new) (W.contents output.old) (W.contents output.new)) result }
-    ensures noted { OnOk result (RunsTold name.now (R.remaining input.old) (R.remaining input.new) (W.contents output.old) (W.contents output.new) notes.new) }
-{
-    match run_noted(alloc, name.as_bytes(), input, output, notice) {
-        Ok(found) => {
-            *notes = Notes::if_any(found);
-            Ok(())
-        }
-        Err(fault) => Err(JobFault::Cli(fault)),
-    }
-}
-
-/// Checks the story of this name, and keeps the notes on it.
-fn check_input<R: Read, W: Write>(
-    alloc: Global,
-    name: &str,
-    input: &mut R,
-    output: &mut W,
-    notice: &mut Notice,
-    notes: &mut Notes,
-) -> Result<(), JobFault>
-    ensures did { EndsAsCli (TellsTo (check_telling name.now) (R.remaining input.old) (R.remaining input.new) (W.contents output.old) (W.contents output.new)) result }
-    ensures noted { OnOk result (TellsNoting name.now (check_telling name.now) (R.remaining input.old) (R.remaining input.new) (W.contents output.old) (W.contents output.new) (Ok notes.new)) }
-{
-    match check_noting(alloc, name.as_bytes(), input, output, notice) {
-        Ok(text) => {
-            *notes = Notes::of(text);
-            Ok(())
-        }
-        Err(fault) => Err(JobFault::Cli(fault)),
-    }
-}
-
-/// Shows the story of this name, and keeps the notes on it.
-fn show_input<R: Read, W: Write>(
-    alloc: Global,
-    detail: Detail,
-    name: &str,
-    input: &mut R,
-    output: &mut W,
-    notice: &mut Notice,
-    notes: &mut Notes,
-) -> Result<(), JobFault>
-    ensures did { EndsAsCli (ShowsStoryTo (R.remaining input.old) (R.remaining input.new) (W.contents output.old) (W.contents output.new)) result }
-    ensures noted { OnOk result (ShowsNoting name.now (R.remaining input.old) (R.remaining input.new) (W.contents output.old) (W.contents output.new) (Ok notes.new)) }
-{
-    match show_noting(detail, alloc, name.as_bytes(), input, output, notice) {
-        Ok(text) => {
-            *notes = Notes::of(text);
-            Ok(())
-        }
-        Err(fault) => Err(JobFault::Cli(fault)),
-    }
-}
-
-/// Does a job over an input of this name, and has `notice` keep the line that ends it, and `notes` those of the job.
-fn do_job<P: Runtime + Sync, S: Shelf, R: Read, W: Write, V: WatchJob>(
+/// Does a job over an input of this name. `told` keeps the line that ends it, and its notes.
+fn do_job<P: Runtime + Sync, S: Shelf, R: Read, W: Write, E, V: WatchJob>(
     job: Job,
     name: &str,
-    means: &Means<P, S>,
     input: &mut R,
-    output: &mut W,
-    watch: &mut V,
-    notice: &mut Notice,
-    notes: &mut Notes,
+    host: &mut Host<P, S, W, E, V>,
+    told: &mut Told,
 ) -> Result<(), JobFault>
-    requires { notes.old ≡ [] }
-    ensures did { Does job name.now (R.remaining input.old) (R.remaining input.new) (W.contents output.old) (W.contents output.new) result }
-    ensures noted { OnOk result (HasNotes job name.now (R.remaining input.old) (R.remaining input.new) (W.contents output.old) (W.contents output.new) notes.new) }
+    requires { told.old.notes ≡ [] }
+    ensures same_output { host.new.output.ghost_name ≡ host.old.output.ghost_name }
+    ensures same_errors { host.new.errors.ghost_name ≡ host.old.errors.ghost_name }
+    ensures untold { host.new.errors.now ≡ host.old.errors.now }
+    ensures did { Does job name.now (R.remaining input.old) (R.remaining input.new) (W.contents host.old.output.now)
+        (W.contents host.new.output.now) result }
+    ensures noted { OnOk result (HasNotes job name.now (R.remaining input.old) (R.remaining input.new)
+        (W.contents host.old.output.now) (W.contents host.new.output.now) told.new.notes) }
 {
-    let alloc = means.alloc;
-    let told = name.as_bytes();
+    let (alloc, called, output) = (host.alloc, name.as_bytes(), &mut *host.output);
+    let notice = &mut told.notice;
     match job {
-        Job::Run => run_input(alloc, name, input, output, notice, notes),
+        Job::Run => told.run(name, input, output),
         Job::Replay => as_job(replay_noting(alloc, input, output, notice)),
         Job::Trace => as_job(trace_story(alloc, input, output, notice)),
         Job::Migrate => as_job(migrate_noting(alloc, input, output, notice)),
-        Job::Show(detail) => show_input(alloc, detail, name, input, output, notice, notes),
+        Job::Show(detail) => told.show(detail, name, input, output),
         Job::Picture(picture) => {
-            as_job(write_picture(picture, alloc, input, output, notice, watch))
+            as_job(write_picture(picture, alloc, input, output, notice, host.watch))
         }
-        Job::Draw(asked) => draw_input(alloc, asked, input, output, notice, watch),
-        Job::Shell => as_job(shell(alloc, means.shelf, means.is_terminal, input, output)),
-        Job::Check => check_input(alloc, name, input, output, notice, notes),
-        Job::Strict => as_job(check_strictly(alloc, told, input, output, notice)),
-        Job::Fill => as_job(fill_noting(alloc, told, input, output, notice)),
-        Job::FillSeveral => as_job(fill_as_one_of_several(alloc, told, input, output, notice)),
+        Job::Draw(asked) => draw_input(asked, input, output, told, host.watch),
+        Job::Shell => as_job(shell(alloc, host.shelf, host.is_terminal, input, output)),
+        Job::Check => told.check(name, input, output),
+        Job::Strict => as_job(check_strictly(alloc, called, input, output, notice)),
+        Job::Fill => as_job(fill_noting(alloc, called, input, output, notice)),
+        Job::FillSeveral => as_job(fill_as_one_of_several(alloc, called, input, output, notice)),
         Job::Judge(asked) => {
-            judge_input(alloc, means.process, asked, name, input, output, watch)
+            judge_input(alloc, host.process, asked, name, input, output, host.watch)
         },
-        Job::Explore(asked) => explore_input(alloc, asked, input, output, watch),
-        Job::Random(recipe) => write_random(alloc, recipe, output, watch),
-        Job::Drive(clients) => drive(alloc, means.process, clients, output),
+        Job::Explore(asked) => explore_input(alloc, asked, input, output, host.watch),
+        Job::Random(recipe) => write_random(alloc, recipe, output, host.watch),
+        Job::Drive(clients) => drive(alloc, host.process, clients, output),
     }
 }
 
@@ -206,67 +137,6 @@ fn keeps_text(job: Job) -> bool {
         Job::Check | Job::Strict | Job::Fill | Job::FillSeveral => true,
         Job::Picture(_) | Job::Draw(_) | Job::Show(_) | Job::Trace => true,
         _ => false,
-    }
-}
-
-/// How a job has ended.
-#[derive(Drop)]
-pub struct Ended {
-    /// How it has ended.
-    pub done: Result<(), JobFault>,
-    /// What is told of its fault, if it has one.
-    pub message: Message,
-    /// What is told if it was done.
-    pub notes: Notes,
-}
-
-/// What is told of the fault of a job, if it has one.
-pub fn message_at_end(
-    done: Result<(), JobFault>,
-    given: &Given<'_, '_>,
-    notice: &Notice,
-) -> Message {
-    match done {
-        Ok(()) => Message::empty(),
-        Err(fault) => given.message(fault, notice),
-    }
-}
-
-/// Does a job over an input of this name.
-fn do_noting<P: Runtime + Sync, S: Shelf, R: Read, W: Write, V: WatchJob>(
-    job: Job,
-    name: &str,
-    means: &Means<P, S>,
-    input: &mut Input<R>,
-    output: &mut Output<W>,
-    watch: &mut V,
-) -> Ended
-    ensures did { Does job name.now (R.remaining input.old) (R.remaining input.new) (W.contents output.old) (W.contents output.new) result.done }
-    ensures noted { OnOk result.done (HasNotes job name.now (R.remaining input.old) (R.remaining input.new) (W.contents output.old) (W.contents output.new) result.notes) }
-{
-    let mut notice = Notice::new();
-    let mut notes = Notes::none(means.alloc);
-    input.begin(means.alloc, keeps_text(job));
-    let done = do_job(
-        job,
-        name,
-        means,
-        &mut *input,
-        output,
-        watch,
-        &mut notice,
-        &mut notes,
-    );
-    let given = Given {
-        job,
-        name,
-        story: input.text(),
-        why: input.why(),
-    };
-    Ended {
-        done,
-        message: message_at_end(done, &given, &notice),
-        notes,
     }
 }
 
@@ -290,26 +160,27 @@ fn tell_fault<E: Write>(fault: JobFault, is_quiet: bool, message: Message, error
     }
 }
 
-/// Tells the errors how a job has ended: its notes, or its fault. That the output cannot be written is told once, and not
-/// if nobody reads it any more. Answers the status of the job.
-pub fn tell_end<P, S, W: Write, E: Write, V>(ended: Ended, host: &mut Host<P, S, W, E, V>) -> u8
+/// Tells the errors how a job has ended: its notes, or its fault, by what was given to it and what is told of it. That
+/// the output cannot be written is told once, and not if nobody reads it any more. Answers the status of the job.
+pub fn tell_end<P, S, W: Write, E: Write, V>(
+    done: Result<(), JobFault>,
+    given: &Given<'_, '_>,
+    told: &Told,
+    host: &mut Host<P, S, W, E, V>,
+) -> u8
     ensures same_output { host.new.output.ghost_name ≡ host.old.output.ghost_name }
     ensures same_errors { host.new.errors.ghost_name ≡ host.old.errors.ghost_name }
     ensures unwritten { W.contents host.new.output.now ≡ W.contents host.old.output.now }
-    ensures status { result ≡ job_status ended.done }
-    ensures told { TellsOf ended.notes ended.done (E.contents host.old.errors.now) (E.contents host.new.errors.now) }
+    ensures status { result ≡ job_status done }
+    ensures tells { TellsOf told.now.notes done (E.contents host.old.errors.now) (E.contents host.new.errors.now) }
 {
-    let Ended {
-        done,
-        message,
-        notes,
-    } = ended;
     match done {
         Ok(()) => {
-            tell_notes(notes.text(), host.errors);
+            tell_notes(told.notes.text(), host.errors);
             0
         }
         Err(fault) => {
+            let message = given.message(fault, &told.notice);
             let is_quiet = host.output.is_closed() || host.told_of_output;
             tell_fault(fault, is_quiet, message, host.errors);
             host.told_of_output = host.told_of_output || is_output(fault);
@@ -332,14 +203,16 @@ pub fn do_and_tell<P: Runtime + Sync, S: Shelf, R: Read, W: Write, E: Write, V: 
     ensures did { Did job name.now (R.remaining input.old) (R.remaining input.new) (W.contents host.old.output.now)
         (W.contents host.new.output.now) (E.contents host.old.errors.now) (E.contents host.new.errors.now) result }
 {
-    let means = Means {
-        alloc: host.alloc,
-        process: host.process,
-        shelf: host.shelf,
-        is_terminal: host.is_terminal,
+    let mut told = Told::new(host.alloc);
+    input.begin(host.alloc, keeps_text(job));
+    let done = do_job(job, name, &mut *input, host, &mut told);
+    let given = Given {
+        job,
+        name,
+        story: input.text(),
+        why: input.why(),
     };
-    let ended = do_noting(job, name, &means, input, host.output, host.watch);
-    tell_end(ended, host)
+    tell_end(done, &given, &told, host)
 }
 
 /// Tells `errors` of a fault by its own text. Answers the status of the fault, also where `errors` fails.
@@ -374,32 +247,11 @@ pub fn show<W: Write>(text: &str, shown: u8, writer: &mut W) -> u8
 /// What is said if the answers of the standard input are to be written into its file.
 const NO_FILE: &str = "error: 'check --write' writes into files, and the standard input is none\n";
 
-/// Refuses to write into the standard input.
-fn refuse_input<E: Write>(errors: &mut E) -> u8
+/// Refuses to write into the standard input. Answers the status.
+pub fn refuse_input<E: Write>(errors: &mut E) -> u8
     ensures { RefusesInput (E.contents errors.old) (E.contents errors.new) result }
 {
     show(NO_FILE, 1, errors)
-}
-
-/// Does a job over an input of this name, and tells the errors of a fault, as `do_and_tell` does; or refuses the input,
-/// if what is made of it is to be written into its file. Answers the status.
-pub fn do_or_refuse<P: Runtime + Sync, S: Shelf, R: Read, W: Write, E: Write, V: WatchJob>(
-    rewrite: bool,
-    job: Job,
-    name: &str,
-    input: &mut Input<R>,
-    host: &mut Host<P, S, W, E, V>,
-) -> u8
-    ensures same_output { host.new.output.ghost_name ≡ host.old.output.ghost_name }
-    ensures same_errors { host.new.errors.ghost_name ≡ host.old.errors.ghost_name }
-    ensures did { DidOrRefused rewrite job name.now (R.remaining input.old) (R.remaining input.new) (W.contents host.old.output.now)
-        (W.contents host.new.output.now) (E.contents host.old.errors.now) (E.contents host.new.errors.now) result }
-{
-    if rewrite {
-        refuse_input(host.errors)
-    } else {
-        do_and_tell(job, name, input, host)
-    }
 }
 
 /// Why the words ask for no job. Behind a command that there is not stands the nearest one, if there is one, and `clap`
@@ -500,6 +352,9 @@ pub fn command<T: Runtime + Sync, S: AsStr, R: Read, W: Write, E: Write>(
     let mut room = Vec::new(alloc);
     match read_words(alloc, words, &mut room) {
         Ok(asked) => {
+            if asked.rewrites {
+                return refuse_input(errors);
+            }
             let name = first_name(asked.files.as_slice());
             let mut host = Host {
                 alloc,
@@ -511,7 +366,7 @@ pub fn command<T: Runtime + Sync, S: AsStr, R: Read, W: Write, E: Write>(
                 watch: &mut Unwatched,
                 told_of_output: false,
             };
-            do_or_refuse(asked.rewrites, asked.job, name, input, &mut host)
+            do_and_tell(asked.job, name, input, &mut host)
         }
         Err(error) => refuse(alloc, error, near_command(words), output, errors),
     }

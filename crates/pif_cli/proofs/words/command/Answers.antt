@@ -1,13 +1,12 @@
-use Rattle.std.proofs.Common.{◌≡◌, inl, inr, ℕ, Bool, true, false, ◌≤◌, List, Option, Result, Ok, Err, arith, rules, subst}
-use Rattle.clap.specs.Words.{Text, kind_of}
+use Rattle.std.proofs.Common.{◌≡◌, inl, inr, ℕ, ◌≤◌, List, Option, Result, Ok, Err, arith, rules, subst}
+use Rattle.clap.specs.Words.{kind_of}
 use Rattle.pif_script_model.specs.declared.faults.CliFault.{CliFault}
 use Rattle.pif_script_model.specs.declared.faults.CliFault.TheVariants.{Read, Write, NoMemory, Script, Differs}
 use Rattle.pif_cli.specs.declared.statuses.JobFault.{JobFault}
 use Rattle.pif_cli.specs.declared.statuses.JobFault.TheVariants.{Cli, Threads, Unsettled, Undecided}
 use Rattle.pif_cli.specs.Messages.{TellsAt, TellsFault, TellsLine, TellsOf}
 use Rattle.pif_cli.specs.Statuses.{fault_status, job_fault_status, job_status}
-use Rattle.pif_cli_words.specs.declared.jobs.Job.{Job}
-use Rattle.pif_cli.specs.Words.{DidOrRefused, RefusesInput, no_file_text}
+use Rattle.pif_cli.specs.Words.{RefusesInput, no_file_text}
 use Rattle.pif_cli.proofs.WordsLemmas.{EndsIf-refused, refusal_tells}
 use Rattle.pif_cli.proofs.words.command.Goals as goal
 
@@ -54,19 +53,14 @@ input_tells status held holds told =
       | inr t ↦ inr (inr (inr (inl (t.0, (no_file_text, t.1)))))
     ]
 
--- what a job tells them, or the refusal of the standard input
-did_tells : (rewrite : Bool) (job : Job) (name : Text) (before after held holds errors_held errors_hold : Option (List ℕ))
-    (status : ℕ) → DidOrRefused rewrite job name before after held holds errors_held errors_hold status
-    → TellsAt status errors_held errors_hold
-did_tells true job name before after held holds errors_held errors_hold status did =
-    input_tells status errors_held errors_hold did.2
-did_tells false job name before after held holds errors_held errors_hold status did =
-    job_tells did.1 did.0 status errors_held errors_hold did.4 did.5
+pub returns-then-asked-clause-errors : goal.returns-then-asked-clause-errors
+returns-then-asked-clause-errors g c = input_tells c.refuse_input.result _ _ c.refuse_input.ensures
 
 pub returns-in-Ok-clause-errors : goal.returns-in-Ok-clause-errors
 returns-in-Ok-clause-errors g c =
-    subst (λ errors. TellsAt c.do_or_refuse.result (g.E.Write.contents c.args.errors.now) (g.E.Write.contents errors))
-    (search rules) (did_tells _ _ _ _ _ _ _ _ _ _ c.do_or_refuse.ensures.did)
+    let did = c.do_and_tell.ensures.did in
+    subst (λ errors. TellsAt c.do_and_tell.result (g.E.Write.contents c.args.errors.now) (g.E.Write.contents errors))
+    (search rules) (job_tells did.1 did.0 c.do_and_tell.result _ _ did.4 did.5)
 
 pub returns-clause-errors : goal.returns-clause-errors
 returns-clause-errors g c = refusal_tells (kind_of c.in-Err.error) _ _ _ _ _ c.refuse.ensures

@@ -1,6 +1,6 @@
 use Rattle.std.proofs.Common.{Ok, Err, refl}
 use Rattle.pif_cli.proofs.NotesLemmas.{told_noting, told_under}
-use Rattle.pif_cli.proofs.words.check_input.Goals as goal
+use Rattle.pif_cli.proofs.told.Told.check.Goals as goal
 
 pub returns-in-Ok-clause-did : goal.returns-in-Ok-clause-did
 returns-in-Ok-clause-did g c =

@@ -1,6 +1,6 @@
 use Rattle.std.proofs.Common.{Ok, Err, refl}
 use Rattle.pif_cli.proofs.NotesLemmas.{shown_failing, shown_noting}
-use Rattle.pif_cli.proofs.words.show_input.Goals as goal
+use Rattle.pif_cli.proofs.told.Told.show.Goals as goal
 
 pub returns-in-Ok-clause-did : goal.returns-in-Ok-clause-did
 returns-in-Ok-clause-did g c = (Ok tt, shown_noting c.as_bytes.result.now _ _ _ _ _ c.in-Ok.ensures.noted, refl)

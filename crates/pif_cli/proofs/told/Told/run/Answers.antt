@@ -1,6 +1,6 @@
 use Rattle.std.proofs.Common.{Ok, Err, refl}
 use Rattle.pif_cli.proofs.NotesLemmas.{run_noting}
-use Rattle.pif_cli.proofs.words.run_input.Goals as goal
+use Rattle.pif_cli.proofs.told.Told.run.Goals as goal
 
 pub returns-in-Ok-clause-did : goal.returns-in-Ok-clause-did
 returns-in-Ok-clause-did g c = (Ok tt, run_noting c.as_bytes.result.now _ _ _ _ _ c.in-Ok.ensures.noted, refl)

@@ -1,0 +1,100 @@
+//! What is told of a job beside what it writes, and the jobs that have notes.
+ghost use Rattle.std.specs.Prelude.{◌≡◌, [], Ok, OnOk};
+ghost use Rattle.pif_script_model.specs.Running.{RunsTo};
+ghost use Rattle.pif_story_model.specs.Checks.{TellsTo, check_telling};
+ghost use Rattle.pif_story_model.specs.Showing.{ShowsStoryTo};
+ghost use Rattle.pif_story_notes.specs.Notes.{ShowsNoting, TellsNoting};
+ghost use Rattle.pif_cli.specs.Words.{EndsAsCli, RunsTold};
+
+use crate::notes::Notes;
+use crate::statuses::JobFault;
+use pif_job_check::check_noting;
+use pif_job_run::run_noted;
+use pif_job_show::show_noting;
+use pif_script::Notice;
+use pif_script_model::Detail;
+use std::alloc::Global;
+use std::io::{Read, Write};
+
+/// What is kept while a job is done, and told when it has ended.
+#[derive(Drop)]
+pub struct Told {
+    /// Where memory comes from.
+    pub alloc: Global,
+    /// The line that ends the job, if there is one.
+    pub notice: Notice,
+    /// The notes of the job.
+    pub notes: Notes,
+}
+
+impl Told {
+    /// Of a job that has not begun: no line, and no notes.
+    pub fn new(alloc: Global) -> Told
+        ensures { result.notes ≡ [] }
+    {
+        Told {
+            alloc,
+            notice: Notice::new(),
+            notes: Notes::none(alloc),
+        }
+    }
+
+    /// Runs the script of this name, and keeps the notes on it.
+    pub fn run<R: Read, W: Write>(
+        &mut self,
+        name: &str,
+        input: &mut R,
+        output: &mut W,
+    ) -> Result<(), JobFault>
+        ensures did { EndsAsCli (RunsTo (R.remaining input.old) (R.remaining input.new) (W.contents output.old) (W.contents output.new)) result }
+        ensures noted { OnOk result (RunsTold name.now (R.remaining input.old) (R.remaining input.new) (W.contents output.old) (W.contents output.new) self.new.notes) }
+    {
+        match run_noted(self.alloc, name.as_bytes(), input, output, &mut self.notice) {
+            Ok(found) => {
+                self.notes = Notes::if_any(found);
+                Ok(())
+            }
+            Err(fault) => Err(JobFault::Cli(fault)),
+        }
+    }
+
+    /// Checks the story of this name, and keeps the notes on it.
+    pub fn check<R: Read, W: Write>(
+        &mut self,
+        name: &str,
+        input: &mut R,
+        output: &mut W,
+    ) -> Result<(), JobFault>
+        ensures did { EndsAsCli (TellsTo (check_telling name.now) (R.remaining input.old) (R.remaining input.new) (W.contents output.old) (W.contents output.new)) result }
+        ensures noted { OnOk result (TellsNoting name.now (check_telling name.now) (R.remaining input.old) (R.remaining input.new) (W.contents output.old) (W.contents output.new) (Ok self.new.notes)) }
+    {
+        match check_noting(self.alloc, name.as_bytes(), input, output, &mut self.notice) {
+            Ok(text) => {
+                self.notes = Notes::of(text);
+                Ok(())
+            }
+            Err(fault) => Err(JobFault::Cli(fault)),
+        }
+    }
+
+    /// Shows the story of this name, and keeps the notes on it.
+    pub fn show<R: Read, W: Write>(
+        &mut self,
+        detail: Detail,
+        name: &str,
+        input: &mut R,
+        output: &mut W,
+    ) -> Result<(), JobFault>
+        ensures did { EndsAsCli (ShowsStoryTo (R.remaining input.old) (R.remaining input.new) (W.contents output.old) (W.contents output.new)) result }
+        ensures noted { OnOk result (ShowsNoting name.now (R.remaining input.old) (R.remaining input.new) (W.contents output.old) (W.contents output.new) (Ok self.new.notes)) }
+    {
+        let notice = &mut self.notice;
+        match show_noting(detail, self.alloc, name.as_bytes(), input, output, notice) {
+            Ok(text) => {
+                self.notes = Notes::of(text);
+                Ok(())
+            }
+            Err(fault) => Err(JobFault::Cli(fault)),
+        }
+    }
+}
