@@ -19,6 +19,8 @@ pub enum Deed {
     Open(&'static str, Result<(), ErrorKind>),
     /// The file that was opened is read, which has this text.
     Text(Result<&'static str, ErrorKind>),
+    /// The file that was opened is read, which has this text so many times.
+    Texts(&'static str, usize),
     /// A new file of this name is made.
     Make(&'static str, Result<(), ErrorKind>),
     /// The new file gets the mode of the one that was looked at.
@@ -106,33 +108,68 @@ impl<'a, R: Clock> Clock for ListedFiles<'a, R> {
     }
 }
 
+/// What is left of a file that has a text some times.
+#[derive(Clone, Copy)]
+struct Rest {
+    /// What was not read yet of the text.
+    left: &'static [u8],
+    text: &'static [u8],
+    /// How often the text comes behind that.
+    more: usize,
+}
+
+impl Rest {
+    /// The same rest, with the text begun again if nothing is left of it.
+    fn begun(self) -> Rest {
+        match self.more.checked_sub(1) {
+            Some(more) if self.left.is_empty() => Rest {
+                left: self.text,
+                text: self.text,
+                more,
+            },
+            _ => self,
+        }
+    }
+}
+
 /// A file that was opened or made.
 #[derive(Drop)]
 pub struct Listed<'a> {
     list: &'a List,
-    /// What is left of its text, if that was asked for.
-    rest: Option<&'static [u8]>,
+    /// What is left of it, if its text was asked for.
+    rest: Option<Rest>,
 }
 
 impl<'a> Listed<'a> {
-    /// The text of the file that was not read yet.
-    fn rest(&self) -> io::Result<&'static [u8]> {
+    /// What was not read yet of the file.
+    fn rest(&self) -> io::Result<Rest> {
         if let Some(rest) = self.rest {
-            return Ok(rest);
+            return Ok(rest.begun());
         }
-        match self.list.next() {
-            Some(Deed::Text(given)) => Ok(answer(given)?.as_bytes()),
-            _ => Err(self.list.miss()),
-        }
+        let (text, times) = match self.list.next() {
+            Some(Deed::Text(given)) => (answer(given)?.as_bytes(), 1),
+            Some(Deed::Texts(text, times)) => (text.as_bytes(), times),
+            _ => return Err(self.list.miss()),
+        };
+        let unread = Rest {
+            left: b"",
+            text,
+            more: times,
+        };
+        Ok(unread.begun())
     }
 }
 
 impl<'a> Read for Listed<'a> {
     fn read(&mut self, buf: &mut [u8]) -> io::Result<usize> {
         let rest = self.rest()?;
-        let count = buf.len().min(rest.len());
-        buf[..count].copy_from_slice(&rest[..count]);
-        self.rest = Some(&rest[count..]);
+        let count = buf.len().min(rest.left.len());
+        buf[..count].copy_from_slice(&rest.left[..count]);
+        self.rest = Some(Rest {
+            left: &rest.left[count..],
+            text: rest.text,
+            more: rest.more,
+        });
         Ok(count)
     }
 }

@@ -5,6 +5,7 @@
 //! |---|---|
 //! | `lines` | `pif_text`: the commands of lines, and the texts of commands, replies and faults |
 //! | `syntax_errors` | `pif_text_errors`: why a line is no command |
+//! | `places` | `pif_text_errors`: where that stands in a story, and which name is near |
 //! | `scripts` | scripts and traces: tables of ends in the middle of calls, long chains, reads and writes that fail |
 //! | `jobs` | none: what the others have done between two streams |
 //!
@@ -16,6 +17,8 @@
 mod jobs;
 #[cfg(test)]
 mod lines;
+#[cfg(test)]
+mod places;
 #[cfg(test)]
 mod scripts;
 #[cfg(test)]

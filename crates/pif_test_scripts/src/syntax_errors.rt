@@ -35,7 +35,8 @@ static BYTES: [Row; 18] = [
 ];
 
 /// Lines whose first word is no command.
-static COMMANDS: [Row; 21] = [
+static COMMANDS: [Row; 22] = [
+    ("pi\rck", Wrong::NoCommand, 1, "pi\rck", None, Some("pick")),
     ("Pick", Wrong::Capitals, 1, "Pick", None, Some("pick")),
     (
         "THREAD 10",
@@ -519,7 +520,15 @@ static NAMES: [Row; 22] = [
 ];
 
 /// Lines with another word where a number is wanted.
-static NUMBERS: [Row; 10] = [
+static NUMBERS: [Row; 11] = [
+    (
+        "thread 00 x",
+        Wrong::NotNumber,
+        8,
+        "00",
+        Some("thread P"),
+        None,
+    ),
     (
         "thread +5",
         Wrong::NotNumber,

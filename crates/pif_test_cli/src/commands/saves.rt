@@ -117,8 +117,11 @@ static REPLACES: [Asked; 4] = [
     ),
 ];
 
-/// A story is loaded, or the reason is told.
-static LOADS: [Asked; 3] = [
+/// A comment of 64 bytes with its LF: 262,144 of them are as many bytes as a story may have.
+const COMMENT: &str = "# 3456789012345678901234567890123456789012345678901234567890123\n";
+
+/// A story is loaded, or the reason is told. Of one that is too large that is the line with the first byte too many.
+static LOADS: [Asked; 5] = [
     (
         SHELL,
         "load a\nprio t1\n",
@@ -141,6 +144,22 @@ static LOADS: [Asked; 3] = [
         &[OPENED, Deed::Text(Err(ErrorKind::IsADirectory))],
         0,
         "a: Is a directory\n",
+        "",
+    ),
+    (
+        SHELL,
+        "load a\n",
+        &[OPENED, Deed::Texts(COMMENT, 262_144)],
+        0,
+        "loaded a: 0 commands\n",
+        "",
+    ),
+    (
+        SHELL,
+        "load a\n",
+        &[OPENED, Deed::Texts(COMMENT, 262_145)],
+        0,
+        "a:262145:1: the input has more than 16777216 bytes\n",
         "",
     ),
 ];

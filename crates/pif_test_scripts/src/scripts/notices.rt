@@ -21,7 +21,7 @@ fn check_noted(rt: &impl Abort, notice: &Notice, found: Result<(), CliFault>, no
     assert!(rt; found == *ended && is_kept, "{text:?}");
 }
 
-static FAULTS: [Noted; 5] = [
+static FAULTS: [Noted; 6] = [
     ("pick\n", Ok(()), "", ""),
     (
         "pick\npik\npick\n",
@@ -30,6 +30,12 @@ static FAULTS: [Noted; 5] = [
         "",
     ),
     ("\n", Err(CliFault::Script(1, Cause::Command)), "", ""),
+    (
+        "a\0b\n",
+        Err(CliFault::Script(1, Cause::Command)),
+        "a\0b",
+        "",
+    ),
     (
         "limits 0 1 1 1\n",
         Err(CliFault::Script(1, Cause::Limits)),
@@ -167,10 +173,66 @@ fn check_command(rt: &impl Abort, alloc: Global, length: usize, kept: usize) {
     assert!(rt; notice.parts().is_none());
 }
 
+/// Of a command of 121 bytes the first 120 are kept, and not the last.
+fn check_front(rt: &impl Abort) {
+    let mut command = [b'x'; 121];
+    command[0] = b'a';
+    let mut notice = Notice::new();
+    notice.keep_command(command.as_slice());
+    assert!(rt; notice.line().first() == Some(&b'a'));
+}
+
 #[test]
 fn a_notice_keeps_120_bytes_of_a_command(rt: HostRuntime) {
     for (length, kept) in [(0, 0), (119, 119), (120, 120), (121, 120), (400, 120)] {
         check_command(&rt, rt.alloc(), length, kept);
+    }
+    check_front(&rt);
+}
+
+/// Keeps a difference twice: what the core gives at the second takes the place of what it gave at the first.
+fn check_difference_behind(rt: &impl Abort, alloc: Global) {
+    let mut notice = Notice::new();
+    keep_difference(rt, alloc, &mut notice);
+    keep_difference(rt, alloc, &mut notice);
+}
+
+#[test]
+fn a_difference_takes_the_place_of_another(rt: HostRuntime) {
+    check_difference_behind(&rt, rt.alloc());
+}
+
+/// A line, and what stands before and behind its first ` = `, if it has one.
+type Cut = (&'static str, Option<(&'static str, &'static str)>);
+
+static CUTS: [Cut; 6] = [
+    ("thread 10 = t1 = t2", Some(("thread 10", "t1 = t2"))),
+    ("thread 10 = ", Some(("thread 10", ""))),
+    (" = t1", Some(("", "t1"))),
+    ("thread 10 =t1", None),
+    ("thread 10= t1", None),
+    ("thread 10 =", None),
+];
+
+/// Checks the parts of a line that a notice keeps.
+fn check_cut(rt: &impl Abort, cut: &Cut) {
+    let (line, wanted) = *cut;
+    let mut notice = Notice::new();
+    notice.keep_command(line.as_bytes());
+    let is_cut = match (notice.parts(), wanted) {
+        (Some((before, behind)), Some((command, answer))) => {
+            before == command.as_bytes() && behind == answer.as_bytes()
+        }
+        (None, None) => true,
+        _ => false,
+    };
+    assert!(rt; is_cut, "{line:?}");
+}
+
+#[test]
+fn a_kept_line_is_cut_at_its_first_mark(rt: HostRuntime) {
+    for cut in &CUTS {
+        check_cut(&rt, cut);
     }
 }
 
