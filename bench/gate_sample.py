@@ -5,9 +5,10 @@
     python3 bench/gate_sample.py --below PID     samples what PID starts until SIGTERM comes; .ci/run does this beside `rt ci`
 
 Once a second it reads what each process of the prover has spent so far, and adds it to the crate and part that the
-process works for; what a process spends in its last second is lost, and so are linking and the runs of programs. It judges
-nothing; the status is that of `rt ci`. `--below` prints the sums and the ten dearest parts alone. bench/gate_cost.py
-measures one part after the other, which takes hours.
+process works for; what a process spends in its last second is lost, and so are linking and the runs of programs. Last
+come the sums, and the longest chain: the crates that have to be proved one after the other, with the tests or edits of
+the last. It judges nothing; the status is that of `rt ci`. `--below` prints the sums and the ten dearest parts alone.
+bench/gate_cost.py measures one part after the other, which takes hours.
 """
 
 import os
@@ -74,6 +75,18 @@ def sample(root, spent, parts):
         spent[pid] = seconds
 
 
+def longest_chain(each):
+    """The longest chain in one line, by the processor seconds of each crate's parts and what crates.txt says it uses."""
+    chains = {}
+    for line in filter(lambda it: ":" in it and it[0] != "#", read("crates.txt").splitlines()):
+        name, uses = line.split(":", 1)[0].split()[0], line.split(":", 1)[1].split()
+        below = max((chains[it][:2] for it in uses if it in chains), default=(0, ()))
+        behind = max(each.get((name, part), 0) for part in PARTS[1:])
+        chains[name] = below[0] + each.get((name, "proof"), 0), (*below[1], name), behind
+    proofs, names, behind = max(chains.values(), key=lambda it: it[0] + it[2])
+    return f"longest chain: {proofs + behind:.0f} s, {proofs:.0f} of them proofs: {' '.join(names)}"
+
+
 class Sums:
     """What the processes below one have spent, by crate and part."""
 
@@ -126,6 +139,7 @@ def gate(log):
     for crate in dict.fromkeys(crate for crate, _ in each):
         print(f"{crate}: " + ", ".join(f"{part} {each.get((crate, part), 0):.0f} s" for part in PARTS))
     print(sums.whole())
+    print(longest_chain(each))
     return run.returncode
 
 
