@@ -15,7 +15,7 @@ use Rattle.pif_text_model.specs.Errors.{errno_name}
 use Rattle.pif_text_model.specs.Replies.{health_text, text_of}
 use Rattle.pif_story_model.specs.Answers.{errors}
 use Rattle.pif_story_names.specs.Names.{name_of}
-use Rattle.pif_waiting.specs.Waiting.{awaited, has, mutexes_added, order_in}
+use Rattle.pif_waiting.specs.Waiting.{awaited, blocker, has, mutexes_added, order_in, owner_of}
 use Rattle.pif_text_json.specs.Json.{bool_text, name_or_null, name_text, names_array, number_or_null, numbers, or_null, quoted}
 
 -- ---- answers
@@ -110,7 +110,7 @@ times (Some owner) = owner.1
 -- the owner, and how often it holds the mutex
 unfoldable pub owner_members : ℕ → Table → List ℕ
 owner_members m s =
-    codes ",\"owner\":" ++ name_or_null 116 (option_map (λ owner. owner.0) (owner_answer m s)) ++ codes ",\"count\":"
+    codes ",\"owner\":" ++ name_or_null 116 (owner_of m s) ++ codes ",\"count\":"
     ++ decimal (times (owner_answer m s))
 
 -- a mutex
@@ -129,10 +129,6 @@ cond_object s c =
     ++ names_array 116 (order_in (order.Parked c) s) ++ codes "}"
 
 -- ---- chains of waiting
-
--- the owner of the mutex for which a thread waits
-abbrev pub blocker : ℕ → Table → Option ℕ
-blocker t s = option_and_then (λ m. option_map (λ owner. owner.0) (owner_answer m s)) (awaited t s)
 
 -- what stands behind a thread, if it waits for a mutex: that
 abbrev pub mutex_link : Option ℕ → List ℕ

@@ -1,22 +1,12 @@
 ghost use Rattle.std.specs.Prelude.{◌≡◌, ◌++◌, OnOk};
-ghost use Rattle.pif_waiting.specs.Waiting.{awaited};
-ghost use Rattle.pif_story_states.specs.Objects.{blocker, chain_array, chain_from, mutex_link};
+ghost use Rattle.pif_waiting.specs.Waiting.{awaited, blocker};
+ghost use Rattle.pif_story_states.specs.Objects.{chain_array, chain_from, mutex_link};
 
 use pif_core::Core;
 use pif_text_json::append_name;
 use pif_types::Tid;
-use pif_waiting::awaited;
+use pif_waiting::{awaited, blocker};
 use std::alloc::AllocError;
-
-/// The owner of the mutex for which a thread waits.
-fn blocker(core: &Core, thread: Tid) -> Option<Tid>
-    ensures { result ≡ blocker thread core.now }
-{
-    match core.owner(awaited(core, thread)?) {
-        Some((owner, _)) => Some(owner),
-        None => None,
-    }
-}
 
 /// Appends the mutex for which a thread waits, if it waits for one, behind a comma.
 fn append_link(core: &Core, thread: Tid, out: &mut Vec<u8>) -> Result<(), AllocError>

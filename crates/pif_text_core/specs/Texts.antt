@@ -13,7 +13,7 @@ use Rattle.pif_model.specs.Calls.{base_answer, bound_answer, cond_word_answer, e
 use Rattle.pif_text_model.specs.CommandTexts.{kind_word, request_text}
 use Rattle.pif_text_model.specs.Replies.{cond_name, health_text, mutex_name, thread_name}
 use Rattle.pif_text_json.specs.Json.{numbers}
-use Rattle.pif_waiting.specs.Waiting.{awaited, begins_chain, conds_added, has, mutexes_added, order_in}
+use Rattle.pif_waiting.specs.Waiting.{awaited, begins_chain, conds_added, has, mutexes_added, order_in, owner_of}
 use Rattle.pif_text_core.specs.declared.parts.Holder.{Holder}
 
 -- ---- pieces
@@ -53,7 +53,7 @@ person_text names t = thread_name t ++ label_text (name_in names t)
 -- who holds a mutex, if anybody does, and whether that one has ended
 abbrev pub holder_of : ℕ → Table → Option Holder
 holder_of m s =
-    option_map (λ owner. record { owner = owner.0; has_ended = is_none (base_answer owner.0 s) }) (owner_answer m s)
+    option_map (λ owner. record { owner = owner; has_ended = is_none (base_answer owner s) }) (owner_of m s)
 
 -- a holder, marked if it has ended
 abbrev pub holder_text : (names : List (List ℕ)) → Holder → List ℕ

@@ -5,13 +5,13 @@ ghost use Rattle.pif_text_core.specs.Texts.{holder_of};
 use crate::parts::Holder;
 use pif_core::Core;
 use pif_types::{MutexId, Tid};
-use pif_waiting::awaited;
+use pif_waiting::{awaited, owner_of};
 
 /// Who holds a mutex, if anybody does.
 pub fn holder_of(core: &Core, mutex: MutexId) -> Option<Holder>
     ensures { result ≡ holder_of mutex core.now }
 {
-    let (owner, _) = core.owner(mutex)?;
+    let owner = owner_of(core, mutex)?;
     let has_ended = core.base(owner).is_none();
     Some(Holder { owner, has_ended })
 }

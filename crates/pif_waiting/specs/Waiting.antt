@@ -1,5 +1,5 @@
 -- Who holds what, and who waits for whom: functions of what a core's readers answer.
-use Rattle.std.specs.Prelude.{ℕ, ◌-◌, ◌==◌, Bool, false, not, ◌&&◌, List, Option, Some, None, length, take, option_and_then, is_some}
+use Rattle.std.specs.Prelude.{ℕ, ◌-◌, ◌==◌, Bool, false, not, ◌&&◌, List, Option, Some, None, length, take, option_and_then, option_map, is_some}
 use Rattle.std.specs.List.{list_any}
 use Rattle.pif_model.specs.declared.events.Order.{Order}
 use Rattle.pif_model.specs.declared.events.Order.TheVariants as order
@@ -17,6 +17,10 @@ conds_added s = length s.conds - 1
 -- how many mutexes were added
 abbrev pub mutexes_added : Table → ℕ
 mutexes_added s = length s.mutexes - 1
+
+-- the thread that holds a mutex
+abbrev pub owner_of : ℕ → Table → Option ℕ
+owner_of m s = option_map (λ owner. owner.0) (owner_answer m s)
 
 -- whether the owner of a mutex, if it has one, is this thread
 abbrev pub is_owner : ℕ → Option (ℕ × ℕ) → Bool
@@ -38,6 +42,10 @@ mutex_by Ended = None
 -- the mutex for which a thread waits
 abbrev pub awaited : ℕ → Table → Option ℕ
 awaited t s = option_and_then mutex_by (status_answer t s)
+
+-- the owner of the mutex for which a thread waits
+abbrev pub blocker : ℕ → Table → Option ℕ
+blocker t s = option_and_then (λ m. owner_of m s) (awaited t s)
 
 -- ---- orders
 

@@ -3,9 +3,9 @@
 //! | Module | What it has |
 //! |---|---|
 //! | `counts` | how many mutexes and condition variables were added |
-//! | `holds` | whether a thread holds a mutex |
+//! | `holds` | who holds a mutex |
 //! | `orders` | which thread stands at a place of an order |
-//! | `waits` | for which mutex a thread waits, and where a chain of waiting begins |
+//! | `waits` | for which mutex a thread waits, who holds it, and where a chain of waiting begins |
 #![tactic(auto)]
 
 mod counts;
@@ -14,6 +14,6 @@ mod orders;
 mod waits;
 
 pub use counts::{conds_added, mutexes_added};
-pub use holds::has;
+pub use holds::{has, owner_of};
 pub use orders::nth;
-pub use waits::{awaited, begins_chain};
+pub use waits::{awaited, begins_chain, blocker};

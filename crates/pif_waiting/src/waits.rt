@@ -1,13 +1,13 @@
 ghost use Rattle.std.specs.Prelude.{◌≡◌, ◌≤◌, is_some};
 ghost use Rattle.pif_model.specs.Calls.{waiter_answer};
-ghost use Rattle.pif_waiting.specs.Waiting.{awaited, begins_chain, blocks, has_waiter, mutex_by};
+ghost use Rattle.pif_waiting.specs.Waiting.{awaited, begins_chain, blocker, blocks, has_waiter, mutex_by};
 
 use crate::counts::mutexes_added;
-use crate::holds::has;
+use crate::holds::{has, owner_of};
 use pif_core::{Core, Status};
 use pif_types::{MutexId, Tid};
 
-/// The mutex for which a thread waits.
+/// The mutex among whose waiters a thread is; `None` if there is none, also if the thread waits for good.
 pub fn awaited(core: &Core, thread: Tid) -> Option<MutexId>
     ensures { result ≡ awaited thread core.now }
 {
@@ -25,6 +25,14 @@ fn mutex_by(status: Status) -> Option<MutexId>
         Status::Queued(mutex) => Some(mutex),
         _ => None,
     }
+}
+
+/// The owner of the mutex among whose waiters a thread is; `None` if there is none. It may have ended: a mutex that
+/// isn't robust keeps its owner.
+pub fn blocker(core: &Core, thread: Tid) -> Option<Tid>
+    ensures { result ≡ blocker thread core.now }
+{
+    owner_of(core, awaited(core, thread)?)
 }
 
 /// Whether somebody waits for the mutex of this number.
