@@ -9,6 +9,7 @@ use Rattle.pif_script_model.specs.declared.pictures.Picture.TheVariants.{Drawing
 use Rattle.pif_script_model.specs.Migrating.{IsAllRead}
 use Rattle.pif_script_model.specs.Runs.{WritesPart}
 use Rattle.pif_story_model.specs.Checks.{fill_telling}
+use Rattle.pif_story_graph.specs.Stories.{graph_text}
 use Rattle.pif_story_states.specs.States.{states_text}
 
 -- how filling in a story ends, if memory and reads allow: with no fault, or with its first
@@ -19,11 +20,11 @@ end_of_filling story = (fill_telling [] story).1
 abbrev pub FillingEnds : List ℕ → (after : Option (List ℕ)) → Result (Unit {0}) CliFault → Type 0
 FillingEnds read after result = (end_of_filling read ≡ result) × IsAllRead read after
 
--- a text is this picture of a story. What drawings and graphs show is for reading, and may change
+-- a text is this picture of a story. What drawings show is for reading, and may change
 abbrev pub IsPictureOf : Picture → (story text : List ℕ) → Type 0
 IsPictureOf Drawing story text = Unit {0}
 IsPictureOf States story text = text ≡ states_text story
-IsPictureOf Graph story text = Unit {0}
+IsPictureOf Graph story text = text ≡ graph_text story
 
 -- of these bytes of a story this picture was made:
 --   ended well: filling the story in has no fault, and the picture was written

@@ -137,8 +137,8 @@ fn drawn_text<V: WatchSteps>(
 /// Draws a story, or a script, as an SVG image, or as a page of HTML that needs nothing else: the image, and the state
 /// behind a command that one chooses. Of the commands those are drawn that stand in the lines named. The story is read
 /// to its end before anything is written, and it and the drawing are kept in memory. `notice` keeps the command that is
-/// a fault; if there is none, it is left as it is. `watch` is told of the commands that are played for the drawing and the
-/// states.
+/// a fault, or an empty one if the story is too large. If no command is a fault, or there are too many to be drawn, it
+/// is left as it is. `watch` is told of the commands that are played for the drawing and the states.
 ///
 /// # Errors
 ///

@@ -2,9 +2,9 @@
 //! each line and a graph of who waits for whom for programs.
 //!
 //! A story is read to its end, and its script is run, which gives each command with its answer. So a picture is made
-//! only of a story without a fault, and a story with one ends as filling it in ends. Then `pif_story_drawing` plays
-//! the commands again, of which it reads none again, and writes down what it sees. Each picture is kept in memory, and
-//! is written whole.
+//! only of a story without a fault, and a story with one ends as filling it in ends. Then a core plays the commands
+//! again, of which none is read again, and what it shows is written down: by `pif_story_drawing`, `pif_story_states` or
+//! `pif_story_graph`. Each picture is kept in memory, and is written whole.
 #![tactic(auto)]
 
 mod drawings;

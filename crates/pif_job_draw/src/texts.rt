@@ -10,7 +10,8 @@ use pif_job_check::fill_rows;
 use pif_script::{CliFault, Notice};
 use pif_script_model::Picture;
 use pif_story::plain_story;
-use pif_story_drawing::{Span, drawing_of, graph_of};
+use pif_story_drawing::{Span, drawing_of};
+use pif_story_graph::graph_of;
 use pif_story_model::AnsweredRow;
 use pif_story_names::names_in;
 use pif_story_states::states_of;
@@ -82,7 +83,10 @@ fn text_of<V: WatchSteps>(
     match picture {
         Picture::Drawing => drawing_text(alloc, &Span::all(), story, rows, watch),
         Picture::States => states_text(alloc, story, rows, watch),
-        Picture::Graph => Ok(graph_of(alloc, rows, watch)?.into_bytes()),
+        Picture::Graph => match graph_of(alloc, rows, watch) {
+            Ok(text) => Ok(text),
+            Err(_) => Err(NoMemory),
+        },
     }
 }
 

@@ -1,14 +1,14 @@
 use crate::arrows::draw_hand_over;
 use crate::looks::hue;
-use crate::owners::owner_of;
 use crate::pages::Page;
 use crate::plans::{MOST_SLOTS, Moment, Plan};
 use crate::sheets::Sheet;
 use pif_core::Core;
 use pif_types::{Health, MutexId, Tid};
+use pif_waiting::owner_of;
 use pif_word::owner_died;
 
-/// Who was last seen to hold a mutex, with what health, since when, and where that is drawn in the lane.
+/// Who was last seen to hold a mutex, and its health as POSIX has it; since when, and where that is drawn in the lane.
 #[derive(Clone, Copy)]
 pub struct Bar {
     mutex: MutexId,
@@ -19,7 +19,7 @@ pub struct Bar {
 }
 
 impl Bar {
-    /// The bar of a mutex that this thread holds, or nobody; its state is fine.
+    /// The bar of a mutex that this thread holds, or nobody; its health is Fine.
     pub fn new(mutex: MutexId, owner: Option<Tid>, since: Moment) -> Bar {
         Bar {
             mutex,
@@ -97,7 +97,8 @@ impl Bar {
         }
     }
 
-    /// Draws that a thread gave the mutex to this one; nothing if nobody held it, or nobody does.
+    /// Draws that the thread that held the mutex gave it to this one, which must be another. Nothing is drawn if nobody
+    /// held it, or nobody does now.
     fn draw_given(
         &self,
         owner: Option<Tid>,

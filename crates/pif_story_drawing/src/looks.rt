@@ -93,7 +93,7 @@ impl Look {
     }
 }
 
-/// The number of the hue in which a mutex is drawn: there are eight.
+/// The number of the hue in which a mutex is drawn, 0 to 7: 0 for m1, 7 for m8, and 0 again for m9.
 pub fn hue(mutex: MutexId) -> u32 {
     (mutex.get() - 1) % 8
 }

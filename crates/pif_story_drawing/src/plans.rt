@@ -1,4 +1,3 @@
-use crate::owners::owner_of;
 use crate::plays::{Watch, play};
 use crate::rows::{Row, letters_of};
 use crate::spans::Span;
@@ -8,6 +7,7 @@ use pif_story_model::AnsweredRow;
 use pif_story_names::name_of;
 use pif_text::{Addition, Command};
 use pif_types::{MutexId, NoMemory, Request, Tid};
+use pif_waiting::owner_of;
 use pif_watch::{Part, WatchSteps};
 use std::alloc::{AllocError, Global};
 

@@ -3,7 +3,7 @@
 pub struct Span {
     /// The first, from 1.
     pub from: u32,
-    /// The last.
+    /// The last, also if the story has fewer lines. None is drawn if it is before the first.
     pub to: u32,
 }
 

@@ -1,0 +1,2 @@
+pub mod CoreLemmas
+pub mod ListLemmas
