@@ -5,7 +5,7 @@ use crate::statuses::JobFault;
 use pif_cli_words::{Job, STANDARD_NAME};
 use pif_script::{CliFault, MOST_BYTES, MOST_LINE, Notice};
 use pif_text::{Cause, Command, errno_name, errno_of, split_answer};
-use pif_text_errors::{SyntaxError, Wrong, call_form, read_command};
+use pif_text_errors::{Form, SyntaxError, Wrong, call_form, read_command};
 use pif_types::Errno;
 use std::fmt::Write;
 use std::str::from_utf8;
@@ -354,9 +354,18 @@ fn say_allowed(syntax_error: SyntaxError, message: &mut Message) {
             message,
         );
     }
-    if let Some(words) = syntax_error.wrong.allowed() {
-        message.say(" (");
-        message.say(words);
+    say_names(syntax_error.wrong.allowed(), message);
+}
+
+/// Appends the words with which these forms begin, in brackets, if there are any.
+fn say_names(forms: &[Form], message: &mut Message) {
+    let mut before = " (";
+    for form in forms {
+        message.say(before);
+        message.say(form.name);
+        before = ", ";
+    }
+    if !forms.is_empty() {
         message.say(")");
     }
 }

@@ -11,6 +11,7 @@ mod syntax_errors;
 mod walk;
 mod wrongs;
 
+pub use forms::Form;
 pub use near::nearest_name;
 pub use places::{line_of_command, line_of_number, written_column};
 pub use syntax_errors::SyntaxError;

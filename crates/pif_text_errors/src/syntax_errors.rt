@@ -11,7 +11,8 @@ pub struct SyntaxError<'a> {
     /// The column where it is wrong: that of the byte, from 1. One more than the line has bytes, where the line ends
     /// too early.
     pub column: usize,
-    /// What stands there, up to the next blank or the end of the line; nothing, where a blank stands there.
+    /// What stands there, up to the next space or the end of the line; nothing, if a space stands there. A tab is a
+    /// part of it.
     pub word: &'a [u8],
     /// The form of the command that the line has begun, if that is known.
     pub form: Option<&'static str>,
@@ -19,7 +20,7 @@ pub struct SyntaxError<'a> {
     pub near: Option<&'static str>,
 }
 
-/// The place behind the word that begins here: that of the next blank, or the line's length.
+/// The place behind the word that begins here: that of the next space, or the line's length.
 pub fn end_of_word(line: &[u8], place: usize) -> usize
     requires { place ≤ length line.now }
     ensures behind { place ≤ result }

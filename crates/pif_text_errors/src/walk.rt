@@ -11,7 +11,7 @@ use crate::syntax_errors::{end_of_word, syntax_error_at};
 use crate::{SyntaxError, Wrong};
 use pif_text::{Command, command_of};
 
-/// The place of the first blank at an end of the line or behind another blank, or of the first tab.
+/// The first place in a line that has a tab, or a space at an end of the line or behind another space.
 fn wrong_blank(line: &[u8]) -> Option<usize>
     ensures { IfSome result (λ place. place ≤ length line.now) }
 {

@@ -1,3 +1,6 @@
+use crate::calls::CALLS;
+use crate::forms::{Form, KINDS};
+
 /// What is wrong with a line that is no command.
 #[derive(Clone, Copy, PartialEq, Eq, Debug)]
 pub enum Wrong {
@@ -36,15 +39,13 @@ pub enum Wrong {
 }
 
 impl Wrong {
-    /// The words that are allowed in the place of the wrong one, if they are calls or kinds of mutexes: printable
-    /// ASCII, and at most 100 bytes.
-    pub fn allowed(self) -> Option<&'static str> {
+    /// The forms of the calls or kinds of mutexes that are allowed in the place of the wrong word. There are none if
+    /// another word is wrong.
+    pub fn allowed(self) -> &'static [Form] {
         match self {
-            Wrong::NoCall => Some(
-                "lock, trylock, unlock, consistent, wait, signal, broadcast, setprio, timedlock, timedwait",
-            ),
-            Wrong::NoKind => Some("normal, default, errorcheck, recursive"),
-            _ => None,
+            Wrong::NoCall => &CALLS,
+            Wrong::NoKind => &KINDS,
+            _ => &[],
         }
     }
 
