@@ -1,2 +1,5 @@
+pub mod ErrorLemmas
+pub mod HearingLemmas
+pub mod NameLemmas
 pub mod ShowLemmas
 pub mod StoryLemmas

@@ -1,16 +1,13 @@
-ghost use Rattle.std.specs.Prelude.{◌≡◌, ◌+◌, ◌≤◌, None, Option, Some, List, [], ℕ, OnOk, map, option_copied};
+ghost use Rattle.std.specs.Prelude.{◌≡◌, ◌+◌, ◌≤◌, ◌++◌, ◌==◌, None, Some, List, [], ℕ, Ok, OnOk, length, map, option_copied};
 ghost use Rattle.std.specs.Io.KnownBytes.{Appends, Keeps};
 ghost use Rattle.arrayvec.specs.ArrayVec.{array_vec_len};
-ghost use Rattle.pif_model.specs.Table.{Table};
 ghost use Rattle.pif_text_model.specs.Extends.{Stays};
-ghost use Rattle.pif_script_model.specs.declared.details.Detail.TheVariants.{All, Changes};
 ghost use Rattle.pif_script_model.specs.Running.{script};
 ghost use Rattle.pif_script_model.specs.Runs.{Feeds, RunsFrom, Stops};
 ghost use Rattle.pif_script.specs.Scanners.{scan_of};
 ghost use Rattle.pif_script_model.specs.Showing.{OrUnwritten, ShowsTo, Silent};
 ghost use Rattle.pif_text_core.specs.Changes.{lines_text};
-ghost use Rattle.pif_text_core.specs.Texts.{state_text};
-ghost use Rattle.pif_job_show.specs.Leading.{LeadsTo};
+ghost use Rattle.pif_job_show.specs.Shows.{behind_byte, core_scan, core_told, front_told, line_told, printable, showing, shown_text};
 
 use crate::shown::Shown;
 use pif_core::Core;
@@ -19,9 +16,7 @@ use pif_script::{
     write_whole,
 };
 use pif_script_model::Detail;
-use pif_text::errno_name;
 use pif_text_core::{Unwritten, write_changes, write_state};
-use pif_types::Errno;
 use std::alloc::Global;
 use std::io::Write;
 
@@ -49,7 +44,9 @@ pub fn show_script<W: Write>(
     writer: &mut W,
     notice: &mut Notice,
 ) -> Result<(), CliFault>
-    ensures { ShowsTo (Some text.now) (Some []) (W.contents writer.old) (W.contents writer.new) result }
+    ensures ends { ShowsTo (Some text.now) (Some []) (W.contents writer.old) (W.contents writer.new) result }
+    ensures told { OnOk result (Appends (W.contents writer.old) (W.contents writer.new)
+        (shown_text look.now.detail (map (λ name. name.now) look.now.names.now) text.now)) }
 {
     let mut scanner = Scanner::<Shown>::new();
     let mut output = Output::new();
@@ -67,7 +64,9 @@ fn feed<W: Write>(
     writer: &mut W,
     notice: &mut Notice,
 ) -> Result<(), CliFault>
-    ensures answer { OrUnwritten (Feeds script (scan_of scanner.old) bytes.now (scan_of scanner.new) None None) result }
+    ensures answer { OrUnwritten (Feeds script (core_scan (scan_of scanner.old)) bytes.now (core_scan (scan_of scanner.new)) None None) result }
+    ensures told { OnOk result (Feeds (showing look.now.detail (map (λ name. name.now) look.now.names.now)) (scan_of scanner.old) bytes.now (scan_of scanner.new)
+        (W.contents writer.old) (W.contents writer.new) (Ok tt)) }
     ensures stays { Stays (W.contents writer.old) (W.contents writer.new) }
     ensures silent { Silent (scan_of scanner.old) (scan_of scanner.new) (W.contents writer.old) (W.contents writer.new) result }
 {
@@ -78,8 +77,9 @@ fn feed<W: Write>(
             Err(Stop::Ended(end)) => return Err(stop_showing(end, scanner, output, writer, notice)),
             Err(Stop::NoMemory) => return Err(CliFault::NoMemory),
         }
-        if end_line(*byte, look, scanner, output, writer).is_err() {
-            return Err(CliFault::Write);
+        match end_line(*byte, look, scanner, output, writer) {
+            Ok(()) => {}
+            Err(_) => return Err(CliFault::Write),
         }
     }
     Ok(())
@@ -87,7 +87,8 @@ fn feed<W: Write>(
 
 /// Tells the line that this byte ends, if it ends one, in place of what was told.
 fn begin_line(byte: u8, scanner: &Scanner<Shown>, output: &mut Output)
-    ensures { array_vec_len output.new ≤ LINE_ROOM }
+    ensures told { output.new.items ≡ front_told (byte == 10) (scan_of scanner.now).line }
+    ensures room { array_vec_len output.new ≤ LINE_ROOM }
 {
     if byte == b'\n' {
         tell_line(scanner.line(), output);
@@ -98,20 +99,22 @@ fn begin_line(byte: u8, scanner: &Scanner<Shown>, output: &mut Output)
 
 /// Tells a line behind `> `, with LF behind it, in place of what was told. What is not printable stands there as `?`.
 fn tell_line(line: &[u8], output: &mut Output)
-    ensures { array_vec_len output.new ≤ LINE_ROOM }
+    requires { length line.now ≤ MOST_LINE }
+    ensures told { output.new.items ≡ line_told line.now }
+    ensures room { array_vec_len output.new ≤ LINE_ROOM }
 {
     output.clear();
     append(output, b"> ");
     for byte in line {
-        if output.len() < LINE_ROOM - 1 {
-            output.push(printable(*byte));
-        }
+        output.push(printable(*byte));
     }
     output.push(b'\n');
 }
 
 /// The byte, or what stands for it where it is not printable.
-fn printable(byte: u8) -> u8 {
+fn printable(byte: u8) -> u8
+    ensures { result ≡ printable byte }
+{
     match byte {
         b' '..=b'~' => byte,
         _ => b'?',
@@ -123,15 +126,36 @@ fn end_line<W: Write>(
     byte: u8,
     look: &Look<'_>,
     scanner: &Scanner<Shown>,
-    output: &mut Output,
+    output: &Output,
     writer: &mut W,
 ) -> Result<(), Unwritten>
+    ensures told { OnOk result (Appends (W.contents writer.old) (W.contents writer.new)
+        (behind_byte look.now.detail (map (λ name. name.now) look.now.names.now) (byte == 10) output.now.items (scan_of scanner.now).listener)) }
     ensures stays { Stays (W.contents writer.old) (W.contents writer.new) }
     ensures silent { (scan_of scanner.now).listener ≡ None → Keeps (W.contents writer.old) (W.contents writer.new) }
 {
     match scanner.listener() {
-        Some(shown) if byte == b'\n' => write_line(look, shown, output, writer),
-        _ => Ok(()),
+        Some(shown) => write_if_ended(byte == b'\n', look, shown, output, writer),
+        None => Ok(()),
+    }
+}
+
+/// Writes what was told of a line, and what is told of the core behind it, if the line has ended.
+fn write_if_ended<W: Write>(
+    ends_line: bool,
+    look: &Look<'_>,
+    shown: &Shown,
+    output: &Output,
+    writer: &mut W,
+) -> Result<(), Unwritten>
+    ensures told { OnOk result (Appends (W.contents writer.old) (W.contents writer.new)
+        (behind_byte look.now.detail (map (λ name. name.now) look.now.names.now) ends_line output.now.items (Some shown.now))) }
+    ensures stays { Stays (W.contents writer.old) (W.contents writer.new) }
+{
+    if ends_line {
+        write_line(look, shown, output, writer)
+    } else {
+        Ok(())
     }
 }
 
@@ -139,36 +163,23 @@ fn end_line<W: Write>(
 fn write_line<W: Write>(
     look: &Look<'_>,
     shown: &Shown,
-    output: &mut Output,
+    output: &Output,
     writer: &mut W,
 ) -> Result<(), Unwritten>
-    ensures { Stays (W.contents writer.old) (W.contents writer.new) }
+    ensures told { OnOk result (Appends (W.contents writer.old) (W.contents writer.new)
+        (output.now.items ++ core_told look.now.detail (map (λ name. name.now) look.now.names.now) shown.now)) }
+    ensures stays { Stays (W.contents writer.old) (W.contents writer.new) }
 {
-    if let Some(error) = shown.error() {
-        name_error(error, output);
-    }
     match write_whole(writer, output.as_slice()) {
         Ok(()) => write_core(look, shown, writer),
         Err(_) => Err(Unwritten),
     }
 }
 
-/// Puts the name of an error behind an answer, before the LF.
-fn name_error(error: Errno, output: &mut Output) {
-    let _lf = output.pop();
-    let _ = output.try_extend_from_slice(b" ");
-    let _ = output.try_extend_from_slice(errno_name(error).as_bytes());
-    let _ = output.try_push(b'\n');
-}
-
 /// Writes what has changed in a core, or all of it if that is asked for, or if there is nothing from before.
 fn write_core<W: Write>(look: &Look<'_>, shown: &Shown, writer: &mut W) -> Result<(), Unwritten>
     ensures stays { Stays (W.contents writer.old) (W.contents writer.new) }
-    ensures whole { look.now.detail ≡ All → OnOk result (Appends (W.contents writer.old) (W.contents writer.new)
-        (state_text (map (λ name. name.now) look.now.names.now) shown.now)) }
-    ensures changes { look.now.detail ≡ Changes → OnOk result ((before : Option Table) × LeadsTo before shown.now
-        × Appends (W.contents writer.old) (W.contents writer.new)
-        (lines_text (map (λ name. name.now) look.now.names.now) before shown.now)) }
+    ensures told { OnOk result (Appends (W.contents writer.old) (W.contents writer.new) (core_told look.now.detail (map (λ name. name.now) look.now.names.now) shown.now)) }
 {
     match look.detail {
         Detail::Changes => write_since(look.names, shown.before(), shown.core(), writer),
@@ -200,7 +211,8 @@ fn close<W: Write>(
     writer: &mut W,
     notice: &mut Notice,
 ) -> Result<(), CliFault>
-    ensures answer { OrUnwritten (RunsFrom script (scan_of scanner.now) (Some []) (Some []) None None) result }
+    ensures answer { OrUnwritten (RunsFrom script (core_scan (scan_of scanner.now)) (Some []) (Some []) None None) result }
+    ensures told { OnOk result (W.contents writer.new ≡ W.contents writer.old) }
     ensures stays { Stays (W.contents writer.old) (W.contents writer.new) }
     ensures silent { Silent (scan_of scanner.now) (scan_of scanner.now) (W.contents writer.old) (W.contents writer.new) result }
 {

@@ -1,20 +1,24 @@
-ghost use Rattle.std.specs.Prelude.{◌≡◌, ◌+◌, ◌≤◌, IfErr, IfOk, Some, None, option_copied};
+ghost use Rattle.std.specs.Prelude.{◌≡◌, ◌+◌, ◌≤◌, ◌++◌, ◌∷◌, [], IfErr, IfOk, Some, option_copied};
 ghost use Rattle.arrayvec.specs.ArrayVec.{array_vec_len};
-ghost use Rattle.pif_model.specs.Table.{Table};
-ghost use Rattle.pif_script_model.specs.Running.{line_meaning, script};
 ghost use Rattle.pif_script_model.specs.Scripts.{Hears};
 ghost use Rattle.pif_script_model.specs.Showing.{as_done, state_behind};
-ghost use Rattle.pif_job_show.specs.Leading.{LeadsTo};
+ghost use Rattle.pif_job_show.specs.Shows.{error_in, error_of, error_text, later_named, named, named_text};
 
 use pif_core::{Core, Seen};
 use pif_script::{
-    ANSWER_ROOM, End, Ending, Listener, OUTPUT_ROOM, OpenFault, Output, append_end, obey,
-    open_core, tell,
+    ANSWER_ROOM, End, Ending, Listener, OUTPUT_ROOM, OpenFault, Output, REPLY_ROOM, append,
+    append_end, obey, open_core,
 };
-use pif_text::{Cause, Command, Reply, Version, command_of, errno_of};
-use pif_types::Errno;
+use pif_text::{Cause, Command, Reply, Version, command_of, errno_name, errno_of, reply_text};
+use pif_types::{Answer, Errno};
 use std::alloc::Global;
 use std::marker::Model;
+
+/// The most bytes of the name of an error, with a space before it.
+const MOST_NAME: usize = 16;
+
+/// The most bytes that a reply has, with the name of an error and its LF.
+const NAMED_ROOM: usize = REPLY_ROOM + MOST_NAME;
 
 /// A core that is shown while it does what a script asks, and a second one, which does the same a command later.
 #[derive(Drop)]
@@ -22,13 +26,16 @@ pub struct Shown {
     core: Core,
     before: Core,
     last: Option<Command>,
-    error: Option<Errno>,
 }
 
 impl Model for Shown {
-    ghost Value = { Table };
+    ghost use Rattle.std.specs.Prelude.{◌≡◌, option_map};
+    ghost use Rattle.pif_script_model.specs.Showing.{state_behind};
+    ghost use Rattle.pif_job_show.specs.Shows.{Moment};
 
-    ghost view = { λ s. s.core };
+    ghost Value = { Moment };
+
+    ghost view = { λ s. record { before = option_map (λ last. s.before) s.last; core = s.core } };
 
     ghost invariant = { λ s. state_behind s.last s.before ≡ s.core };
 }
@@ -36,33 +43,61 @@ impl Model for Shown {
 impl Shown {
     /// The core.
     pub fn core(&self) -> &Core
-        ensures { result.now ≡ self.now }
+        ensures { result.now ≡ self.now.core }
     {
         &self.core
     }
 
     /// The core as it was before the last command. `None` behind the first command, before which there was no core.
     pub fn before(&self) -> Option<&Core>
-        ensures { LeadsTo (option_copied result) self.now }
+        ensures { option_copied result ≡ self.now.before }
     {
         match self.last {
             Some(_) => Some(&self.before),
             None => None,
         }
     }
+}
 
-    /// The error that the last command was answered, if it was one.
-    pub fn error(&self) -> Option<Errno> {
-        self.error
-    }
+/// The error that has this number, if one has it.
+fn error_of(answer: Answer) -> Option<Errno>
+    ensures { result ≡ error_of answer }
+{
+    errno_of(answer)
 }
 
 /// The error of a reply, if it is the answer of a call that failed.
-fn error_in(reply: Reply) -> Option<Errno> {
+fn error_in(reply: Reply) -> Option<Errno>
+    ensures { result ≡ error_in reply }
+{
     match reply {
-        Reply::Seen(Seen::Answered(answer)) => errno_of(answer),
+        Reply::Seen(Seen::Answered(answer)) => error_of(answer),
         _ => None,
     }
+}
+
+/// Appends the name of an error behind a space, if there is one.
+fn tell_error(error: Option<Errno>, output: &mut Output)
+    requires { array_vec_len output.old + MOST_NAME ≤ OUTPUT_ROOM }
+    ensures told { output.new.items ≡ output.old.items ++ error_text error }
+    ensures room { array_vec_len output.new ≤ array_vec_len output.old + MOST_NAME }
+{
+    if let Some(errno) = error {
+        append(output, b" ");
+        append(output, errno_name(errno).as_bytes());
+    }
+}
+
+/// Appends a reply with the name of the error behind it, if it is one, and LF.
+fn tell_named(reply: Reply, output: &mut Output)
+    requires { array_vec_len output.old + NAMED_ROOM ≤ OUTPUT_ROOM }
+    ensures told { output.new.items ≡ output.old.items ++ (named_text reply ++ 10 ∷ []) }
+    ensures room { array_vec_len output.new ≤ array_vec_len output.old + NAMED_ROOM }
+{
+    let answered = reply;
+    reply_text(reply, output);
+    tell_error(error_in(answered), output);
+    output.push(b'\n');
 }
 
 /// Has a core do what a command asked, if there is one.
@@ -74,16 +109,13 @@ fn follow(core: &mut Core, command: Option<Command>)
     }
 }
 
-/// Has a core answer a line. Answers the command and what that is answered.
-#[tactic(auto, unfolding(pif_script_model::specs::Running::line_meaning))]
-fn answer_line(
-    core: &mut Core,
-    line: &[u8],
-    output: &mut Output,
-) -> Result<(Command, Reply), Ending>
+/// Has a core answer a line. Answers the command.
+#[tactic(auto, unfolding(crate::specs::Shows::later_named))]
+fn answer_line(core: &mut Core, line: &[u8], output: &mut Output) -> Result<Command, Ending>
     requires { array_vec_len output.old + ANSWER_ROOM ≤ OUTPUT_ROOM }
-    ensures answer { Hears (line_meaning core.old line.now) output.old.items output.new.items core.new (as_done result) }
-    ensures after { IfOk result (λ done. state_behind (Some done.0) core.old ≡ core.new) }
+    ensures answer { Hears (later_named core.old line.now) output.old.items output.new.items
+        (record { before = Some core.old; core = core.new }) (as_done result) }
+    ensures after { IfOk result (λ command. state_behind (Some command) core.old ≡ core.new) }
     ensures unchanged { IfErr result (λ ending. core.new ≡ core.old) }
     ensures room { array_vec_len output.new ≤ array_vec_len output.old + ANSWER_ROOM }
 {
@@ -93,18 +125,17 @@ fn answer_line(
     let asked = command;
     match obey(core, command) {
         Some(reply) => {
-            let answered = reply;
-            tell(reply, output);
-            Ok((asked, answered))
+            tell_named(reply, output);
+            Ok(asked)
         }
         None => Err(Ending::Fault(Cause::Command)),
     }
 }
 
 impl Listener for Shown {
-    ghost hearing = { script };
+    ghost hearing = { named };
 
-    #[tactic(auto, unfolding(pif_script_model::specs::Running::first_line_meaning))]
+    #[tactic(auto, unfolding(crate::specs::Shows::first_named))]
     fn open(
         alloc: Global,
         _version: Option<Version>,
@@ -116,13 +147,11 @@ impl Listener for Shown {
                 let again = command;
                 let (core, reply) = open_core(alloc, command)?;
                 let (before, _) = open_core(alloc, again)?;
-                let answered = reply;
-                tell(reply, output);
+                tell_named(reply, output);
                 Ok(Some(Shown {
                     core,
                     before,
                     last: None,
-                    error: error_in(answered),
                 }))
             }
             None => Err(OpenFault::Ended(Ending::Fault(Cause::Command))),
@@ -132,9 +161,8 @@ impl Listener for Shown {
     fn hear(&mut self, line: &[u8], output: &mut Output) -> Result<(), Ending> {
         follow(&mut self.before, self.last);
         match answer_line(&mut self.core, line, output) {
-            Ok((command, reply)) => {
+            Ok(command) => {
                 self.last = Some(command);
-                self.error = error_in(reply);
                 Ok(())
             }
             Err(ending) => {

@@ -1,6 +1,9 @@
-ghost use Rattle.std.specs.Prelude.{List, Option, Some, Ok, Err, IfErr, IfOk, ℕ};
+ghost use Rattle.std.specs.Prelude.{◌≡◌, ◌≤◌, List, Option, Some, Ok, Err, IfErr, IfOk, OnOk, map, ℕ};
+ghost use Rattle.std.specs.Io.KnownBytes.{Appends};
 ghost use Rattle.pif_story_model.specs.Showing.{ShowsStoryTo};
+ghost use Rattle.pif_story_model.specs.Stories.{script_of};
 ghost use Rattle.pif_story_notes.specs.Notes.{ShowsNoting};
+ghost use Rattle.pif_job_show.specs.Shows.{WritesStory, person_name, person_names, shown_text};
 
 use crate::showing::{Look, show_script};
 use pif_script::{CliFault, Notice, read_all};
@@ -17,13 +20,19 @@ use std::str::from_utf8;
 const MOST_THREADS: u32 = 1024;
 
 /// The name that these comments of a story give to the thread of this number; an empty one if they give none.
-fn name_in(names: &[u8], number: u32) -> &str {
+fn name_in(names: &[u8], number: u32) -> &str
+    requires { 1 ≤ number }
+    ensures { result.now ≡ person_name names.now number }
+{
     let Some(thread) = Tid::new(number) else {
         return "";
     };
-    match name_of(names, thread) {
-        Some(name) => from_utf8(name).unwrap_or(""),
-        None => "",
+    let Some(name) = name_of(names, thread) else {
+        return "";
+    };
+    match from_utf8(name) {
+        Ok(text) => text,
+        Err(_) => "",
     }
 }
 
@@ -32,13 +41,15 @@ fn name_in(names: &[u8], number: u32) -> &str {
 /// # Errors
 ///
 /// A growth of memory was refused.
-fn list_of<'n>(alloc: Global, names: &'n [u8]) -> Result<Vec<&'n str>, AllocError> {
+fn list_of<'n>(alloc: Global, names: &'n [u8]) -> Result<Vec<&'n str>, AllocError>
+    ensures { IfOk result (λ list. map (λ name. name.now) list.items ≡ person_names names.now) }
+{
     let mut list = Vec::new(alloc);
     if names.is_empty() {
         return Ok(list);
     }
-    for number in 1..=MOST_THREADS {
-        list.push(name_in(names, number))?;
+    for place in 0..MOST_THREADS {
+        list.push(name_in(names, place + 1))?;
     }
     Ok(list)
 }
@@ -56,7 +67,9 @@ fn show_named<W: Write>(
     writer: &mut W,
     notice: &mut Notice,
 ) -> Result<(), CliFault>
-    ensures { (left : Option (List ℕ)) × ShowsStoryTo (Some story.now) left (W.contents writer.old) (W.contents writer.new) result }
+    ensures ends { (left : Option (List ℕ)) × ShowsStoryTo (Some story.now) left (W.contents writer.old) (W.contents writer.new) result }
+    ensures told { OnOk result (Appends (W.contents writer.old) (W.contents writer.new)
+        (shown_text detail (person_names names.now) (script_of story.now))) }
 {
     let mut reader = story;
     let script = read_script_of_story(alloc, &mut reader)?;
@@ -79,8 +92,7 @@ fn show_named<W: Write>(
 /// of the core is told. A thread to which a comment of the story gives a name has it behind its own, as `t1 low`. The
 /// line of a fault is told so, too, and nothing of the core behind it; `notice` keeps it, and is left as it is if there
 /// is none. Lines are counted in the script that is left, from 1. Answers that are written in the story are not
-/// compared. This text is for reading, and may change; what is proved of it is that it stands behind what the writer
-/// held.
+/// compared. This text is for reading, and may change. It stands behind what the writer held.
 ///
 /// # Errors
 ///
@@ -94,7 +106,9 @@ pub fn show_story<R: Read, W: Write>(
     writer: &mut W,
     notice: &mut Notice,
 ) -> Result<(), CliFault>
-    ensures { ShowsStoryTo (R.remaining reader.old) (R.remaining reader.new) (W.contents writer.old) (W.contents writer.new) result }
+    ensures ends { ShowsStoryTo (R.remaining reader.old) (R.remaining reader.new) (W.contents writer.old) (W.contents writer.new) result }
+    ensures told { OnOk result (WritesStory detail (R.remaining reader.old) (R.remaining reader.new)
+        (W.contents writer.old) (W.contents writer.new)) }
 {
     show_noting(detail, alloc, b"", reader, writer, notice)?;
     Ok(())
@@ -117,6 +131,8 @@ pub fn show_noting<R: Read, W: Write>(
         (W.contents writer.old) (W.contents writer.new) (Ok notes.items)) }
     ensures failed { IfErr result (λ fault. ShowsNoting name.now (R.remaining reader.old) (R.remaining reader.new)
         (W.contents writer.old) (W.contents writer.new) (Err fault)) }
+    ensures told { OnOk result (WritesStory detail (R.remaining reader.old) (R.remaining reader.new)
+        (W.contents writer.old) (W.contents writer.new)) }
 {
     let story = read_all(alloc, reader)?;
     let text = story.as_slice();

@@ -24,7 +24,8 @@ impl Notice {
         self.line.as_slice()
     }
 
-    /// The command and the recorded answer of a trace's line that was kept, or `None` where it has no ` = `.
+    /// The bytes before and behind the first ` = ` of what was kept, or `None` if it has none. Of a trace's line they are
+    /// the command and the recorded answer. What `keep_command` kept is cut in the same way.
     pub fn parts(&self) -> Option<(&[u8], &[u8])> {
         split_answer(self.line.as_slice())
     }
@@ -35,6 +36,7 @@ impl Notice {
     }
 
     /// Keeps the command of a story that is a fault, in place of what was kept: its first 120 bytes, if it has more.
+    /// `given` has no byte then.
     pub fn keep_command(&mut self, command: &[u8]) {
         let end = command.len().min(MOST_LINE);
         self.line.clear();
@@ -42,7 +44,8 @@ impl Notice {
         self.given.clear();
     }
 
-    /// Keeps a line that ends its script or trace so, in place of what was kept.
+    /// Keeps a line that ends its script or trace so, in place of what was kept. A line of more than 120 bytes is kept
+    /// as an empty one. `given` then has the core's answer, if the recorded one differs from it, and else no byte.
     pub fn keep(&mut self, line: &[u8], ending: &Ending) {
         self.line.clear();
         let _ = self.line.try_extend_from_slice(line);

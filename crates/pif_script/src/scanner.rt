@@ -1,4 +1,4 @@
-ghost use Rattle.std.specs.Prelude.{◌≡◌, ◌≢◌, ℕ, ◌+◌, ◌*◌, ◌≤◌, ◌<◌, ◌==◌, ◌↔◌, [], ◌++◌, length, slice_index, IfOk, IsTrue, OnOk, None, Some, is_some, if◌then◌else◌};
+ghost use Rattle.std.specs.Prelude.{◌≡◌, ◌≢◌, ℕ, ◌+◌, ◌*◌, ◌≤◌, ◌<◌, ◌==◌, ◌↔◌, [], ◌++◌, length, slice_index, IfOk, IsTrue, OnOk, None, Some, option_copied, if◌then◌else◌};
 ghost use Rattle.arrayvec.specs.ArrayVec.{array_vec_len};
 ghost use Rattle.pif_text_model.specs.Traces.{version_in};
 ghost use Rattle.pif_script_model.specs.Scripts.{Answers};
@@ -56,13 +56,16 @@ impl<L: Listener + Drop> Scanner<L> {
     }
 
     /// The bytes of the line in which the script stands, as far as they were taken.
-    pub fn line(&self) -> &[u8] {
+    pub fn line(&self) -> &[u8]
+        ensures value { result.now ≡ (scan_of self.now).line }
+        ensures most { length result.now ≤ MOST_LINE }
+    {
         self.line.as_slice()
     }
 
     /// Who answers the lines, if a line has made one.
     pub fn listener(&self) -> Option<&L>
-        ensures { is_some result ≡ is_some self.now.listener }
+        ensures { option_copied result ≡ self.now.listener }
     {
         match &self.listener {
             Some(listener) => Some(listener),
@@ -136,8 +139,9 @@ impl<L: Listener + Drop> Scanner<L> {
         Ok(())
     }
 
-    /// Reads bytes up to the end of the first line among them, or fewer, and answers how many it read, at least one. A
-    /// line that lies whole among them is heard where it lies. What a line is answered is appended to `output`.
+    /// Reads bytes up to the end of the first line among them, or fewer, and answers how many it read, at least one.
+    /// `bytes` must not be empty. A line that lies whole among them is heard where it lies. What a line is answered is
+    /// appended to `output`.
     ///
     /// # Errors
     ///

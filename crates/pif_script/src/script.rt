@@ -14,7 +14,8 @@ use std::io::{Read, Write};
 
 /// Reads a script or a trace to its end, or to the first line that ends it. What its lines are answered is written,
 /// chunk by chunk, before more is read, and at last what is said at its end, or of the line that ends it. `notice`
-/// keeps that line, and is left as it is where there is none.
+/// keeps that line, and is left as it is if there is none. Of a line that is too long, it keeps the first 120 bytes. Of
+/// the line in which a script gets too large, it keeps the bytes up to the last that a script may have.
 ///
 /// # Errors
 ///

@@ -4,8 +4,8 @@ use Rattle.std.proofs.lemmas.Result.{err_from_is_err_and}
 use Rattle.pif_job_show.proofs.StoryLemmas.{unlisted}
 use Rattle.pif_job_show.proofs.stories.show_named.Goals as goal
 
-pub returns-in_err-script : goal.returns-in_err-script
-returns-in_err-script g c =
+pub returns-in_err-script-clause-ends : goal.returns-in_err-script-clause-ends
+returns-in_err-script-clause-ends g c =
     let p = err_from_is_err_and c.from_residual.result c.from_residual.ensures.1 in (
       Some c.read_script_of_story.new.reader.now,
       (
@@ -15,12 +15,12 @@ returns-in_err-script g c =
       ),
     )
 
-pub returns-in-Ok : goal.returns-in-Ok
-returns-in-Ok g c =
-    let done = rw c.as_slice-in-Ok.ensures.value at c.show_script.ensures in (
+pub returns-in-Ok-clause-ends : goal.returns-in-Ok-clause-ends
+returns-in-Ok-clause-ends g c =
+    let done = rw c.as_slice-in-Ok.ensures.value at c.show_script.ensures.ends in (
       Some c.read_script_of_story.new.reader.now,
       (Ok c.in_ok-script.script.items, c.in_ok-script.ensures.left, (Some [], done)),
     )
 
-pub returns : goal.returns
-returns g c = unlisted (g.W.Write.contents c.args.writer.now) c.args.story.now
+pub returns-clause-ends : goal.returns-clause-ends
+returns-clause-ends g c = unlisted (g.W.Write.contents c.args.writer.now) c.args.story.now

@@ -17,13 +17,13 @@ pub returns-in_err-show_named-in-Ok-clause-failed : goal.returns-in_err-show_nam
 returns-in_err-show_named-in-Ok-clause-failed g c =
     let p = err_from_is_err_and c.from_residual-in_err-show_named-in-Ok.result
     c.from_residual-in_err-show_named-in-Ok.ensures.1 in
-    let shown = rw c.as_slice-text.ensures.value at c.in_err-show_named-in-Ok.ensures.1 in
+    let shown = rw c.as_slice-text.ensures.value at c.in_err-show_named-in-Ok.ensures.ends.1 in
     rw (p.1, p.2) (not_noted c.args.name.now _ _ _ _ _ c.in_ok-story.story.items c.in_err-show_named-in-Ok.field-0.0
     c.in_ok-story.ensures.read shown)
 
 pub returns-in-Ok-clause-noted : goal.returns-in-Ok-clause-noted
 returns-in-Ok-clause-noted g c =
-    let shown = rw c.as_slice-text.ensures.value at c.in_ok-show_named-in-Ok.ensures.1 in
+    let shown = rw c.as_slice-text.ensures.value at c.in_ok-show_named-in-Ok.ensures.ends.1 in
     let notes = rw c.as_slice-text.ensures.value at c.in_ok-notes.ensures.notes in
     noted c.args.name.now _ _ _ _ _ _ c.in_ok-story.story.items c.in_ok-story.ensures.read shown notes
 

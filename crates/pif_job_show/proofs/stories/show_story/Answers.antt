@@ -3,10 +3,10 @@ use Rattle.std.proofs.lemmas.Result.{err_from_is_err_and}
 use Rattle.pif_job_show.proofs.StoryLemmas.{shown_of_failed, shown_of_noted}
 use Rattle.pif_job_show.proofs.stories.show_story.Goals as goal
 
-pub returns-in_err-show_noting : goal.returns-in_err-show_noting
-returns-in_err-show_noting g c =
+pub returns-in_err-show_noting-clause-ends : goal.returns-in_err-show_noting-clause-ends
+returns-in_err-show_noting-clause-ends g c =
     let p = err_from_is_err_and c.from_residual.result c.from_residual.ensures.1 in
     rw (p.1, p.2) (shown_of_failed [] _ _ _ _ _ c.in_err-show_noting.ensures.failed)
 
-pub returns : goal.returns
-returns g c = shown_of_noted _ _ _ _ _ _ c.in_ok-show_noting.ensures.noted
+pub returns-clause-ends : goal.returns-clause-ends
+returns-clause-ends g c = shown_of_noted _ _ _ _ _ _ c.in_ok-show_noting.ensures.noted
