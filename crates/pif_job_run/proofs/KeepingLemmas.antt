@@ -1,10 +1,10 @@
 -- Runs that keep what they read.
-use Rattle.std.proofs.Common.{◌≡◌, ℕ, ◌<◌, ◌≤◌, nat_lt, Bool, true, false, List, [], ◌++◌, length, Option, Some, None, Result, Ok, Err, refl, sym, ap, ◌∙◌, subst, append-nil, arith}
+use Rattle.std.proofs.Common.{◌≡◌, ℕ, ◌<◌, ◌≤◌, nat_lt, Bool, true, false, List, [], ◌++◌, length, Option, Result, Ok, Err, refl, sym, ap, ◌∙◌, subst, append-nil, arith}
 use Rattle.std.proofs.lemmas.Bool.{false≢true}
 use Rattle.std.proofs.lemmas.Bool.Decides.{nat_tests}
 use Rattle.std.proofs.KnownBytes.{Appends-nil, Appends-trans, Consumes-nil, Consumes-trans}
 use Rattle.std.specs.Io.KnownBytes.{Appends, Consumes, IsAtEnd}
-use Rattle.std.specs.Prelude.{MatchOption, is_ok, option_map}
+use Rattle.std.specs.Prelude.{is_ok}
 use Rattle.pif_model.specs.Table.{Table}
 use Rattle.pif_script_model.specs.declared.faults.CliFault.{CliFault}
 use Rattle.pif_script_model.specs.declared.ending.End.{End}
@@ -74,30 +74,18 @@ Goes-fails s t a b c h k l mid new e p r =
 -- ---- the notes on what was kept
 
 -- a long script has none
-pub long_unnoted : (name read : List ℕ) (kept : Kept) → kept.is_long ≡ true → AreKept read kept
-    → [] ≡ run_notes name read
+pub long_unnoted : (name read : List ℕ) → 1048576 < length read → [] ≡ run_notes name read
 unfolding run_notes
-long_unnoted name read kept long k =
-    let more : 1048576 < length read = rw long at k in
-    let test : nat_lt 1048576 (length read) ≡ true = grind (arith, nat_tests, more) in rw test refl
+long_unnoted name read long =
+    let test : nat_lt 1048576 (length read) ≡ true = grind (arith, nat_tests, long) in rw test refl
 
--- what is kept of another one is all of it
-kept_whole : {V : Type 0} (items : V → List ℕ) (bytes : Option V) (read text : List ℕ)
-    → Some text ≡ option_map items bytes
-    → MatchOption bytes (Unit {0}) (λ b. (items b ≡ read) × (length read ≤ 1048576))
-    → (text ≡ read) × (length read ≤ 1048576)
-kept_whole items None read text e k = cc
-kept_whole items (Some b) read text e k = let same : text ≡ items b = cc in (same ∙ k.0, k.1)
-
--- another one has those of what is kept
-pub whole_noted : (name read text : List ℕ) (kept : Kept) → kept.is_long ≡ false
-    → Some text ≡ option_map (λ bytes. bytes.items) kept.bytes → AreKept read kept
+-- one that is kept has those on it as a story
+pub whole_noted : (name read text : List ℕ) → text ≡ read → length read ≤ 1048576
     → story_notes name text ≡ run_notes name read
 unfolding run_notes
-whole_noted name read text kept short e k =
-    let whole = kept_whole (λ bytes. bytes.items) kept.bytes read text e (rw short at k) in
-    let test : nat_lt 1048576 (length read) ≡ false = grind (arith, nat_tests, whole.1) in
-    rw test (ap (story_notes name) whole.0)
+whole_noted name read text same short =
+    let test : nat_lt 1048576 (length read) ≡ false = grind (arith, nat_tests, short) in
+    rw test (ap (story_notes name) same)
 
 pub RunsNoting-kept : (name : List ℕ) (a b h k notes : Option (List ℕ)) (kept : Kept)
     → RunsKeeping a b h k kept (Ok tt) → ((read : List ℕ) → AreKept read kept → AreNotesOn name read notes)

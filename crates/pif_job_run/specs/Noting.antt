@@ -1,5 +1,5 @@
 -- A run of a script, and the notes on it.
-use Rattle.std.specs.Prelude.{ℕ, ◌≡◌, ◌<◌, ◌≤◌, nat_lt, Bool, true, false, MatchBool, MatchOption, List, [], ◌++◌, length, Option, Some, None, Result, Ok, Err, if◌then◌else◌}
+use Rattle.std.specs.Prelude.{ℕ, ◌≡◌, ◌<◌, ◌≤◌, nat_lt, Bool, true, false, List, [], ◌++◌, length, Option, Some, None, Result, Ok, Err, if◌then◌else◌}
 use Rattle.std.specs.Io.KnownBytes.{Appends, Consumes, IsAtEnd}
 use Rattle.pif_model.specs.Table.{Table}
 use Rattle.pif_script_model.specs.declared.faults.CliFault.{CliFault}
@@ -8,12 +8,13 @@ use Rattle.pif_script_model.specs.Runs.{EndsAfter, RunsFrom}
 use Rattle.pif_script_model.specs.Scripts.{Scan, closed_at, reading_of, start}
 use Rattle.pif_story_notes.specs.Notes.{story_notes}
 use Rattle.pif_job_run.specs.declared.kept.Kept.{Kept}
+use Rattle.pif_job_run.specs.declared.kept.Kept.TheVariants.{All, Long, Refused}
 
 -- what was read is kept; or nothing of it, since it is too long, or memory was refused for it
 abbrev pub AreKept : (read : List ℕ) → Kept → Type 0
-AreKept read kept =
-    MatchBool kept.is_long (1048576 < length read)
-    (MatchOption kept.bytes (Unit {0}) (λ bytes. (bytes.items ≡ read) × (length read ≤ 1048576)))
+AreKept read (All bytes) = (bytes.items ≡ read) × (length read ≤ 1048576)
+AreKept read Long = 1048576 < length read
+AreKept read Refused = Unit {0}
 
 -- bytes that were read behind others are kept as those are
 abbrev pub KeepsMore : (read : List ℕ) → (old new : Kept) → Type 0

@@ -71,23 +71,21 @@ fn run_keeping<R: Read, W: Write>(
 fn notes_on(alloc: Global, name: &[u8], kept: &Kept) -> Option<Vec<u8>>
     ensures { (read : List ℕ) → AreKept read kept.now → AreNotesOn name.now read (option_map (λ notes. notes.items) result) }
 {
-    if kept.is_long() {
-        return Some(Vec::new(alloc));
-    }
-    match kept.bytes() {
-        Some(script) => match story_notes(alloc, name, script) {
+    match kept {
+        Kept::All(script) => match story_notes(alloc, name, script.as_slice()) {
             Ok(notes) => Some(notes),
             Err(_) => None,
         },
-        None => None,
+        Kept::Long => Some(Vec::new(alloc)),
+        Kept::Refused => None,
     }
 }
 
 /// Runs a script of this name: reads its bytes to its end or its first fault, and writes what its lines are answered,
 /// chunk by chunk, before more is read, and at last the line of the fault. `notice` keeps that line, and is left as it
-/// is if there is none. Answers the notes on the script, a line for each, as `story_notes` has them; none if it has more
-/// than 1,048,576 bytes. For these it is kept in memory, and run once more there. If memory is refused for that, the
-/// answer is `None`, and all else is as if it was not.
+/// is if there is none. Answers the notes on the script, a line for each, as `story_notes` has them; an empty text if the
+/// script has more than 1,048,576 bytes. For the notes it is kept in memory, and run once more there. If memory is
+/// refused for that, the answer is `None`, and all else is as if it was not.
 ///
 /// # Errors
 ///
