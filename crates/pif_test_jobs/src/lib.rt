@@ -5,6 +5,7 @@
 //! |---|---|
 //! | `shows` | `pif_job_show`: the longest line, a crowd, and writes that fail; the names of errors of `pif_text` |
 //! | `stories` | `pif_job_check`: stories that are shown and traced, and reads and writes that fail |
+//! | `runs` | `pif_job_run`: which scripts have notes |
 //! | `shells` | `pif_job_shell`: a prompt, stories that are saved, sessions, and what fails |
 //! | `random` | `pif_job_random`: scripts by a seed |
 //! | `pictures` | `pif_job_draw`: writes and growths of memory that fail |
@@ -20,6 +21,8 @@ mod jobs;
 mod pictures;
 #[cfg(test)]
 mod random;
+#[cfg(test)]
+mod runs;
 #[cfg(test)]
 mod shells;
 #[cfg(test)]

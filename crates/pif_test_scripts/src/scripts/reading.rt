@@ -1,5 +1,5 @@
 use super::{BOOSTED, BOOSTED_ANSWERS};
-use crate::jobs::Job;
+use crate::jobs::{Job, run_with_notes};
 use pif_job_replay::replay;
 use pif_script::{CliFault, run};
 use pif_test_streams::{Stream, check_read, check_slowly, check_streams, check_write};
@@ -52,13 +52,18 @@ static SCRIPTS: [(&str, &str, &str); 3] = [
     ("thread 10\npi", "ck\n", "t1\n"),
 ];
 
+/// What runs a script.
+static RUNS: [Job; 2] = [Job::Run, Job::RunNoted];
+
 #[test]
 fn a_failed_read_is_not_tried_again(rt: HostRuntime) {
-    let (job, alloc) = (Job::Run, rt.alloc());
+    let alloc = rt.alloc();
     for (first, second, answers) in &SCRIPTS {
-        let texts = (*first, *second);
-        stumble(&rt, alloc, job, texts, ErrorKind::Interrupted, answers);
-        stumble(&rt, alloc, job, texts, ErrorKind::TimedOut, answers);
+        for job in &RUNS {
+            let texts = (*first, *second);
+            stumble(&rt, alloc, *job, texts, ErrorKind::Interrupted, answers);
+            stumble(&rt, alloc, *job, texts, ErrorKind::TimedOut, answers);
+        }
     }
 }
 
@@ -121,7 +126,7 @@ impl Write for Talk<'_> {
 
 /// How a script or a trace ends, how often it was asked for a line, how many lines were answered, and whether it was
 /// asked before all lines were answered that it had given.
-fn hold_talk(alloc: Global, is_trace: bool, text: &str) -> (Result<(), CliFault>, u64, u64, bool) {
+fn hold_talk(alloc: Global, job: Job, text: &str) -> (Result<(), CliFault>, u64, u64, bool) {
     let answered = Cell::new(0);
     let mut input = Talk {
         text,
@@ -135,17 +140,19 @@ fn hold_talk(alloc: Global, is_trace: bool, text: &str) -> (Result<(), CliFault>
         answered: &answered,
         is_early: false,
     };
-    let ended = if is_trace {
-        replay(alloc, &mut input, &mut output)
-    } else {
-        run(alloc, &mut input, &mut output)
+    let ended = match job {
+        Job::Replay => replay(alloc, &mut input, &mut output),
+        Job::RunNoted => run_with_notes(alloc, &mut input, &mut output),
+        _ => run(alloc, &mut input, &mut output),
     };
     (ended, input.asked, answered.get(), input.is_early)
 }
 
 #[test]
 fn reply_comes_before_more_input(rt: HostRuntime) {
-    assert!(rt; hold_talk(rt.alloc(), false, BOOSTED) == (Ok(()), 14, 13, false));
+    for job in &RUNS {
+        assert!(rt; hold_talk(rt.alloc(), *job, BOOSTED) == (Ok(()), 14, 13, false));
+    }
 }
 
 static FAULTS: [(&str, u64, Cause); 3] = [
@@ -158,7 +165,7 @@ static FAULTS: [(&str, u64, Cause); 3] = [
 fn nothing_is_read_behind_a_fault(rt: HostRuntime) {
     for (script, line, cause) in &FAULTS {
         let fault = CliFault::Script(*line, *cause);
-        let talked = hold_talk(rt.alloc(), false, script);
+        let talked = hold_talk(rt.alloc(), Job::Run, script);
         assert!(rt; talked == (Err(fault), *line, *line, false), "{script:?}");
     }
 }
@@ -184,7 +191,7 @@ static DIFFERENCES: [(&str, u64, CliFault); 3] = [
 #[test]
 fn nothing_is_read_behind_a_difference(rt: HostRuntime) {
     for (trace, asked, fault) in &DIFFERENCES {
-        let (ended, read, written, _) = hold_talk(rt.alloc(), true, trace);
+        let (ended, read, written, _) = hold_talk(rt.alloc(), Job::Replay, trace);
         assert!(rt;
             (ended, read, written) == (Err(*fault), *asked, 1),
             "{trace:?}"
