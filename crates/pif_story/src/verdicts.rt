@@ -32,7 +32,7 @@ pub fn append_printable(line: &mut Vec<u8>, text: &[u8]) -> Result<(), AllocErro
     Ok(())
 }
 
-/// Appends a text as it is shown: as many of its bytes as a line may have.
+/// Appends a text as it is shown: its first 120 bytes, if it has more, and `?` for each that is no printable ASCII.
 fn append_shown(line: &mut Vec<u8>, text: &[u8]) -> Result<(), AllocError>
     ensures { OnOk result (line.new.items ≡ line.old.items ++ shown text.now) }
 {
@@ -109,7 +109,7 @@ fn is_same_but_blanks(alloc: Global, one: &[u8], other: &[u8]) -> Result<bool, A
     Ok(first.as_slice() == second.as_slice())
 }
 
-/// Appends a text as it is shown, in quotes if it is to have them.
+/// Appends a text as it is shown, between two `'` if it is to have quotes.
 fn append_quoted(line: &mut Vec<u8>, quoted: bool, text: &[u8]) -> Result<(), AllocError>
     ensures { OnOk result (line.new.items ≡ line.old.items ++ shown_quoted quoted text.now) }
 {

@@ -39,7 +39,7 @@ fn are_name_bytes(word: &[u8]) -> bool
     word.iter().all(|byte| is_name_byte(*byte))
 }
 
-/// Whether a word is a name for a person.
+/// Whether a word may name a thread for a person: it has 1 to 24 bytes, each a letter, a digit, `_`, `-` or `.`.
 #[tactic(auto, using(crate::proofs::NameLemmas::name_within, crate::proofs::NameLemmas::name_long, crate::proofs::NameLemmas::name_empty))]
 fn is_name(word: &[u8]) -> bool
     ensures { result ≡ is_name word.now }

@@ -97,7 +97,8 @@ fn row_known(known: &Known, words: &[u8], given: &[u8]) -> Known
 }
 
 /// Appends the note on a command in the line of this number, if there is one, beside the first of the lines that are
-/// printed from there on. Answers the lines behind it.
+/// printed from there on. Answers the lines behind it, or `None` if it is the last. If `answers` is `None`, no line is
+/// left: nothing is changed then, and the answer is `None`.
 fn take_row<'a>(
     notes: &mut Vec<Note>,
     known: &mut Known,

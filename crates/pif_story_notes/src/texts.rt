@@ -196,8 +196,8 @@ fn append_notes(
     Ok(())
 }
 
-/// The notes on a story of this name, a line for each. `words` is the story with nothing but its words, and `output` has
-/// the lines that are printed for its script. There is none on a story that is too large.
+/// The notes on a story of this name, a line for each. `words` is the story with nothing but its words, and `output`
+/// has the lines that are printed for its script. There is none on a story of more than 16,777,216 bytes.
 ///
 /// # Errors
 ///

@@ -57,7 +57,8 @@ fn health_text(health: Health) -> &'static str
     }
 }
 
-/// Appends the health of a mutex.
+/// Appends the health of a mutex as `Core::health` has it, by its health word, or `null` if it was never added. Right
+/// after its owner ended that word is still what it was.
 fn append_health(core: &Core, mutex: MutexId, out: &mut Vec<u8>) -> Result<(), AllocError>
     ensures { OnOk result (out.new.items ≡ out.old.items ++ or_null (λ h. quoted (health_text h)) (health_answer mutex core.now)) }
 {

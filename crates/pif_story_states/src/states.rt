@@ -44,7 +44,7 @@ fn append_row(
 
 /// The states behind the commands of a story: a line for each, up to the first fault. A core does each of them once
 /// more, by what it asks for; its words are not read again, and only stand in its line. Threads have the names that
-/// these comments give. `told` is told of each command as a step.
+/// these comments give. `told` is told before each command how many of how many are done.
 ///
 /// # Errors
 ///

@@ -29,7 +29,8 @@ pub fn append_number_or_null(out: &mut Vec<u8>, number: Option<u32>) -> Result<(
     }
 }
 
-/// Appends a string of bytes that JSON doesn't escape.
+/// Appends a string, with its bytes as they are between two `"`. It must be UTF-8, and have no `"`, no `\` and no byte
+/// under 32: JSON escapes these. That isn't checked.
 pub fn append_quoted(out: &mut Vec<u8>, text: &[u8]) -> Result<(), AllocError>
     ensures { OnOk result (out.new.items ≡ out.old.items ++ quoted text.now) }
 {

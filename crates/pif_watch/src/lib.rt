@@ -7,7 +7,8 @@ pub trait WatchSteps {
     fn step(&mut self, done: usize, count: usize);
 }
 
-/// Who watches a part of a job: its steps are told as steps of the whole.
+/// Who watches a part of a job: its steps are told as steps of the whole, in proportion and rounded down. A part that
+/// has no steps is told as not begun.
 #[derive(Drop)]
 pub struct Part<'w, V> {
     whole: &'w mut V,
