@@ -1,0 +1,14 @@
+pub mod Answered
+pub mod Leading
+pub mod Moving
+pub mod Entering
+pub mod Answering
+pub mod Knowing
+pub mod Refuting
+pub mod Covering
+pub mod Testing
+pub mod Failing
+pub mod Turns
+pub mod AtOnce
+pub mod Ahead
+pub mod Settling
