@@ -3,3 +3,5 @@ mod Telling
 mod Searched
 pub mod Guided
 mod Playing
+mod Keeping
+mod Places

@@ -9,22 +9,26 @@
 //! | `possible_answers`, `possible_priorities` | with which answers, or priorities, a line would be shown |
 //!
 //! A player that keeps one state of `pif_posix` comes first. Then come the searches `find` and `judge` of `pif_search`:
-//! the first is guided by what later lines say, as the player is, and both find witnesses alone; the second is exact. A
-//! verdict is a theorem: `IsVerdictOf`. `Later` and `Scene` say what is worth trying, for other guided searches too.
+//! the first is guided by what later lines say, as the player is, and both find witnesses alone; the second is exact. It
+//! first takes the lines as a whole, with all answers known, and then line by line. A verdict is a theorem: `IsVerdictOf`. `Later` and `Scene` say what is worth trying, for other guided searches too.
 #![tactic(auto)]
 
 mod dying;
 mod exact;
+mod failing;
 mod guide;
 mod judge;
+mod known;
 mod later;
 mod machine;
 mod needed;
 mod needs;
+mod overs;
 mod plans;
 mod player;
 mod position;
 mod refused;
+mod refuting;
 mod scene;
 mod untold;
 mod verdicts;
