@@ -6,7 +6,7 @@
 //! | `asks` | none: what tables are made of, by numbers |
 //! | `cloud` | none: all states in which the POSIX machine may be, after what was seen |
 //! | `beside` | the machine beside a core, on random events |
-//! | `blocked` | waits that are blocked make few states |
+//! | `blocked` | blocked waits, and trylocks that are busy, make few states |
 //! | `furthest` | how many lines of a history some run shows, by a search that reduces nothing |
 //! | `judged` | random histories, in which each answer is replaced by each other one |
 //! | `examples` | worked examples: their answers are possible, and no others at the last call |
