@@ -5,4 +5,3 @@ pub mod Guided
 mod Playing
 mod Keeping
 mod Places
-mod Waking

@@ -6,4 +6,3 @@ pub mod Counting
 pub mod Spans
 pub mod Overs
 pub mod Turns
-pub mod Wakeups

@@ -8,12 +8,9 @@
 //! | `refusal` | why no run has a line, whatever was answered |
 //! | `possible_answers`, `possible_priorities` | with which answers, or priorities, a line would be shown |
 //!
-//! A scan for a wait that nothing can have woken comes first: only the lines before it can have a witness. Then comes a
-//! player that keeps one state of `pif_posix`. If it gets stuck, a scout looks which waits it has to leave blocked. Then
-//! come the searches `find` and `judge` of `pif_search`: the first is guided by what later lines say, as the player is,
-//! and both find witnesses alone; the second is exact. It first takes the lines as a whole, with all answers known, and
-//! then line by line. A verdict is a theorem: `IsVerdictOf`. `Later` and `Scene` say what is worth trying, for other
-//! guided searches too.
+//! A player that keeps one state of `pif_posix` comes first. Then come the searches `find` and `judge` of `pif_search`:
+//! the first is guided by what later lines say, as the player is, and both find witnesses alone; the second is exact. It
+//! first takes the lines as a whole, with all answers known, and then line by line. A verdict is a theorem: `IsVerdictOf`. `Later` and `Scene` say what is worth trying, for other guided searches too.
 #![tactic(auto)]
 
 mod dying;
@@ -23,8 +20,6 @@ mod guide;
 mod judge;
 mod known;
 mod later;
-mod lazy;
-mod leaving;
 mod machine;
 mod needed;
 mod needs;
@@ -35,11 +30,8 @@ mod position;
 mod refused;
 mod refuting;
 mod scene;
-mod scout;
 mod untold;
-mod uses;
 mod verdicts;
-mod wakeups;
 
 pub use dying::{are_same, dying_after, is_among};
 pub use judge::{

@@ -11,9 +11,7 @@
 //! | `judged` | random histories, in which each answer is replaced by each other one |
 //! | `examples` | worked examples: their answers are possible, and no others at the last call |
 //! | `in_place` | moves and entries in place, which come or don't |
-//! | `plays` | how often a player plays the lines until it finds a run |
 //! | `replaced` | a history in which each answer is replaced by each other one |
-//! | `wakeups` | waits that return though nothing can have woken them, and others |
 #![tactic(auto)]
 
 #[cfg(test)]
@@ -33,8 +31,4 @@ mod in_place;
 #[cfg(test)]
 mod judged;
 #[cfg(test)]
-mod plays;
-#[cfg(test)]
 mod replaced;
-#[cfg(test)]
-mod wakeups;
