@@ -5,3 +5,4 @@ pub mod Guided
 mod Playing
 mod Keeping
 mod Places
+mod Waking

@@ -6,3 +6,4 @@ pub mod Counting
 pub mod Spans
 pub mod Overs
 pub mod Turns
+pub mod Wakeups

@@ -8,7 +8,8 @@
 //! | `refusal` | why no run has a line, whatever was answered |
 //! | `possible_answers`, `possible_priorities` | with which answers, or priorities, a line would be shown |
 //!
-//! A player that keeps one state of `pif_posix` comes first. Then come the searches `find` and `judge` of `pif_search`:
+//! A scan for a wait that nothing can have woken comes first: only the lines before it can have a witness. Then comes a
+//! player that keeps one state of `pif_posix`. Then come the searches `find` and `judge` of `pif_search`:
 //! the first is guided by what later lines say, as the player is, and both find witnesses alone; the second is exact. It
 //! first takes the lines as a whole, with all answers known, and then line by line. A verdict is a theorem: `IsVerdictOf`. `Later` and `Scene` say what is worth trying, for other guided searches too.
 #![tactic(auto)]
@@ -32,6 +33,7 @@ mod refuting;
 mod scene;
 mod untold;
 mod verdicts;
+mod wakeups;
 
 pub use dying::{are_same, dying_after, is_among};
 pub use judge::{

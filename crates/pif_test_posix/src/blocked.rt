@@ -54,8 +54,8 @@ fn add(lines: &mut Vec<Line>, line: Option<Line>) -> Result<(), Stop> {
     }
 }
 
-/// So many threads wait for one variable, one after another, each with the mutex that it locked. Then the first wait
-/// returns, though nobody has used the variable.
+/// So many threads wait for one variable, one after another, each with the mutex that it locked. Then the first is told
+/// that it may not wait, though it owned the mutex.
 fn waits(alloc: Global, count: u32) -> Result<Vec<Line>, Stop> {
     let mut lines = Vec::new(alloc);
     add(&mut lines, Some(Line::Mutex(Kind::Normal, false)))?;
@@ -68,7 +68,7 @@ fn waits(alloc: Global, count: u32) -> Result<Vec<Line>, Stop> {
         add(&mut lines, succeed(thread))?;
         add(&mut lines, begin(thread, Wish::Wait(1, 1)))?;
     }
-    add(&mut lines, succeed(1))?;
+    add(&mut lines, answer(1, NOT_PERMITTED))?;
     Ok(lines)
 }
 

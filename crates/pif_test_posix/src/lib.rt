@@ -12,6 +12,7 @@
 //! | `examples` | worked examples: their answers are possible, and no others at the last call |
 //! | `in_place` | moves and entries in place, which come or don't |
 //! | `replaced` | a history in which each answer is replaced by each other one |
+//! | `wakeups` | waits that return though nothing can have woken them, and others |
 #![tactic(auto)]
 
 #[cfg(test)]
@@ -32,3 +33,5 @@ mod in_place;
 mod judged;
 #[cfg(test)]
 mod replaced;
+#[cfg(test)]
+mod wakeups;
