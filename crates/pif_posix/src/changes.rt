@@ -31,8 +31,8 @@ fn see_use(threads: &mut [Task], variable: u32)
 
 /// Changes of one thing.
 impl State {
-    /// The call of a thread comes this far.
-    pub(crate) fn set_progress(&mut self, thread: usize, progress: Progress)
+    /// The call of a thread comes this far, whether or not a step leads there. Nothing else changes.
+    pub fn set_progress(&mut self, thread: usize, progress: Progress)
         requires { thread < length self.old.threads }
         ensures { self.new ≡ with_progress thread (progress_of progress) self.old }
     {

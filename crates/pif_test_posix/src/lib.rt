@@ -11,6 +11,7 @@
 //! | `judged` | random histories, in which each answer is replaced by each other one |
 //! | `examples` | worked examples: their answers are possible, and no others at the last call |
 //! | `in_place` | moves and entries in place, which come or don't |
+//! | `plays` | how often a player plays the lines until it finds a run |
 //! | `replaced` | a history in which each answer is replaced by each other one |
 //! | `wakeups` | waits that return though nothing can have woken them, and others |
 #![tactic(auto)]
@@ -31,6 +32,8 @@ mod furthest;
 mod in_place;
 #[cfg(test)]
 mod judged;
+#[cfg(test)]
+mod plays;
 #[cfg(test)]
 mod replaced;
 #[cfg(test)]

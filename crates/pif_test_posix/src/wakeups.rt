@@ -11,29 +11,31 @@ const THREADS: u32 = 8;
 
 /// What is seen of a thread.
 #[derive(Clone, Copy)]
-enum Seen {
+pub enum Seen {
     Begins(Wish),
     Answered(Answer),
     /// It has this effective priority.
     Prio(u32),
+    /// It is this late, for all.
+    Time(u32),
 }
 
-const LOCK: Seen = Seen::Begins(Wish::Lock(1));
+pub const LOCK: Seen = Seen::Begins(Wish::Lock(1));
 
-const UNLOCK: Seen = Seen::Begins(Wish::Unlock(1));
+pub const UNLOCK: Seen = Seen::Begins(Wish::Unlock(1));
 
-const WAIT: Seen = Seen::Begins(Wish::Wait(1, 1));
+pub const WAIT: Seen = Seen::Begins(Wish::Wait(1, 1));
 
-const TIMED_WAIT: Seen = Seen::Begins(Wish::TimedWait(1, 1, 9));
+pub const TIMED_WAIT: Seen = Seen::Begins(Wish::TimedWait(1, 1, 9));
 
-const SIGNAL: Seen = Seen::Begins(Wish::Signal(1));
+pub const SIGNAL: Seen = Seen::Begins(Wish::Signal(1));
 
 const BROADCAST: Seen = Seen::Begins(Wish::Broadcast(1));
 
-const DONE: Seen = Seen::Answered(0);
+pub const DONE: Seen = Seen::Answered(0);
 
 /// What is seen of threads, one after another.
-type Sight = (u32, Seen);
+pub type Sight = (u32, Seen);
 
 /// A wait returns, and nobody has signalled.
 static NO_SIGNAL: [Sight; 8] = [
@@ -128,6 +130,16 @@ static MANY_LOCKS: [Sight; 15] = [
     (1, DONE),
 ];
 
+/// So much may be added.
+pub fn limits() -> HistoryLimits {
+    HistoryLimits {
+        threads: THREADS,
+        mutexes: 1,
+        conds: 2,
+        signals: 9,
+    }
+}
+
 /// Threads, a mutex, and two variables that are bound to it.
 fn additions(alloc: Global) -> Result<Vec<Line>, Stop> {
     let _no_request: Option<Request> = None;
@@ -149,11 +161,12 @@ fn line_of(thread: u32, seen: Seen) -> Option<Line> {
         Seen::Begins(wish) => Line::Begin(thread, request(wish)?),
         Seen::Answered(answer) => Line::Answer(thread, answer),
         Seen::Prio(prio) => Line::Prio(thread, prio),
+        Seen::Time(time) => Line::Tick(time),
     })
 }
 
 /// The lines that tell this, behind the additions.
-fn lines_of(alloc: Global, sights: &[Sight]) -> Result<Vec<Line>, Stop> {
+pub fn lines_of(alloc: Global, sights: &[Sight]) -> Result<Vec<Line>, Stop> {
     let _no_request: Option<Request> = None;
     let mut lines = additions(alloc)?;
     for (thread, seen) in sights {
@@ -166,14 +179,8 @@ fn lines_of(alloc: Global, sights: &[Sight]) -> Result<Vec<Line>, Stop> {
 /// The number of the first of these that is illegal, from 1; 0 if all are legal. None: it is undecided, as more than
 /// `states` states were made for one line.
 fn first_illegal(alloc: Global, sights: &[Sight], states: usize) -> Result<Option<usize>, Stop> {
-    let limits = HistoryLimits {
-        threads: THREADS,
-        mutexes: 1,
-        conds: 2,
-        signals: 9,
-    };
     let lines = lines_of(alloc, sights)?;
-    let verdict = judge_lines(alloc, limits, lines.as_slice(), states, &mut Unwatched)?;
+    let verdict = judge_lines(alloc, limits(), lines.as_slice(), states, &mut Unwatched)?;
     Ok(match verdict {
         Verdict::Legal(_) => Some(0),
         Verdict::Illegal(count) => count.checked_sub(lines.len().saturating_sub(sights.len())),

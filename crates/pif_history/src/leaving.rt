@@ -1,0 +1,89 @@
+//! Which waits are left blocked when their variable is used, and who asks.
+use pif_search::{Stop, push};
+use std::alloc::Global;
+
+/// Who asks what is worth trying.
+#[derive(Clone, Copy)]
+pub(crate) enum Role {
+    /// A search that keeps several states.
+    Searches,
+    /// A player that keeps one state, and leaves the waits blocked that a scout chose.
+    Plays,
+    /// A scout that keeps one state, and leaves open whom a use of a variable wakes.
+    Scouts,
+}
+
+/// Which waits are left blocked when their variable is used.
+#[derive(Drop)]
+pub(crate) struct Leaving {
+    role: Role,
+    /// Of each place of an answer, up to which line the wait that is answered there is left blocked.
+    until: Vec<usize>,
+    /// The threads, blocked in the scout's state, which a use of their variable may have woken.
+    freed: Vec<usize>,
+}
+
+impl Leaving {
+    /// What a search that keeps several states is told: it leaves no wait blocked.
+    pub(crate) fn for_search(alloc: Global) -> Leaving {
+        Leaving {
+            role: Role::Searches,
+            until: Vec::new(alloc),
+            freed: Vec::new(alloc),
+        }
+    }
+
+    /// What a player is told: of each place of an answer, up to which line the wait that is answered there is left
+    /// blocked. Behind the end of these numbers none is.
+    pub(crate) fn for_player(alloc: Global, until: Vec<usize>) -> Leaving {
+        Leaving {
+            role: Role::Plays,
+            until,
+            freed: Vec::new(alloc),
+        }
+    }
+
+    /// What a scout is told: nobody is freed.
+    pub(crate) fn for_scout(alloc: Global) -> Leaving {
+        Leaving {
+            role: Role::Scouts,
+            until: Vec::new(alloc),
+            freed: Vec::new(alloc),
+        }
+    }
+
+    /// Who asks.
+    pub(crate) fn role(&self) -> Role {
+        self.role
+    }
+
+    /// Whether the wait that is answered at a place is left blocked by a use before a line.
+    pub(crate) fn is_left(&self, place: usize, line: usize) -> bool {
+        match self.role {
+            Role::Searches => false,
+            Role::Plays => match self.until.get(place) {
+                Some(until) => line < place && line < *until,
+                None => false,
+            },
+            Role::Scouts => line < place,
+        }
+    }
+
+    /// Whether a use of its variable may have woken a thread that is blocked in the scout's state.
+    pub(crate) fn is_freed(&self, thread: usize) -> bool {
+        self.freed.iter().any(|other| *other == thread)
+    }
+
+    /// A use of its variable may have woken this thread.
+    pub(crate) fn free(&mut self, thread: usize) -> Result<(), Stop> {
+        if self.is_freed(thread) {
+            return Ok(());
+        }
+        push(&mut self.freed, thread)
+    }
+
+    /// The thread is blocked no more.
+    pub(crate) fn unfree(&mut self, thread: usize) {
+        self.freed.retain(|other| *other != thread);
+    }
+}

@@ -1,0 +1,81 @@
+//! Runs that a player finds, which keeps one state: how often it plays the lines.
+use super::wakeups::{DONE, LOCK, SIGNAL, Seen, Sight, TIMED_WAIT, UNLOCK, WAIT, limits, lines_of};
+use pif_history::{Watch, find_run};
+use pif_search::Stop;
+use std::alloc::Global;
+
+/// How often a first line came.
+#[derive(Drop)]
+struct Plays {
+    count: usize,
+}
+
+impl Watch for Plays {
+    fn goes_on(&mut self) -> bool {
+        true
+    }
+
+    fn line(&mut self, line: usize, _states: usize) {
+        if line == 1 {
+            self.count = self.count.saturating_add(1);
+        }
+    }
+}
+
+/// Two threads wait. Another one, which waits until a deadline, is blocked behind the first signal. So the second signal
+/// has to wake one of the two, and the first signal must leave it blocked.
+static SECOND_SIGNAL: [Sight; 30] = [
+    (1, LOCK),
+    (1, DONE),
+    (1, WAIT),
+    (2, LOCK),
+    (2, DONE),
+    (2, WAIT),
+    (4, LOCK),
+    (4, DONE),
+    (4, UNLOCK),
+    (4, DONE),
+    (4, SIGNAL),
+    (4, DONE),
+    (2, DONE),
+    (2, UNLOCK),
+    (2, DONE),
+    (3, LOCK),
+    (3, DONE),
+    (3, TIMED_WAIT),
+    (4, LOCK),
+    (4, DONE),
+    (4, UNLOCK),
+    (4, DONE),
+    (4, SIGNAL),
+    (4, DONE),
+    (1, DONE),
+    (1, UNLOCK),
+    (1, DONE),
+    (3, Seen::Time(9)),
+    (3, Seen::Answered(110)),
+    (3, UNLOCK),
+];
+
+/// How often the lines that tell this are played until a run is found; none if none is.
+fn plays_until_found(alloc: Global, sights: &[Sight]) -> Result<Option<usize>, Stop> {
+    let lines = lines_of(alloc, sights)?;
+    let mut watch = Plays { count: 0 };
+    let found = find_run(alloc, limits(), lines.as_slice(), 10_000, &mut watch)?;
+    Ok(found.map(|_| watch.count))
+}
+
+#[test]
+fn lines_are_played_again_if_a_signal_must_leave_a_wait_blocked(
+    rt: HostRuntime,
+) -> Result<(), Stop> {
+    assert_eq!(rt;
+        plays_until_found(rt.alloc(), &SECOND_SIGNAL[..22])?,
+        Some(1)
+    );
+    assert_eq!(rt;
+        plays_until_found(rt.alloc(), SECOND_SIGNAL.as_slice())?,
+        Some(2)
+    );
+    Ok(())
+}
