@@ -23,6 +23,7 @@ mod guide;
 mod judge;
 mod known;
 mod later;
+mod lazy;
 mod leaving;
 mod machine;
 mod needed;

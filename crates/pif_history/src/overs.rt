@@ -1,6 +1,6 @@
 //! The lines of a history that all stand, and where they say that calls are over. What an open call is answered is asked
 //! of each state of a search, so it is found fast.
-ghost use Rattle.std.specs.Prelude.{◌≡◌, ◌≤◌, ◌↔◌, ◌∷◌, ◌+◌, ℕ, true, false, List, drop, nat_lt, All, IfOk};
+ghost use Rattle.std.specs.Prelude.{◌≡◌, ◌≤◌, ◌↔◌, ◌∷◌, ◌+◌, [], ℕ, true, false, List, Some, None, drop, nat_lt, All, IfOk};
 ghost use Rattle.pif_history_model.specs.declared.lines.Line.{Line};
 ghost use Rattle.pif_known_model.specs.Known.{is_over, answer_of, known_answer};
 ghost use Rattle.pif_history.specs.Overs.{places_over, IsTable};
@@ -153,6 +153,17 @@ impl KnownLines {
     {
         match self.overs.as_slice().get(thread) {
             Some(row) => answer_from(row.as_slice(), from),
+            None => None,
+        }
+    }
+
+    /// The line at a place, if one stands there.
+    pub(crate) fn line(&self, place: usize) -> Option<Line>
+        ensures some { (line : _) → result ≡ Some line → drop place self.now ≡ line ∷ drop (place + 1) self.now }
+        ensures none { result ≡ None → drop place self.now ≡ [] }
+    {
+        match self.lines.as_slice().get(place) {
+            Some(line) => Some(*line),
             None => None,
         }
     }
