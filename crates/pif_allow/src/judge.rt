@@ -98,7 +98,7 @@ fn witness_of<W: Watch>(
 
 /// A run with these rules, under these limits, that shows the lines of a history, oldest first, if a guided search finds
 /// one: its labels, newest first. At most `states` states are looked at for one line. None says nothing. `watch` is told
-/// how far a search has come: up to four without rules, and up to two with them, each from the first line.
+/// how far a search has come: up to five without rules, and up to two with them, each from the first line.
 ///
 /// # Errors
 ///
@@ -154,7 +154,7 @@ fn searched<W: Watch>(
 ///
 /// `Legal` has a witness: the labels of such a run, newest first. `Illegal(n)` says that no run shows the first n lines,
 /// and that some run shows the first n - 1. `Undecided(n)` says nothing of the first n lines: more than `states` states
-/// were made for one line. `watch` is told how far a search has come: up to four that are guided come first,
+/// were made for one line. `watch` is told how far a search has come: up to five that are guided come first,
 /// without rules, then up to two with them, and then the exact one, each from the first line.
 ///
 /// # Errors

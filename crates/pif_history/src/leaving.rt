@@ -5,7 +5,8 @@ use std::alloc::Global;
 /// Who asks what is worth trying.
 #[derive(Clone, Copy)]
 pub(crate) enum Role {
-    /// A search that keeps several states.
+    /// A search that keeps several states, or a player before any scout: a signal wakes as few as it can if some later
+    /// wait for its variable runs out of time.
     Searches,
     /// A player that keeps one state, and leaves the waits blocked that a scout chose.
     Plays,
@@ -24,7 +25,7 @@ pub(crate) struct Leaving {
 }
 
 impl Leaving {
-    /// What a search that keeps several states is told: it leaves no wait blocked.
+    /// What a search is told, and a player before any scout: no wait is left blocked.
     pub(crate) fn for_search(alloc: Global) -> Leaving {
         Leaving {
             role: Role::Searches,

@@ -9,11 +9,11 @@
 //! | `possible_answers`, `possible_priorities` | with which answers, or priorities, a line would be shown |
 //!
 //! A scan for a wait that nothing can have woken comes first: only the lines before it can have a witness. Then comes a
-//! player that keeps one state of `pif_posix`. If it gets stuck, a scout looks which waits it has to leave blocked. Then
-//! come the searches `find` and `judge` of `pif_search`: the first is guided by what later lines say, as the player is,
-//! and both find witnesses alone; the second is exact. It first takes the lines as a whole, with all answers known, and
-//! then line by line. A verdict is a theorem: `IsVerdictOf`. `Later` and `Scene` say what is worth trying, for other
-//! guided searches too.
+//! player that keeps one state of `pif_posix`. If it gets stuck in both of its ways to wake waits, a scout looks which
+//! it has to leave blocked. Then come the searches `find` and `judge` of `pif_search`: the first is guided by what
+//! later lines say, as the player is, and both find witnesses alone; the second is exact. It first takes the lines as a
+//! whole, with all answers known, and then line by line. A verdict is a theorem: `IsVerdictOf`. `Later` and `Scene` say
+//! what is worth trying, for other guided searches too.
 #![tactic(auto)]
 
 mod dying;

@@ -90,6 +90,17 @@ impl Scene<'_> {
         false
     }
 
+    /// The first of these uses of a variable that is a signal, and that no wait will need which has yet to begin.
+    pub(crate) fn spare_signal(&self, uses: &[(usize, usize)], variable: u32) -> Option<usize> {
+        for i in 0..uses.len() {
+            let (place, thread) = uses[i];
+            if self.signals(thread) && !self.later.has_wait(variable, self.line, place) {
+                return Some(thread);
+            }
+        }
+        None
+    }
+
     /// Whether a signal of a variable has to find somebody to wake: it is open, and a wait stays blocked whose time
     /// isn't over.
     pub(crate) fn is_awaited(&self, variable: u32) -> bool {

@@ -22,9 +22,27 @@ impl Watch for Plays {
     }
 }
 
-/// Two threads wait. Another one, which waits until a deadline, is blocked behind the first signal. So the second signal
-/// has to wake one of the two, and the first signal must leave it blocked.
-static SECOND_SIGNAL: [Sight; 30] = [
+/// Two threads wait, and one signal wakes both. Then two others wait. One more, which waits until a deadline, is blocked
+/// behind the next signal. So the last signal has to wake one of the two, and the one before must leave it blocked.
+static THREE_SIGNALS: [Sight; 48] = [
+    (5, LOCK),
+    (5, DONE),
+    (5, WAIT),
+    (6, LOCK),
+    (6, DONE),
+    (6, WAIT),
+    (4, LOCK),
+    (4, DONE),
+    (4, UNLOCK),
+    (4, DONE),
+    (4, SIGNAL),
+    (4, DONE),
+    (5, DONE),
+    (5, UNLOCK),
+    (5, DONE),
+    (6, DONE),
+    (6, UNLOCK),
+    (6, DONE),
     (1, LOCK),
     (1, DONE),
     (1, WAIT),
@@ -69,13 +87,19 @@ fn plays_until_found(alloc: Global, sights: &[Sight]) -> Result<Option<usize>, S
 fn lines_are_played_again_if_a_signal_must_leave_a_wait_blocked(
     rt: HostRuntime,
 ) -> Result<(), Stop> {
+    // Nobody runs out of time.
     assert_eq!(rt;
-        plays_until_found(rt.alloc(), &SECOND_SIGNAL[..22])?,
+        plays_until_found(rt.alloc(), &THREE_SIGNALS[..33])?,
+        Some(1)
+    );
+    // No signal has to wake two.
+    assert_eq!(rt;
+        plays_until_found(rt.alloc(), &THREE_SIGNALS[18..])?,
         Some(1)
     );
     assert_eq!(rt;
-        plays_until_found(rt.alloc(), SECOND_SIGNAL.as_slice())?,
-        Some(2)
+        plays_until_found(rt.alloc(), THREE_SIGNALS.as_slice())?,
+        Some(3)
     );
     Ok(())
 }

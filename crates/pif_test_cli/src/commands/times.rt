@@ -23,7 +23,7 @@ const OVER: &str = "undecided at 1\nno witness found from 1 on\n";
 const LATER: &str = "undecided at 3\nno witness found from 4 on\n";
 
 /// What is asked over which history, by a clock of how many milliseconds a reading; and the status and what is written.
-/// The searches ask before each line: four that are guided, and then the exact one. So the nineteenth question is that
+/// The searches ask before each line: five that are guided, and then the exact one. So the twenty-third question is that
 /// of the exact one before line 3.
 const TIMED: [(&[&str], &str, u64, (u8, &str)); 9] = [
     (
@@ -53,7 +53,7 @@ const TIMED: [(&[&str], &str, u64, (u8, &str)); 9] = [
         (7, OVER),
     ),
     (
-        &["pif", "judge", "--seconds", "19"],
+        &["pif", "judge", "--seconds", "23"],
         ILLEGAL,
         1000,
         (7, LATER),
