@@ -5,4 +5,6 @@ pub mod Guided
 mod Playing
 mod Keeping
 mod Places
+mod Mapped
+mod Narrowing
 mod Waking

@@ -1,11 +1,11 @@
 -- What is said at the first place from one on, of the places at which calls of a thread are over, is what is known of
 -- the thread's open call from there on.
-use Rattle.std.proofs.Common.{ℕ, zero, suc, ◌≡◌, ◌≤◌, ◌<◌, ◌+◌, ◌∙◌, Bool, true, false, nat_lt, List, [], ◌∷◌, ◌++◌, length, drop, get_or, slice_get, Option, Some, None, inl, inr, refl, sym, ap, subst, arith, if◌then◌else◌}
+use Rattle.std.proofs.Common.{ℕ, zero, suc, ◌≡◌, ◌≤◌, ◌<◌, ◌+◌, ◌∙◌, Bool, true, false, nat_lt, List, [], ◌∷◌, ◌++◌, length, take, drop, max, get_or, slice_get, Option, Some, None, inl, inr, refl, sym, ap, subst, arith, if◌then◌else◌}
 use Rattle.std.specs.Global.{Vec}
 use Rattle.std.specs.List.{All}
 use Rattle.std.proofs.lemmas.Bool.{lt-ltb, le-ltb, cases_lt}
-use Rattle.std.proofs.lemmas.List.{length_push}
-use Rattle.std.proofs.lemmas.List.Elements.{All-head, All-tail, All-weaker}
+use Rattle.std.proofs.lemmas.List.{length_push, take_more}
+use Rattle.std.proofs.lemmas.List.Elements.{All-head, All-tail, All-weaker, All-push}
 use Rattle.std.proofs.lemmas.Option.{slice_get_past}
 use Rattle.pif_model_lemmas.proofs.Waiting.{by_test}
 use Rattle.pif_history_model.specs.declared.lines.Line.{Line}
@@ -164,3 +164,13 @@ pub none_known : (lines : List Line) (rows : List (Vec Over)) (t n : ℕ) → Is
     → None ≡ known_answer t (drop n lines)
 none_known lines rows t n h e =
     ap (first_from n) (sym (sym (h t) ∙ ap row_at e)) ∙ first_is_known t 0 n n lines (omega arith)
+
+-- one line more than those whose threads' numbers are smaller
+pub beyond_more : (lines : List Line) (at : ℕ) (line : Line) (end beyond new : ℕ) → at < length lines → line ≡ get_or lines at line → new ≡ max end beyond
+    → ((t : ℕ) → beyond ≤ t → is_over t line ≡ false)
+    → All (λ x. (t : ℕ) → end ≤ t → is_over t x ≡ false) (take at lines) → All (λ x. (t : ℕ) → new ≤ t → is_over t x ≡ false) (take (at + 1) lines)
+beyond_more lines at line end beyond new lt is e here before =
+    let Below : ℕ → Line → Type 0 = λ n x. (t : ℕ) → n ≤ t → is_over t x ≡ false in
+    let more : take (at + 1) lines ≡ take at lines ++ line ∷ [] = take_more lines at line lt ∙ ap (λ (x : Line). take at lines ++ x ∷ []) (sym is) in
+    let old : All (Below new) (take at lines) = All-weaker (Below end) (Below new) (λ x f t le. f t (omega (arith, e, le))) (take at lines) before in
+    subst (λ (xs : List Line). All (Below new) xs) (sym more) (All-push (Below new) (take at lines) line old (λ t le. here t (omega (arith, e, le))))

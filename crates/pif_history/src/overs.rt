@@ -111,11 +111,8 @@ fn table(alloc: Global, lines: &[Line]) -> Result<Vec<Vec<Over>>, Stop>
 fn copied(alloc: Global, lines: &[Line]) -> Result<Vec<Line>, Stop>
     ensures { IfOk result (λ v. v.items ≡ lines.now) }
 {
-    let mut all = Vec::new(alloc);
-    for line in lines {
-        push(&mut all, *line)?;
-    }
-    Ok(all)
+    let copy = Vec::from_slice(alloc, lines)?;
+    Ok(copy)
 }
 
 /// The lines of a history, and where they say that calls are over.

@@ -36,6 +36,16 @@ struct Scout {
 }
 
 impl Scout {
+    /// A scout at the start, who has chosen nothing.
+    fn new(alloc: Global, limits: HistoryLimits) -> Result<Scout, Stop> {
+        let position = Position::start(alloc, limits)?;
+        Ok(Scout {
+            position,
+            choices: Vec::new(alloc),
+            others: Vec::new(alloc),
+        })
+    }
+
     /// The open call of a thread has come this far.
     fn come(&mut self, thread: usize, progress: Progress) -> bool {
         if thread >= self.position.world.thread_count() {
@@ -208,6 +218,30 @@ impl Scout {
         Ok(false)
     }
 
+    /// These lines, one after the other, each behind at most so many steps; false if the scout gets stuck, or if `watch`
+    /// ends it.
+    fn reach_all<W: Watch>(
+        &mut self,
+        alloc: Global,
+        machine: &HistoryMachine,
+        later: &mut Later,
+        lines: &[Line],
+        moves: usize,
+        watch: &mut W,
+    ) -> Result<bool, Stop> {
+        for place in 0..lines.len() {
+            if !watch.goes_on() {
+                return Ok(false);
+            }
+            let line = lines[place];
+            if !self.reach(alloc, machine, later, &line, place, moves)? {
+                return Ok(false);
+            }
+            later.pass(&line, place)?;
+        }
+        Ok(true)
+    }
+
     /// Whether the wait of a choice has to be left blocked until then: without it the signal would have nobody to wake,
     /// and has to wake somebody, since these others are left blocked.
     fn has_to_leave(&self, choice: &Choice, until: &[usize]) -> bool {
@@ -255,20 +289,9 @@ pub(crate) fn scouted<W: Watch>(
     let mut later = Later::of(alloc, lines)?;
     later.leaving = Leaving::for_scout(alloc);
     let machine = HistoryMachine::new(limits);
-    let mut scout = Scout {
-        position: Position::start(alloc, limits)?,
-        choices: Vec::new(alloc),
-        others: Vec::new(alloc),
-    };
-    for place in 0..lines.len() {
-        if !watch.goes_on() {
-            return Ok(None);
-        }
-        let line = lines[place];
-        if !scout.reach(alloc, &machine, &mut later, &line, place, moves)? {
-            return Ok(None);
-        }
-        later.pass(&line, place)?;
+    let mut scout = Scout::new(alloc, limits)?;
+    if !scout.reach_all(alloc, &machine, &mut later, lines, moves, watch)? {
+        return Ok(None);
     }
     Ok(Some(scout.left(alloc, lines.len())?))
 }
