@@ -2,14 +2,17 @@
 
 use pif_job_check::{check, check_strictly, fill, fill_as_one_of_several};
 use pif_job_draw::{Drawn, draw, write_drawn, write_graph, write_states};
+use pif_job_replay::{migrate, replay};
+use pif_job_run::run_noted;
 use pif_job_shell::{NoShelf, shell};
 use pif_job_show::show_story;
-use pif_job_trace::trace_story;
-use pif_script::Notice;
+use pif_job_trace::{trace, trace_story};
+use pif_script::{CliFault, Notice, run};
 use pif_script_model::Detail;
 use pif_test_streams::{Ended, Part, Stream, Task};
 use pif_watch::Unwatched;
 use std::alloc::Global;
+use std::io::{Read, Write};
 use std::process::Abort;
 
 /// In what detail a story is shown; for `None` its trace is written.
@@ -18,6 +21,12 @@ pub type Telling = Option<Detail>;
 /// A job that reads and writes.
 #[derive(Clone, Copy)]
 pub enum Job {
+    Run,
+    /// Runs a script as `pif run` does, which notes what stands in it.
+    RunNoted,
+    Replay,
+    Trace,
+    Migrate,
     /// Checks a story of the name `story`.
     Check,
     /// Checks it strictly.
@@ -47,6 +56,16 @@ pub const PAGE: Drawn = Drawn {
     to: 0,
 };
 
+/// Runs a script as `pif run` does, and leaves its notes.
+pub fn run_with_notes<R: Read, W: Write>(
+    alloc: Global,
+    reader: &mut R,
+    writer: &mut W,
+) -> Result<(), CliFault> {
+    let _notes = run_noted(alloc, b"", reader, writer, &mut Notice::new())?;
+    Ok(())
+}
+
 /// Shows a story in this detail, or writes its trace.
 fn tell(
     telling: Telling,
@@ -70,6 +89,11 @@ pub fn do_job(
     notice: &mut Notice,
 ) -> Ended {
     match job {
+        Job::Run => run(alloc, reader, writer),
+        Job::RunNoted => run_with_notes(alloc, reader, writer),
+        Job::Replay => replay(alloc, reader, writer),
+        Job::Trace => trace(alloc, reader, writer),
+        Job::Migrate => migrate(alloc, reader, writer),
         Job::Check => check(alloc, b"story", reader, writer),
         Job::Strict => check_strictly(alloc, b"story", reader, writer, notice),
         Job::Fill => fill(alloc, b"story", reader, writer),

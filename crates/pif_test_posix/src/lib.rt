@@ -13,6 +13,7 @@
 //! | `in_place` | moves and entries in place, which come or don't |
 //! | `plays` | how often a player plays the lines until it finds a run |
 //! | `replaced` | a history in which each answer is replaced by each other one |
+//! | `rules` | steps and histories that rules allow |
 //! | `wakeups` | waits that return though nothing can have woken them, and others |
 #![tactic(auto)]
 
@@ -36,5 +37,7 @@ mod judged;
 mod plays;
 #[cfg(test)]
 mod replaced;
+#[cfg(test)]
+mod rules;
 #[cfg(test)]
 mod wakeups;

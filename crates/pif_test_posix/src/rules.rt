@@ -8,17 +8,9 @@
 //! | `scene` | none: a state that is built by steps, made of numbers |
 //! | `cases` | none: the table, which was worked out by hand |
 //! | `allowed` | a step of each case, without its rule and with it |
-#![tactic(auto)]
-
-#[cfg(test)]
 mod allowed;
-#[cfg(test)]
 mod cases;
-#[cfg(test)]
 mod histories;
-#[cfg(test)]
 mod judged;
-#[cfg(test)]
 mod long;
-#[cfg(test)]
 mod scene;

@@ -1,6 +1,6 @@
 //! Long histories that are legal with a rule alone. Few states may be made for a line, so all steps can't be tried.
-use crate::cases::Rule;
-use crate::scene::only;
+use crate::rules::cases::Rule;
+use crate::rules::scene::only;
 use pif_allow::judge_allowing;
 use pif_history::{Unwatched, Verdict};
 use pif_history_text::read_history;

@@ -1,5 +1,5 @@
 //! The table: for each rule a history that it makes legal, and one that stays illegal with all rules.
-use crate::cases::Rule;
+use crate::rules::cases::Rule;
 
 /// One rule and its histories. The line numbers were worked out by hand.
 pub struct Told {

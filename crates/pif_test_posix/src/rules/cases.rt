@@ -1,5 +1,5 @@
 //! The table: for each rule a state, a step from there, and how many states it leads to.
-use crate::scene::{Step, Wish};
+use crate::rules::scene::{Step, Wish};
 use pif_types::{Health, Kind};
 
 /// The rule of a case.

@@ -1,5 +1,5 @@
 //! A state that is built by steps of the plain machine.
-use crate::cases::Rule;
+use crate::rules::cases::Rule;
 use pif_model::{Entry, Event, Seen};
 use pif_posix::{State, Wide};
 use pif_posix_model::HistoryLimits;

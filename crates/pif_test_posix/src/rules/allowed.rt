@@ -1,6 +1,6 @@
 //! A step of each case leads to as many states as the table has, without its rule and with it.
-use crate::cases::{Asked, CASES, Case};
-use crate::scene::{Scene, no_rules, only};
+use crate::rules::cases::{Asked, CASES, Case};
+use crate::rules::scene::{Scene, no_rules, only};
 use pif_posix::Wide;
 use pif_rules_model::Rules;
 use pif_search::Stop;

@@ -1,6 +1,6 @@
 //! A history of each rule is illegal without the rule and legal with it, and another is illegal with all rules.
-use crate::histories::{HISTORIES, Told};
-use crate::scene::{no_rules, only};
+use crate::rules::histories::{HISTORIES, Told};
+use crate::rules::scene::{no_rules, only};
 use pif_allow::judge_allowing;
 use pif_history::{Unwatched, Verdict};
 use pif_history_text::{History, read_history};
