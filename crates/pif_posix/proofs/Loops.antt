@@ -27,14 +27,6 @@ pub each_done : {A : Type 0} (f : ℕ → List A) (test : ℕ → Bool) (n : ℕ
 each_done f test zero xs all e h = sym (append-nil xs) ∙ h
 each_done f test (suc n) xs all e h = absurd (omega arith)
 
--- one number more, for which a list is made
-pub each_more : {A : Type 0} (f : ℕ → List A) (test : ℕ → Bool) (j n : ℕ) (xs ys all : List A) → j ≡ suc n → test n ≡ true
-    → ys ≡ xs ++ f n → xs ++ flat_map f (passing test j) ≡ all → ys ++ flat_map f (passing test n) ≡ all
-each_more f test j n xs ys all s t e h =
-    let passes : flat_map f (passing test (suc n)) ≡ f n ++ flat_map f (passing test n) = rw t in
-    ap (λ zs. zs ++ flat_map f (passing test n)) e ∙ append_assoc xs (f n) (flat_map f (passing test n))
-    ∙ ap (λ zs. xs ++ zs) (sym (ap (λ (k : ℕ). flat_map f (passing test k)) s ∙ passes)) ∙ h
-
 -- OVER A LIST, FROM THE FRONT
 
 module _ {A : Type 0} (f : ℕ → A) (test : ℕ → Bool) (us : List ℕ) (i : ℕ) (lt : i < length us) where

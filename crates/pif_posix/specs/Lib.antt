@@ -1,4 +1,3 @@
-pub mod Beside
 pub mod Choices
 pub mod Results
 pub mod Shapes

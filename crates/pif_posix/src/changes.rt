@@ -1,10 +1,9 @@
-ghost use Rattle.std.specs.Prelude.{◌≡◌, ◌<◌, ℕ, length, map, OnOk};
+ghost use Rattle.std.specs.Prelude.{◌≡◌, ◌<◌, ◌∷◌, ℕ, length, map, OnOk};
 ghost use Rattle.pif_model.specs.World.{mutex_at, with_progress, with_call_by, with_mutex};
 ghost use Rattle.pif_model.specs.Posix.{with_waiter, without_waiter, with_hold_count, with_health, with_base, after_unblocking, after_timeout, without_call, after_end, after_use, used};
 ghost use Rattle.pif_model.specs.World.Progress.{Has};
 ghost use Rattle.pif_model.specs.Graph.{without};
 ghost use Rattle.pif_types.specs.Numbers.{number_of};
-ghost use Rattle.pif_rules_model.specs.Rules.{with_first_waiter};
 ghost use Rattle.pif_posix.specs.Shapes.{health_of, progress_of};
 
 use crate::parts::Task;
@@ -50,8 +49,8 @@ impl State {
         it.count = count;
     }
 
-    /// What a mutex protects is in this state.
-    pub(crate) fn set_health(&mut self, mutex: usize, health: Health)
+    /// What a mutex protects is in this state, whether or not a step leads there. Nothing else changes.
+    pub fn set_health(&mut self, mutex: usize, health: Health)
         requires { mutex < length self.old.mutexes }
         ensures { self.new ≡ with_health mutex (health_of health) self.old }
     {
@@ -59,8 +58,8 @@ impl State {
         it.health = health;
     }
 
-    /// A mutex is held so often.
-    pub(crate) fn set_count(&mut self, mutex: usize, count: u32)
+    /// A mutex is held so often, whether or not a step leads there. Nothing else changes.
+    pub fn set_count(&mut self, mutex: usize, count: u32)
         requires { mutex < length self.old.mutexes }
         ensures { self.new ≡ with_hold_count mutex count self.old }
     {
@@ -78,9 +77,9 @@ impl State {
         }
     }
 
-    /// A thread before all other waiters, for a mutex.
-    pub(crate) fn put_first(&mut self, thread: u32, mutex: u32) -> Result<(), Stop>
-        ensures { OnOk result (self.new ≡ with_first_waiter thread mutex self.old) }
+    /// A thread before all other waiters, for a mutex, whether or not a step leads there. Nothing else changes.
+    pub fn put_first(&mut self, thread: u32, mutex: u32) -> Result<(), Stop>
+        ensures { OnOk result (self.new ≡ record self.old { waiters = (thread, mutex) ∷ self.old.waiters }) }
     {
         match self.waiters.insert(0, (thread, mutex)) {
             Ok(()) => Ok(()),

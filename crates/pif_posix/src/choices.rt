@@ -53,7 +53,7 @@ impl State {
     }
 
     /// The threads that are blocked on a variable, those of greatest numbers first.
-    pub(crate) fn all_blocked(&self, alloc: Global, variable: u32) -> Result<Vec<u32>, Stop>
+    pub fn all_blocked(&self, alloc: Global, variable: u32) -> Result<Vec<u32>, Stop>
         ensures { IfOk result (λ v. v.items ≡ all_blocked self.now variable) }
     {
         let count = self.threads_end()?;
@@ -104,7 +104,7 @@ impl State {
     }
 
     /// The state once the signal of a thread wakes another.
-    pub(crate) fn woken(&self, alloc: Global, thread: usize, other: usize) -> Result<State, Stop>
+    pub fn woken(&self, alloc: Global, thread: usize, other: usize) -> Result<State, Stop>
         requires thread { thread < length self.now.threads }
         requires other { other < length self.now.threads }
         ensures { IfOk result (λ s. s ≡ woken thread other self.now) }
@@ -184,7 +184,7 @@ impl State {
     }
 
     /// The state once a thread is unblocked, if it was blocked.
-    pub(crate) fn with_awake(&self, alloc: Global, thread: usize) -> Result<State, Stop>
+    pub fn with_awake(&self, alloc: Global, thread: usize) -> Result<State, Stop>
         requires { thread < length self.now.threads }
         ensures { IfOk result (λ s. s ≡ with_call_by thread after_unblocking self.now) }
     {

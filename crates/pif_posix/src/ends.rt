@@ -9,7 +9,7 @@ use std::alloc::Global;
 /// The end of a thread.
 impl State {
     /// Whether a thread owns a mutex, which is robust.
-    pub(crate) fn owns_robust(&self, thread: u32, mutex: usize) -> bool
+    pub fn owns_robust(&self, thread: u32, mutex: usize) -> bool
         requires { mutex < length self.now.mutexes }
         ensures { result ≡ owns_robust self.now thread mutex }
     {
@@ -30,7 +30,7 @@ impl State {
     }
 
     /// The number of mutexes' places, as a mutex's number.
-    pub(crate) fn mutexes_end(&self) -> Result<u32, Stop>
+    fn mutexes_end(&self) -> Result<u32, Stop>
         ensures { IfOk result (λ n. n ≡ length self.now.mutexes) }
     {
         match u32::try_from(self.mutex_count()) {
@@ -82,7 +82,7 @@ impl State {
 
     /// The states once a thread has ended, for each order in which its robust mutexes pass on; none where the end is
     /// refused.
-    pub(crate) fn ended(&self, alloc: Global, thread: u32) -> Result<Vec<State>, Stop>
+    pub fn ended(&self, alloc: Global, thread: u32) -> Result<Vec<State>, Stop>
         ensures { IfOk result (λ v. v.items ≡ ended thread self.now) }
     {
         let mut all = Vec::new(alloc);

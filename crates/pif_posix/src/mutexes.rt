@@ -10,12 +10,13 @@ use pif_search::Stop;
 use pif_types::{Errno, Health, Kind, Request};
 
 /// How often a mutex may be held.
-pub(crate) const MOST_HOLDS: u32 = 255;
+pub const MOST_HOLDS: u32 = 255;
 
 /// What calls do to mutexes.
 impl State {
-    /// A thread takes a mutex.
-    pub(crate) fn take(&mut self, thread: u32, mutex: usize)
+    /// A thread takes a mutex, whoever owns it. Its call has the result 0 or EOWNERDEAD, or has to give the mutex up
+    /// again.
+    pub fn take(&mut self, thread: u32, mutex: usize)
         requires thread { thread < length self.old.threads }
         requires mutex { mutex < length self.old.mutexes }
         ensures { self.new ≡ taken thread mutex self.old }

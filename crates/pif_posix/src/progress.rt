@@ -75,7 +75,7 @@ impl Progress {
     }
 
     /// Whether the thread of a call that has come this far is blocked on a variable.
-    pub(crate) fn is_blocked(self) -> bool
+    pub fn is_blocked(self) -> bool
         ensures { result ≡ is_blocked (progress_of self) }
     {
         match self {

@@ -88,7 +88,7 @@ impl State {
     }
 
     /// Why a go is refused, if it is: the thread was never added, has ended, or has no call open.
-    pub(crate) fn go_refusal(&self, thread: u32) -> Option<Refusal>
+    pub fn go_refusal(&self, thread: u32) -> Option<Refusal>
         ensures { result ≡ refusal_of self.now (Go thread) }
     {
         if let Some(refusal) = self.end_refusal(thread) {

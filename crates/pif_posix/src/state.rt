@@ -255,7 +255,11 @@ impl State {
     }
 
     /// The number of a mutex that the state has.
-    pub(crate) fn place_of_mutex(&self, mutex: u32) -> Result<usize, Stop>
+    ///
+    /// # Errors
+    ///
+    /// The state has no such mutex.
+    pub fn place_of_mutex(&self, mutex: u32) -> Result<usize, Stop>
         ensures { IfOk result (λ n. (n ≡ mutex) × (n < length self.now.mutexes)) }
     {
         if (mutex as usize) < self.mutexes.len() {
@@ -266,7 +270,11 @@ impl State {
     }
 
     /// The number of a variable that the state has.
-    pub(crate) fn place_of_variable(&self, variable: u32) -> Result<usize, Stop>
+    ///
+    /// # Errors
+    ///
+    /// The state has no such variable.
+    pub fn place_of_variable(&self, variable: u32) -> Result<usize, Stop>
         ensures { IfOk result (λ n. (n ≡ variable) × (n < length self.now.variables)) }
     {
         if (variable as usize) < self.variables.len() {

@@ -1,7 +1,7 @@
 //! A step of each case leads to as many states as the table has, without its rule and with it.
 use crate::rules::cases::{Asked, CASES, Case};
 use crate::rules::scene::{Scene, no_rules, only};
-use pif_posix::Wide;
+use pif_posix_rules::Wide;
 use pif_rules_model::Rules;
 use pif_search::Stop;
 use std::alloc::Global;

@@ -1,8 +1,9 @@
 //! A state that is built by steps of the plain machine.
 use crate::rules::cases::Rule;
 use pif_model::{Entry, Event, Seen};
-use pif_posix::{State, Wide};
+use pif_posix::State;
 use pif_posix_model::HistoryLimits;
+use pif_posix_rules::Wide;
 use pif_rules_model::Rules;
 use pif_search::Stop;
 use pif_types::{CondId, Kind, MutexId, Prio, Request, Tid};

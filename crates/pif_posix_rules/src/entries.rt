@@ -1,0 +1,72 @@
+ghost use Rattle.std.specs.Prelude.{◌≡◌, All, Contains, IfOk};
+ghost use Rattle.pif_rules_model.specs.Rules.{Wide as Widened, WideEnters, end_of};
+ghost use Rattle.pif_rules_model.specs.Ruled.{widely_ended, widely_entered};
+
+use crate::health::ended_or_revived;
+use crate::lost::{all_beside, lost_by};
+use crate::wide::Wide;
+use pif_model::{Entry, Event, Seen};
+use pif_posix_model::HistoryLimits;
+use pif_rules_model::Rules;
+use pif_search::Stop;
+use std::alloc::Global;
+
+/// The thread whose end an entry is, if it is one.
+fn end_of(entry: &Entry) -> Option<u32>
+    ensures { result ≡ end_of entry.now }
+{
+    match *entry {
+        Entry::Step(Event::End(thread), Seen::Ended) => Some(thread.get()),
+        _ => None,
+    }
+}
+
+/// Where entries of a history lead, with rules.
+impl Wide {
+    /// A thread ends: all states to which that leads.
+    fn widely_ended(&self, alloc: Global, thread: u32, rules: &Rules) -> Result<Vec<Wide>, Stop>
+        ensures { IfOk result (λ v. v.items ≡ widely_ended rules.now thread self.now) }
+    {
+        let states = ended_or_revived(alloc, &self.state, rules.revives, thread)?;
+        let lost = lost_by(alloc, &self.state, thread, self.lost.as_slice())?;
+        let all = all_beside(alloc, states, lost.as_slice())?;
+        Ok(all)
+    }
+
+    /// One entry: all states to which it leads.
+    fn widely_entered(
+        &self,
+        alloc: Global,
+        limits: &HistoryLimits,
+        rules: &Rules,
+        entry: &Entry,
+    ) -> Result<Vec<Wide>, Stop>
+        ensures { IfOk result (λ v. v.items ≡ widely_entered rules.now limits.now self.now entry.now) }
+    {
+        match end_of(entry) {
+            None => {
+                let states = self.state.enter(alloc, limits, entry)?;
+                self.beside(alloc, states)
+            }
+            Some(thread) => self.widely_ended(alloc, thread, rules),
+        }
+    }
+
+    /// The states to which one entry of a history leads that a line shows. By the rule `revives`, the end of a thread may
+    /// revive a mutex that it is giving up. It is remembered if the thread is blocked on a variable. All other entries
+    /// lead where `State::enter` says. This state stays as it is.
+    pub fn enter(
+        &self,
+        alloc: Global,
+        limits: &HistoryLimits,
+        rules: &Rules,
+        entry: &Entry,
+    ) -> Result<Vec<Wide>, Stop>
+        ensures sound { IfOk result (λ vs. All (λ v. WideEnters rules.now limits.now self.now entry.now v) vs.items) }
+        ensures complete { IfOk result (λ vs. (v : Widened) → WideEnters rules.now limits.now self.now entry.now v → Contains vs.items v) }
+        ensures value { IfOk result (λ vs. vs.items ≡ widely_entered rules.now limits.now self.now entry.now) }
+    {
+        let all = self.widely_entered(alloc, limits, rules, entry)?;
+        Ok(all)
+    }
+}

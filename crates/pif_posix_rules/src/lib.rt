@@ -1,0 +1,14 @@
+//! The POSIX machine with rules, as a program: what implementations do otherwise, if rules allow it.
+#![tactic(auto)]
+
+mod entries;
+mod health;
+mod lists;
+mod locks;
+mod lost;
+mod moves;
+mod next;
+mod wakes;
+mod wide;
+
+pub use wide::Wide;
