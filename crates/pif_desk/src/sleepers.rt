@@ -1,5 +1,5 @@
 //! The threads whose clients sleep, and the bells that wake them.
-ghost use Rattle.std.specs.Prelude.{◌≡◌, ◌≤◌, ◌↔◌, filter, [], IfOk, IsSome, vec_len};
+ghost use Rattle.std.specs.Prelude.{◌≡◌, ◌≤◌, ◌↔◌, filter, [], IfOk, IsSome, vec_len, vec_capacity};
 ghost use Rattle.pif_model.specs.PiKernel.{is_among};
 ghost use Rattle.pif_desk.specs.Sleeping.{rests_in, with_sleeper};
 
@@ -18,15 +18,24 @@ pub(crate) struct Bells {
     bells: Vec<Condvar>,
 }
 
+/// Puts the bells of so many threads into a list that is empty, and has room for them.
+fn put_bells(bells: &mut Vec<Condvar>, threads: u32)
+    requires empty { vec_len bells.old ≡ 0 }
+    requires room { threads ≤ vec_capacity bells.old }
+    ensures { vec_len bells.new ≡ threads }
+{
+    for _thread in 0..threads {
+        push_within(bells, Condvar::new());
+    }
+}
+
 impl Bells {
     /// The bells of so many threads.
     pub(crate) fn new(alloc: Global, threads: u32) -> Result<Bells, NoMemory>
         ensures { IfOk result (λ b. vec_len b.bells ≡ threads) }
     {
         let mut bells = with_room(alloc, threads as usize)?;
-        for _thread in 0..threads {
-            push_within(&mut bells, Condvar::new());
-        }
+        put_bells(&mut bells, threads);
         Ok(Bells { bells })
     }
 

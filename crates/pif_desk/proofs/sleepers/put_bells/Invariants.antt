@@ -1,5 +1,5 @@
 use Rattle.std.proofs.Common.{◌≡◌, ◌≤◌, vec_len, vec_capacity}
-use Rattle.pif_desk.proofs.sleepers.Bells.new.Given as goal
+use Rattle.pif_desk.proofs.sleepers.put_bells.Given as goal
 
 abbrev pub invariant-loop-thread : goal.invariant-loop-thread
 invariant-loop-thread l = record {
