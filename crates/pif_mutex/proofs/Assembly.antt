@@ -1,5 +1,5 @@
 -- Parts that fit together fit together after each access and each kernel call.
-use Rattle.std.proofs.Common.{◌≡◌, ℕ, zero, suc, ◌+◌, ◌<◌, ◌==◌, [], ◌∷◌, arith, Bool, true, false, Result, Ok, Err, List, length, map, replicate, if◌then◌else◌, refl, sym, ap, ◌∙◌, subst, length-set}
+use Rattle.std.proofs.Common.{◌≡◌, ℕ, zero, suc, ◌+◌, ◌<◌, ◌≤◌, ◌==◌, [], ◌∷◌, arith, Bool, true, false, Result, Ok, Err, List, length, map, replicate, if◌then◌else◌, refl, sym, ap, ◌∙◌, subst, length-set}
 use Rattle.pif_types.specs.Bounds.{Bounds}
 use Rattle.pif_types.specs.declared.errors.Errno.{Errno}
 use Rattle.pif_model.specs.declared.lines.Took.{Took}
@@ -8,7 +8,7 @@ use Rattle.pif_model.specs.Word.{Word, Words, free_word, orphan_word, inherit_wo
 use Rattle.pif_model.specs.Word.{free_words as words_free}
 use Rattle.pif_model.specs.PiKernel.{Kernel, System, IsKernel, has_seat, seat_at, has_ended, is_living, state_at, next_in, words_after_lock, kernel_after_lock, words_after_try_lock, words_after_unlock, kernel_after_hand_over, kernel_after_unlock, kernel_after_set_prio, kernel_after_stop, kernel_after_expire, kernel_after_wait_requeue, after_requeue, kernel_after_leaving, after_death, after_deaths, after_exit}
 use Rattle.pif_model.specs.RobustList.{Robust, RobustRow, no_robust_row, with_robust, without_robust}
-use Rattle.pif_model.specs.Table.{Table, has_mutex, with_kernel, with_lists}
+use Rattle.pif_model.specs.Table.{Table, has_thread, has_mutex, with_kernel, with_lists}
 use Rattle.pif_model_lemmas.proofs.Numbers.{below}
 use Rattle.pif_model_lemmas.proofs.kernel.Requeued.{takings-words, takings-healths, takings-conds}
 use Rattle.pif_word.specs.WordMap.{words_of, free_words}
@@ -155,6 +155,12 @@ module _ {s : Table} (h : IsAssembled s) where
   pub added_has_word : (m : ℕ) → has_mutex s m ≡ true → m < length s.words.mutexes
   added_has_word m known =
       let low = below m (length s.mutexes) known in omega (arith, low, h.few_mutexes, h.words)
+
+  -- the number of a thread that was added is at most 1,024
+  pub added_is_few : (t : ℕ) → has_thread s t ≡ true → t ≤ 1024
+  added_is_few t known =
+      let low = below t (length s.kernel.seats) known in
+      omega (arith, low, h.kernel.shape.few, ap (λ (l : Bounds). l.threads) h.limits, h.within.threads)
 
   -- with other words, as many
   with_words_assembled : (ws : Words) → IsAsLong s.words ws → IsAssembled (record s { words = ws })

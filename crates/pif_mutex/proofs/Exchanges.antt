@@ -59,54 +59,57 @@ exchanged_table false s us ws e = ap (λ (v : Words). record s { words = v }) e
 
 -- THE LINES
 
--- the line of an exchange from a bare number n to the word x, which was done and wrote y
-exchanged_done : (done failed : Table → Outcome) (m n : ℕ) (x y : Word) (s v : Table) (b : Bool) → y ≡ x → b ≡ true
-    → b ≡ is_bare (cell_at s m).word n
-    → v ≡ (if b then with_word m y s else s)
-    → done v ≡ after_exchange (if is_bare (cell_at s m).word n then Some x else None) m done failed s
+-- the outcome o is that of the line of an exchange from a bare number n to the word x, which was done and wrote y
+exchanged_done : (done failed : Table → Outcome) (m n : ℕ) (x y : Word) (s v : Table) (b : Bool) (o : Outcome) → y ≡ x
+    → b ≡ true → b ≡ is_bare (cell_at s m).word n
+    → v ≡ (if b then with_word m y s else s) → o ≡ done v
+    → o ≡ after_exchange (if is_bare (cell_at s m).word n then Some x else None) m done failed s
 unfolding after_exchange
-exchanged_done done failed m n x y s v b is hit bare after =
-    ap done (after ∙ ap (λ (c : Bool). if c then with_word m y s else s) hit ∙ ap (λ (w : Word). with_word m w s) is)
+exchanged_done done failed m n x y s v b o is hit bare after ends =
+    ends
+    ∙ ap done (after ∙ ap (λ (c : Bool). if c then with_word m y s else s) hit ∙ ap (λ (w : Word). with_word m w s) is)
     ∙ ap (λ (c : Bool). after_exchange (if c then Some x else None) m done failed s) (sym hit ∙ bare)
 
 -- and which failed
-exchanged_failed : (done failed : Table → Outcome) (m n : ℕ) (x y : Word) (s v : Table) (b : Bool) → b ≡ false
-    → b ≡ is_bare (cell_at s m).word n
-    → v ≡ (if b then with_word m y s else s)
-    → failed v ≡ after_exchange (if is_bare (cell_at s m).word n then Some x else None) m done failed s
+exchanged_failed : (done failed : Table → Outcome) (m n : ℕ) (x y : Word) (s v : Table) (b : Bool) (o : Outcome)
+    → b ≡ false → b ≡ is_bare (cell_at s m).word n
+    → v ≡ (if b then with_word m y s else s) → o ≡ failed v
+    → o ≡ after_exchange (if is_bare (cell_at s m).word n then Some x else None) m done failed s
 unfolding after_exchange
-exchanged_failed done failed m n x y s v b miss bare after =
-    ap failed (after ∙ ap (λ (c : Bool). if c then with_word m y s else s) miss)
+exchanged_failed done failed m n x y s v b o miss bare after ends =
+    ends
+    ∙ ap failed (after ∙ ap (λ (c : Bool). if c then with_word m y s else s) miss)
     ∙ ap (λ (c : Bool). after_exchange (if c then Some x else None) m done failed s) (sym miss ∙ bare)
 
 -- lock and trylock, done
-pub own_exchange_done : (q : Request) (t m : ℕ) (x : Word) (s v : Table) (b : Bool) → x ≡ held_by t
+pub own_exchange_done : (q : Request) (t m : ℕ) (x : Word) (s v : Table) (b : Bool) (o : Outcome) → x ≡ held_by t
     → b ≡ true → b ≡ is_bare (cell_at s m).word 0
-    → v ≡ (if b then with_word m x s else s) → ends_by t q m (Take (LoadHealth false)) 0 v ≡ own_exchange q t m s
+    → v ≡ (if b then with_word m x s else s) → o ≡ ends_by t q m (Take (LoadHealth false)) 0 v
+    → o ≡ own_exchange q t m s
 unfolding own_exchange
-own_exchange_done q t m x s v b =
-    exchanged_done (ends_by t q m (Take (LoadHealth false)) 0) (goes_to t q CallKernel) m 0 (held_by t) x s v b
+own_exchange_done q t m x s v b o =
+    exchanged_done (ends_by t q m (Take (LoadHealth false)) 0) (goes_to t q CallKernel) m 0 (held_by t) x s v b o
 
 -- and failed
-pub own_exchange_failed : (q : Request) (t m : ℕ) (x : Word) (s v : Table) (b : Bool) → b ≡ false
+pub own_exchange_failed : (q : Request) (t m : ℕ) (x : Word) (s v : Table) (b : Bool) (o : Outcome) → b ≡ false
     → b ≡ is_bare (cell_at s m).word 0
-    → v ≡ (if b then with_word m x s else s) → goes_to t q CallKernel v ≡ own_exchange q t m s
+    → v ≡ (if b then with_word m x s else s) → o ≡ goes_to t q CallKernel v → o ≡ own_exchange q t m s
 unfolding own_exchange
-own_exchange_failed q t m x s v b =
-    exchanged_failed (ends_by t q m (Take (LoadHealth false)) 0) (goes_to t q CallKernel) m 0 (held_by t) x s v b
+own_exchange_failed q t m x s v b o =
+    exchanged_failed (ends_by t q m (Take (LoadHealth false)) 0) (goes_to t q CallKernel) m 0 (held_by t) x s v b o
 
 -- giving up, done
-pub give_exchange_done : (q : Request) (y : Purpose) (t m : ℕ) (x : Word) (s v : Table) (b : Bool) → x ≡ free_word
-    → b ≡ true → b ≡ is_bare (cell_at s m).word t
-    → v ≡ (if b then with_word m x s else s) → given_up q y t m v ≡ give_exchange q y t m s
+pub give_exchange_done : (q : Request) (y : Purpose) (t m : ℕ) (x : Word) (s v : Table) (b : Bool) (o : Outcome)
+    → x ≡ free_word → b ≡ true → b ≡ is_bare (cell_at s m).word t
+    → v ≡ (if b then with_word m x s else s) → o ≡ given_up q y t m v → o ≡ give_exchange q y t m s
 unfolding give_exchange
-give_exchange_done q y t m x s v b =
-    exchanged_done (given_up q y t m) (goes_to t q (Give CallUnlock y)) m t free_word x s v b
+give_exchange_done q y t m x s v b o =
+    exchanged_done (given_up q y t m) (goes_to t q (Give CallUnlock y)) m t free_word x s v b o
 
 -- and failed
-pub give_exchange_failed : (q : Request) (y : Purpose) (t m : ℕ) (x : Word) (s v : Table) (b : Bool) → b ≡ false
-    → b ≡ is_bare (cell_at s m).word t
-    → v ≡ (if b then with_word m x s else s) → goes_to t q (Give CallUnlock y) v ≡ give_exchange q y t m s
+pub give_exchange_failed : (q : Request) (y : Purpose) (t m : ℕ) (x : Word) (s v : Table) (b : Bool) (o : Outcome)
+    → b ≡ false → b ≡ is_bare (cell_at s m).word t
+    → v ≡ (if b then with_word m x s else s) → o ≡ goes_to t q (Give CallUnlock y) v → o ≡ give_exchange q y t m s
 unfolding give_exchange
-give_exchange_failed q y t m x s v b =
-    exchanged_failed (given_up q y t m) (goes_to t q (Give CallUnlock y)) m t free_word x s v b
+give_exchange_failed q y t m x s v b o =
+    exchanged_failed (given_up q y t m) (goes_to t q (Give CallUnlock y)) m t free_word x s v b o

@@ -1,4 +1,4 @@
-ghost use Rattle.std.specs.Prelude.{◌≡◌, ◌<◌, ◌≤◌, ◌+◌, ◌^◌, ◌==◌, true, false, IfOk, Ok, Err, length, if◌then◌else◌, Some, None};
+ghost use Rattle.std.specs.Prelude.{◌≡◌, ◌<◌, ◌≤◌, ◌+◌, ◌^◌, ◌==◌, true, false, [], ◌∷◌, IfOk, Ok, Err, length, vec_capacity, if◌then◌else◌, Some, None};
 ghost use Rattle.pif_types.specs.Bounds.{IsWithin};
 ghost use Rattle.pif_model.specs.Word.{word_of, is_bare};
 ghost use Rattle.pif_model.specs.PiKernel.{IsKernel, new_kernel, seat_at, is_living, effective_in, pick_in};
@@ -29,6 +29,17 @@ pub(crate) const INCONSISTENT: u32 = 1;
 
 /// The health word of a robust mutex that is unusable.
 pub(crate) const UNUSABLE: u32 = 2;
+
+/// A list with room for `count` items, at least 1, which begins with this one.
+fn begun_with<T: Drop>(alloc: Global, count: usize, first: T) -> Result<Vec<T>, NoMemory>
+    requires { 1 ≤ count }
+    ensures items { IfOk result (λ v. v.items ≡ first ∷ []) }
+    ensures room { IfOk result (λ v. count ≤ vec_capacity v) }
+{
+    let mut items = with_room(alloc, count)?;
+    push_within(&mut items, first);
+    Ok(items)
+}
 
 /// What an event changes between two of its accesses: the words, the kernel and the robust lists. It has each thread's
 /// line and timer, what the library knows of mutexes and of condition variables, and the time.
@@ -75,12 +86,10 @@ impl<K: PiKernel + Drop> State<K> {
     {
         let words = Words::new(alloc, limits)?;
         let lists = RobustLists::new(alloc, limits)?;
-        let mut lines = with_room(alloc, limits.threads() as usize + 1)?;
-        push_within(&mut lines, Line::Idle);
-        let mut timers = with_room(alloc, limits.threads() as usize + 1)?;
-        push_within(&mut timers, NO_TIMER);
-        let mut mutexes = with_room(alloc, limits.mutexes() as usize + 1)?;
-        push_within(&mut mutexes, Mutex::new(Kind::Normal, false));
+        let lines = begun_with(alloc, limits.threads() as usize + 1, Line::Idle)?;
+        let timers = begun_with(alloc, limits.threads() as usize + 1, NO_TIMER)?;
+        let nobody = Mutex::new(Kind::Normal, false);
+        let mutexes = begun_with(alloc, limits.mutexes() as usize + 1, nobody)?;
         let conds = with_room(alloc, limits.conds() as usize)?;
         Ok(State {
             limits,

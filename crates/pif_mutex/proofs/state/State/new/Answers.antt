@@ -6,16 +6,13 @@ use Rattle.pif_mutex.proofs.state.State.new.Goals as goal
 pub returns : goal.returns
 returns g c =
     rw (
-      c.push_within.ensures.items,
-      c.push_within-2.ensures.items,
-      c.push_within-3.ensures.items,
       c.in_ok-words.ensures.made,
       c.in_ok-lists.ensures.made,
       c.in_ok-lines.ensures.items,
       c.in_ok-timers.ensures.items,
       c.in_ok-mutexes.ensures.items,
       c.in_ok-conds.ensures.items,
-      c.new-3.ensures,
+      c.new-nobody.ensures,
       c.requires.new,
       words_free_at_first
           c.args.limits,

@@ -10,14 +10,12 @@ returns-then-exchange g c =
     let held : word_of c.number_of-number.result ≡ held_by c.args.t =
     word_of-number c.number_of-number.result c.number_of-number.ensures.bare
     ∙ ap held_by c.number_of-number.ensures.value in
-    c.end_by.ensures
-    ∙ own_exchange_done c.args.request c.args.t c.args.m (word_of c.number_of-number.result)
-    c.args.self.now c.exchange.new.self c.exchange.result held
-    c.if-exchange.true c.exchange.ensures.value c.exchange.ensures.after
+    own_exchange_done c.args.request c.args.t c.args.m (word_of c.number_of-number.result)
+    c.args.self.now c.exchange.new.self c.exchange.result _ held
+    c.if-exchange.true c.exchange.ensures.value c.exchange.ensures.after c.end_by.ensures
 
 pub returns-else-exchange : goal.returns-else-exchange
 returns-else-exchange g c =
-    c.go_on.ensures
-    ∙ own_exchange_failed c.args.request c.args.t c.args.m (word_of c.number_of-number.result)
-    c.args.self.now c.exchange.new.self c.exchange.result
-    c.if-exchange.false c.exchange.ensures.value c.exchange.ensures.after
+    own_exchange_failed c.args.request c.args.t c.args.m (word_of c.number_of-number.result)
+    c.args.self.now c.exchange.new.self c.exchange.result _
+    c.if-exchange.false c.exchange.ensures.value c.exchange.ensures.after c.go_on.ensures
