@@ -76,13 +76,17 @@ off_by_test q t u found b holds is tested none queued =
 -- another wait of one thread
 module _ (v waited : Owners) (q : Queue) (t : NodeLists) (u : ℕ) (w : Option Wait) (settled : IsSettled v q t)
     (e : waited ≡ with_wait u w v) where
-  -- who is on the run queue was admitted
-  pub still_ready : (x : ℕ) → IsQueued q t x → 1 ≤ base_of waited x
-  still_ready x queued =
+  -- who was admitted still is
+  pub still_admitted : (x : ℕ) → 1 ≤ base_of v x → 1 ≤ base_of waited x
+  still_admitted x one =
       let same : base_of waited x ≡ base_of v x =
       ap (λ (y : Owners). base_of y x) e ∙ kept_at (λ (s : Task). s.base) v.seats u
       (record (task_at v u) { wait = w }) no_task refl x in
-      omega (arith, same, settled.ready x queued)
+      omega (arith, same, one)
+
+  -- and so is who is on the run queue
+  pub still_ready : (x : ℕ) → IsQueued q t x → 1 ≤ base_of waited x
+  still_ready x queued = still_admitted x (settled.ready x queued)
 
   -- and is on the level of its effective priority
   pub still_level : (x p : ℕ) → IsLevel p → has x (level_of q t p) ≡ true → p ≡ local_of waited x

@@ -1,10 +1,7 @@
 //! Waits, signals and broadcasts.
-use super::driver::{Ask, Reply, Wish, new_parts, play};
-use pif_kernel::{Chains, PiKernel};
-use pif_kernel_linked::LinkedChains;
-use pif_mutex::{Parts, Progress};
-use pif_plain::PlainChains;
-use pif_types::{CondId, Kind, Limits, MutexId, Request, Tid};
+use super::driver::{Ask, Reply, Wish, play};
+use pif_mutex::Progress;
+use pif_types::{Kind, Limits};
 use std::alloc::Global;
 use std::process::Abort;
 use std::test::Fail;
@@ -16,7 +13,7 @@ fn try_all<R: Abort>(rt: &R, alloc: Global, tables: &[&[(Ask, Reply)]]) -> Resul
 }
 
 /// Two mutexes, a variable that is bound to mutex 1, and two threads of priorities 10 and 20.
-const TWO: [(Ask, Reply); 5] = [
+static TWO: [(Ask, Reply); 5] = [
     (Ask::AddMutex(Kind::Normal, false), Reply::Added(1)),
     (Ask::AddMutex(Kind::Normal, false), Reply::Added(2)),
     (Ask::AddCond(1), Reply::Added(1)),
@@ -24,7 +21,7 @@ const TWO: [(Ask, Reply); 5] = [
     (Ask::AddThread(20), Reply::Added(2)),
 ];
 
-const HANDED: [(Ask, Reply); 10] = [
+static HANDED: [(Ask, Reply); 10] = [
     (
         Ask::Call(1, Wish::Lock(1)),
         Reply::Ended(2, Progress::Done(0)),
@@ -54,7 +51,7 @@ fn signal_hands_the_mutex_to_one_that_waits(rt: HostRuntime) -> Result<(), Fail>
     try_all(&rt, rt.alloc(), &[&TWO, &HANDED])
 }
 
-const NOT_LOST: [(Ask, Reply); 9] = [
+static NOT_LOST: [(Ask, Reply); 9] = [
     (
         Ask::Call(1, Wish::Lock(1)),
         Reply::Ended(2, Progress::Done(0)),
@@ -77,7 +74,7 @@ fn signal_before_the_park_is_not_lost(rt: HostRuntime) -> Result<(), Fail> {
     try_all(&rt, rt.alloc(), &[&TWO, &NOT_LOST])
 }
 
-const ROBUST: [(Ask, Reply); 10] = [
+static ROBUST: [(Ask, Reply); 10] = [
     (Ask::AddMutex(Kind::Normal, true), Reply::Added(1)),
     (Ask::AddCond(1), Reply::Added(1)),
     (Ask::AddThread(10), Reply::Added(1)),
@@ -104,7 +101,7 @@ fn wait_takes_a_robust_mutex_over_again(rt: HostRuntime) -> Result<(), Fail> {
     try_all(&rt, rt.alloc(), &[&ROBUST])
 }
 
-const ERRORS_ADDED: [(Ask, Reply); 5] = [
+static ERRORS_ADDED: [(Ask, Reply); 5] = [
     (Ask::AddMutex(Kind::Recursive, false), Reply::Added(1)),
     (Ask::AddMutex(Kind::Normal, false), Reply::Added(2)),
     (Ask::AddCond(1), Reply::Added(1)),
@@ -112,7 +109,7 @@ const ERRORS_ADDED: [(Ask, Reply); 5] = [
     (Ask::AddThread(20), Reply::Added(2)),
 ];
 
-const ERRORS: [(Ask, Reply); 12] = [
+static ERRORS: [(Ask, Reply); 12] = [
     (
         Ask::Call(1, Wish::Wait(1, 2)),
         Reply::Ended(1, Progress::Done(22)),
@@ -160,7 +157,7 @@ fn wait_and_signal_name_their_errors(rt: HostRuntime) -> Result<(), Fail> {
 }
 
 /// Thread 1 has priority 5, and threads 2, 3 and 4 have 10, 30 and 20 and wait on the variable.
-const THREE_WAIT: [(Ask, Reply); 12] = [
+static THREE_WAIT: [(Ask, Reply); 12] = [
     (Ask::AddMutex(Kind::Normal, false), Reply::Added(1)),
     (Ask::AddCond(1), Reply::Added(1)),
     (Ask::AddThread(5), Reply::Added(1)),
@@ -193,7 +190,7 @@ const THREE_WAIT: [(Ask, Reply); 12] = [
     ),
 ];
 
-const WOKEN: [(Ask, Reply); 9] = [
+static WOKEN: [(Ask, Reply); 9] = [
     (Ask::Parked(1, 0), Reply::Thread(3)),
     (Ask::Parked(1, 1), Reply::Thread(4)),
     (Ask::Parked(1, 2), Reply::Thread(2)),
@@ -211,7 +208,7 @@ const WOKEN: [(Ask, Reply); 9] = [
     (Ask::Parked(1, 0), Reply::Nobody),
 ];
 
-const HANDED_ON: [(Ask, Reply); 12] = [
+static HANDED_ON: [(Ask, Reply); 12] = [
     (
         Ask::Call(1, Wish::Unlock(1)),
         Reply::Ended(3, Progress::Done(0)),
@@ -243,7 +240,7 @@ fn broadcast_wakes_by_priority(rt: HostRuntime) -> Result<(), Fail> {
     try_all(&rt, rt.alloc(), &[&THREE_WAIT, &WOKEN, &HANDED_ON])
 }
 
-const GREATEST: [(Ask, Reply); 13] = [
+static GREATEST: [(Ask, Reply); 13] = [
     (Ask::AddMutex(Kind::Normal, false), Reply::Added(1)),
     (Ask::AddCond(1), Reply::Added(1)),
     (Ask::AddThread(10), Reply::Added(1)),
@@ -280,7 +277,7 @@ fn signal_takes_greatest_priority(rt: HostRuntime) -> Result<(), Fail> {
 }
 
 /// Thread 2 is parked as the owner of mutex 2: who locks that boosts it, and so it goes before thread 3.
-const REKEYED_ADDED: [(Ask, Reply); 7] = [
+static REKEYED_ADDED: [(Ask, Reply); 7] = [
     (Ask::AddMutex(Kind::Normal, false), Reply::Added(1)),
     (Ask::AddMutex(Kind::Normal, false), Reply::Added(2)),
     (Ask::AddCond(1), Reply::Added(1)),
@@ -290,7 +287,7 @@ const REKEYED_ADDED: [(Ask, Reply); 7] = [
     (Ask::AddThread(40), Reply::Added(4)),
 ];
 
-const REKEYED: [(Ask, Reply); 12] = [
+static REKEYED: [(Ask, Reply); 12] = [
     (
         Ask::Call(2, Wish::Lock(2)),
         Reply::Ended(2, Progress::Done(0)),
@@ -332,14 +329,14 @@ fn parked_thread_is_rekeyed(rt: HostRuntime) -> Result<(), Fail> {
 }
 
 /// Mutexes 1 and 65 share a bucket of the kernel on linked lists.
-const FOUR_THREADS: [(Ask, Reply); 4] = [
+static FOUR_THREADS: [(Ask, Reply); 4] = [
     (Ask::AddThread(10), Reply::Added(1)),
     (Ask::AddThread(20), Reply::Added(2)),
     (Ask::AddThread(10), Reply::Added(3)),
     (Ask::AddThread(20), Reply::Added(4)),
 ];
 
-const TWO_HELD: [(Ask, Reply); 9] = [
+static TWO_HELD: [(Ask, Reply); 9] = [
     (
         Ask::Call(1, Wish::Lock(1)),
         Reply::Ended(2, Progress::Done(0)),
@@ -386,40 +383,14 @@ fn two_mutexes_of_one_bucket(rt: HostRuntime) -> Result<(), Fail> {
 
 /// What the parts say beside the answers of calls: the limits, how many of each were added, and the open call of a
 /// thread.
+static TOLD: [(Ask, Reply); 4] = [
+    (Ask::Limits(4, 2, 1, 3), Reply::Done),
+    (Ask::Counts(2, 2, 1), Reply::Done),
+    (Ask::Begin(1, Wish::Wait(1, 1)), Reply::Done),
+    (Ask::IsOpen(1, Wish::Wait(1, 1)), Reply::Done),
+];
+
 #[test]
 fn parts_tell_counts_and_open_calls(rt: HostRuntime) -> Result<(), Fail> {
-    tell_on::<PlainChains, HostRuntime>(&rt, rt.alloc())?;
-    tell_on::<LinkedChains, HostRuntime>(&rt, rt.alloc())
-}
-
-fn tell_on<C: Chains + Drop, R: Abort>(rt: &R, alloc: Global) -> Result<(), Fail> {
-    let limits = Limits::new(4, 2, 1, 3).ok_or("limits")?;
-    let mut parts = new_parts::<C>(alloc, limits, 1)?;
-    super::driver::check(rt, &mut parts, &TWO);
-    tell(rt, &mut parts)
-}
-
-fn tell<K: PiKernel + Drop>(rt: &impl Abort, parts: &mut Parts<K>) -> Result<(), Fail> {
-    let t1 = Tid::new(1).ok_or("a thread")?;
-    let wait = Request::Wait(
-        CondId::new(1).ok_or("a variable")?,
-        MutexId::new(1).ok_or("a mutex")?,
-    );
-    assert_eq!(rt; Some(parts.limits()), Limits::new(4, 2, 1, 3));
-    assert_eq!(rt;
-        (parts.threads(), parts.mutexes(), parts.conds()),
-        (2, 2, 1)
-    );
-    super::driver::check(rt, parts, &[(Ask::Begin(1, Wish::Wait(1, 1)), Reply::Done)]);
-    assert_eq!(rt; open_call(parts, t1), Some(wait));
-    Ok(())
-}
-
-/// The open call of a thread. `None` where it has none, or was not added.
-fn open_call<K: PiKernel + Drop>(parts: &Parts<K>, t: Tid) -> Option<Request> {
-    if t.get() <= parts.threads() {
-        parts.open_call(t)
-    } else {
-        None
-    }
+    try_all(&rt, rt.alloc(), &[&TWO, &TOLD])
 }

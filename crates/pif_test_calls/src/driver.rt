@@ -5,7 +5,7 @@ ghost use Rattle.pif_model.specs.Table.{has_thread, has_mutex, has_cond, line_at
 ghost use Rattle.pif_model.specs.Lines.{is_open};
 ghost use Rattle.pif_model.specs.Posix.{names_known};
 
-use pif_kernel::{Chains, KernelOn, PiKernel, Status};
+use pif_kernel::{Chains, KernelOn, PiKernel, Status, Woken};
 use pif_kernel_linked::LinkedChains;
 use pif_model::Line;
 use pif_mutex::{Parts, Progress};
@@ -41,6 +41,10 @@ pub enum Ask {
     Parked(u32, u32),
     Ready(u32),
     Pick,
+    // Whether the limits are these, so many of each were added, and the open call of a thread is this one.
+    Limits(u32, u32, u32, u32),
+    Counts(u32, u32, u32),
+    IsOpen(u32, Wish),
 }
 
 /// The request of a call, by numbers.
@@ -74,9 +78,12 @@ pub enum Reply {
     Ended(u32, Progress),
     Bits(u32),
     Is(Health),
-    Has(Status),
+    // What a thread does.
+    Ready(Woken),
     QueuedOn(u32),
     ParkedOn(u32),
+    Stopped,
+    HasEnded,
     Prio(u32),
     Thread(u32),
     Nobody,
@@ -236,11 +243,37 @@ fn status<K: PiKernel + Drop>(parts: &Parts<K>, t: Tid) -> Option<Reply> {
     if t.get() > parts.threads() {
         return None;
     }
-    Some(match parts.status(t) {
+    Some(doing(parts.status(t)))
+}
+
+/// Whether so many threads, mutexes and variables were added.
+fn has_counts<K: PiKernel + Drop>(
+    parts: &Parts<K>,
+    threads: u32,
+    mutexes: u32,
+    conds: u32,
+) -> bool {
+    parts.threads() == threads && parts.mutexes() == mutexes && parts.conds() == conds
+}
+
+/// Whether a thread, if it was added, has this call open.
+fn has_open<K: PiKernel + Drop>(parts: &Parts<K>, t: Tid, request: Request) -> bool {
+    t.get() <= parts.threads() && parts.open_call(t) == Some(request)
+}
+
+/// What is answered where this holds.
+fn done(holds: bool) -> Option<Reply> {
+    if holds { Some(Reply::Done) } else { None }
+}
+
+pub fn doing(status: Status) -> Reply {
+    match status {
+        Status::Ready(woken) => Reply::Ready(woken),
         Status::Queued(m) => Reply::QueuedOn(m.get()),
         Status::Parked(c) => Reply::ParkedOn(c.get()),
-        other => Reply::Has(other),
-    })
+        Status::Stopped => Reply::Stopped,
+        Status::Ended => Reply::HasEnded,
+    }
 }
 
 pub fn who(read: Option<Tid>) -> Reply {
@@ -304,6 +337,11 @@ fn read<K: PiKernel + Drop>(parts: &Parts<K>, ask: Ask) -> Option<Reply> {
         Ask::Parked(c, place) => who(parts.parked(CondId::new(c)?, place)),
         Ask::Ready(place) => who(parts.ready(place)),
         Ask::Pick => who(parts.pick()),
+        Ask::Limits(threads, mutexes, conds, uses) => {
+            done(Some(parts.limits()) == Limits::new(threads, mutexes, conds, uses))?
+        }
+        Ask::Counts(threads, mutexes, conds) => done(has_counts(parts, threads, mutexes, conds))?,
+        Ask::IsOpen(t, wish) => done(has_open(parts, Tid::new(t)?, request(wish)?))?,
         _ => return None,
     })
 }
@@ -314,7 +352,7 @@ pub fn see(rt: &impl Abort, read: Option<Reply>, reply: Option<Reply>, place: u3
 }
 
 /// Asks all this in turn, and sees that each answer is the one beside it.
-pub fn check<K: PiKernel + Drop>(rt: &impl Abort, parts: &mut Parts<K>, steps: &[(Ask, Reply)]) {
+fn check<K: PiKernel + Drop>(rt: &impl Abort, parts: &mut Parts<K>, steps: &[(Ask, Reply)]) {
     let mut place = 0_u32;
     for (ask, reply) in steps {
         see(rt, answer(parts, *ask), Some(*reply), place);
@@ -322,7 +360,18 @@ pub fn check<K: PiKernel + Drop>(rt: &impl Abort, parts: &mut Parts<K>, steps: &
     }
 }
 
-/// The same with what stands in these tables, of new parts under these limits, with either kernel.
+/// The same with what stands in these tables.
+fn check_all<K: PiKernel + Drop>(
+    rt: &impl Abort,
+    parts: &mut Parts<K>,
+    tables: &[&[(Ask, Reply)]],
+) {
+    for steps in tables {
+        check(rt, parts, steps);
+    }
+}
+
+/// The same of new parts under these limits, with either kernel.
 pub fn play<R: Abort>(
     rt: &R,
     alloc: Global,
@@ -340,8 +389,6 @@ fn play_on<C: Chains + Drop, R: Abort>(
     tables: &[&[(Ask, Reply)]],
 ) -> Result<(), Fail> {
     let mut parts = new_parts::<C>(alloc, limits, 1)?;
-    for steps in tables {
-        check(rt, &mut parts, steps);
-    }
+    check_all(rt, &mut parts, tables);
     Ok(())
 }

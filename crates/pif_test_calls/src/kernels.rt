@@ -9,7 +9,7 @@ ghost use Rattle.pif_model.specs.PiKernel.{has_seat, is_living, is_ready, seat_a
 ghost use Rattle.pif_model.specs.RobustList.{robust_at};
 ghost use Rattle.pif_kernel_model.specs.Inside.{kernel_of};
 
-use super::driver::{Reply, level, see, who};
+use super::driver::{Reply, doing, level, see, who};
 use pif_kernel::{Chains, KernelOn, PiKernel, Status, Took, Woken};
 use pif_kernel_linked::LinkedChains;
 use pif_plain::PlainChains;
@@ -61,15 +61,15 @@ enum Ask {
 }
 
 impl<C: Chains + Drop> Scene<C> {
-    // A thread of each of these priorities, this first ticket, so many mutexes, and two variables; all words are 0.
+    // A thread of each of these priorities and room for one more, this first ticket, so many mutexes, and two variables;
+    // all words are 0.
     fn new(alloc: Global, levels: &[u32], mutexes: u32, first_ticket: u64) -> Result<Scene<C>, Fail>
         requires threads { length levels.now ≤ 1024 }
         requires ticket { 1 ≤ first_ticket }
     {
-        let limits = Limits::new(levels.len() as u32, mutexes, 2, 1).ok_or("limits")?;
+        let limits = Limits::new(levels.len() as u32 + 1, mutexes, 2, 1).ok_or("limits")?;
         let words = Words::new(alloc, limits)?;
-        let mut kernel: KernelOn<C> = KernelOn::new(alloc, limits, first_ticket)?;
-        add_all(&mut kernel, levels)?;
+        let kernel: KernelOn<C> = kernel_with(alloc, limits, levels, first_ticket)?;
         Ok(Scene {
             kernel,
             words,
@@ -187,11 +187,7 @@ impl<C: Chains + Drop> Scene<C> {
 
     fn status(&self, t: Tid) -> Option<Reply> {
         see_living(&self.kernel, t)?;
-        Some(match self.kernel.status(t) {
-            Status::Queued(m) => Reply::QueuedOn(m.get()),
-            Status::Parked(c) => Reply::ParkedOn(c.get()),
-            other => Reply::Has(other),
-        })
+        Some(doing(self.kernel.status(t)))
     }
 
     fn base(&self, t: Tid) -> Option<Reply> {
@@ -253,6 +249,21 @@ fn done(answer: Result<(), Errno>) -> Reply {
     }
 }
 
+// A new kernel under these limits, with a thread of each of these priorities and this first ticket.
+fn kernel_with<C: Chains + Drop>(
+    alloc: Global,
+    limits: Limits,
+    levels: &[u32],
+    first_ticket: u64,
+) -> Result<KernelOn<C>, Fail>
+    requires threads { length levels.now ≤ limits.threads }
+    requires ticket { 1 ≤ first_ticket }
+{
+    let mut kernel: KernelOn<C> = KernelOn::new(alloc, limits, first_ticket)?;
+    add_all(&mut kernel, levels)?;
+    Ok(kernel)
+}
+
 // Adds a thread of each of these priorities, for whom there is room.
 fn add_all<C: Chains + Drop>(kernel: &mut KernelOn<C>, levels: &[u32]) -> Result<(), Fail>
     requires { length (kernel_of kernel.old).seats + length levels.now ≤ (kernel_of kernel.old).limits.threads + 1 }
@@ -306,7 +317,14 @@ fn check<C: Chains + Drop>(rt: &impl Abort, scene: &mut Scene<C>, steps: &[(Ask,
     }
 }
 
-// The same with what stands in these tables, of a new scene of such threads and so many mutexes, on either kernel.
+// The same with what stands in these tables.
+fn check_all<C: Chains + Drop>(rt: &impl Abort, scene: &mut Scene<C>, tables: &[&[(Ask, Reply)]]) {
+    for steps in tables {
+        check(rt, scene, steps);
+    }
+}
+
+// The same of a new scene of such threads and so many mutexes, on either kernel.
 fn play<R: Abort>(
     rt: &R,
     alloc: Global,
@@ -316,8 +334,23 @@ fn play<R: Abort>(
 ) -> Result<(), Fail>
     requires { length levels.now ≤ 1024 }
 {
-    play_on::<PlainChains, R>(rt, alloc, levels, mutexes, 1, tables)?;
-    play_on::<LinkedChains, R>(rt, alloc, levels, mutexes, 1, tables)
+    play_from(rt, alloc, levels, mutexes, 1, tables)
+}
+
+// The same with this first ticket.
+fn play_from<R: Abort>(
+    rt: &R,
+    alloc: Global,
+    levels: &[u32],
+    mutexes: u32,
+    first_ticket: u64,
+    tables: &[&[(Ask, Reply)]],
+) -> Result<(), Fail>
+    requires threads { length levels.now ≤ 1024 }
+    requires ticket { 1 ≤ first_ticket }
+{
+    play_on::<PlainChains, R>(rt, alloc, levels, mutexes, first_ticket, tables)?;
+    play_on::<LinkedChains, R>(rt, alloc, levels, mutexes, first_ticket, tables)
 }
 
 fn play_on<C: Chains + Drop, R: Abort>(
@@ -332,30 +365,21 @@ fn play_on<C: Chains + Drop, R: Abort>(
     requires ticket { 1 ≤ first_ticket }
 {
     let mut scene: Scene<C> = Scene::new(alloc, levels, mutexes, first_ticket)?;
-    for steps in tables {
-        check(rt, &mut scene, steps);
-    }
+    check_all(rt, &mut scene, tables);
     Ok(())
 }
 
-// In a new kernel on chains of some form nobody runs.
-fn pick_of_nobody<C: Chains + Drop, R: Abort>(rt: &R, alloc: Global) -> Result<(), Fail> {
-    let limits = Limits::new(4, 1, 0, 1).ok_or("limits")?;
-    let kernel: KernelOn<C> = KernelOn::new(alloc, limits, 1)?;
-    see(rt, Some(who(kernel.pick())), Some(Reply::Nobody), 0);
-    Ok(())
-}
+static NOBODY_RUNS: [(Ask, Reply); 1] = [(Ask::Pick, Reply::Nobody)];
 
 #[test]
 fn nobody_runs_in_a_new_kernel(rt: HostRuntime) -> Result<(), Fail> {
-    pick_of_nobody::<PlainChains, HostRuntime>(&rt, rt.alloc())?;
-    pick_of_nobody::<LinkedChains, HostRuntime>(&rt, rt.alloc())
+    play(&rt, rt.alloc(), &[], 1, &[&NOBODY_RUNS])
 }
 
-const FREE_MUTEX: [(Ask, Reply); 5] = [
+static FREE_MUTEX: [(Ask, Reply); 5] = [
     (Ask::Pick, Reply::Thread(1)),
     (Ask::Effective(1), Reply::Prio(10)),
-    (Ask::Status(1), Reply::Has(Status::Ready(Woken::Fresh))),
+    (Ask::Status(1), Reply::Ready(Woken::Fresh)),
     (Ask::Lock(1, 1), Reply::Owns),
     (Ask::Word(1), Reply::Bits(1)),
 ];
@@ -365,10 +389,10 @@ fn a_thread_takes_a_free_mutex(rt: HostRuntime) -> Result<(), Fail> {
     play(&rt, rt.alloc(), &[10], 1, &[&FREE_MUTEX])
 }
 
-const STOPS: [(Ask, Reply); 3] = [
+static STOPS: [(Ask, Reply); 3] = [
     (Ask::Stop(1), Reply::Done),
     (Ask::Pick, Reply::Nobody),
-    (Ask::Status(1), Reply::Has(Status::Stopped)),
+    (Ask::Status(1), Reply::Stopped),
 ];
 
 #[test]
@@ -377,7 +401,7 @@ fn a_thread_that_stops_is_not_picked(rt: HostRuntime) -> Result<(), Fail> {
 }
 
 // lock_pi by thread 1 of three, on words that no thread wrote.
-const STORED_WORDS: [(Ask, Reply); 19] = [
+static STORED_WORDS: [(Ask, Reply); 19] = [
     (Ask::Lock(1, 2), Reply::Refused(Errno::Fault)),
     (Ask::Store(1, 0x0000_0001), Reply::Done),
     (Ask::Lock(1, 1), Reply::Refused(Errno::Deadlock)),
@@ -406,7 +430,7 @@ fn kernel_on_stored_words(rt: HostRuntime) -> Result<(), Fail> {
 }
 
 // trylock_pi and unlock_pi by thread 1 of three, on words that no thread wrote.
-const ANY_WORDS: [(Ask, Reply); 24] = [
+static ANY_WORDS: [(Ask, Reply); 24] = [
     (Ask::TryLock(1, 2), Reply::Refused(Errno::Fault)),
     (Ask::Store(1, 0x0000_0001), Reply::Done),
     (Ask::TryLock(1, 1), Reply::Refused(Errno::Deadlock)),
@@ -440,14 +464,14 @@ fn kernel_refusals_on_any_words(rt: HostRuntime) -> Result<(), Fail> {
 }
 
 // Thread 1 holds mutex 1, thread 2 holds mutex 2 and waits for mutex 1, and thread 3 waits for mutex 2.
-const CHAIN: [(Ask, Reply); 4] = [
+static CHAIN: [(Ask, Reply); 4] = [
     (Ask::Lock(1, 1), Reply::Owns),
     (Ask::Lock(2, 2), Reply::Owns),
     (Ask::Lock(2, 1), Reply::Queued),
     (Ask::Lock(3, 2), Reply::Queued),
 ];
 
-const BOOSTED: [(Ask, Reply); 5] = [
+static BOOSTED: [(Ask, Reply); 5] = [
     (Ask::Effective(1), Reply::Prio(99)),
     (Ask::Effective(2), Reply::Prio(99)),
     (Ask::Status(3), Reply::QueuedOn(2)),
@@ -460,7 +484,7 @@ fn boosts_go_through_a_chain(rt: HostRuntime) -> Result<(), Fail> {
     play(&rt, rt.alloc(), &[1, 2, 99], 2, &[&CHAIN, &BOOSTED])
 }
 
-const PATHS: [(Ask, Reply); 8] = [
+static PATHS: [(Ask, Reply); 8] = [
     (Ask::Path(3, 0), Reply::Thread(3)),
     (Ask::Path(3, 1), Reply::Thread(2)),
     (Ask::Path(3, 2), Reply::Thread(1)),
@@ -476,10 +500,10 @@ fn paths_go_up_a_chain(rt: HostRuntime) -> Result<(), Fail> {
     play(&rt, rt.alloc(), &[1, 2, 99], 2, &[&CHAIN, &PATHS])
 }
 
-const UNLOCKED: [(Ask, Reply); 4] = [
+static UNLOCKED: [(Ask, Reply); 4] = [
     (Ask::Unlock(1, 1), Reply::Done),
     (Ask::Effective(1), Reply::Prio(1)),
-    (Ask::Status(2), Reply::Has(Status::Ready(Woken::Owns))),
+    (Ask::Status(2), Reply::Ready(Woken::Owns)),
     (Ask::Pick, Reply::Thread(2)),
 ];
 
@@ -488,7 +512,7 @@ fn who_unlocks_loses_the_boost(rt: HostRuntime) -> Result<(), Fail> {
     play(&rt, rt.alloc(), &[1, 2, 99], 2, &[&CHAIN, &UNLOCKED])
 }
 
-const PRIORITY_SET: [(Ask, Reply); 9] = [
+static PRIORITY_SET: [(Ask, Reply); 9] = [
     (Ask::Lock(1, 1), Reply::Owns),
     (Ask::Lock(2, 1), Reply::Queued),
     (Ask::Lock(3, 1), Reply::Queued),
@@ -507,7 +531,7 @@ fn priority_is_set_and_places_stay(rt: HostRuntime) -> Result<(), Fail> {
 
 // Thread 1 holds mutex 1, for which threads 2, 3 and 4, of priorities 20, 50 and 20, wait in that order. Threads 5 and
 // 6, of priorities 30 and 40, are parked on variable 1, and thread 7, of priority 50, is ready.
-const WAITING: [(Ask, Reply); 6] = [
+static WAITING: [(Ask, Reply); 6] = [
     (Ask::Lock(1, 1), Reply::Owns),
     (Ask::Lock(2, 1), Reply::Queued),
     (Ask::Lock(3, 1), Reply::Queued),
@@ -517,7 +541,7 @@ const WAITING: [(Ask, Reply); 6] = [
 ];
 
 // The greatest effective priority comes first, and equals in arrival: thread 1 joined level 50 behind thread 7.
-const PLACES: [(Ask, Reply); 13] = [
+static PLACES: [(Ask, Reply); 13] = [
     (Ask::Waiter(1, 0), Reply::Thread(3)),
     (Ask::Waiter(1, 1), Reply::Thread(2)),
     (Ask::Waiter(1, 2), Reply::Thread(4)),
@@ -545,7 +569,7 @@ fn places_are_read_in_order(rt: HostRuntime) -> Result<(), Fail> {
 }
 
 // The word of the mutex on the list of thread 1, which ends, has the number of thread 2.
-const OF_ANOTHER: [(Ask, Reply); 6] = [
+static OF_ANOTHER: [(Ask, Reply); 6] = [
     (Ask::Store(1, 0x0000_0002), Reply::Done),
     (Ask::End(1, 1), Reply::Done),
     (Ask::Word(1), Reply::Bits(0x0000_0002)),
@@ -555,7 +579,7 @@ const OF_ANOTHER: [(Ask, Reply); 6] = [
 ];
 
 // It has its own.
-const OF_ITS_OWN: [(Ask, Reply); 6] = [
+static OF_ITS_OWN: [(Ask, Reply); 6] = [
     (Ask::Store(1, 0xc000_0001), Reply::Done),
     (Ask::End(1, 1), Reply::Done),
     (Ask::Word(1), Reply::Bits(0xc000_0000)),
@@ -572,13 +596,13 @@ fn exit_leaves_words_of_others(rt: HostRuntime) -> Result<(), Fail> {
 }
 
 // Thread 1 ends as the owner of mutex 1, for which threads 2 and 3 wait.
-const OWNED: [(Ask, Reply); 8] = [
+static OWNED: [(Ask, Reply); 8] = [
     (Ask::Lock(1, 1), Reply::Owns),
     (Ask::Lock(2, 1), Reply::Queued),
     (Ask::Lock(3, 1), Reply::Queued),
     (Ask::End(1, 1), Reply::Done),
     (Ask::Word(1), Reply::Bits(0xc000_0003)),
-    (Ask::Status(3), Reply::Has(Status::Ready(Woken::Owns))),
+    (Ask::Status(3), Reply::Ready(Woken::Owns)),
     (Ask::Status(2), Reply::QueuedOn(1)),
     (Ask::Pick, Reply::Thread(3)),
 ];

@@ -12,6 +12,7 @@ use super::walks::{priority, thread};
 use pif_kernel_model::Key;
 use pif_nodes::NodeTable;
 use pif_rtmutex::RtMutexes;
+use std::alloc::Global;
 use std::process::Abort;
 use std::test::Fail;
 
@@ -23,13 +24,36 @@ fn stand_at_first(mutexes: &RtMutexes, table: &NodeTable)
     ensures { IsAtFirst mutexes.now table.now }
 {}
 
+// What is done with owner states that were just made.
+#[derive(Clone, Copy)]
+enum Scene {
+    Priorities,
+    Order,
+    HandOver,
+}
+
+// Makes owner states of three threads in a table, and does this with them.
+fn play(rt: &impl Abort, alloc: Global, scene: Scene) -> Result<(), Fail> {
+    let mut table = NodeTable::new(alloc, 6, 6)?;
+    let mut mutexes = RtMutexes::new(alloc, 0, 0, 3)?;
+    stand_at_first(&mutexes, &table);
+    play_scene(rt, &mut mutexes, &mut table, scene);
+    Ok(())
+}
+
+fn play_scene(rt: &impl Abort, mutexes: &mut RtMutexes, table: &mut NodeTable, scene: Scene)
+    requires { IsAtFirst mutexes.old table.old }
+{
+    match scene {
+        Scene::Priorities => give_priorities(rt, mutexes, table),
+        Scene::Order => stand_by_priority_and_ticket(rt, mutexes, table),
+        Scene::HandOver => pass_to_top_waiter(rt, mutexes, table),
+    }
+}
+
 #[test]
 fn threads_have_the_priorities_they_were_given(rt: HostRuntime) -> Result<(), Fail> {
-    let table = NodeTable::new(rt.alloc(), 6, 6)?;
-    let mut mutexes = RtMutexes::new(rt.alloc(), 0, 0, 3)?;
-    stand_at_first(&mutexes, &table);
-    give_priorities(&rt, &mut mutexes, &table);
-    Ok(())
+    play(&rt, rt.alloc(), Scene::Priorities)
 }
 
 fn give_priorities(rt: &impl Abort, mutexes: &mut RtMutexes, table: &NodeTable)
@@ -63,11 +87,7 @@ fn queue_two(mutexes: &mut RtMutexes, table: &mut NodeTable) -> Key
 
 #[test]
 fn waiters_stand_by_priority_and_ticket(rt: HostRuntime) -> Result<(), Fail> {
-    let mut table = NodeTable::new(rt.alloc(), 6, 6)?;
-    let mut mutexes = RtMutexes::new(rt.alloc(), 0, 0, 3)?;
-    stand_at_first(&mutexes, &table);
-    stand_by_priority_and_ticket(&rt, &mut mutexes, &mut table);
-    Ok(())
+    play(&rt, rt.alloc(), Scene::Order)
 }
 
 fn stand_by_priority_and_ticket(rt: &impl Abort, mutexes: &mut RtMutexes, table: &mut NodeTable)
@@ -88,11 +108,7 @@ fn stand_by_priority_and_ticket(rt: &impl Abort, mutexes: &mut RtMutexes, table:
 
 #[test]
 fn state_passes_to_its_top_waiter(rt: HostRuntime) -> Result<(), Fail> {
-    let mut table = NodeTable::new(rt.alloc(), 6, 6)?;
-    let mut mutexes = RtMutexes::new(rt.alloc(), 0, 0, 3)?;
-    stand_at_first(&mutexes, &table);
-    pass_to_top_waiter(&rt, &mut mutexes, &mut table);
-    Ok(())
+    play(&rt, rt.alloc(), Scene::HandOver)
 }
 
 fn pass_to_top_waiter(rt: &impl Abort, mutexes: &mut RtMutexes, table: &mut NodeTable)

@@ -1,6 +1,6 @@
 //! The calls on mutexes, changes of priority, ends, and what the parts say of what was added.
 use super::driver::{Ask, Reply, Wish, play};
-use pif_kernel::{Status, Woken};
+use pif_kernel::Woken;
 use pif_mutex::Progress;
 use pif_types::{Health, Kind, Limits};
 use std::alloc::Global;
@@ -14,12 +14,12 @@ fn try_all<R: Abort>(rt: &R, alloc: Global, tables: &[&[(Ask, Reply)]]) -> Resul
 }
 
 /// Mutex 1, which is NORMAL, and a thread of priority 10.
-const NORMAL: [(Ask, Reply); 2] = [
+static NORMAL: [(Ask, Reply); 2] = [
     (Ask::AddMutex(Kind::Normal, false), Reply::Added(1)),
     (Ask::AddThread(10), Reply::Added(1)),
 ];
 
-const ADDED: [(Ask, Reply); 9] = [
+static ADDED: [(Ask, Reply); 9] = [
     (Ask::Pick, Reply::Nobody),
     (Ask::AddThread(10), Reply::Added(1)),
     (Ask::AddThread(50), Reply::Added(2)),
@@ -36,7 +36,7 @@ fn parts_say_what_was_added(rt: HostRuntime) -> Result<(), Fail> {
     try_all(&rt, rt.alloc(), &[&ADDED])
 }
 
-const UNCONTENDED: [(Ask, Reply); 5] = [
+static UNCONTENDED: [(Ask, Reply); 5] = [
     (
         Ask::Call(1, Wish::Lock(1)),
         Reply::Ended(2, Progress::Done(0)),
@@ -58,7 +58,7 @@ fn uncontended_calls_make_no_kernel_call(rt: HostRuntime) -> Result<(), Fail> {
     try_all(&rt, rt.alloc(), &[&NORMAL, &UNCONTENDED])
 }
 
-const HANDED: [(Ask, Reply); 12] = [
+static HANDED: [(Ask, Reply); 12] = [
     (Ask::AddThread(50), Reply::Added(2)),
     (
         Ask::Call(1, Wish::Lock(1)),
@@ -88,7 +88,7 @@ fn mutex_is_handed_to_who_waits(rt: HostRuntime) -> Result<(), Fail> {
 }
 
 /// A RECURSIVE mutex 1, and thread 1, which has locked it.
-const RECURSIVE: [(Ask, Reply); 3] = [
+static RECURSIVE: [(Ask, Reply); 3] = [
     (Ask::AddMutex(Kind::Recursive, false), Reply::Added(1)),
     (Ask::AddThread(10), Reply::Added(1)),
     (
@@ -97,7 +97,7 @@ const RECURSIVE: [(Ask, Reply); 3] = [
     ),
 ];
 
-const AS_OFTEN: [(Ask, Reply); 7] = [
+static AS_OFTEN: [(Ask, Reply); 7] = [
     (
         Ask::Call(1, Wish::Lock(1)),
         Reply::Ended(1, Progress::Done(0)),
@@ -127,7 +127,7 @@ fn recursive_mutex_is_unlocked_as_often_as_locked(rt: HostRuntime) -> Result<(),
     try_all(&rt, rt.alloc(), &[&RECURSIVE, &AS_OFTEN])
 }
 
-const REFUSED: [(Ask, Reply); 2] = [
+static REFUSED: [(Ask, Reply); 2] = [
     (
         Ask::Call(1, Wish::Lock(1)),
         Reply::Ended(1, Progress::Done(11)),
@@ -144,7 +144,7 @@ fn recursive_mutex_is_held_255_times(rt: HostRuntime) -> Result<(), Fail> {
     try_all(&rt, rt.alloc(), &[&RECURSIVE, &again, &REFUSED])
 }
 
-const TRYLOCK: [(Ask, Reply); 5] = [
+static TRYLOCK: [(Ask, Reply); 5] = [
     (Ask::AddThread(20), Reply::Added(2)),
     (
         Ask::Call(1, Wish::TryLock(1)),
@@ -166,7 +166,7 @@ fn trylock_never_waits(rt: HostRuntime) -> Result<(), Fail> {
     try_all(&rt, rt.alloc(), &[&NORMAL, &TRYLOCK])
 }
 
-const NORMAL_AGAIN: [(Ask, Reply); 5] = [
+static NORMAL_AGAIN: [(Ask, Reply); 5] = [
     (
         Ask::Call(1, Wish::Lock(1)),
         Reply::Ended(2, Progress::Done(0)),
@@ -176,7 +176,7 @@ const NORMAL_AGAIN: [(Ask, Reply); 5] = [
         Reply::Ended(2, Progress::Waits),
     ),
     (Ask::Word(1), Reply::Bits(1)),
-    (Ask::Status(1), Reply::Has(Status::Stopped)),
+    (Ask::Status(1), Reply::Stopped),
     (Ask::Pick, Reply::Nobody),
 ];
 
@@ -185,7 +185,7 @@ fn normal_mutex_stops_who_locks_it_again(rt: HostRuntime) -> Result<(), Fail> {
     try_all(&rt, rt.alloc(), &[&NORMAL, &NORMAL_AGAIN])
 }
 
-const CHECKED_AGAIN: [(Ask, Reply); 6] = [
+static CHECKED_AGAIN: [(Ask, Reply); 6] = [
     (Ask::AddMutex(Kind::ErrorCheck, false), Reply::Added(1)),
     (Ask::AddThread(10), Reply::Added(1)),
     (
@@ -205,7 +205,7 @@ fn errorcheck_mutex_refuses_who_locks_it_again(rt: HostRuntime) -> Result<(), Fa
     try_all(&rt, rt.alloc(), &[&CHECKED_AGAIN])
 }
 
-const PRIORITY_SET: [(Ask, Reply); 7] = [
+static PRIORITY_SET: [(Ask, Reply); 7] = [
     (Ask::AddThread(20), Reply::Added(2)),
     (
         Ask::Call(1, Wish::SetPrio(2, 30)),
@@ -229,7 +229,7 @@ fn priority_is_set_in_one_step(rt: HostRuntime) -> Result<(), Fail> {
     try_all(&rt, rt.alloc(), &[&NORMAL, &PRIORITY_SET])
 }
 
-const HOLDER_ENDS: [(Ask, Reply); 8] = [
+static HOLDER_ENDS: [(Ask, Reply); 8] = [
     (Ask::AddMutex(Kind::Normal, true), Reply::Added(1)),
     (Ask::AddThread(10), Reply::Added(1)),
     (
@@ -240,7 +240,7 @@ const HOLDER_ENDS: [(Ask, Reply); 8] = [
     (Ask::Word(1), Reply::Bits(0x4000_0000)),
     (Ask::Health(1), Reply::Is(Health::Fine)),
     (Ask::Effective(1), Reply::Nobody),
-    (Ask::Status(1), Reply::Has(Status::Ended)),
+    (Ask::Status(1), Reply::HasEnded),
 ];
 
 #[test]
@@ -249,7 +249,7 @@ fn end_of_a_holder_leaves_its_robust_mutex(rt: HostRuntime) -> Result<(), Fail> 
 }
 
 /// The next owner repairs what the mutex protects, and says so.
-const OWNER_ENDS: [(Ask, Reply); 7] = [
+static OWNER_ENDS: [(Ask, Reply); 7] = [
     (Ask::AddMutex(Kind::Normal, true), Reply::Added(1)),
     (Ask::AddThread(10), Reply::Added(1)),
     (Ask::AddThread(20), Reply::Added(2)),
@@ -259,7 +259,7 @@ const OWNER_ENDS: [(Ask, Reply); 7] = [
     ),
     (Ask::End(1), Reply::Done),
     (Ask::Begin(2, Wish::Lock(1)), Reply::Done),
-    (Ask::Status(2), Reply::Has(Status::Ready(Woken::Fresh))),
+    (Ask::Status(2), Reply::Ready(Woken::Fresh)),
 ];
 
 #[test]
@@ -268,7 +268,7 @@ fn mutex_whose_owner_ended_is_made_consistent(rt: HostRuntime) -> Result<(), Fai
 }
 
 /// The steps of thread 2, which has begun to lock mutex 1: the last one answers EOWNERDEAD.
-const TAKEN_OVER: [(Ask, Reply); 16] = [
+static TAKEN_OVER: [(Ask, Reply); 16] = [
     (Ask::Go(2), Reply::Step(Progress::Went)),
     (Ask::Go(2), Reply::Step(Progress::Went)),
     (Ask::Go(2), Reply::Step(Progress::Went)),
@@ -294,7 +294,7 @@ const TAKEN_OVER: [(Ask, Reply); 16] = [
 ];
 
 /// A lock that is queued up to a deadline goes on waiting before it, and is answered ETIMEDOUT from it on.
-const EXPIRES: [(Ask, Reply); 10] = [
+static EXPIRES: [(Ask, Reply); 10] = [
     (Ask::AddThread(20), Reply::Added(2)),
     (
         Ask::Call(1, Wish::Lock(1)),
@@ -318,7 +318,7 @@ fn queued_lock_expires_at_its_deadline(rt: HostRuntime) -> Result<(), Fail> {
     try_all(&rt, rt.alloc(), &[&NORMAL, &EXPIRES])
 }
 
-const UNUSED: [(Ask, Reply); 4] = [
+static UNUSED: [(Ask, Reply); 4] = [
     (Ask::AddCond(1), Reply::Added(1)),
     (Ask::Uses(1), Reply::Bits(0)),
     (Ask::Uses(2), Reply::Nobody),

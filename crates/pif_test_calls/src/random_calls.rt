@@ -1,6 +1,8 @@
 //! Random events on both kernels: calls in any interleaving, one step at a time, the end of threads at any point, and
 //! time that goes on. Each event has the same answer on both, and leaves the same words, statuses, priorities and
 //! orders.
+ghost use Rattle.std.specs.Prelude.{◌≤◌};
+
 use super::driver::{Ask, Reply, Wish, answer, new_parts, see};
 use pif_kernel::KernelOn;
 use pif_kernel_linked::LinkedChains;
@@ -130,11 +132,29 @@ fn play_list(
     rng: &mut SplitMix64,
     events: &mut u32,
 ) -> Result<(), Fail> {
-    let limits = Limits::new(THREADS, 66, 2, 100).ok_or("limits")?;
     let first = u64::MAX - u64::from(rng.next_u32() % 64);
-    let mut plain = new_parts(alloc, limits, first)?;
-    let mut linked = new_parts(alloc, limits, first)?;
-    play_events(rt, rng, &mut plain, &mut linked, events);
+    let mut plain = new_parts(alloc, limits()?, first)?;
+    play_beside(rt, alloc, rng, &mut plain, first, events)
+}
+
+/// Those of the parts.
+fn limits() -> Result<Limits, Fail> {
+    Ok(Limits::new(THREADS, 66, 2, 100).ok_or("limits")?)
+}
+
+/// The same with the parts on the plain kernel, which has this first ticket.
+fn play_beside(
+    rt: &impl Abort,
+    alloc: Global,
+    rng: &mut SplitMix64,
+    plain: &mut Plain,
+    first: u64,
+    events: &mut u32,
+) -> Result<(), Fail>
+    requires { 1 ≤ first }
+{
+    let mut linked = new_parts(alloc, limits()?, first)?;
+    play_events(rt, rng, plain, &mut linked, events);
     Ok(())
 }
 

@@ -137,7 +137,7 @@ fn play(
 const DONE: Seen = Seen::Answered(0);
 
 /// Thread 1 holds mutex 1, for which thread 2, of higher priority, waits.
-const BOOST: [Ask; 5] = [
+static BOOST: [Ask; 5] = [
     Ask::Counts(2, 1, 0),
     Ask::Call(1, Wish::Lock(1), DONE),
     Ask::Call(2, Wish::Lock(1), Seen::Waits),
@@ -150,7 +150,7 @@ fn holder_is_boosted_until_it_unlocks(rt: HostRuntime) -> Result<(), Fail> {
     play(&rt, rt.alloc(), Kind::Normal, &[10, 50], &BOOST)
 }
 
-const ENDED: [Ask; 3] = [
+static ENDED: [Ask; 3] = [
     Ask::End(1, Seen::Ended),
     Ask::End(1, Seen::Refused(Refusal::Dead)),
     Ask::Counts(1, 1, 0),
@@ -162,7 +162,7 @@ fn who_has_ended_is_refused(rt: HostRuntime) -> Result<(), Fail> {
 }
 
 /// Thread 2 signals thread 1.
-const SIGNAL: [Ask; 6] = [
+static SIGNAL: [Ask; 6] = [
     Ask::AddCond(1, 1),
     Ask::Call(1, Wish::Lock(1), DONE),
     Ask::Call(1, Wish::Wait(1, 1), Seen::Waits),
@@ -176,7 +176,7 @@ fn signal_hands_a_free_mutex_to_who_waits(rt: HostRuntime) -> Result<(), Fail> {
     play(&rt, rt.alloc(), Kind::Normal, &[10, 20], &SIGNAL)
 }
 
-const LOCK_EXPIRES: [Ask; 10] = [
+static LOCK_EXPIRES: [Ask; 10] = [
     Ask::Call(1, Wish::Lock(1), DONE),
     Ask::Call(2, Wish::TimedLock(1, 5), Seen::Waits),
     Ask::Open(2, Wish::TimedLock(1, 5)),
@@ -194,7 +194,7 @@ fn timed_lock_expires(rt: HostRuntime) -> Result<(), Fail> {
     play(&rt, rt.alloc(), Kind::Normal, &[10, 50], &LOCK_EXPIRES)
 }
 
-const WAIT_EXPIRES: [Ask; 10] = [
+static WAIT_EXPIRES: [Ask; 10] = [
     Ask::AddCond(1, 1),
     Ask::Call(2, Wish::Lock(1), DONE),
     Ask::Call(2, Wish::TimedWait(1, 1, 3), Seen::Waits),
@@ -213,7 +213,7 @@ fn timed_wait_expires(rt: HostRuntime) -> Result<(), Fail> {
 }
 
 /// Thread 1 holds a recursive mutex twice, for which thread 3 waits, and thread 2 is parked with a robust one.
-const LOOK: [Ask; 26] = [
+static LOOK: [Ask; 26] = [
     Ask::AddMutex(Kind::Normal, true, 2),
     Ask::AddCond(2, 1),
     Ask::Call(2, Wish::Lock(2), DONE),
@@ -248,7 +248,7 @@ fn one_who_looks_sees_who_does_what(rt: HostRuntime) -> Result<(), Fail> {
 }
 
 /// Thread 3 waits for mutex 2 of thread 2, which waits for mutex 1 of thread 1; then thread 1 ends.
-const CHAIN: [Ask; 11] = [
+static CHAIN: [Ask; 11] = [
     Ask::AddMutex(Kind::Normal, false, 2),
     Ask::Call(1, Wish::Lock(1), DONE),
     Ask::Call(2, Wish::Lock(2), DONE),

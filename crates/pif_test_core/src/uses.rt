@@ -120,7 +120,7 @@ const DONE: Seen = Seen::Answered(0);
 
 const IN_ORDER: Result<Held, Seen> = Ok(Held::InOrder);
 
-const HOLD: [Turn; 5] = [
+static HOLD: [Turn; 5] = [
     Turn::Add(1, Ok(DONE), 8),
     Turn::Hold(1, IN_ORDER),
     Turn::Add(2, Err(Seen::Waits), 8),
@@ -133,7 +133,7 @@ fn who_locks_holds(rt: HostRuntime) -> Result<(), Fail> {
     play(&rt, rt.alloc(), Kind::Normal, false, &HOLD)
 }
 
-const REPAIR: [Turn; 4] = [
+static REPAIR: [Turn; 4] = [
     Turn::Repair(1, 0, IN_ORDER, 5),
     Turn::End(1),
     Turn::Repair(2, 0, Ok(Held::OwnerDied), 0),
@@ -146,7 +146,7 @@ fn next_owner_repairs(rt: HostRuntime) -> Result<(), Fail> {
 }
 
 /// Thread 2 signals the variable under its mutex.
-const SIGNALLED: [Turn; 6] = [
+static SIGNALLED: [Turn; 6] = [
     Turn::Hold(1, IN_ORDER),
     Turn::Wait(false, Awaited::Not(Seen::Waits)),
     Turn::Call(2, Wish::Lock(1), DONE),
@@ -162,7 +162,7 @@ fn who_was_signalled_tests_again(rt: HostRuntime) -> Result<(), Fail> {
 
 /// Thread 2 waits up to a time for the mutex, which thread 1 holds. A tick reaches it, and the thread gives up. Then
 /// thread 1 does the same with a wait.
-const TOO_LATE: [Turn; 14] = [
+static TOO_LATE: [Turn; 14] = [
     Turn::Hold(1, IN_ORDER),
     Turn::Call(2, Wish::TimedLock(1, 5), Seen::Waits),
     Turn::Tick(4, Seen::Ticked),
@@ -184,7 +184,7 @@ fn who_runs_out_of_time_gives_up(rt: HostRuntime) -> Result<(), Fail> {
     play(&rt, rt.alloc(), Kind::Normal, false, &TOO_LATE)
 }
 
-const TURNS: [Turn; 7] = [
+static TURNS: [Turn; 7] = [
     Turn::Event(1, Next::GoOn),
     Turn::Event(2, Next::GoOn),
     Turn::Event(1, Next::GoOn),

@@ -80,7 +80,7 @@ impl Expected {
     }
 }
 
-const NORMAL: [(Kind, bool); 2] = [(Kind::Normal, false), (Kind::Normal, false)];
+static NORMAL: [(Kind, bool); 2] = [(Kind::Normal, false), (Kind::Normal, false)];
 
 /// Programs of threads that begin at these points, with two mutexes, a variable of the first and a cell.
 fn have(
@@ -102,7 +102,7 @@ fn have(
 }
 
 /// Two threads lock two mutexes crosswise, and unlock what they own. One is answered EDEADLK, and nobody is stuck.
-const CROSSING: [Turn; 8] = [
+static CROSSING: [Turn; 8] = [
     Turn::Calls(Wish::Lock(1), 1),
     Turn::Calls(Wish::Lock(2), 2),
     Turn::Calls(Wish::Unlock(2), 3),
@@ -115,7 +115,7 @@ const CROSSING: [Turn; 8] = [
 
 /// The first locks a mutex and keeps it. The second wants it, too, and would unlock what it owns. So only the second can
 /// be stuck.
-const KEEPING: [Turn; 5] = [
+static KEEPING: [Turn; 5] = [
     Turn::Calls(Wish::Lock(1), 5),
     Turn::Calls(Wish::Lock(2), 2),
     Turn::Calls(Wish::Lock(1), 3),
@@ -124,10 +124,10 @@ const KEEPING: [Turn; 5] = [
 ];
 
 /// A thread locks a normal mutex that it owns.
-const TWICE: [Turn; 2] = [Turn::Calls(Wish::Lock(1), 1), Turn::Calls(Wish::Lock(1), 2)];
+static TWICE: [Turn; 2] = [Turn::Calls(Wish::Lock(1), 1), Turn::Calls(Wish::Lock(1), 2)];
 
 /// A thread waits, and another signals without the mutex: the signal may come too early.
-const TOO_EARLY: [Turn; 4] = [
+static TOO_EARLY: [Turn; 4] = [
     Turn::Calls(Wish::Lock(1), 1),
     Turn::Calls(Wish::Wait(1, 1), 2),
     Turn::Calls(Wish::Unlock(1), 4),
@@ -135,7 +135,7 @@ const TOO_EARLY: [Turn; 4] = [
 ];
 
 /// A thread waits while a cell is 0. Another sets it and signals. Both do so under the mutex.
-const GUARDED: [Turn; 8] = [
+static GUARDED: [Turn; 8] = [
     Turn::Calls(Wish::Lock(1), 1),
     Turn::Tests(1, 0, 2, 3),
     Turn::Calls(Wish::Wait(1, 1), 1),
@@ -147,10 +147,10 @@ const GUARDED: [Turn; 8] = [
 ];
 
 /// The first loops while the cell is 0, and the second sets it to 1.
-const WAITING: [Turn; 2] = [Turn::Tests(1, 0, 0, 2), Turn::Sets(1, 1, 2)];
+static WAITING: [Turn; 2] = [Turn::Tests(1, 0, 0, 2), Turn::Sets(1, 1, 2)];
 
 /// The first loops while the cell is 1, which the second sets it to: it ends if it comes first.
-const LOOPING: [Turn; 2] = [Turn::Tests(1, 1, 0, 2), Turn::Sets(1, 1, 2)];
+static LOOPING: [Turn; 2] = [Turn::Tests(1, 1, 0, 2), Turn::Sets(1, 1, 2)];
 
 fn stuck_in_locks(alloc: Global) -> Result<bool, Stop> {
     let second = Expected {

@@ -67,7 +67,7 @@ fn see_refused(rt: &impl Abort) {
 }
 
 /// Each error, with its number on Linux on x86-64 and the name that <errno.h> gives it.
-const ERRORS: [(Errno, u32, &str); 11] = [
+static ERRORS: [(Errno, u32, &str); 11] = [
     (Errno::NotPermitted, 1, "EPERM"),
     (Errno::NoSuchThread, 3, "ESRCH"),
     (Errno::Again, 11, "EAGAIN"),
@@ -110,13 +110,13 @@ fn see_errors(rt: &impl Abort, alloc: Global) -> Result<(), Fail> {
     Ok(())
 }
 
-const FAULTS: [(AddFault, &str); 3] = [
+static FAULTS: [(AddFault, &str); 3] = [
     (AddFault::TooMany, "too many"),
     (AddFault::BadPrio, "bad priority"),
     (AddFault::NoSuch, "no such mutex"),
 ];
 
-const REFUSALS: [(Refusal, &str); 4] = [
+static REFUSALS: [(Refusal, &str); 4] = [
     (Refusal::Busy, "busy"),
     (Refusal::Idle, "idle"),
     (Refusal::NoSuch, "no such thread, mutex or variable"),

@@ -6,7 +6,7 @@ use rand_core::Rng;
 use rand_xoshiro::SplitMix64;
 
 /// 0, and the error numbers that calls of pthread or of the kernel answer.
-pub const ANSWERS: [u32; 12] = [0, 1, 3, 11, 14, 16, 22, 35, 75, 110, 130, 131];
+pub static ANSWERS: [u32; 12] = [0, 1, 3, 11, 14, 16, 22, 35, 75, 110, 130, 131];
 
 /// The request of a call.
 #[derive(Clone, Copy)]

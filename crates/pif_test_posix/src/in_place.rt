@@ -31,7 +31,7 @@ struct Example {
     comes: bool,
 }
 
-const EXAMPLES: [Example; 7] = [
+static EXAMPLES: [Example; 7] = [
     Example {
         acts: &[
             Act::Begin(1, Wish::Lock(1)),

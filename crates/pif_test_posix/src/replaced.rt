@@ -94,7 +94,7 @@ type Exception = (usize, u32, Found);
 /// - Line 23: t1 was answered at line 22 that it took the mutex, and hasn't begun to unlock it. So 0 is impossible.
 /// - Line 26: t2 may have tried before the effect of t1's unlock. With EBUSY nobody owns the mutex then. At line 27 t1's
 ///   unlock is answered 0 as before; the calls of the last two lines have no answers.
-const EXCEPTIONS: [Exception; 4] = [
+static EXCEPTIONS: [Exception; 4] = [
     (6, 0, Found::IllegalAt(7)),
     (16, 0, Found::IllegalAt(19)),
     (22, 16, Found::IllegalAt(23)),

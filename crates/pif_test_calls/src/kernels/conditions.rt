@@ -2,12 +2,12 @@
 //! and the end of a thread.
 use super::super::driver::Reply;
 use super::{Ask, play};
-use pif_kernel::{Status, Woken};
+use pif_kernel::Woken;
 use pif_types::Errno;
 use std::test::Fail;
 
 // Nobody has number 9. A priority is tested before the thread.
-const PRIORITIES: [(Ask, Reply); 8] = [
+static PRIORITIES: [(Ask, Reply); 8] = [
     (Ask::SetPrio(9, 0), Reply::Refused(Errno::Invalid)),
     (Ask::SetPrio(9, 100), Reply::Refused(Errno::Invalid)),
     (Ask::SetPrio(9, 10), Reply::Refused(Errno::NoSuchThread)),
@@ -19,12 +19,12 @@ const PRIORITIES: [(Ask, Reply); 8] = [
 ];
 
 // Thread 1 parks on variable 1, whose word is 1, for mutex 1. There is no variable 3 and no mutex 3.
-const PARKINGS: [(Ask, Reply); 9] = [
+static PARKINGS: [(Ask, Reply); 9] = [
     (Ask::StoreUses(1, 1), Reply::Done),
     (Ask::Park(1, 3, 0, 1), Reply::Refused(Errno::Fault)),
     (Ask::Park(1, 1, 0, 3), Reply::Refused(Errno::Fault)),
     (Ask::Park(1, 1, 0, 1), Reply::Refused(Errno::Again)),
-    (Ask::Status(1), Reply::Has(Status::Ready(Woken::Fresh))),
+    (Ask::Status(1), Reply::Ready(Woken::Fresh)),
     (Ask::Pick, Reply::Thread(1)),
     (Ask::Park(1, 1, 1, 1), Reply::Done),
     (Ask::Status(1), Reply::ParkedOn(1)),
@@ -33,7 +33,7 @@ const PARKINGS: [(Ask, Reply); 9] = [
 
 // It is to be taken, also for mutex 2, and where the variable or the mutex isn't there, the count isn't 1, or the word
 // of the variable is another.
-const REQUEUES: [(Ask, Reply); 6] = [
+static REQUEUES: [(Ask, Reply); 6] = [
     (Ask::Requeue(3, 1, 1, 2, 0), Reply::Refused(Errno::Fault)),
     (Ask::Requeue(1, 0, 3, 2, 0), Reply::Refused(Errno::Fault)),
     (Ask::Requeue(1, 0, 2, 2, 0), Reply::Refused(Errno::Invalid)),
@@ -44,7 +44,7 @@ const REQUEUES: [(Ask, Reply); 6] = [
 
 // Thread 3 queues on mutex 1, so that there is an owner state of thread 2, and then the word says otherwise: no number,
 // that of another living thread, and that of nobody. Nobody is parked on variable 2.
-const STATES: [(Ask, Reply); 13] = [
+static STATES: [(Ask, Reply); 13] = [
     (Ask::Lock(2, 1), Reply::Owns),
     (Ask::Lock(3, 1), Reply::Queued),
     (Ask::Store(1, 0x0000_0000), Reply::Done),
@@ -56,12 +56,12 @@ const STATES: [(Ask, Reply); 13] = [
     (Ask::Status(1), Reply::ParkedOn(1)),
     (Ask::Store(1, 0x0000_03ff), Reply::Done),
     (Ask::Requeue(1, 1, 1, 1, 0), Reply::Taken(1)),
-    (Ask::Status(1), Reply::Has(Status::Ready(Woken::Again))),
+    (Ask::Status(1), Reply::Ready(Woken::Again)),
     (Ask::Word(1), Reply::Bits(0x0000_03ff)),
 ];
 
 // After two uses: a requeue of two at first, and one that was told of one use.
-const LAST_USES: [(Ask, Reply); 3] = [
+static LAST_USES: [(Ask, Reply); 3] = [
     (Ask::StoreUses(1, 2), Reply::Done),
     (Ask::Requeue(1, 2, 1, 2, 0), Reply::Refused(Errno::Invalid)),
     (Ask::Requeue(1, 1, 1, 1, 0), Reply::Refused(Errno::Again)),
@@ -84,17 +84,17 @@ fn set_prio_and_requeue_refusals(rt: HostRuntime) -> Result<(), Fail> {
 }
 
 // The word of mutex 1 has both flags and no number. It gets that of the thread, and keeps OWNER_DIED alone.
-const OWNS: [(Ask, Reply); 6] = [
+static OWNS: [(Ask, Reply); 6] = [
     (Ask::Store(1, 0xc000_0000), Reply::Done),
     (Ask::Park(2, 1, 0, 1), Reply::Done),
     (Ask::Requeue(1, 0, 1, 1, 0), Reply::Taken(1)),
-    (Ask::Status(2), Reply::Has(Status::Ready(Woken::Owns))),
+    (Ask::Status(2), Reply::Ready(Woken::Owns)),
     (Ask::Word(1), Reply::Bits(0x4000_0002)),
     (Ask::Pick, Reply::Thread(2)),
 ];
 
 // Thread 1 parks before thread 3, which has the same priority, locks. It is queued behind it, and wakes behind it.
-const QUEUES: [(Ask, Reply); 11] = [
+static QUEUES: [(Ask, Reply); 11] = [
     (Ask::Park(1, 1, 0, 1), Reply::Done),
     (Ask::Lock(3, 1), Reply::Queued),
     (Ask::Effective(2), Reply::Prio(20)),
@@ -109,16 +109,16 @@ const QUEUES: [(Ask, Reply); 11] = [
 ];
 
 // The word of mutex 2 has the number of nobody, and then that of the thread itself.
-const WAKES: [(Ask, Reply); 10] = [
+static WAKES: [(Ask, Reply); 10] = [
     (Ask::Store(2, 0xc000_03ff), Reply::Done),
     (Ask::Park(2, 2, 0, 2), Reply::Done),
     (Ask::Requeue(2, 0, 2, 1, 0), Reply::Taken(1)),
-    (Ask::Status(2), Reply::Has(Status::Ready(Woken::Again))),
+    (Ask::Status(2), Reply::Ready(Woken::Again)),
     (Ask::Word(2), Reply::Bits(0xc000_03ff)),
     (Ask::Store(2, 0x0000_0002), Reply::Done),
     (Ask::Park(2, 2, 0, 2), Reply::Done),
     (Ask::Requeue(2, 0, 2, 1, 0), Reply::Taken(1)),
-    (Ask::Status(2), Reply::Has(Status::Ready(Woken::Again))),
+    (Ask::Status(2), Reply::Ready(Woken::Again)),
     (Ask::Word(2), Reply::Bits(0x0000_0002)),
 ];
 
@@ -128,14 +128,14 @@ fn the_word_says_what_a_taken_thread_gets(rt: HostRuntime) -> Result<(), Fail> {
 }
 
 // Thread 2 waits for thread 1, which is parked: it can't queue behind thread 2, and is woken.
-const CYCLE: [(Ask, Reply); 9] = [
+static CYCLE: [(Ask, Reply); 9] = [
     (Ask::Lock(1, 2), Reply::Owns),
     (Ask::Lock(2, 1), Reply::Owns),
     (Ask::Park(1, 1, 0, 1), Reply::Done),
     (Ask::Lock(2, 2), Reply::Queued),
     (Ask::Effective(1), Reply::Prio(20)),
     (Ask::Requeue(1, 0, 1, 1, 0), Reply::Taken(1)),
-    (Ask::Status(1), Reply::Has(Status::Ready(Woken::Again))),
+    (Ask::Status(1), Reply::Ready(Woken::Again)),
     (Ask::Word(1), Reply::Bits(0x0000_0002)),
     (Ask::Lock(1, 1), Reply::Refused(Errno::Deadlock)),
 ];
@@ -147,13 +147,13 @@ fn requeue_into_a_cycle_wakes(rt: HostRuntime) -> Result<(), Fail> {
 
 // Thread 1 ends as the owner of mutex 2, which isn't on its robust list. Thread 3 is queued on it, so that the owner
 // state of thread 1 stays, and thread 2 is parked for it.
-const LOST: [(Ask, Reply); 9] = [
+static LOST: [(Ask, Reply); 9] = [
     (Ask::Lock(1, 2), Reply::Owns),
     (Ask::Lock(3, 2), Reply::Queued),
     (Ask::Park(2, 1, 0, 2), Reply::Done),
     (Ask::End(1, 1), Reply::Done),
     (Ask::Requeue(1, 0, 2, 1, 0), Reply::Taken(1)),
-    (Ask::Status(2), Reply::Has(Status::Ready(Woken::Again))),
+    (Ask::Status(2), Reply::Ready(Woken::Again)),
     (Ask::Word(2), Reply::Bits(0x8000_0001)),
     (Ask::Lock(2, 2), Reply::Refused(Errno::NoSuchThread)),
     (Ask::Status(3), Reply::QueuedOn(2)),
@@ -165,18 +165,18 @@ fn requeue_to_a_lost_mutex_wakes(rt: HostRuntime) -> Result<(), Fail> {
 }
 
 // Threads 2 to 5, of priorities 20, 30, 30 and 20, are parked on variable 1 for mutex 1, which has no owner.
-const PARKED: [(Ask, Reply); 4] = [
+static PARKED: [(Ask, Reply); 4] = [
     (Ask::Park(2, 1, 0, 1), Reply::Done),
     (Ask::Park(3, 1, 0, 1), Reply::Done),
     (Ask::Park(4, 1, 0, 1), Reply::Done),
     (Ask::Park(5, 1, 0, 1), Reply::Done),
 ];
 
-const GREATEST_FIRST: [(Ask, Reply); 12] = [
+static GREATEST_FIRST: [(Ask, Reply); 12] = [
     (Ask::Store(1, 0x4000_0000), Reply::Done),
     (Ask::Requeue(1, 0, 1, 1, 1), Reply::Taken(2)),
     (Ask::Word(1), Reply::Bits(0xc000_0003)),
-    (Ask::Status(3), Reply::Has(Status::Ready(Woken::Owns))),
+    (Ask::Status(3), Reply::Ready(Woken::Owns)),
     (Ask::Status(4), Reply::QueuedOn(1)),
     (Ask::SetPrio(5, 40), Reply::Done),
     (Ask::Effective(3), Reply::Prio(30)),
@@ -200,7 +200,7 @@ fn requeue_takes_greatest_first(rt: HostRuntime) -> Result<(), Fail> {
 
 // Thread 2, the owner of mutex 1, waits for thread 1, which is parked as threads 3 and 4 are. The first that is taken
 // is thread 3: it boosts both, and so thread 1 goes before thread 4.
-const EACH_ANEW: [(Ask, Reply); 13] = [
+static EACH_ANEW: [(Ask, Reply); 13] = [
     (Ask::Lock(1, 2), Reply::Owns),
     (Ask::Lock(2, 1), Reply::Owns),
     (Ask::Park(1, 1, 0, 1), Reply::Done),
@@ -211,7 +211,7 @@ const EACH_ANEW: [(Ask, Reply); 13] = [
     (Ask::Requeue(1, 0, 1, 1, 1), Reply::Taken(2)),
     (Ask::Status(3), Reply::QueuedOn(1)),
     (Ask::Effective(1), Reply::Prio(50)),
-    (Ask::Status(1), Reply::Has(Status::Ready(Woken::Again))),
+    (Ask::Status(1), Reply::Ready(Woken::Again)),
     (Ask::Status(4), Reply::ParkedOn(1)),
     (Ask::Pick, Reply::Thread(1)),
 ];
@@ -222,7 +222,7 @@ fn requeue_judges_anew_for_each(rt: HostRuntime) -> Result<(), Fail> {
 }
 
 // Thread 2 is parked as the owner of mutex 2: who locks it boosts thread 2, which goes before thread 3 then.
-const BOOSTED: [(Ask, Reply); 7] = [
+static BOOSTED: [(Ask, Reply); 7] = [
     (Ask::Lock(2, 2), Reply::Owns),
     (Ask::Park(2, 1, 0, 1), Reply::Done),
     (Ask::Park(3, 1, 0, 1), Reply::Done),
@@ -234,7 +234,7 @@ const BOOSTED: [(Ask, Reply); 7] = [
 
 // Thread 5 parks before thread 6, which has the same priority: it goes behind it while it has a lower one, and keeps
 // its place among equals.
-const SET: [(Ask, Reply); 8] = [
+static SET: [(Ask, Reply); 8] = [
     (Ask::Park(5, 2, 0, 3), Reply::Done),
     (Ask::Park(6, 2, 0, 3), Reply::Done),
     (Ask::SetPrio(5, 5), Reply::Done),
@@ -257,12 +257,12 @@ fn parked_thread_is_rekeyed(rt: HostRuntime) -> Result<(), Fail> {
 }
 
 // A thread that ends while it is parked leaves its variable, and loses no wake-up of the next.
-const BOTH_PARKED: [(Ask, Reply); 6] = [
+static BOTH_PARKED: [(Ask, Reply); 6] = [
     (Ask::Park(1, 1, 0, 1), Reply::Done),
     (Ask::Park(2, 1, 0, 1), Reply::Done),
     (Ask::End(1, 1), Reply::Done),
     (Ask::Requeue(1, 0, 1, 1, 1), Reply::Taken(1)),
-    (Ask::Status(2), Reply::Has(Status::Ready(Woken::Owns))),
+    (Ask::Status(2), Reply::Ready(Woken::Owns)),
     (Ask::Word(1), Reply::Bits(0x0000_0002)),
 ];
 

@@ -2,13 +2,13 @@
 //! above it, and where it stands in the run queue.
 use super::super::driver::Reply;
 use super::{Ask, play};
-use pif_kernel::{Status, Woken};
+use pif_kernel::Woken;
 use std::test::Fail;
 
-const EXPIRED: Reply = Reply::Has(Status::Ready(Woken::Expired));
+const EXPIRED: Reply = Reply::Ready(Woken::Expired);
 
 // Thread 2 waits for mutex 1 of thread 1, twice. WAITERS stays, and nobody trusts it.
-const QUEUED: [(Ask, Reply); 14] = [
+static QUEUED: [(Ask, Reply); 14] = [
     (Ask::Lock(1, 1), Reply::Owns),
     (Ask::Lock(2, 1), Reply::Queued),
     (Ask::Effective(1), Reply::Prio(50)),
@@ -26,7 +26,7 @@ const QUEUED: [(Ask, Reply); 14] = [
 ];
 
 // Thread 3 is parked on variable 1, behind thread 2, and then on it alone.
-const PARKED: [(Ask, Reply); 9] = [
+static PARKED: [(Ask, Reply); 9] = [
     (Ask::Park(2, 1, 0, 1), Reply::Done),
     (Ask::Park(3, 1, 0, 1), Reply::Done),
     (Ask::Expire(2), Reply::Done),
@@ -39,13 +39,13 @@ const PARKED: [(Ask, Reply); 9] = [
 ];
 
 // Thread 4 has stopped, and then may run, take a mutex and stop again.
-const STOPPED: [(Ask, Reply); 6] = [
+static STOPPED: [(Ask, Reply); 6] = [
     (Ask::Stop(4), Reply::Done),
     (Ask::Expire(4), Reply::Done),
     (Ask::Status(4), EXPIRED),
     (Ask::Lock(4, 1), Reply::Owns),
     (Ask::Stop(4), Reply::Done),
-    (Ask::Status(4), Reply::Has(Status::Stopped)),
+    (Ask::Status(4), Reply::Stopped),
 ];
 
 #[test]
@@ -61,14 +61,14 @@ fn expiry_ends_each_kind_of_waiting(rt: HostRuntime) -> Result<(), Fail> {
 
 // Thread 1 holds mutex 1, on which thread 2 is queued; thread 3 is parked, and thread 4 has stopped. All are of the
 // priority of thread 5. Who expires joins behind those that are there.
-const ALL_REST: [(Ask, Reply); 4] = [
+static ALL_REST: [(Ask, Reply); 4] = [
     (Ask::Lock(1, 1), Reply::Owns),
     (Ask::Lock(2, 1), Reply::Queued),
     (Ask::Park(3, 1, 0, 1), Reply::Done),
     (Ask::Stop(4), Reply::Done),
 ];
 
-const EXPIRE: [(Ask, Reply); 8] = [
+static EXPIRE: [(Ask, Reply); 8] = [
     (Ask::Expire(4), Reply::Done),
     (Ask::Expire(2), Reply::Done),
     (Ask::Expire(3), Reply::Done),
@@ -91,7 +91,7 @@ fn who_expires_runs_behind_its_equals(rt: HostRuntime) -> Result<(), Fail> {
 }
 
 // Thread 1 was boosted by thread 2. It falls behind thread 3, which has its priority, and thread 2 runs first.
-const BOOST_LOST: [(Ask, Reply); 7] = [
+static BOOST_LOST: [(Ask, Reply); 7] = [
     (Ask::Lock(1, 1), Reply::Owns),
     (Ask::Lock(2, 1), Reply::Queued),
     (Ask::Pick, Reply::Thread(1)),
@@ -108,7 +108,7 @@ fn who_loses_a_boost_by_expiry_runs_behind_its_equals(rt: HostRuntime) -> Result
 
 // Thread 1, of priority 10, holds mutex 1. Thread 2, of priority 20, holds mutex 2 and waits for mutex 1. Threads 3 and
 // 4, of priorities 30 and 40, wait for mutex 2.
-const WAITING: [(Ask, Reply); 7] = [
+static WAITING: [(Ask, Reply); 7] = [
     (Ask::Lock(1, 1), Reply::Owns),
     (Ask::Lock(2, 2), Reply::Owns),
     (Ask::Lock(2, 1), Reply::Queued),
@@ -118,7 +118,7 @@ const WAITING: [(Ask, Reply); 7] = [
     (Ask::Effective(2), Reply::Prio(40)),
 ];
 
-const BOOST_FALLS: [(Ask, Reply); 10] = [
+static BOOST_FALLS: [(Ask, Reply); 10] = [
     (Ask::Expire(4), Reply::Done),
     (Ask::Effective(1), Reply::Prio(30)),
     (Ask::Effective(2), Reply::Prio(30)),
@@ -143,7 +143,7 @@ fn boost_falls_with_each_waiter_that_expires(rt: HostRuntime) -> Result<(), Fail
 }
 
 // Thread 2 leaves the middle of the chain, and those that wait for it boost it still, and thread 1 no longer.
-const BOOST_KEPT: [(Ask, Reply); 6] = [
+static BOOST_KEPT: [(Ask, Reply); 6] = [
     (Ask::Expire(2), Reply::Done),
     (Ask::Effective(1), Reply::Prio(10)),
     (Ask::Effective(2), Reply::Prio(40)),

@@ -1,12 +1,12 @@
 //! Who is taken from a variable, and mutexes whose owner states a kernel may find through one bucket.
 use super::super::driver::Reply;
 use super::{Ask, play};
-use pif_kernel::{Status, Woken};
+use pif_kernel::Woken;
 use std::test::Fail;
 
 // Threads 2, 3 and 4, of priorities 10, 30 and 20, are parked on variable 1 for mutex 1. Thread 1, of priority 5, takes
 // the mutex.
-const WAITS: [(Ask, Reply); 9] = [
+static WAITS: [(Ask, Reply); 9] = [
     (Ask::Park(2, 1, 0, 1), Reply::Done),
     (Ask::Park(3, 1, 0, 1), Reply::Done),
     (Ask::Park(4, 1, 0, 1), Reply::Done),
@@ -19,7 +19,7 @@ const WAITS: [(Ask, Reply); 9] = [
 ];
 
 // All are queued on it, and get it in the order of their priorities.
-const BROADCAST: [(Ask, Reply); 13] = [
+static BROADCAST: [(Ask, Reply); 13] = [
     (Ask::Requeue(1, 1, 1, 1, 1024), Reply::Taken(3)),
     (Ask::Parked(1, 0), Reply::Nobody),
     (Ask::Word(1), Reply::Bits(0x8000_0001)),
@@ -41,12 +41,12 @@ fn broadcast_wakes_by_priority(rt: HostRuntime) -> Result<(), Fail> {
 }
 
 // Thread 3 parks after thread 2, which has a lower priority, and gets the mutex, which is free.
-const GREATEST: [(Ask, Reply); 6] = [
+static GREATEST: [(Ask, Reply); 6] = [
     (Ask::Park(2, 1, 0, 1), Reply::Done),
     (Ask::Park(3, 1, 0, 1), Reply::Done),
     (Ask::Requeue(1, 0, 1, 1, 0), Reply::Taken(1)),
     (Ask::Word(1), Reply::Bits(0x0000_0003)),
-    (Ask::Status(3), Reply::Has(Status::Ready(Woken::Owns))),
+    (Ask::Status(3), Reply::Ready(Woken::Owns)),
     (Ask::Status(2), Reply::ParkedOn(1)),
 ];
 
@@ -56,7 +56,7 @@ fn signal_takes_greatest_priority(rt: HostRuntime) -> Result<(), Fail> {
 }
 
 // Equals are taken in the order in which they were parked, also once one of them went up and down again.
-const EQUALS: [(Ask, Reply); 12] = [
+static EQUALS: [(Ask, Reply); 12] = [
     (Ask::Park(3, 1, 0, 1), Reply::Done),
     (Ask::Park(2, 1, 0, 1), Reply::Done),
     (Ask::SetPrio(2, 30), Reply::Done),
@@ -77,7 +77,7 @@ fn equals_are_taken_in_order_of_parking(rt: HostRuntime) -> Result<(), Fail> {
 }
 
 // Mutexes 1 and 65 are both held by a thread for which one of priority 20 waits. What becomes of one leaves the other.
-const HELD: [(Ask, Reply); 9] = [
+static HELD: [(Ask, Reply); 9] = [
     (Ask::Lock(1, 1), Reply::Owns),
     (Ask::Lock(2, 1), Reply::Queued),
     (Ask::Lock(3, 65), Reply::Owns),
@@ -90,7 +90,7 @@ const HELD: [(Ask, Reply); 9] = [
 ];
 
 // The state of mutex 65 came later, and is gone. It comes again, and then that of mutex 1 goes.
-const AGAIN: [(Ask, Reply); 9] = [
+static AGAIN: [(Ask, Reply); 9] = [
     (Ask::Lock(3, 65), Reply::Queued),
     (Ask::Unlock(1, 1), Reply::Done),
     (Ask::Word(1), Reply::Bits(0x8000_0002)),

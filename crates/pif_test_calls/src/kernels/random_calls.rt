@@ -1,5 +1,7 @@
 //! Random lists of kernel calls on both kernels, on words that no library wrote too: each call has the same answer on
 //! both, and leaves the same words, statuses, priorities and pick.
+ghost use Rattle.std.specs.Prelude.{◌≤◌, length};
+
 use super::super::driver::{Reply, see};
 use super::{Ask, Scene};
 use pif_kernel_linked::LinkedChains;
@@ -108,8 +110,24 @@ fn play_list(
     let levels = levels(rng);
     let first = u64::MAX - u64::from(rng.next_u32() % 64);
     let mut plain = Scene::new(alloc, &levels, MUTEXES, first)?;
-    let mut linked = Scene::new(alloc, &levels, MUTEXES, first)?;
-    play_calls(rt, rng, &mut plain, &mut linked, calls);
+    play_beside(rt, alloc, rng, &mut plain, &levels, first, calls)
+}
+
+// The same with the scene on the plain kernel, which has these priorities and this first ticket.
+fn play_beside(
+    rt: &impl Abort,
+    alloc: Global,
+    rng: &mut SplitMix64,
+    plain: &mut Plain,
+    levels: &[u32],
+    first: u64,
+    calls: &mut u32,
+) -> Result<(), Fail>
+    requires threads { length levels.now ≤ 1024 }
+    requires ticket { 1 ≤ first }
+{
+    let mut linked = Scene::new(alloc, levels, MUTEXES, first)?;
+    play_calls(rt, rng, plain, &mut linked, calls);
     Ok(())
 }
 

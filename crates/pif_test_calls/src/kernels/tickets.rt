@@ -2,15 +2,13 @@
 ghost use Rattle.std.specs.Prelude.{◌≤◌};
 
 use super::super::driver::Reply;
-use super::{Ask, play_on};
-use pif_kernel_linked::LinkedChains;
-use pif_plain::PlainChains;
+use super::{Ask, play_from};
 use std::alloc::Global;
 use std::process::Abort;
 use std::test::Fail;
 
 // Four threads of priority 10 lock mutex 1 in turn, and then unlock it in turn.
-const HAND_OVERS: [(Ask, Reply); 12] = [
+static HAND_OVERS: [(Ask, Reply); 12] = [
     (Ask::Lock(1, 1), Reply::Owns),
     (Ask::Lock(2, 1), Reply::Queued),
     (Ask::Lock(3, 1), Reply::Queued),
@@ -32,7 +30,7 @@ fn tickets_are_renumbered(rt: HostRuntime) -> Result<(), Fail> {
 
 // Threads 3, 1, 4 and 2 of priority 10 park on variable 1 in that order. Each gets a greater priority and its own
 // again, which puts it where its ticket says, and they stand as before. Then all are taken for mutex 1.
-const PARKED_IN_TURN: [(Ask, Reply); 23] = [
+static PARKED_IN_TURN: [(Ask, Reply); 23] = [
     (Ask::Park(3, 1, 0, 1), Reply::Done),
     (Ask::Park(1, 1, 0, 1), Reply::Done),
     (Ask::Park(4, 1, 0, 1), Reply::Done),
@@ -91,6 +89,5 @@ fn play_between<R: Abort>(
     let before = [(Ask::NextTicket, Reply::Ticket(first))];
     let after = [(Ask::NextTicket, Reply::Ticket(next))];
     let tables: [&[(Ask, Reply)]; 3] = [&before, asked, &after];
-    play_on::<PlainChains, R>(rt, alloc, &levels, 1, first, &tables)?;
-    play_on::<LinkedChains, R>(rt, alloc, &levels, 1, first, &tables)
+    play_from(rt, alloc, &levels, 1, first, &tables)
 }

@@ -13,7 +13,7 @@ const DEAD: Seen = Seen::Refused(Refusal::Dead);
 
 /// The mutex is free, then thread 1 holds it, and hands it to thread 2, which gives it up. Thread 1 locks it again and
 /// ends.
-const ADDITIONS: [Turn; 20] = [
+static ADDITIONS: [Turn; 20] = [
     Turn::Add(1, Ok(DONE), 8),
     Turn::Owner(0),
     Turn::Call(1, Wish::Lock(1), DONE),
@@ -42,7 +42,7 @@ fn each_way_out_of_an_addition(rt: HostRuntime) -> Result<(), Fail> {
 }
 
 /// The same calls and the same end, with repairs in the place of additions.
-const REPAIRS: [Turn; 24] = [
+static REPAIRS: [Turn; 24] = [
     Turn::Repair(1, 7, IN_ORDER, 5),
     Turn::Health(Health::Fine),
     Turn::Owner(1),
@@ -75,7 +75,7 @@ fn each_way_out_of_a_repair(rt: HostRuntime) -> Result<(), Fail> {
 }
 
 /// Thread 2 is told of the end, and gives the mutex up as it is.
-const UNUSABLE: [Turn; 10] = [
+static UNUSABLE: [Turn; 10] = [
     Turn::Call(1, Wish::Lock(1), DONE),
     Turn::End(1),
     Turn::Call(2, Wish::Lock(1), Seen::Answered(130)),
@@ -97,7 +97,7 @@ const RESTS: Awaited = Awaited::Not(Seen::Waits);
 
 /// Thread 1 begins a wait, in which it holds the mutex no longer; both answers of its test lead to that. Thread 2
 /// signals the variable twice, each time under the mutex.
-const WAITS: [Turn; 23] = [
+static WAITS: [Turn; 23] = [
     Turn::Wait(false, Awaited::Not(Seen::Answered(1))),
     Turn::Call(1, Wish::Lock(1), DONE),
     Turn::Wait(true, Awaited::Met),
@@ -129,7 +129,7 @@ fn each_way_out_of_a_wait(rt: HostRuntime) -> Result<(), Fail> {
 }
 
 /// Thread 1 begins a wait as above. Thread 2 signals the variable under its mutex, and ends with that.
-const DIED: [Turn; 11] = [
+static DIED: [Turn; 11] = [
     Turn::Wait(false, Awaited::Not(Seen::Answered(1))),
     Turn::Call(1, Wish::Lock(1), DONE),
     Turn::Wait(true, Awaited::Met),

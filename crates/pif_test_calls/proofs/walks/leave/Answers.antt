@@ -1,6 +1,15 @@
 use Rattle.std.proofs.Common.{sym, refl}
-use Rattle.pif_test_calls.proofs.WalkTestLemmas.{dequeued, still_running, still_level, walked}
+use Rattle.pif_test_calls.proofs.WalkTestLemmas.{dequeued, still_admitted, still_ready, still_running, still_level, walked}
 use Rattle.pif_test_calls.proofs.walks.leave.Goals as goal
+
+pub walk-requires-clause-admitted : goal.walk-requires-clause-admitted
+walk-requires-clause-admitted c =
+    still_admitted c.args.owners.now c.dequeue.new.self c.args.queue.now c.args.table.now c.args.t _ c.requires
+    c.dequeue.ensures.free c.owner-owner.result (c.in_ok-_admitted.ensures.given.0 refl)
+
+pub walk-requires-clause-ready : goal.walk-requires-clause-ready
+walk-requires-clause-ready c = still_ready c.args.owners.now c.dequeue.new.self c.args.queue.now c.args.table.now
+    c.args.t _ c.requires c.dequeue.ensures.free
 
 pub walk-requires-clause-repaired : goal.walk-requires-clause-repaired
 walk-requires-clause-repaired c =

@@ -1,5 +1,15 @@
-use Rattle.pif_test_calls.proofs.WalkTestLemmas.{free_by_test, off_by_test, enqueued, still_running, still_level, walked}
+use Rattle.std.proofs.Common.{refl}
+use Rattle.pif_test_calls.proofs.WalkTestLemmas.{free_by_test, off_by_test, enqueued, still_admitted, still_ready, still_running, still_level, walked}
 use Rattle.pif_test_calls.proofs.walks.wait_on.Goals as goal
+
+pub walk-requires-clause-admitted : goal.walk-requires-clause-admitted
+walk-requires-clause-admitted c =
+    still_admitted c.args.owners.now c.enqueue.new.self c.args.queue.now c.args.table.now c.args.t _ c.requires.settled
+    c.enqueue.ensures.queued c.owner-owner.result (c.in_ok-_admitted.ensures.given.0 refl)
+
+pub walk-requires-clause-ready : goal.walk-requires-clause-ready
+walk-requires-clause-ready c = still_ready c.args.owners.now c.enqueue.new.self c.args.queue.now c.args.table.now
+    c.args.t _ c.requires.settled c.enqueue.ensures.queued
 
 pub walk-requires-clause-repaired : goal.walk-requires-clause-repaired
 walk-requires-clause-repaired c =
