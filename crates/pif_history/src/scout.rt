@@ -124,7 +124,24 @@ impl Scout {
         push(&mut self.choices, choice)
     }
 
-    /// A signal or a broadcast uses its variable, and wakes as few as it can: of these the first answered.
+    /// A broadcast uses its variable: all that may be woken may have been woken by it. It chooses later.
+    fn begin_broadcast(
+        &mut self,
+        alloc: Global,
+        later: &mut Later,
+        thread: usize,
+        line: usize,
+    ) -> Result<bool, Stop> {
+        let variable = scene_of(&self.position, later, line).used(thread);
+        let wakeable = self.wakeable(alloc, later, variable, line)?;
+        for i in 0..wakeable.len() {
+            later.leaving.free(wakeable[i])?;
+        }
+        Ok(self.come(thread, Progress::Used))
+    }
+
+    /// A signal uses its variable, or a broadcast that has used it chooses. It wakes as few as it can: of these the first
+    /// answered.
     fn use_variable(
         &mut self,
         alloc: Global,
@@ -165,6 +182,9 @@ impl Scout {
             Need::Blocked(_, _, _) if scene.is_freed(thread) => {
                 later.leaving.unfree(thread);
                 Ok(self.come(thread, Progress::Reacquiring))
+            }
+            Need::Broadcasts(_) if scene.may_succeed(thread) && !scene.has_used(thread) => {
+                self.begin_broadcast(alloc, later, thread, line)
             }
             Need::Signals(_) | Need::Broadcasts(_) if scene.may_succeed(thread) => {
                 self.use_variable(alloc, machine, later, thread, line)

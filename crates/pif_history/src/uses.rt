@@ -1,4 +1,5 @@
 //! Whom a use of a variable wakes: what a guide looks at in front of a line.
+use crate::leaving::Role;
 use crate::needs::Need;
 use crate::scene::Scene;
 use pif_search::{Stop, push};
@@ -88,6 +89,15 @@ impl Scene<'_> {
             }
         }
         false
+    }
+
+    /// Whether a thread has used its variable, and chooses at once whom it wakes. A player behind the first lets a
+    /// broadcast choose when a line needs that: who was blocked may run out of time before.
+    pub(crate) fn chooses_at_once(&self, thread: usize) -> bool {
+        match self.later.leaving.role() {
+            Role::Searches => self.has_used(thread),
+            Role::Plays | Role::Scouts => self.has_used(thread) && self.signals(thread),
+        }
     }
 
     /// The first of these uses of a variable that is a signal, and that no wait will need which has yet to begin.

@@ -1,5 +1,7 @@
 //! Runs that a player finds, which keeps one state: how often it plays the lines.
-use super::wakeups::{DONE, LOCK, SIGNAL, Seen, Sight, TIMED_WAIT, UNLOCK, WAIT, limits, lines_of};
+use super::wakeups::{
+    BROADCAST, DONE, LOCK, SIGNAL, Seen, Sight, TIMED_WAIT, UNLOCK, WAIT, limits, lines_of,
+};
 use pif_history::{Watch, find_run};
 use pif_search::Stop;
 use std::alloc::Global;
@@ -75,6 +77,34 @@ static THREE_SIGNALS: [Sight; 48] = [
     (3, UNLOCK),
 ];
 
+/// A broadcast wakes a thread twice: it has used its variable when it wakes the first wait, and chooses when the other
+/// thread, which was blocked before it began, has run out of time.
+static SLOW_BROADCAST: [Sight; 23] = [
+    (3, LOCK),
+    (3, DONE),
+    (3, TIMED_WAIT),
+    (1, LOCK),
+    (1, DONE),
+    (1, WAIT),
+    (4, LOCK),
+    (4, DONE),
+    (4, UNLOCK),
+    (4, DONE),
+    (4, BROADCAST),
+    (1, DONE),
+    (1, WAIT),
+    (2, LOCK),
+    (2, DONE),
+    (2, UNLOCK),
+    (2, DONE),
+    (3, Seen::Time(9)),
+    (3, Seen::Answered(110)),
+    (3, UNLOCK),
+    (3, DONE),
+    (1, DONE),
+    (4, DONE),
+];
+
 /// How often the lines that tell this are played until a run is found; none if none is.
 fn plays_until_found(alloc: Global, sights: &[Sight]) -> Result<Option<usize>, Stop> {
     let lines = lines_of(alloc, sights)?;
@@ -100,6 +130,15 @@ fn lines_are_played_again_if_a_signal_must_leave_a_wait_blocked(
     assert_eq!(rt;
         plays_until_found(rt.alloc(), THREE_SIGNALS.as_slice())?,
         Some(3)
+    );
+    Ok(())
+}
+
+#[test]
+fn a_broadcast_chooses_when_a_line_needs_it(rt: HostRuntime) -> Result<(), Stop> {
+    assert_eq!(rt;
+        plays_until_found(rt.alloc(), SLOW_BROADCAST.as_slice())?,
+        Some(2)
     );
     Ok(())
 }

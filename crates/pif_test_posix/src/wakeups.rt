@@ -30,7 +30,7 @@ pub const TIMED_WAIT: Seen = Seen::Begins(Wish::TimedWait(1, 1, 9));
 
 pub const SIGNAL: Seen = Seen::Begins(Wish::Signal(1));
 
-const BROADCAST: Seen = Seen::Begins(Wish::Broadcast(1));
+pub const BROADCAST: Seen = Seen::Begins(Wish::Broadcast(1));
 
 pub const DONE: Seen = Seen::Answered(0);
 
