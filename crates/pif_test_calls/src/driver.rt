@@ -266,6 +266,7 @@ fn done(holds: bool) -> Option<Reply> {
     if holds { Some(Reply::Done) } else { None }
 }
 
+/// What a thread of this status does.
 pub fn doing(status: Status) -> Reply {
     match status {
         Status::Ready(woken) => Reply::Ready(woken),
