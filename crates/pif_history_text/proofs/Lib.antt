@@ -2,3 +2,4 @@ mod AllowedLemmas
 mod LineTexts
 mod PlaceLemmas
 mod SplitLemmas
+mod TellingLemmas

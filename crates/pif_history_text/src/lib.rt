@@ -9,22 +9,28 @@
 //! | `heard` | a history, line by line |
 //! | `reading` | a history, read whole |
 //! | `writing` | lines as text |
+//! | `deeds` | what happens to a thread at a move, as words |
+//! | `tellings` | one step of a run as lines: a line of a history, or a move, and what it changes |
 #![tactic(auto)]
 
 mod allowed;
+mod deeds;
 mod heard;
 mod lines;
 mod reading;
 mod said;
+mod tellings;
 mod texts;
 mod verdicts;
 mod writing;
 
 pub use allowed::{have_common, is_any, is_too_small};
+pub use deeds::Deed;
 pub use heard::{History, MOST_BYTES};
 pub use lines::{answer_of, said_of};
 pub use reading::read_history;
 pub use said::Said;
+pub use tellings::push_step;
 pub use texts::text_of_line;
 pub use verdicts::{
     push_began, push_fault, push_found, push_illegal, push_legal, push_possible,

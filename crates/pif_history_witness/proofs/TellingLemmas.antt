@@ -1,23 +1,14 @@
 -- Runs that are followed, and texts that tell them, step by step.
-use Rattle.std.proofs.Common.{◌≡◌, ℕ, suc, ◌+◌, Option, List, [], ◌∷◌, ◌++◌, sym, ap, ◌∙◌, subst, arith, append_assoc}
+use Rattle.std.proofs.Common.{◌≡◌, ℕ, Option, List, [], ◌∷◌, ◌++◌, sym, subst}
 use Rattle.pif_types.specs.Bounds.{Bounds}
-use Rattle.pif_model.specs.Posix.{World}
 use Rattle.pif_history_model.specs.declared.labels.Label.{Label}
 use Rattle.pif_rules_model.specs.declared.rules.Rules.{Rules}
 use Rattle.pif_allow_model.specs.Allowed.{WideConfiguration, wide_start_of}
 use Rattle.pif_rules.specs.declared.rules.Rule.{Rule}
 use Rattle.pif_history_run.specs.Steps.{IsStepBy}
-use Rattle.pif_history_witness.specs.Tellings.{IsTold, if_other, others_below, step_telling}
+use Rattle.pif_history_text.specs.Tellings.{step_telling}
+use Rattle.pif_history_witness.specs.Tellings.{IsTold}
 use Rattle.pif_history_witness.specs.Tellings.IsTold.{start as told_start, then as told_then}
-
--- one thread more
-pub others-more : (moving n : ℕ) (w v : World) (old mid new : List ℕ) → mid ≡ old ++ others_below n moving w v
-    → new ≡ mid ++ if_other moving n w v → new ≡ old ++ others_below (n + 1) moving w v
-others-more moving n w v old mid new e f =
-    let next : suc n ≡ n + 1 = omega arith in
-    f ∙ (ap (λ (l : List ℕ). l ++ if_other moving n w v) e
-    ∙ (append_assoc old (others_below n moving w v) (if_other moving n w v)
-    ∙ ap (λ (j : ℕ). old ++ others_below j moving w v) next))
 
 -- one step more
 pub IsTold-step : (r : Rules) (l : Bounds) (xs ys : List Label) (x : Label) (rule : Option Rule) (s to : WideConfiguration)

@@ -8,8 +8,8 @@ use Rattle.pif_text_model.specs.Replies.{thread_name, mutex_name, cond_name}
 use Rattle.pif_rules.specs.declared.rules.Rule.{Rule}
 use Rattle.pif_rules.specs.declared.rules.Rule.TheVariants.{Steal, Spurious, HeldWait}
 use Rattle.pif_rules.specs.Sets.{name_of}
-use Rattle.pif_history_witness.specs.declared.deeds.Deed.{Deed}
-use Rattle.pif_history_witness.specs.declared.deeds.Deed.TheVariants.{Takes, TakesFrom, IsHanded, WaitsFor, WaitsForGood, Frees, SpoilsIt, Checks, IsBlocked, GoesOnWaiting, IsUnblocked, TimesOut, Uses, Comes}
+use Rattle.pif_history_text.specs.declared.deeds.Deed.{Deed}
+use Rattle.pif_history_text.specs.declared.deeds.Deed.TheVariants.{Takes, TakesFrom, IsHanded, WaitsFor, WaitsForGood, Frees, SpoilsIt, Checks, IsBlocked, GoesOnWaiting, IsUnblocked, TimesOut, Uses, Comes}
 
 -- A call came to a result, by whether its thread owned the mutex that it names, and owns it. One that waited was not
 -- handed the mutex by its own move: it ran out of time.

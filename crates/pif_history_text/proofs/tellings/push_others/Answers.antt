@@ -1,8 +1,8 @@
 use Rattle.std.proofs.Common.{◌≡◌, ◌∙◌, ◌++◌, ℕ, ap, sym, arith}
 use Rattle.std.proofs.lemmas.List.{append-nil}
-use Rattle.pif_history_witness.specs.Tellings.{others_below}
-use Rattle.pif_history_witness.proofs.TellingLemmas.{others-more}
-use Rattle.pif_history_witness.proofs.tellings.push_others.Goals as goal
+use Rattle.pif_history_text.specs.Tellings.{others_below}
+use Rattle.pif_history_text.proofs.TellingLemmas.{others-more}
+use Rattle.pif_history_text.proofs.tellings.push_others.Goals as goal
 
 pub loop-number-init : goal.loop-number-init
 loop-number-init c = sym (append-nil c.args.out.now.items)

@@ -3,7 +3,7 @@ ghost use Rattle.arrayvec.specs.ArrayVec.{array_vec_len};
 ghost use Rattle.pif_model.specs.Posix.{named_by, variable_of};
 ghost use Rattle.pif_posix.specs.Shapes.{progress_of};
 ghost use Rattle.pif_text_model.specs.Replies.{mutex_name, cond_name};
-ghost use Rattle.pif_history_witness.specs.Deeds.{blocked_deed, deed_line, deed_words, other_deed, owing_deed, own_deed, plain_deed, result_deed, rule_front};
+ghost use Rattle.pif_history_text.specs.Deeds.{blocked_deed, deed_line, deed_words, other_deed, owing_deed, own_deed, plain_deed, result_deed, rule_front};
 
 use pif_posix::{Progress, named_by, variable_of};
 use pif_rules::{Rule, name_of};
