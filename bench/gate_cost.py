@@ -51,6 +51,7 @@ RENAMED = {
     "pif_job_draw": ["pif_pictures"],
     "pif_job_random": ["pif_random"],
     "pif_job_shell": ["pif_sessions", "pif_shell"],
+    "pif_job_judge": ["pif_job_judge", "pif_job_least"],
     "pif_job_drive": ["pif_drive"],
     "pif_cli_words": ["pif_arguments"],
     "pif_test_foundation": ["pif_foundation_tests"],

@@ -15,7 +15,7 @@ use Rattle.pif_job_judge.specs.declared.faults.JudgeFault.TheVariants as judge
 use Rattle.pif_job_judge.specs.declared.forms.Form.{Form}
 use Rattle.pif_job_judge.specs.declared.forms.Form.TheVariants as form
 use Rattle.pif_job_judge.specs.Judging.{Judges, JudgesTo, front_of, heard_allowing}
-use Rattle.pif_job_least.specs.Judging.{JudgesLeast, JudgesLeastTo}
+use Rattle.pif_job_judge.specs.Least.{JudgesLeast, JudgesLeastTo}
 use Rattle.pif_cli_words.specs.declared.jobs.Job.{Job}
 use Rattle.pif_cli_words.specs.declared.jobs.Job.TheVariants.{Judge}
 use Rattle.pif_cli_words.specs.declared.jobs.Judging.{Judging}

@@ -24,7 +24,7 @@ use Rattle.pif_job_judge.specs.declared.faults.JudgeFault.TheVariants as judge_f
 use Rattle.pif_job_judge.specs.declared.forms.Form.{Form}
 use Rattle.pif_job_judge.specs.declared.forms.Form.TheVariants as form
 use Rattle.pif_job_judge.specs.Judging.{JudgesTo, front_of}
-use Rattle.pif_job_least.specs.Judging.{JudgesLeastTo}
+use Rattle.pif_job_judge.specs.Least.{JudgesLeastTo}
 use Rattle.pif_job_shell.specs.Talks.{TalksTo}
 use Rattle.pif_cli_words.specs.declared.jobs.Exploring.{Exploring}
 use Rattle.pif_cli_words.specs.declared.jobs.Judging.{Judging}

@@ -4,8 +4,7 @@ ghost use Rattle.pif_cli.specs.Words.{JudgesAs, JudgesNamed, as_judged, form_of}
 
 use crate::statuses::JobFault;
 use crate::times::Timed;
-use pif_job_judge::{Form, JudgeFault, Judging, Watch, judge};
-use pif_job_least::judge_least;
+use pif_job_judge::{Form, JudgeFault, Judging, Watch, judge, judge_least};
 use std::alloc::Global;
 use std::io::{Read, Write};
 use std::time::Clock;

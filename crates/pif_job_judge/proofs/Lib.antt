@@ -1,2 +1,3 @@
 mod JudgingLemmas
+mod LeastLemmas
 mod ObjectLemmas

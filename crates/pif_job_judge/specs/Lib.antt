@@ -1,4 +1,6 @@
 pub mod Judging
+pub mod Least
 pub mod Lines
+pub mod Needed
 pub mod Objects
 pub mod Why

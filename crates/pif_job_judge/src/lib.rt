@@ -1,4 +1,5 @@
-//! `pif judge`: whether a history of an implementation is legal, told in lines, in lines of JSON or as a page.
+//! `pif judge`: whether a history of an implementation is legal, told in lines, in lines of JSON or as a page; and which
+//! rules it needs to be legal, in lines.
 //!
 //! | Module | What it has |
 //! |---|---|
@@ -11,13 +12,17 @@
 //! | `lines` | verdicts in lines for a person |
 //! | `objects` | verdicts in lines of JSON |
 //! | `judging` | a history, read and judged |
+//! | `needed` | what is told of the rules that a history needs |
+//! | `least` | a history, read and judged with sets of rules |
 #![tactic(auto)]
 
 mod faults;
 mod forms;
 mod judging;
 mod known;
+mod least;
 mod lines;
+mod needed;
 mod objects;
 mod places;
 mod telling;
@@ -25,5 +30,6 @@ mod unfound;
 
 pub use faults::JudgeFault;
 pub use forms::{Form, Judging};
-pub use judging::{Numbered, allowing, front, judge, judge_fault, tell_history, write_told};
+pub use judging::judge;
+pub use least::judge_least;
 pub use pif_history::{Unwatched, Watch};

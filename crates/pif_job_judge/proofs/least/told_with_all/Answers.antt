@@ -2,8 +2,8 @@ use Rattle.std.specs.Prelude.{option_copied}
 use Rattle.pif_history_text.specs.Reading.{heard_of}
 use Rattle.pif_job_judge.specs.declared.forms.Form.TheVariants.{Text}
 use Rattle.pif_job_judge.specs.Judging.{front_of}
-use Rattle.pif_job_least.proofs.JobLemmas.{told_in_lines}
-use Rattle.pif_job_least.proofs.judging.told_with_all.Goals as goal
+use Rattle.pif_job_judge.proofs.LeastLemmas.{told_in_lines}
+use Rattle.pif_job_judge.proofs.least.told_with_all.Goals as goal
 
 pub returns-clause-told : goal.returns-clause-told
 returns-clause-told g c =

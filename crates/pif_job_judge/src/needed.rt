@@ -1,25 +1,17 @@
-ghost use Rattle.std.specs.Prelude.{◌≡◌, ◌≤◌, ◌++◌, IfErr, IfOk, OnOk, vec_len};
+ghost use Rattle.std.specs.Prelude.{◌≡◌, ◌++◌, IfErr, IfOk, OnOk};
 ghost use Rattle.pif_history_text.specs.Histories.{limits_of};
 ghost use Rattle.pif_history_text.specs.Reading.{IsPaired, heard_of};
-ghost use Rattle.pif_job_judge.specs.Why.{IsNumbered};
-ghost use Rattle.pif_job_least.specs.Telling.{AppendsNeeded};
+ghost use Rattle.pif_job_judge.specs.Needed.{AppendsNeeded};
 ghost use Rattle.pif_least.specs.Least.{IsLeast};
 ghost use Rattle.pif_least.specs.Texts.{legal_with, undecided_with};
 
+use crate::faults::JudgeFault;
+use crate::places::number_at;
 use pif_history_text::History;
-use pif_job_judge::JudgeFault;
 use pif_least::{Needed, push_legal_with, push_undecided_with};
 use pif_rules_model::Rules;
 use pif_script_model::CliFault;
 use std::alloc::Global;
-
-/// The number of a line, the nth, in the text of its history.
-fn number_at(history: &History, count: usize) -> u32
-    requires within { (1 ≤ count) × (count ≤ vec_len history.now.numbers) }
-    ensures { IsNumbered (heard_of history.now) count result }
-{
-    history.numbers[count - 1]
-}
 
 /// Appends the line of a history that is legal with these rules.
 fn tell_legal(

@@ -8,9 +8,9 @@ use Rattle.pif_job_judge.specs.declared.forms.Form.{Form}
 use Rattle.pif_job_judge.specs.declared.forms.Form.TheVariants.{Text}
 use Rattle.pif_job_judge.specs.Judging.{AppendsTold, Judges, WritesText, allowing, front_of}
 use Rattle.pif_job_judge.specs.Lines.{IsTold as AreLines}
-use Rattle.pif_job_least.specs.Judging.{JudgesLeast}
-use Rattle.pif_job_least.specs.Judging.IsTold.{judged, needed}
-use Rattle.pif_job_least.specs.Telling.{AppendsNeeded}
+use Rattle.pif_job_judge.specs.Least.{JudgesLeast}
+use Rattle.pif_job_judge.specs.Least.IsTold.{judged, needed}
+use Rattle.pif_job_judge.specs.Needed.{AppendsNeeded}
 
 abbrev Ended : Type 0
 Ended = Result (Unit {0}) JudgeFault

@@ -2,8 +2,8 @@ use Rattle.std.specs.Prelude.{option_copied}
 use Rattle.pif_history_text.specs.Reading.{heard_of}
 use Rattle.pif_job_judge.specs.declared.forms.Form.TheVariants.{Text}
 use Rattle.pif_job_judge.specs.Judging.{front_of}
-use Rattle.pif_job_least.proofs.JobLemmas.{judged_written}
-use Rattle.pif_job_least.proofs.judging.judge_history.Goals as goal
+use Rattle.pif_job_judge.proofs.LeastLemmas.{judged_written}
+use Rattle.pif_job_judge.proofs.least.judge_history.Goals as goal
 
 pub returns : goal.returns
 returns g c =

@@ -7,7 +7,7 @@ use Rattle.pif_history_text.specs.Reading.{ReadsHistory}
 use Rattle.pif_job_judge.specs.declared.forms.Form.TheVariants.{Text}
 use Rattle.pif_job_judge.specs.declared.faults.JudgeFault.{JudgeFault}
 use Rattle.pif_job_judge.specs.Judging.{HadNoMemory, Judges, Tells, WritesText, allowing}
-use Rattle.pif_job_least.specs.Telling.{TellsNeeded}
+use Rattle.pif_job_judge.specs.Needed.{TellsNeeded}
 
 -- What is told of a history, which may allow rules itself, and how that ends:
 --   not legal with all rules, its own and those of a: what judging tells of it with all

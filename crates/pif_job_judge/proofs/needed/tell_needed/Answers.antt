@@ -6,7 +6,7 @@ use Rattle.pif_least.specs.declared.search.Needed.{Needed}
 use Rattle.pif_least.specs.declared.search.Needed.TheVariants.{Legal, Undecided}
 use Rattle.pif_least.specs.Least.{IsLeast}
 use Rattle.pif_least.specs.Texts.{legal_with, undecided_with}
-use Rattle.pif_job_least.proofs.telling.tell_needed.Goals as goal
+use Rattle.pif_job_judge.proofs.needed.tell_needed.Goals as goal
 
 pub number_at-number-requires : goal.number_at-number-requires
 number_at-number-requires c =

@@ -4,7 +4,7 @@ use Rattle.pif_history_model.specs.declared.lines.Line.{Line}
 use Rattle.pif_history_text.specs.Histories.{limits_of}
 use Rattle.pif_history_text.specs.Reading.{heard_of}
 use Rattle.pif_least.specs.Least.{IsLeast}
-use Rattle.pif_job_least.proofs.judging.needed_of.Goals as goal
+use Rattle.pif_job_judge.proofs.least.needed_of.Goals as goal
 
 pub returns-in-Ok-clause-found : goal.returns-in-Ok-clause-found
 returns-in-Ok-clause-found g c =

@@ -2,8 +2,8 @@ use Rattle.std.specs.Prelude.{option_copied}
 use Rattle.pif_history_text.specs.Reading.{heard_of}
 use Rattle.pif_job_judge.specs.declared.forms.Form.TheVariants.{Text}
 use Rattle.pif_job_judge.specs.Judging.{front_of}
-use Rattle.pif_job_least.proofs.JobLemmas.{needed_written}
-use Rattle.pif_job_least.proofs.judging.write_least.Goals as goal
+use Rattle.pif_job_judge.proofs.LeastLemmas.{needed_written}
+use Rattle.pif_job_judge.proofs.least.write_least.Goals as goal
 
 pub returns-in-Ok-tell_least : goal.returns-in-Ok-tell_least
 returns-in-Ok-tell_least g c =

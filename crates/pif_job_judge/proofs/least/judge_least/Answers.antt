@@ -1,8 +1,8 @@
 use Rattle.std.proofs.Common.{Err, Ok}
 use Rattle.std.specs.Prelude.{option_copied}
 use Rattle.pif_history_text.specs.Reading.{heard_of}
-use Rattle.pif_job_least.proofs.JobLemmas.{fault_in_lines}
-use Rattle.pif_job_least.proofs.judging.judge_least.Goals as goal
+use Rattle.pif_job_judge.proofs.LeastLemmas.{fault_in_lines}
+use Rattle.pif_job_judge.proofs.least.judge_least.Goals as goal
 
 pub returns-in-Ok : goal.returns-in-Ok
 returns-in-Ok g c = (Ok (heard_of c.in-Ok.history), c.in-Ok.ensures.read, c.judge_history.ensures)
