@@ -3,7 +3,7 @@ use Rattle.std.proofs.Common.{◌≡◌, sym, ap, ◌∙◌, subst, true, false,
 use Rattle.std.specs.Prelude.{is_some}
 use Rattle.pif_types.specs.Bounds.{Bounds, IsWithin}
 use Rattle.pif_model.specs.Table.{Table, new_table}
-use Rattle.pif_c.specs.Numbers.{invalid, full, no_memory}
+use Rattle.pif_c_numbers.specs.Numbers.{invalid, full, no_memory}
 use Rattle.pif_model_simulation.proofs.StandingLaws.{new_stands}
 use Rattle.pif_c.specs.Standing.{IsMade}
 use Rattle.pif_c.specs.Standing.IsMade.{made, none_left, not_within, there}

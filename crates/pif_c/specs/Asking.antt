@@ -12,12 +12,12 @@ use Rattle.pif_c.specs.declared.adding.Addition.{Addition}
 use Rattle.pif_c.specs.declared.adding.Addition.TheVariants.{Thread, Mutex, Cond}
 use Rattle.pif_c.specs.declared.asking.Look.{Look}
 use Rattle.pif_c.specs.declared.asking.Look.TheVariants.{Effective, Waiting, Word, Health, CondWord, Pick}
-use Rattle.pif_c.specs.declared.numbers.PifSeen.{PifSeen}
-use Rattle.pif_c.specs.declared.numbers.PifNumber.{PifNumber}
-use Rattle.pif_c.specs.declared.numbers.PifOwned.{PifOwned}
-use Rattle.pif_c.specs.declared.numbers.PifDoing.{PifDoing}
-use Rattle.pif_c.specs.declared.numbers.PifRequest.{PifRequest}
-use Rattle.pif_c.specs.Numbers.{where_named, request_of, kind_of, seen_reported, nothing_seen, unnamed_seen, number_told, owner_told, status_told, added_told, health_number, no_core, invalid}
+use Rattle.pif_c_numbers.specs.declared.numbers.PifSeen.{PifSeen}
+use Rattle.pif_c_numbers.specs.declared.numbers.PifNumber.{PifNumber}
+use Rattle.pif_c_numbers.specs.declared.numbers.PifOwned.{PifOwned}
+use Rattle.pif_c_numbers.specs.declared.numbers.PifDoing.{PifDoing}
+use Rattle.pif_c_numbers.specs.declared.numbers.PifRequest.{PifRequest}
+use Rattle.pif_c_numbers.specs.Numbers.{where_named, request_of, kind_of, seen_reported, nothing_seen, unnamed_seen, number_told, owner_told, status_told, added_told, health_number, no_core, invalid}
 
 -- TURNS
 

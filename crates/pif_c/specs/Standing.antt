@@ -14,9 +14,9 @@ use Rattle.pif_c.specs.declared.asking.Turn.{Turn}
 use Rattle.pif_c.specs.declared.asking.Turn.TheVariants.{Event as OneEvent, Call, Finish}
 use Rattle.pif_c.specs.declared.adding.Addition.{Addition}
 use Rattle.pif_c.specs.declared.adding.Addition.TheVariants.{Thread, Mutex, Cond}
-use Rattle.pif_c.specs.declared.numbers.PifSeen.{PifSeen}
-use Rattle.pif_c.specs.declared.numbers.PifNumber.{PifNumber}
-use Rattle.pif_c.specs.Numbers.{invalid, full, no_memory}
+use Rattle.pif_c_numbers.specs.declared.numbers.PifSeen.{PifSeen}
+use Rattle.pif_c_numbers.specs.declared.numbers.PifNumber.{PifNumber}
+use Rattle.pif_c_numbers.specs.Numbers.{invalid, full, no_memory}
 use Rattle.pif_c.specs.Asking.{turn_told, turn_after, added, add_told, add_after}
 
 -- from one table to the next, with a longer history: wherever a core with the first stands after a history, one with

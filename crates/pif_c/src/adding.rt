@@ -5,7 +5,7 @@ ghost use Rattle.pif_c.specs.Asking.{added, added_after, add_told, add_after, mu
 ghost use Rattle.pif_c.specs.Standing.{Adds};
 
 use crate::handles::PifCore;
-use crate::numbers::{PifNumber, added_told, kind_of};
+use pif_c_numbers::{PifNumber, added_told, kind_of};
 use pif_core::Core;
 use pif_types::{AddFault, Kind, MutexId};
 use std::alloc::Global;

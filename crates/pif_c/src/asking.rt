@@ -4,7 +4,7 @@ ghost use Rattle.pif_c.specs.Asking.{outcome_of, turn_told, turn_after, shown, L
 ghost use Rattle.pif_c.specs.Standing.{Turns};
 
 use crate::handles::PifCore;
-use crate::numbers::{PifNumber, PifSeen, health_number, number_told, seen_reported};
+use pif_c_numbers::{PifNumber, PifSeen, health_number, number_told, seen_reported};
 use pif_core::{Core, Event, Seen};
 use pif_types::{CondId, MutexId, Request, Tid};
 use std::alloc::Global;

@@ -5,7 +5,7 @@ ghost use Rattle.pif_c.specs.Standing.{Turns};
 
 use crate::asking::{Turn, turn_on};
 use crate::handles::PifCore;
-use crate::numbers::{PifRequest, PifSeen, request_of};
+use pif_c_numbers::{PifRequest, PifSeen, request_of};
 use pif_core::Event;
 use pif_types::Tid;
 use std::alloc::Global;

@@ -1,12 +1,12 @@
 ghost use Rattle.std.specs.Prelude.{◌≡◌, Option, Some, None};
 ghost use Rattle.pif_model.specs.Calls.{owner_answer, status_answer};
 ghost use Rattle.pif_c.specs.Handles.{held};
-ghost use Rattle.pif_c.specs.Numbers.{owner_told, status_told};
+ghost use Rattle.pif_c_numbers.specs.Numbers.{owner_told, status_told};
 ghost use Rattle.pif_c.specs.Asking.{Looks, owner_shown, status_shown};
 
 use crate::asking::{Look, look_on};
 use crate::handles::PifCore;
-use crate::numbers::{PifDoing, PifNumber, PifOwned, doing_told};
+use pif_c_numbers::{PifDoing, PifNumber, PifOwned, doing_told};
 use pif_core::Core;
 use pif_types::{MutexId, Tid};
 use std::alloc::Global;

@@ -14,11 +14,11 @@ use Rattle.pif_model.specs.declared.events.Seen.{Seen}
 use Rattle.pif_model.specs.declared.events.Seen.TheVariants.{Begun, Went, Waits, Answered, Ended, Ticked, Refused}
 use Rattle.pif_model.specs.declared.lines.Status.{Status}
 use Rattle.pif_model.specs.declared.lines.Status.TheVariants.{Ready, Queued, Parked, Stopped, Ended as HasEnded}
-use Rattle.pif_c.specs.declared.numbers.PifSeen.{PifSeen}
-use Rattle.pif_c.specs.declared.numbers.PifNumber.{PifNumber}
-use Rattle.pif_c.specs.declared.numbers.PifOwned.{PifOwned}
-use Rattle.pif_c.specs.declared.numbers.PifDoing.{PifDoing}
-use Rattle.pif_c.specs.declared.numbers.PifRequest.{PifRequest}
+use Rattle.pif_c_numbers.specs.declared.numbers.PifSeen.{PifSeen}
+use Rattle.pif_c_numbers.specs.declared.numbers.PifNumber.{PifNumber}
+use Rattle.pif_c_numbers.specs.declared.numbers.PifOwned.{PifOwned}
+use Rattle.pif_c_numbers.specs.declared.numbers.PifDoing.{PifDoing}
+use Rattle.pif_c_numbers.specs.declared.numbers.PifRequest.{PifRequest}
 
 -- WHY THERE IS NO NUMBER: `enum pif_result`
 

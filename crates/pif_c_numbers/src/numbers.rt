@@ -1,7 +1,7 @@
 ghost use Rattle.std.specs.Prelude.{◌≡◌, ℕ, Option, Result};
-ghost use Rattle.pif_c.specs.Numbers.{refusal_number, add_number, added_told, number_told, seen_reported, kind_of, health_number, request_of, doing_told};
+ghost use Rattle.pif_c_numbers.specs.Numbers.{refusal_number, add_number, added_told, number_told, seen_reported, kind_of, health_number, request_of, doing_told};
 
-use pif_core::{Seen, Status};
+use pif_model::{Seen, Status};
 use pif_types::{AddFault, CondId, Health, Kind, MutexId, Refusal, Request, Tid};
 
 /// What is answered to an event: what became of it, and beside it the answer of a call or the number of a refusal.
@@ -82,7 +82,7 @@ fn refusal_number(refusal: Refusal) -> u32
 
 /// What was seen, in numbers.
 #[inline(always)]
-pub(crate) fn seen_reported(seen: Seen) -> PifSeen
+pub fn seen_reported(seen: Seen) -> PifSeen
     ensures { result ≡ seen_reported seen }
 {
     let (what, detail) = match seen {
@@ -109,7 +109,7 @@ fn fault_number(fault: AddFault) -> u32
 }
 
 /// The number of an addition, or what kept it from being made.
-pub(crate) fn added_told(added: Result<u32, AddFault>) -> PifNumber
+pub fn added_told(added: Result<u32, AddFault>) -> PifNumber
     ensures { result ≡ added_told added }
 {
     match added {
@@ -122,7 +122,7 @@ pub(crate) fn added_told(added: Result<u32, AddFault>) -> PifNumber
 }
 
 /// A number that a core may show.
-pub(crate) fn number_told(shown: Option<u32>) -> PifNumber
+pub fn number_told(shown: Option<u32>) -> PifNumber
     ensures { result ≡ number_told shown }
 {
     match shown {
@@ -135,7 +135,7 @@ pub(crate) fn number_told(shown: Option<u32>) -> PifNumber
 }
 
 /// The kind of a mutex that has this number in pthread.h of Linux.
-pub(crate) fn kind_of(kind: u32) -> Option<Kind>
+pub fn kind_of(kind: u32) -> Option<Kind>
     ensures { result ≡ kind_of kind }
 {
     match kind {
@@ -147,7 +147,7 @@ pub(crate) fn kind_of(kind: u32) -> Option<Kind>
 }
 
 /// The number of a health, as the health word has it.
-pub(crate) fn health_number(health: Health) -> u32
+pub fn health_number(health: Health) -> u32
     ensures { result ≡ health_number health }
 {
     match health {
@@ -158,7 +158,7 @@ pub(crate) fn health_number(health: Health) -> u32
 }
 
 /// What a thread does, in numbers.
-pub(crate) fn doing_told(status: Status) -> PifDoing
+pub fn doing_told(status: Status) -> PifDoing
     ensures { result ≡ doing_told status }
 {
     let (state, waits_for) = match status {
@@ -177,7 +177,7 @@ pub(crate) fn doing_told(status: Status) -> PifDoing
 
 /// The call that these numbers name, where each number that it needs names something.
 #[inline(always)]
-pub(crate) fn request_of(asked: PifRequest) -> Option<Request>
+pub fn request_of(asked: PifRequest) -> Option<Request>
     ensures { result ≡ request_of asked }
 {
     match asked.call {
