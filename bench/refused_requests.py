@@ -6,7 +6,7 @@ for that: with status 4, nothing on standard output and `pif: out of memory` on 
 again for some. A run may say besides that it is out of memory for notes. With the words of a job behind the program it
 is that job alone, over an example.
 
-Two rows more are asked if they are built. The test `desk_keeps_receipts` of pif_test_desk (by `rt test` there) asks
+Two rows more are asked if they are built. The test `desk_keeps_receipts` of pif_test_core (by `rt test` there) asks
 again for what was refused, by `resume` if a call is open: no answer, book or replayed trace may change. The
 benchmark `new_core` of pif_bench (by `rt run` there) makes cores: whichever request of `Core::new` is refused, the
 status is 1.
@@ -28,7 +28,7 @@ from typing import NamedTuple
 
 TOP = Path(__file__).resolve().parent.parent
 PROGRAM = TOP / "crates/pif/out/pif"
-TESTS = TOP / "crates/pif_test_desk/out/pif_test_desk_tests"
+TESTS = TOP / "crates/pif_test_core/out/pif_test_core_tests"
 BENCH = TOP / "crates/pif_bench/out/pif_bench"
 SCRIPT = TOP / "examples/holder_is_boosted_until_it_unlocks.pif"
 

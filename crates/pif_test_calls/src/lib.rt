@@ -1,8 +1,9 @@
-//! Tests of kernels, and of the calls on mutexes and condition variables above them, each on both kernels: that on
-//! linked lists and the plain one. Beside tests there is nothing in it.
+//! Tests of all that a core stands on. Kernels, and the calls on mutexes and condition variables above them, are tested
+//! on both kernels: that on linked lists and the plain one. Beside tests there is nothing in it.
 //!
 //! | Module | Tests of |
 //! |---|---|
+//! | `foundation` | types, words, robust lists, the lists in one table, the run queue and `pif_queue` |
 //! | `owner_states`, `walks` | `pif_plain`: its owner states, and its walk over them |
 //! | `linked_states`, `hops` | `pif_rtmutex` and `pif_boost`: owner states in one table, and how far a walk goes over them |
 //! | `seen` | none: it compares what was read with what is wanted |
@@ -17,6 +18,8 @@
 mod conditions;
 #[cfg(test)]
 mod driver;
+#[cfg(test)]
+mod foundation;
 #[cfg(test)]
 mod hops;
 #[cfg(test)]

@@ -1,5 +1,6 @@
-//! Processes whose words a test chooses.
+//! Processes whose words a test chooses. They are of one type, so that the program is built once for all of them.
 
+use crate::listed_files::{List, Opened};
 use std::alloc::Allocator;
 use std::env::FillError;
 use std::fs::{Metadata, OpenOptions};
@@ -26,7 +27,7 @@ impl Ticking {
 }
 
 /// A process of these words, its name first, and of a last one if there is one, which may be no text. It starts threads
-/// and opens files as `rt` does.
+/// as `rt` does, and opens its files, unless there is a list of what they are to be asked.
 #[derive(Drop)]
 pub struct Process<'a, R> {
     words: &'a [&'a str],
@@ -34,6 +35,7 @@ pub struct Process<'a, R> {
     rt: &'a R,
     /// Whether it may open no file.
     is_shut: bool,
+    list: Option<&'a List>,
     /// Its clock; that of `rt` if there is none.
     clock: Option<Ticking>,
 }
@@ -46,33 +48,33 @@ impl<'a, R> Process<'a, R> {
             last,
             rt,
             is_shut: false,
+            list: None,
             clock: None,
         }
     }
 
     /// A process of these words, whose clock shows so many milliseconds more at each reading.
     pub fn ticking(words: &'a [&'a str], rt: &'a R, step: u64) -> Process<'a, R> {
-        Process {
-            words,
-            last: None,
-            rt,
-            is_shut: false,
-            clock: Some(Ticking {
-                step,
-                time: AtomicU64::new(0),
-            }),
-        }
+        let mut process = Process::of(words, None, rt);
+        process.clock = Some(Ticking {
+            step,
+            time: AtomicU64::new(0),
+        });
+        process
     }
 
     /// A process of these words that may open no file.
     pub fn shut(words: &'a [&'a str], rt: &'a R) -> Process<'a, R> {
-        Process {
-            words,
-            last: None,
-            rt,
-            is_shut: true,
-            clock: None,
-        }
+        let mut process = Process::of(words, None, rt);
+        process.is_shut = true;
+        process
+    }
+
+    /// A process of these words, whose files are to be asked what is listed.
+    pub fn listed(words: &'a [&'a str], rt: &'a R, list: &'a List) -> Process<'a, R> {
+        let mut process = Process::of(words, None, rt);
+        process.list = Some(list);
+        process
     }
 }
 
@@ -117,50 +119,80 @@ impl<'a, R> Env for Process<'a, R> {
 }
 
 impl<'a, R: Files> Files for Process<'a, R> {
-    type File = R::File;
+    type File = Opened<'a, R::File>;
 
     type Dir = R::Dir;
 
-    fn open_file(&self, how: &OpenOptions, path: &str) -> io::Result<R::File> {
+    fn open_file(&self, how: &OpenOptions, path: &str) -> io::Result<Opened<'a, R::File>> {
         if self.is_shut {
             return Err(io::Error::from(ErrorKind::PermissionDenied));
         }
-        self.rt.open_file(how, path)
+        match self.list {
+            Some(list) => Ok(Opened::Listed(list.open_file(how, path)?)),
+            None => Ok(Opened::Real(self.rt.open_file(how, path)?)),
+        }
     }
 
     fn open_dir(&self, path: &str) -> io::Result<R::Dir> {
-        self.rt.open_dir(path)
+        match self.list {
+            Some(list) => Err(list.miss()),
+            None => self.rt.open_dir(path),
+        }
     }
 
     fn metadata(&self, path: &str) -> io::Result<Metadata> {
-        self.rt.metadata(path)
+        match self.list {
+            Some(list) => Err(list.miss()),
+            None => self.rt.metadata(path),
+        }
     }
 
     fn symlink_metadata(&self, path: &str) -> io::Result<Metadata> {
-        self.rt.symlink_metadata(path)
+        match self.list {
+            Some(list) => list.look(path),
+            None => self.rt.symlink_metadata(path),
+        }
     }
 
     fn copy(&self, from: &str, to: &str) -> io::Result<u64> {
-        self.rt.copy(from, to)
+        match self.list {
+            Some(list) => Err(list.miss()),
+            None => self.rt.copy(from, to),
+        }
     }
 
     fn rename(&self, from: &str, to: &str) -> io::Result<()> {
-        self.rt.rename(from, to)
+        match self.list {
+            Some(list) => list.rename(from, to),
+            None => self.rt.rename(from, to),
+        }
     }
 
     fn remove_file(&self, path: &str) -> io::Result<()> {
-        self.rt.remove_file(path)
+        match self.list {
+            Some(list) => list.remove_file(path),
+            None => self.rt.remove_file(path),
+        }
     }
 
     fn create_dir(&self, path: &str) -> io::Result<()> {
-        self.rt.create_dir(path)
+        match self.list {
+            Some(list) => Err(list.miss()),
+            None => self.rt.create_dir(path),
+        }
     }
 
     fn remove_dir(&self, path: &str) -> io::Result<()> {
-        self.rt.remove_dir(path)
+        match self.list {
+            Some(list) => Err(list.miss()),
+            None => self.rt.remove_dir(path),
+        }
     }
 
     fn remove_dir_all<B: Allocator>(&self, alloc: B, path: &str) -> io::Result<()> {
-        self.rt.remove_dir_all(alloc, path)
+        match self.list {
+            Some(list) => Err(list.miss()),
+            None => self.rt.remove_dir_all(alloc, path),
+        }
     }
 }

@@ -1,17 +1,37 @@
-//! Tests of a core and of the callers that rest on it. Beside tests there is nothing in it.
+//! Tests of a core, of the callers that rest on it, of desks, and of the quick path. Most of desks and of the quick path
+//! have real threads. Beside tests there is nothing in it.
 //!
 //! | Module | Tests of |
 //! |---|---|
 //! | `cores` | `pif_core`: its readers |
 //! | `uses` | `pif_core_callers`: the callers to copy from; below it each of their ways out |
+//! | `driver` | none: the words of the tables of `cores` and `uses` |
+//! | `desk` | `pif_desk`: calls of real threads at a desk, sleep and time, refused memory, receipts and settling |
+//! | `traces` | `pif_desk` and `pif_job_trace`: the journal of a desk as a trace that replays the same |
+//! | `drives` | `pif_job_drive`: what the clients of a drive do, and that one without memory ends |
+//! | `leaving` | `pif_job_drive`: how a client ends at a fault, and which drives are refused |
+//! | `quick` | `pif_quick`: words from a try to a meeting, passes that wait, sums over many turns |
+//! | `checks` | none: it has what asserts |
 //!
-//! Each test is a table of what is asked, and of the answers, for which `driver` has the words. What scripts can say of
-//! a core is tested by transcripts: crates/pif_test_transcripts/data/cores.txt and expiries.txt.
+//! A test of `cores` or `uses` is a table of what is asked, and of the answers. What scripts can say of a core is tested
+//! by transcripts: crates/pif_test_transcripts/data/cores.txt and expiries.txt.
 #![tactic(auto)]
 
 #[cfg(test)]
+mod checks;
+#[cfg(test)]
 mod cores;
 #[cfg(test)]
+mod desk;
+#[cfg(test)]
 mod driver;
+#[cfg(test)]
+mod drives;
+#[cfg(test)]
+mod leaving;
+#[cfg(test)]
+mod quick;
+#[cfg(test)]
+mod traces;
 #[cfg(test)]
 mod uses;

@@ -1,9 +1,9 @@
+use crate::streams::{Part, Stream};
 use pif_history_model::Line;
 use pif_history_text::{History, read_history};
 use pif_rules::no_rules;
 use pif_rules_model::Rules;
 use pif_script_model::CliFault;
-use pif_test_streams::{Part, Stream};
 use pif_text::Cause;
 use pif_types::{Kind, MutexId, Request, Tid};
 use std::alloc::Global;

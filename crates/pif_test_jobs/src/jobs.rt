@@ -1,5 +1,6 @@
 //! What the tests have done between two streams.
 
+use crate::streams::Stream;
 use pif_job_check::{check, check_strictly, fill, fill_as_one_of_several};
 use pif_job_draw::{Drawn, draw, write_drawn, write_graph, write_states};
 use pif_job_replay::{migrate, replay};
@@ -9,11 +10,12 @@ use pif_job_show::show_story;
 use pif_job_trace::{trace, trace_story};
 use pif_script::{CliFault, Notice, run};
 use pif_script_model::Detail;
-use pif_test_streams::{Ended, Part, Stream, Task};
 use pif_watch::Unwatched;
 use std::alloc::Global;
 use std::io::{Read, Write};
-use std::process::Abort;
+
+/// How a job ends.
+pub type Ended = Result<(), CliFault>;
 
 /// In what detail a story is shown; for `None` its trace is written.
 pub type Telling = Option<Detail>;
@@ -106,19 +108,5 @@ pub fn do_job(
         Job::States => write_states(alloc, reader, writer, notice),
         Job::Graph => write_graph(alloc, reader, writer, notice),
         Job::Talk => shell(alloc, &NoShelf, false, reader, writer),
-    }
-}
-
-impl<R: Abort> Task<R> for Job {
-    fn do_it(self, alloc: Global, reader: &mut Stream<'_>, writer: &mut Stream<'_>) -> Ended {
-        do_job(self, alloc, reader, writer, &mut Notice::new())
-    }
-
-    fn assert_done(rt: &R, is_wanted: bool, read: &[Part<'_>], ended: Ended, count: usize) {
-        assert!(rt; is_wanted, "{read:?}: {ended:?}, {count} bytes");
-    }
-
-    fn assert_ended(rt: &R, is_wanted: bool, ended: Ended) {
-        assert!(rt; is_wanted, "{ended:?}");
     }
 }

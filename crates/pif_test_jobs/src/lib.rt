@@ -16,11 +16,15 @@
 //! | `histories` | `pif_history_text`: histories that are read, and their faults |
 //! | `explorations` | `pif_explore_text`: files of `pif explore` that are read, and their faults |
 //! | `jobs` | none: what the others have done between two streams |
+//! | `streams` | none: the stream, which moves few bytes a call or fails once where it is told to |
+//! | `checks` | none: the checks of what a job writes and how it ends |
 //!
 //! `scripts` tests `pif_script`, `pif_job_replay` and `pif_job_trace`; `stories` also `show_story` of `pif_job_show` and
 //! `trace_story` of `pif_job_trace`. What words and an input can ask is a transcript of `pif_test_transcripts`.
 #![tactic(auto)]
 
+#[cfg(test)]
+mod checks;
 #[cfg(test)]
 mod explorations;
 #[cfg(test)]
@@ -45,5 +49,7 @@ mod shells;
 mod shows;
 #[cfg(test)]
 mod stories;
+#[cfg(test)]
+mod streams;
 #[cfg(test)]
 mod syntax_errors;

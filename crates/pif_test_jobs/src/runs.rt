@@ -1,8 +1,8 @@
 //! The notes of a run, and which scripts have none.
 
+use crate::streams::{Part, Stream};
 use pif_job_run::run_noted;
 use pif_script::{CliFault, Notice};
-use pif_test_streams::{Part, Stream};
 use std::alloc::Global;
 use std::process::Abort;
 

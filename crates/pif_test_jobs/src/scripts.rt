@@ -12,8 +12,8 @@ mod transcripts;
 mod uses;
 mod waits;
 
+use crate::checks::check_memory;
 use crate::jobs::Job;
-use pif_test_streams::check_memory;
 
 const BOOSTED: &str =
     "thread 10\nthread 50\nmutex normal\ncall t1 lock m1\ncall t2 lock m1\nword m1\nprio t1\n\

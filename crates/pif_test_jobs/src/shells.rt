@@ -5,8 +5,8 @@ mod saving;
 mod sessions;
 mod shelves;
 
+use crate::streams::Stream;
 use pif_job_shell::{NoShelf, shell};
-use pif_test_streams::Stream;
 use std::alloc::Global;
 use std::process::Abort;
 

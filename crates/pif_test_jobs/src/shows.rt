@@ -3,9 +3,10 @@
 
 mod states;
 
+use crate::checks::{check_job, check_parts, check_write};
 use crate::jobs::Job;
+use crate::streams::Part;
 use pif_script::CliFault;
-use pif_test_streams::{Part, check_job, check_parts, check_write};
 use pif_text::{Cause, errno_name, errno_of};
 use pif_types::Errno;
 use std::alloc::Global;

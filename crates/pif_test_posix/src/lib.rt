@@ -1,8 +1,10 @@
-//! Tests of the POSIX machine as a program, and of histories that are judged by it. Beside tests there is nothing in
-//! it.
+//! Tests of searches, of the POSIX machine as a program, of histories that are judged by it, and of programs that are
+//! explored on it.
 //!
 //! | Module | What it has |
 //! |---|---|
+//! | `counters` | none: two machines of one counter with a lamp; one searches all steps, one leaves out the switches |
+//! | `searches` | searches on both machines: verdicts that were worked out by hand |
 //! | `asks` | none: what tables are made of, by numbers |
 //! | `cloud` | none: all states in which the POSIX machine may be, after what was seen |
 //! | `beside` | the machine beside a core, on random events |
@@ -15,6 +17,7 @@
 //! | `replaced` | a history in which each answer is replaced by each other one |
 //! | `rules` | steps and histories that rules allow |
 //! | `wakeups` | waits that return though nothing can have woken them, and others |
+//! | `explore` | small programs: their outcomes and faults, worked out by hand; and the outcomes of all runs |
 #![tactic(auto)]
 
 #[cfg(test)]
@@ -25,8 +28,11 @@ mod beside;
 mod blocked;
 #[cfg(test)]
 mod cloud;
+pub mod counters;
 #[cfg(test)]
 mod examples;
+#[cfg(test)]
+mod explore;
 #[cfg(test)]
 mod furthest;
 #[cfg(test)]
@@ -39,5 +45,7 @@ mod plays;
 mod replaced;
 #[cfg(test)]
 mod rules;
+#[cfg(test)]
+mod searches;
 #[cfg(test)]
 mod wakeups;

@@ -1,6 +1,6 @@
 //! The command `drive`: clients in real threads.
-use super::{BOOSTED, Kept, ask_over, check_bytes, check_cut, fill};
-use arrayvec::ArrayVec;
+use super::{BOOSTED, ask_over, check_bytes, check_cut, fill};
+use crate::sinks::Kept;
 use pif_cli::Runtime;
 use std::alloc::Global;
 use std::process::Abort;
@@ -39,7 +39,7 @@ fn check_driven(rt: &impl Abort, driven: (u8, bool), status: u8) {
 }
 
 /// How many clients are asked for, the status, and what is written.
-const DRIVES: [(&str, u8, &str); 6] = [
+static DRIVES: [(&str, u8, &str); 6] = [
     ("1", 0, "answered 200\n"),
     ("2", 0, "answered 400\n"),
     ("64", 0, "answered 12800\n"),
@@ -50,8 +50,8 @@ const DRIVES: [(&str, u8, &str); 6] = [
 
 #[test]
 fn drive_runs_real_threads(rt: HostRuntime) {
-    for (clients, status, text) in DRIVES {
-        check_drive(&rt, rt.alloc(), clients, status, text);
+    for (clients, status, text) in &DRIVES {
+        check_drive(&rt, rt.alloc(), *clients, *status, *text);
     }
 }
 
@@ -77,7 +77,7 @@ fn check_one_of_three(rt: &impl Abort, status: u8) {
 
 #[test]
 fn a_count_that_cannot_be_written_has_status_3(rt: HostRuntime) {
-    let mut output = ArrayVec::<u8, 4>::new();
+    let mut output = Kept::of_room(4);
     let words = &["pif", "drive", "1"];
     let ended = fill(&rt, rt.alloc(), words, BOOSTED.as_bytes(), &mut output);
     check_cut(&rt, ended, output.as_slice(), b"answ");

@@ -1,5 +1,6 @@
 //! Random scripts.
-use super::{Kept, NO_MEMORY, ask, check_bytes, check_end, check_ended};
+use super::{NO_MEMORY, ask, check_bytes, check_end, check_ended};
+use crate::sinks::Kept;
 use pif_cli::Runtime;
 use std::alloc::Global;
 use std::process::Abort;
@@ -36,7 +37,7 @@ fn check_counts(rt: &impl Abort, script: &Kept, wanted: [usize; 4]) {
 }
 
 /// What asks for a script, and what it has.
-const COUNTED: [(&[&str], [usize; 4]); 5] = [
+static COUNTED: [(&[&str], [usize; 4]); 5] = [
     (
         &["pif", "random", "--seed", "3", "--lines", "8"],
         [4, 3, 1, 9],
@@ -104,10 +105,10 @@ const COUNTED: [(&[&str], [usize; 4]); 5] = [
 
 #[test]
 fn the_counts_are_those_that_were_asked_for(rt: HostRuntime) {
-    for (words, wanted) in COUNTED {
+    for (words, wanted) in &COUNTED {
         let mut script = Kept::new();
-        write_script(&rt, rt.alloc(), words, &mut script);
-        check_counts(&rt, &script, wanted);
+        write_script(&rt, rt.alloc(), *words, &mut script);
+        check_counts(&rt, &script, *wanted);
     }
 }
 
@@ -130,7 +131,7 @@ fn check_has(rt: &impl Abort, script: &Kept, wanted: [bool; 3]) {
 }
 
 /// Words that ask for a script, and whether it has a robust mutex, an end and a tick.
-const PARTS: [(&[&str], [bool; 3]); 5] = [
+static PARTS: [(&[&str], [bool; 3]); 5] = [
     (
         &[
             "pif",
@@ -163,15 +164,15 @@ const PARTS: [(&[&str], [bool; 3]); 5] = [
 
 #[test]
 fn only_what_was_asked_for_is_there(rt: HostRuntime) {
-    for (words, wanted) in PARTS {
+    for (words, wanted) in &PARTS {
         let mut script = Kept::new();
-        write_script(&rt, rt.alloc(), words, &mut script);
-        check_has(&rt, &script, wanted);
+        write_script(&rt, rt.alloc(), *words, &mut script);
+        check_has(&rt, &script, *wanted);
     }
 }
 
 /// Words that ask for a script, and whether it is that of the first.
-const SEEDS: [(&[&str], bool); 2] = [
+static SEEDS: [(&[&str], bool); 2] = [
     (
         &[
             "pif",
@@ -200,10 +201,10 @@ const SEEDS: [(&[&str], bool); 2] = [
 fn a_seed_gives_one_script_that_has_no_fault(rt: HostRuntime) {
     let mut script = Kept::new();
     write_script(&rt, rt.alloc(), SEEDS[0].0, &mut script);
-    for (words, same) in SEEDS {
+    for (words, same) in &SEEDS {
         let mut given = Kept::new();
-        write_script(&rt, rt.alloc(), words, &mut given);
-        check_same(&rt, &given, &script, same);
+        write_script(&rt, rt.alloc(), *words, &mut given);
+        check_same(&rt, &given, &script, *same);
     }
     check_answered(&rt, answered(&rt, rt.alloc(), &script));
 }

@@ -1,7 +1,8 @@
 //! The time of a search, by a clock that goes on by as much at each reading.
 
-use super::{Kept, ask_process, check_bytes, check_status};
+use super::{ask_process, check_bytes, check_status};
 use crate::processes::Process;
+use crate::sinks::Kept;
 use pif_cli::Runtime;
 use std::process::Abort;
 use std::rt::{Env, Files};
@@ -25,7 +26,7 @@ const LATER: &str = "undecided at 3\nno witness found from 4 on\n";
 /// What is asked over which history, by a clock of how many milliseconds a reading; and the status and what is written.
 /// The searches ask before each line: five that are guided, and then the exact one. So the twenty-third question is that
 /// of the exact one before line 3.
-const TIMED: [(&[&str], &str, u64, (u8, &str)); 9] = [
+static TIMED: [(&[&str], &str, u64, (u8, &str)); 9] = [
     (
         &["pif", "judge", "--seconds", "5"],
         LEGAL,
@@ -89,8 +90,8 @@ fn check_timed<P: Env + AllocGlobal + Files + Runtime + Sync>(
 /// The search is given up before the first line at which its time is over, and else there is the verdict.
 #[test]
 fn a_search_ends_with_its_time(rt: HostRuntime) {
-    for (words, history, step, ended) in TIMED {
-        let process = (Process::ticking(words, &rt, step), rt.alloc());
-        check_timed(&rt, &process, history, ended);
+    for (words, history, step, ended) in &TIMED {
+        let process = (Process::ticking(*words, &rt, *step), rt.alloc());
+        check_timed(&rt, &process, *history, *ended);
     }
 }

@@ -1,8 +1,6 @@
-use super::{
-    BOOSTED, BOOSTED_ANSWERS, Kept, ask_process, check_bytes, check_process, check_status,
-};
+use super::{BOOSTED, BOOSTED_ANSWERS, ask_process, check_bytes, check_process, check_status};
 use crate::processes::Process;
-use arrayvec::ArrayVec;
+use crate::sinks::Kept;
 use std::process::{Abort, ExitCode, Termination};
 use std::str::from_utf8;
 use std::test::Fail;
@@ -66,7 +64,7 @@ fn a_word_that_is_no_text_is_refused(rt: HostRuntime) {
 fn the_status_is_that_of_the_process(rt: HostRuntime) {
     let third = Some(b"\xff".as_slice());
     let process = (Process::of(WORDS, third, &rt), rt.alloc());
-    let mut errors = ArrayVec::<u8, 4>::new();
+    let mut errors = Kept::of_room(4);
     let ended = ask_process(&process, BOOSTED, &mut Kept::new(), &mut errors);
     assert!(rt; ended.report(&rt) == ExitCode::from(3));
 }

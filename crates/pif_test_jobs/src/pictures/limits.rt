@@ -1,8 +1,9 @@
 //! How many commands are drawn at most.
 
+use crate::jobs::Ended;
+use crate::streams::Stream;
 use pif_job_draw::{Drawn, write_drawn};
 use pif_script::{CliFault, Notice};
-use pif_test_streams::{Ended, Stream};
 use pif_text::Cause;
 use pif_watch::Unwatched;
 use std::alloc::Global;

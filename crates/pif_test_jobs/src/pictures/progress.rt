@@ -1,9 +1,10 @@
 //! What is told while a picture is made.
 
+use crate::jobs::Ended;
+use crate::streams::Stream;
 use pif_job_draw::{Drawn, write_drawn, write_picture};
 use pif_script::Notice;
 use pif_script_model::Picture;
-use pif_test_streams::{Ended, Stream};
 use pif_watch::WatchSteps;
 use std::alloc::Global;
 use std::process::Abort;

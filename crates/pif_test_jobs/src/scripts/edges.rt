@@ -1,8 +1,9 @@
 //! Faults at the bytes around the end of a chunk, and at those of a line.
 
+use crate::checks::check_streams;
 use crate::jobs::Job;
+use crate::streams::{Part, Stream};
 use pif_script::CliFault;
-use pif_test_streams::{Part, Stream, check_streams};
 use pif_text::Cause;
 use std::alloc::{AllocError, Global};
 use std::process::Abort;

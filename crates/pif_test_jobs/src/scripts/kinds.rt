@@ -1,5 +1,6 @@
+use crate::checks::check_parts;
 use crate::jobs::Job;
-use pif_test_streams::{Part, check_parts};
+use crate::streams::Part;
 
 /// Lines, each so many times.
 const RECURSION: [Part<'_>; 7] = [

@@ -1,6 +1,6 @@
 //! The longest chain that a core can have.
+use crate::checks::check_job;
 use crate::jobs::Job;
-use pif_test_streams::check_job;
 use std::alloc::{AllocError, Global};
 use std::test::Fail;
 

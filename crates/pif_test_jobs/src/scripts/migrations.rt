@@ -1,8 +1,9 @@
+use crate::checks::{check_memory, check_parts, check_read, check_write};
 use crate::jobs::Job;
+use crate::streams::Part;
 use arrayvec::ArrayVec;
 use pif_job_replay::{migrate, replay};
 use pif_script::CliFault;
-use pif_test_streams::{Part, check_memory, check_parts, check_read, check_write};
 use pif_text::Cause;
 use std::alloc::Global;
 use std::io::ErrorKind;

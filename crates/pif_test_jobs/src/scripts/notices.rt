@@ -1,6 +1,6 @@
+use crate::streams::Stream;
 use pif_job_replay::{migrate_noting, replay_noting};
 use pif_script::{CliFault, Notice, run_noting};
-use pif_test_streams::Stream;
 use pif_text::Cause;
 use std::alloc::Global;
 use std::io::ErrorKind;

@@ -1,8 +1,9 @@
 use super::{BOOSTED, BOOSTED_ANSWERS};
+use crate::checks::{check_read, check_slowly, check_streams, check_write};
 use crate::jobs::{Job, run_with_notes};
+use crate::streams::Stream;
 use pif_job_replay::replay;
 use pif_script::{CliFault, run};
-use pif_test_streams::{Stream, check_read, check_slowly, check_streams, check_write};
 use pif_text::Cause;
 use std::alloc::Global;
 use std::cell::Cell;

@@ -1,7 +1,8 @@
 //! Tables of calls that something befalls after each number of their steps.
 
+use crate::checks::check_parts;
 use crate::jobs::Job;
-use pif_test_streams::{Part, check_parts};
+use crate::streams::Part;
 use std::alloc::Global;
 use std::process::Abort;
 

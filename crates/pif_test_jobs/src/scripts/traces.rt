@@ -1,8 +1,9 @@
+use crate::checks::{check_job, check_memory, check_read, check_slowly, check_write};
 use crate::jobs::Job;
+use crate::streams::Stream;
 use pif_core::{Core, Entry, Event, Seen};
 use pif_job_trace::{write_trace, written_trace_is_the_same};
 use pif_script::CliFault;
-use pif_test_streams::{Stream, check_job, check_memory, check_read, check_slowly, check_write};
 use pif_text::{Addition, Command, command_of};
 use pif_types::{CondId, Kind, Limits, MutexId, Prio, Tid};
 use std::alloc::Global;

@@ -1,6 +1,6 @@
-use crate::jobs::Job;
+use crate::checks::{check_job, check_memory, check_read, check_slowly, check_write};
+use crate::jobs::{Ended, Job};
 use pif_script::CliFault;
-use pif_test_streams::{Ended, check_job, check_memory, check_read, check_slowly, check_write};
 use pif_text::Cause;
 use std::io::ErrorKind;
 

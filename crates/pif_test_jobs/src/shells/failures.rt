@@ -1,8 +1,9 @@
 //! Where a read, a write or a growth of memory fails.
 
-use crate::jobs::{Job, do_job};
+use crate::checks::check_write;
+use crate::jobs::{Ended, Job, do_job};
+use crate::streams::Stream;
 use pif_script::{CliFault, Notice};
-use pif_test_streams::{Ended, Stream, check_write};
 use std::alloc::Global;
 use std::io::ErrorKind;
 use std::process::Abort;

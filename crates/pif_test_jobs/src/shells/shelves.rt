@@ -1,7 +1,7 @@
 //! A shelf of which is known what it is to be asked.
 
+use crate::streams::Stream;
 use pif_job_shell::{LoadFault, SaveFault, Shelf, shell};
-use pif_test_streams::Stream;
 use std::alloc::Global;
 use std::cell::Cell;
 use std::process::Abort;

@@ -1,11 +1,12 @@
 //! What `show` writes of a core: the line of a mutex for which a crowd waits, and a write that fails in each part of a
 //! text that is longer than a page.
 
+use crate::checks::check_write;
 use crate::jobs::Job;
+use crate::streams::Stream;
 use pif_job_show::show_story;
 use pif_script::{CliFault, Notice};
 use pif_script_model::Detail;
-use pif_test_streams::{Stream, check_write};
 use std::alloc::Global;
 use std::io::ErrorKind;
 use std::process::Abort;

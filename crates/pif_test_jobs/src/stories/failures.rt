@@ -1,8 +1,8 @@
 //! Where a read, a write or a growth of memory fails: what is written then.
 
 use super::BOOSTED;
+use crate::checks::{check_memory, check_read, check_write};
 use crate::jobs::Job;
-use pif_test_streams::{check_memory, check_read, check_write};
 use std::io::ErrorKind;
 
 const OK: &str = "ok story 13\n";

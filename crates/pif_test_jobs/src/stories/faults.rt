@@ -1,6 +1,7 @@
+use crate::checks::check_parts;
 use crate::jobs::Job;
+use crate::streams::Part;
 use pif_script::CliFault;
-use pif_test_streams::{Part, check_parts};
 use pif_text::Cause;
 
 /// 16,777,216 bytes in comments of 16.

@@ -1,13 +1,13 @@
 //! What a notice keeps of a story that is checked, filled in, traced, shown or drawn.
 
-use crate::jobs::PAGE;
+use crate::jobs::{Ended, PAGE};
+use crate::streams::Stream;
 use pif_job_check::{check_noting, check_strictly, fill_as_one_of_several, fill_noting};
 use pif_job_draw::{write_drawn, write_picture};
 use pif_job_show::show_story;
 use pif_job_trace::{trace_noting, trace_story};
 use pif_script::Notice;
 use pif_script_model::{Detail, Picture};
-use pif_test_streams::{Ended, Stream};
 use pif_watch::Unwatched;
 use std::alloc::Global;
 use std::process::Abort;

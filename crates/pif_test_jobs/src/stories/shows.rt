@@ -2,12 +2,12 @@
 //! them.
 
 use super::BOOSTED;
-use crate::jobs::{Job, Telling};
+use crate::checks::{check_job, check_memory, check_parts, check_read, check_write};
+use crate::jobs::{Ended, Job, Telling};
 use pif_job_show::show_story;
 use pif_job_trace::trace_noting;
 use pif_script::{CliFault, Notice};
 use pif_script_model::Detail;
-use pif_test_streams::{Ended, check_job, check_memory, check_parts, check_read, check_write};
 use pif_text::Cause;
 use std::alloc::Global;
 use std::io::ErrorKind;

@@ -1,0 +1,5 @@
+mod all_runs;
+mod faults;
+mod outcomes;
+mod programs;
+mod reduced;

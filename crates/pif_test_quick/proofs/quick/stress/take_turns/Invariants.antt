@@ -1,8 +1,0 @@
-use Rattle.pif_quick.specs.Quick.{IsPassOf, IsIdle}
-use Rattle.pif_test_quick.proofs.quick.stress.take_turns.Given as goal
-
-abbrev pub invariant-loop : goal.invariant-loop
-invariant-loop g l = record {
-  own : IsPassOf l.quick l.pass;
-  idle : IsIdle l.pass;
-}

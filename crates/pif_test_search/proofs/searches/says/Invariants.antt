@@ -1,6 +1,0 @@
-use Rattle.std.proofs.Common.{All, ◌≡◌, false}
-use Rattle.pif_test_search.specs.Counting.{is_hidden}
-use Rattle.pif_test_search.proofs.searches.says.Given as goal
-
-abbrev pub invariant-loop-count : goal.invariant-loop-count
-invariant-loop-count l = All (λ x. is_hidden x ≡ false) l.lines.items
