@@ -14,15 +14,20 @@ fn boosted(core: &mut Core) -> Result<Option<Prio>, AddFault> {
     Ok(core.effective(low))
 }
 
-/// Makes a core for two threads and one mutex, and prints that priority.
-pub fn show<R: Print>(rt: &R, alloc: Global) -> io::Result<()> {
-    let limits = Limits::new(2, 1, 0, 1).ok_or(io::ErrorKind::InvalidInput)?;
-    let Ok(mut core) = Core::new(alloc, limits) else {
-        return Err(io::Error::from(io::ErrorKind::OutOfMemory));
-    };
-    match boosted(&mut core) {
+/// Prints that priority.
+fn print_boosted<R: Print>(rt: &R, boosted: Result<Option<Prio>, AddFault>) -> io::Result<()> {
+    match boosted {
         Ok(Some(prio)) => println!(rt; "the holder runs at {}", prio.get()),
         Ok(None) => println!(rt; "no such thread"),
         Err(fault) => println!(rt; "{fault}"),
+    }
+}
+
+/// Makes a core for two threads and one mutex, and prints at which priority the holder runs.
+pub fn show<R: Print>(rt: &R, alloc: Global) -> io::Result<()> {
+    let limits = Limits::new(2, 1, 0, 1).ok_or(io::ErrorKind::InvalidInput)?;
+    match Core::new(alloc, limits) {
+        Ok(mut core) => print_boosted(rt, boosted(&mut core)),
+        Err(_) => Err(io::Error::from(io::ErrorKind::OutOfMemory)),
     }
 }
