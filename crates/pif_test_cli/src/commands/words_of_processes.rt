@@ -8,10 +8,28 @@ use std::test::Fail;
 /// The words `pif`, `run`, and a third one if there is one, which may be no text.
 const WORDS: &[&str] = &["pif", "run"];
 
+/// A third word, the status, and what is written to the output and to the errors.
+type Asked = (Option<&'static [u8]>, u8, &'static str, &'static str);
+
+/// No third word; one that names a file, or the standard input; and one that is no text.
+static ASKED: [Asked; 4] = [
+    (None, 0, BOOSTED_ANSWERS, ""),
+    (
+        Some(b"no/such file\x07"),
+        3,
+        "",
+        "pif: no/such file\\x07: No such file or directory\n",
+    ),
+    (Some(b"-"), 0, BOOSTED_ANSWERS, ""),
+    (Some(b"\xff"), 1, "", "error: a word is not UTF-8\n"),
+];
+
 #[test]
 fn words_of_a_process_ask_for_a_job(rt: HostRuntime) {
-    let process = (Process::of(WORDS, None, &rt), rt.alloc());
-    check_process(&rt, &process, BOOSTED, 0, BOOSTED_ANSWERS, "");
+    for (third, status, output, errors) in &ASKED {
+        let process = (Process::of(WORDS, *third, &rt), rt.alloc());
+        check_process(&rt, &process, BOOSTED, *status, *output, *errors);
+    }
 }
 
 #[test]
@@ -29,35 +47,6 @@ fn each_word_of_a_process_counts(rt: HostRuntime) -> Result<(), Fail> {
 fn is_told_of_fast(rt: &impl Abort, errors: &[u8]) -> Result<(), Fail> {
     assert!(rt; from_utf8(errors)?.contains("'--fast'"));
     Ok(())
-}
-
-#[test]
-fn a_word_of_a_process_may_name_a_file(rt: HostRuntime) {
-    let third = Some(b"no/such file\x07".as_slice());
-    let process = (Process::of(WORDS, third, &rt), rt.alloc());
-    let told = "pif: no/such file\\x07: No such file or directory\n";
-    check_process(&rt, &process, BOOSTED, 3, "", told);
-}
-
-#[test]
-fn a_dash_names_the_standard_input(rt: HostRuntime) {
-    let third = Some(b"-".as_slice());
-    let process = (Process::of(WORDS, third, &rt), rt.alloc());
-    check_process(&rt, &process, BOOSTED, 0, BOOSTED_ANSWERS, "");
-}
-
-#[test]
-fn a_word_that_is_no_text_is_refused(rt: HostRuntime) {
-    let third = Some(b"\xff".as_slice());
-    let process = (Process::of(WORDS, third, &rt), rt.alloc());
-    check_process(
-        &rt,
-        &process,
-        BOOSTED,
-        1,
-        "",
-        "error: a word is not UTF-8\n",
-    );
 }
 
 #[test]
