@@ -10,12 +10,15 @@ mod texts;
 mod times;
 mod words_of_processes;
 
-use crate::sinks::Kept;
+use arrayvec::ArrayVec;
 use pif_cli::{Input, Output, Runtime, Status, command, command_of_process};
 use std::alloc::Global;
-use std::io::Read;
+use std::io::{Read, Write};
 use std::process::{Abort, ExitCode};
 use std::rt::{Env, Files};
+
+/// Keeps what is written, and allocates nothing; past its room it takes no byte.
+pub type Kept = ArrayVec<u8, 4096>;
 
 const BOOSTED: &str =
     "thread 10\nthread 50\nmutex normal\ncall t1 lock m1\ncall t2 lock m1\nword m1\nprio t1\n\
@@ -32,37 +35,37 @@ const NO_MEMORY: &str = "pif: out of memory\n";
 const NO_NOTES: &str = "pif: out of memory for notes\n";
 
 /// Asks the program for a job with these words over a reader. Answers the status.
-fn ask_over<R: Read>(
+fn ask_over<R: Read, W: Write, E: Write>(
     rt: &(impl Runtime + Sync),
     alloc: Global,
     words: &[&str],
     reader: &mut R,
-    output: &mut Kept,
-    errors: &mut Kept,
+    output: &mut W,
+    errors: &mut E,
 ) -> u8 {
     let (mut input, mut output) = (Input::new(reader), Output::new(output));
     command(alloc, rt, words, &mut input, &mut output, errors)
 }
 
 /// Asks the program for a job with these words over an input. Answers the status.
-fn ask(
+fn ask<W: Write, E: Write>(
     rt: &(impl Runtime + Sync),
     alloc: Global,
     words: &[&str],
     input: &[u8],
-    output: &mut Kept,
-    errors: &mut Kept,
+    output: &mut W,
+    errors: &mut E,
 ) -> u8 {
     let mut bytes = input;
     ask_over(rt, alloc, words, &mut bytes, output, errors)
 }
 
 /// Lets a process do what its words ask for over an input. Answers its status.
-fn ask_process<P: Env + AllocGlobal + Files + Runtime + Sync>(
+fn ask_process<P: Env + AllocGlobal + Files + Runtime + Sync, W: Write, E: Write>(
     process: &P,
     input: &str,
-    output: &mut Kept,
-    errors: &mut Kept,
+    output: &mut W,
+    errors: &mut E,
 ) -> Status {
     let (mut input, mut output) = (Input::new(input.as_bytes()), Output::new(output));
     command_of_process(process, &mut input, &mut output, errors)
@@ -100,13 +103,13 @@ fn check_process<P: Env + AllocGlobal + Files + Runtime + Sync>(
     check_bytes(rt, told.as_slice(), errors.as_bytes(), "the errors");
 }
 
-/// Does what these words ask for: the status.
+/// Does what these words ask for, at an output that takes four bytes: the status.
 pub(crate) fn fill(
     rt: &(impl Runtime + Sync),
     alloc: Global,
     words: &[&str],
     text: &[u8],
-    output: &mut Kept,
+    output: &mut ArrayVec<u8, 4>,
 ) -> u8 {
     ask(rt, alloc, words, text, output, &mut Kept::new())
 }

@@ -6,7 +6,6 @@
 //! | `commands` | `pif_cli`: words of a process, files, stories that are saved, random scripts, memory, failing writes, drives |
 //! | `processes` | none: the processes that the others share |
 //! | `listed_files` | none: files of which is known what they are to be asked |
-//! | `sinks` | none: what stands for an output or for the errors |
 //!
 //! What words and an input can ask is a transcript of `pif_test_transcripts`.
 #![tactic(auto)]
@@ -17,5 +16,3 @@ mod commands;
 mod listed_files;
 #[cfg(test)]
 mod processes;
-#[cfg(test)]
-mod sinks;

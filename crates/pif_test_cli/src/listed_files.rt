@@ -1,9 +1,14 @@
 //! Files of which is known what they are to be asked.
 
+use std::alloc::Allocator;
 use std::fs::{Metadata, OpenFile, OpenOptions, Permissions};
 use std::io;
 use std::io::{ErrorKind, Read, Seek, SeekFrom, Write};
+use std::rt::Files;
+use std::sync::Wait;
 use std::sync::atomic::{AtomicBool, AtomicUsize, Ordering};
+use std::thread::Threads;
+use std::time::{Clock, Duration};
 
 /// What files are asked, and what they answer.
 #[derive(Clone, Copy)]
@@ -55,7 +60,7 @@ impl List {
     }
 
     /// Another deed was wanted.
-    pub fn miss(&self) -> io::Error {
+    fn miss(&self) -> io::Error {
         self.is_other.store(true, Ordering::SeqCst);
         io::Error::from(ErrorKind::Unsupported)
     }
@@ -72,6 +77,34 @@ fn answer<T>(answer: Result<T, ErrorKind>) -> io::Result<T> {
     match answer {
         Ok(given) => Ok(given),
         Err(kind) => Err(io::Error::from(kind)),
+    }
+}
+
+/// The files of a process that starts threads as `rt` does.
+#[derive(Drop)]
+pub struct ListedFiles<'a, R> {
+    list: &'a List,
+    rt: &'a R,
+}
+
+impl<'a, R> ListedFiles<'a, R> {
+    /// Files that are to be asked these deeds.
+    pub fn new(list: &'a List, rt: &'a R) -> ListedFiles<'a, R> {
+        ListedFiles { list, rt }
+    }
+}
+
+impl<'a, R: Threads> Threads for ListedFiles<'a, R> {}
+
+impl<'a, R: Wait> Wait for ListedFiles<'a, R> {}
+
+impl<'a, R: Clock> Clock for ListedFiles<'a, R> {
+    fn monotonic(&self) -> io::Result<Duration> {
+        self.rt.monotonic()
+    }
+
+    fn since_1970(&self) -> io::Result<Duration> {
+        self.rt.since_1970()
     }
 }
 
@@ -99,7 +132,7 @@ impl Rest {
     }
 }
 
-/// A file of a list that was opened or made.
+/// A file that was opened or made.
 #[derive(Drop)]
 pub struct Listed<'a> {
     list: &'a List,
@@ -127,23 +160,12 @@ impl<'a> Listed<'a> {
     }
 }
 
-/// A file of a process: one that `rt` has opened, or one of a list.
-#[derive(Drop)]
-pub enum Opened<'a, F> {
-    Real(F),
-    Listed(Listed<'a>),
-}
-
-impl<'a, F: Read> Read for Opened<'a, F> {
+impl<'a> Read for Listed<'a> {
     fn read(&mut self, buf: &mut [u8]) -> io::Result<usize> {
-        let listed = match self {
-            Opened::Real(file) => return file.read(buf),
-            Opened::Listed(listed) => listed,
-        };
-        let rest = listed.rest()?;
+        let rest = self.rest()?;
         let count = buf.len().min(rest.left.len());
         buf[..count].copy_from_slice(&rest.left[..count]);
-        listed.rest = Some(Rest {
+        self.rest = Some(Rest {
             left: &rest.left[count..],
             text: rest.text,
             more: rest.more,
@@ -152,122 +174,119 @@ impl<'a, F: Read> Read for Opened<'a, F> {
     }
 }
 
-impl<'a, F: Write> Write for Opened<'a, F> {
+impl<'a> Write for Listed<'a> {
     fn write(&mut self, buf: &[u8]) -> io::Result<usize> {
-        let list = match self {
-            Opened::Real(file) => return file.write(buf),
-            Opened::Listed(listed) => listed.list,
-        };
-        match list.next() {
+        match self.list.next() {
             Some(Deed::Write(text, given)) if text.as_bytes() == buf => {
                 answer(given)?;
                 Ok(buf.len())
             }
-            _ => Err(list.miss()),
+            _ => Err(self.list.miss()),
         }
     }
 
     fn flush(&mut self) -> io::Result<()> {
-        match self {
-            Opened::Real(file) => file.flush(),
-            Opened::Listed(_) => Ok(()),
-        }
+        Ok(())
     }
 }
 
-impl<'a, F: Seek> Seek for Opened<'a, F> {
-    fn seek(&mut self, to: SeekFrom) -> io::Result<u64> {
-        match self {
-            Opened::Real(file) => file.seek(to),
-            Opened::Listed(listed) => Err(listed.list.miss()),
-        }
+impl<'a> Seek for Listed<'a> {
+    fn seek(&mut self, _to: SeekFrom) -> io::Result<u64> {
+        Err(self.list.miss())
     }
 }
 
-impl<'a, F: OpenFile> OpenFile for Opened<'a, F> {
+impl<'a> OpenFile for Listed<'a> {
     fn metadata(&self) -> io::Result<Metadata> {
-        match self {
-            Opened::Real(file) => file.metadata(),
-            Opened::Listed(listed) => Err(listed.list.miss()),
-        }
+        Err(self.list.miss())
     }
 
-    fn set_len(&self, size: u64) -> io::Result<()> {
-        match self {
-            Opened::Real(file) => file.set_len(size),
-            Opened::Listed(listed) => Err(listed.list.miss()),
-        }
+    fn set_len(&self, _size: u64) -> io::Result<()> {
+        Err(self.list.miss())
     }
 
     fn sync_all(&self) -> io::Result<()> {
-        let list = match self {
-            Opened::Real(file) => return file.sync_all(),
-            Opened::Listed(listed) => listed.list,
-        };
-        match list.next() {
+        match self.list.next() {
             Some(Deed::Sync(given)) => answer(given),
-            _ => Err(list.miss()),
+            _ => Err(self.list.miss()),
         }
     }
 
     fn sync_data(&self) -> io::Result<()> {
-        match self {
-            Opened::Real(file) => file.sync_data(),
-            Opened::Listed(listed) => Err(listed.list.miss()),
-        }
+        Err(self.list.miss())
     }
 
     fn set_permissions(&self, mode: Permissions) -> io::Result<()> {
-        let list = match self {
-            Opened::Real(file) => return file.set_permissions(mode),
-            Opened::Listed(listed) => listed.list,
-        };
-        match list.next() {
+        match self.list.next() {
             Some(Deed::Mode(given)) if mode == Metadata::of_file(0).permissions() => answer(given),
-            _ => Err(list.miss()),
+            _ => Err(self.list.miss()),
         }
     }
 }
 
-impl List {
-    /// Opens or makes the file of this name.
-    pub fn open_file(&self, how: &OpenOptions, path: &str) -> io::Result<Listed<'_>> {
-        let opened = match self.next() {
+impl<'a, R> Files for ListedFiles<'a, R> {
+    type File = Listed<'a>;
+
+    type Dir = io::Empty;
+
+    fn open_file(&self, how: &OpenOptions, path: &str) -> io::Result<Listed<'a>> {
+        let opened = match self.list.next() {
             Some(Deed::Open(name, given)) if name == path && !how.asks_write() => given,
             Some(Deed::Make(name, given)) if name == path && how.asks_create_new() => given,
-            _ => return Err(self.miss()),
+            _ => return Err(self.list.miss()),
         };
         answer(opened)?;
         Ok(Listed {
-            list: self,
+            list: self.list,
             rest: None,
         })
     }
 
-    /// What this name has.
-    pub fn look(&self, path: &str) -> io::Result<Metadata> {
-        match self.next() {
+    fn open_dir(&self, _path: &str) -> io::Result<io::Empty> {
+        Err(self.list.miss())
+    }
+
+    fn metadata(&self, _path: &str) -> io::Result<Metadata> {
+        Err(self.list.miss())
+    }
+
+    fn symlink_metadata(&self, path: &str) -> io::Result<Metadata> {
+        match self.list.next() {
             Some(Deed::Look(name, given)) if name == path => match answer(given)? {
                 true => Ok(Metadata::of_file(0)),
                 false => Ok(Metadata::of_symlink(0)),
             },
-            _ => Err(self.miss()),
+            _ => Err(self.list.miss()),
         }
     }
 
-    /// The file of one name gets another.
-    pub fn rename(&self, from: &str, to: &str) -> io::Result<()> {
-        match self.next() {
+    fn copy(&self, _from: &str, _to: &str) -> io::Result<u64> {
+        Err(self.list.miss())
+    }
+
+    fn rename(&self, from: &str, to: &str) -> io::Result<()> {
+        match self.list.next() {
             Some(Deed::Rename(old, new, given)) if old == from && new == to => answer(given),
-            _ => Err(self.miss()),
+            _ => Err(self.list.miss()),
         }
     }
 
-    /// The file of this name is removed.
-    pub fn remove_file(&self, path: &str) -> io::Result<()> {
-        match self.next() {
+    fn remove_file(&self, path: &str) -> io::Result<()> {
+        match self.list.next() {
             Some(Deed::Remove(name)) if name == path => Ok(()),
-            _ => Err(self.miss()),
+            _ => Err(self.list.miss()),
         }
+    }
+
+    fn create_dir(&self, _path: &str) -> io::Result<()> {
+        Err(self.list.miss())
+    }
+
+    fn remove_dir(&self, _path: &str) -> io::Result<()> {
+        Err(self.list.miss())
+    }
+
+    fn remove_dir_all<B: Allocator>(&self, _alloc: B, _path: &str) -> io::Result<()> {
+        Err(self.list.miss())
     }
 }

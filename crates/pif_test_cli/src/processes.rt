@@ -1,6 +1,5 @@
-//! Processes whose words a test chooses. They are of one type, so that the program is built once for all of them.
+//! Processes whose words a test chooses.
 
-use crate::listed_files::{List, Opened};
 use std::alloc::Allocator;
 use std::env::FillError;
 use std::fs::{Metadata, OpenOptions};
@@ -27,7 +26,7 @@ impl Ticking {
 }
 
 /// A process of these words, its name first, and of a last one if there is one, which may be no text. It starts threads
-/// as `rt` does, and opens its files, unless there is a list of what they are to be asked.
+/// and opens files as `rt` does.
 #[derive(Drop)]
 pub struct Process<'a, R> {
     words: &'a [&'a str],
@@ -35,7 +34,6 @@ pub struct Process<'a, R> {
     rt: &'a R,
     /// Whether it may open no file.
     is_shut: bool,
-    list: Option<&'a List>,
     /// Its clock; that of `rt` if there is none.
     clock: Option<Ticking>,
 }
@@ -48,33 +46,33 @@ impl<'a, R> Process<'a, R> {
             last,
             rt,
             is_shut: false,
-            list: None,
             clock: None,
         }
     }
 
     /// A process of these words, whose clock shows so many milliseconds more at each reading.
     pub fn ticking(words: &'a [&'a str], rt: &'a R, step: u64) -> Process<'a, R> {
-        let mut process = Process::of(words, None, rt);
-        process.clock = Some(Ticking {
-            step,
-            time: AtomicU64::new(0),
-        });
-        process
+        Process {
+            words,
+            last: None,
+            rt,
+            is_shut: false,
+            clock: Some(Ticking {
+                step,
+                time: AtomicU64::new(0),
+            }),
+        }
     }
 
     /// A process of these words that may open no file.
     pub fn shut(words: &'a [&'a str], rt: &'a R) -> Process<'a, R> {
-        let mut process = Process::of(words, None, rt);
-        process.is_shut = true;
-        process
-    }
-
-    /// A process of these words, whose files are to be asked what is listed.
-    pub fn listed(words: &'a [&'a str], rt: &'a R, list: &'a List) -> Process<'a, R> {
-        let mut process = Process::of(words, None, rt);
-        process.list = Some(list);
-        process
+        Process {
+            words,
+            last: None,
+            rt,
+            is_shut: true,
+            clock: None,
+        }
     }
 }
 
@@ -119,80 +117,50 @@ impl<'a, R> Env for Process<'a, R> {
 }
 
 impl<'a, R: Files> Files for Process<'a, R> {
-    type File = Opened<'a, R::File>;
+    type File = R::File;
 
     type Dir = R::Dir;
 
-    fn open_file(&self, how: &OpenOptions, path: &str) -> io::Result<Opened<'a, R::File>> {
+    fn open_file(&self, how: &OpenOptions, path: &str) -> io::Result<R::File> {
         if self.is_shut {
             return Err(io::Error::from(ErrorKind::PermissionDenied));
         }
-        match self.list {
-            Some(list) => Ok(Opened::Listed(list.open_file(how, path)?)),
-            None => Ok(Opened::Real(self.rt.open_file(how, path)?)),
-        }
+        self.rt.open_file(how, path)
     }
 
     fn open_dir(&self, path: &str) -> io::Result<R::Dir> {
-        match self.list {
-            Some(list) => Err(list.miss()),
-            None => self.rt.open_dir(path),
-        }
+        self.rt.open_dir(path)
     }
 
     fn metadata(&self, path: &str) -> io::Result<Metadata> {
-        match self.list {
-            Some(list) => Err(list.miss()),
-            None => self.rt.metadata(path),
-        }
+        self.rt.metadata(path)
     }
 
     fn symlink_metadata(&self, path: &str) -> io::Result<Metadata> {
-        match self.list {
-            Some(list) => list.look(path),
-            None => self.rt.symlink_metadata(path),
-        }
+        self.rt.symlink_metadata(path)
     }
 
     fn copy(&self, from: &str, to: &str) -> io::Result<u64> {
-        match self.list {
-            Some(list) => Err(list.miss()),
-            None => self.rt.copy(from, to),
-        }
+        self.rt.copy(from, to)
     }
 
     fn rename(&self, from: &str, to: &str) -> io::Result<()> {
-        match self.list {
-            Some(list) => list.rename(from, to),
-            None => self.rt.rename(from, to),
-        }
+        self.rt.rename(from, to)
     }
 
     fn remove_file(&self, path: &str) -> io::Result<()> {
-        match self.list {
-            Some(list) => list.remove_file(path),
-            None => self.rt.remove_file(path),
-        }
+        self.rt.remove_file(path)
     }
 
     fn create_dir(&self, path: &str) -> io::Result<()> {
-        match self.list {
-            Some(list) => Err(list.miss()),
-            None => self.rt.create_dir(path),
-        }
+        self.rt.create_dir(path)
     }
 
     fn remove_dir(&self, path: &str) -> io::Result<()> {
-        match self.list {
-            Some(list) => Err(list.miss()),
-            None => self.rt.remove_dir(path),
-        }
+        self.rt.remove_dir(path)
     }
 
     fn remove_dir_all<B: Allocator>(&self, alloc: B, path: &str) -> io::Result<()> {
-        match self.list {
-            Some(list) => Err(list.miss()),
-            None => self.rt.remove_dir_all(alloc, path),
-        }
+        self.rt.remove_dir_all(alloc, path)
     }
 }

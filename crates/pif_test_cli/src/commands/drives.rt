@@ -1,6 +1,6 @@
 //! The command `drive`: clients in real threads.
-use super::{BOOSTED, ask_over, check_bytes, check_cut, fill};
-use crate::sinks::Kept;
+use super::{BOOSTED, Kept, ask_over, check_bytes, check_cut, fill};
+use arrayvec::ArrayVec;
 use pif_cli::Runtime;
 use std::alloc::Global;
 use std::process::Abort;
@@ -77,7 +77,7 @@ fn check_one_of_three(rt: &impl Abort, status: u8) {
 
 #[test]
 fn a_count_that_cannot_be_written_has_status_3(rt: HostRuntime) {
-    let mut output = Kept::of_room(4);
+    let mut output = ArrayVec::<u8, 4>::new();
     let words = &["pif", "drive", "1"];
     let ended = fill(&rt, rt.alloc(), words, BOOSTED.as_bytes(), &mut output);
     check_cut(&rt, ended, output.as_slice(), b"answ");

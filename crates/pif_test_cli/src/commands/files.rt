@@ -1,8 +1,8 @@
-use super::{ask_process, check_bytes, check_process, check_status};
+use super::{Kept, ask_process, check_bytes, check_process, check_status};
 use crate::processes::Process;
-use crate::sinks::Kept;
 use pif_cli::Runtime;
-use std::io::ErrorKind;
+use std::io;
+use std::io::{ErrorKind, Write};
 use std::process::Abort;
 use std::rt::{Env, Files};
 
@@ -143,8 +143,24 @@ fn files_are_read_in_turn(rt: HostRuntime) {
     }
 }
 
+/// An output of which each write fails so.
+#[derive(Clone, Copy)]
+struct Failing {
+    why: ErrorKind,
+}
+
+impl Write for Failing {
+    fn write(&mut self, _buf: &[u8]) -> io::Result<usize> {
+        Err(io::Error::from(self.why))
+    }
+
+    fn flush(&mut self) -> io::Result<()> {
+        Ok(())
+    }
+}
+
 /// Why each write fails, and what the errors are told.
-static FAILING: [(ErrorKind, &str); 2] = [
+const FAILING: [(ErrorKind, &str); 2] = [
     (
         ErrorKind::StorageFull,
         "pif: the output cannot be written\n",
@@ -159,7 +175,8 @@ fn check_failing<P: Env + AllocGlobal + Files + Runtime + Sync>(
     why: ErrorKind,
     told: &str,
 ) {
-    let (mut output, mut errors) = (Kept::failing(why), Kept::new());
+    let mut errors = Kept::new();
+    let mut output = Failing { why };
     let ended = ask_process(process, STORY, &mut output, &mut errors);
     check_status(rt, ended, 3);
     check_bytes(rt, errors.as_slice(), told.as_bytes(), "the errors");
@@ -168,10 +185,10 @@ fn check_failing<P: Env + AllocGlobal + Files + Runtime + Sync>(
 /// An output that cannot be written is told once, however many files there are, and one that nobody reads is not.
 #[test]
 fn an_output_that_fails_is_told_once(rt: HostRuntime) {
-    for (why, told) in &FAILING {
+    for (why, told) in FAILING {
         let words = ["pif", "check", "-", "/dev/null", "-"];
         let process = (Process::of(words.as_slice(), None, &rt), rt.alloc());
-        check_failing(&rt, &process, *why, *told);
+        check_failing(&rt, &process, why, told);
     }
 }
 

@@ -1,5 +1,5 @@
-use super::{ask, check_bytes};
-use crate::sinks::Kept;
+use super::{Kept, ask, check_bytes};
+use arrayvec::ArrayVec;
 use pif_cli::{Cause, CliFault, Job, JobFault, Runtime, message_of};
 use pif_script::Notice;
 use std::alloc::Global;
@@ -11,7 +11,7 @@ fn check_job(rt: &impl Abort, ended: u8, status: u8, message: &str) {
 }
 
 /// What is asked over a text, its status, and what is written of the message.
-static FAULTS: [(&[&str], &str, (u8, &str)); 2] = [
+const FAULTS: [(&[&str], &str, (u8, &str)); 2] = [
     (&["pif", "run"], "pik\n", (2, "-:1:")),
     (
         &["pif", "replay"],
@@ -22,8 +22,8 @@ static FAULTS: [(&[&str], &str, (u8, &str)); 2] = [
 
 #[test]
 fn a_message_that_cannot_be_written_leaves_the_status(rt: HostRuntime) {
-    for (words, text, ended) in &FAULTS {
-        check_cut_message(&rt, rt.alloc(), *words, *text, *ended);
+    for (words, text, ended) in FAULTS {
+        check_cut_message(&rt, rt.alloc(), words, text, ended);
     }
 }
 
@@ -36,7 +36,7 @@ fn check_cut_message(
     wanted: (u8, &str),
 ) {
     let (status, front) = wanted;
-    let mut errors = Kept::of_room(4);
+    let mut errors = ArrayVec::<u8, 4>::new();
     let input = text.as_bytes();
     let ended = ask(rt, alloc, words, input, &mut Kept::new(), &mut errors);
     check_job(rt, ended, status, text);
@@ -44,7 +44,7 @@ fn check_cut_message(
 }
 
 /// The faults, and what is told of them.
-static TOLD: [(JobFault, &str); 4] = [
+const TOLD: [(JobFault, &str); 4] = [
     (
         JobFault::Cli(CliFault::Script(18_446_744_073_709_551_615, Cause::Size)),
         "-:18446744073709551615:1: the input has more than 16777216 bytes\n",
@@ -66,7 +66,7 @@ fn check_told(rt: &impl Abort, fault: JobFault, message: &str) {
 
 #[test]
 fn faults_without_a_line_are_told_by_their_words(rt: HostRuntime) {
-    for (fault, message) in &TOLD {
-        check_told(&rt, *fault, *message);
+    for (fault, message) in TOLD {
+        check_told(&rt, fault, message);
     }
 }

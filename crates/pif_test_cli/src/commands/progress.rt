@@ -1,14 +1,18 @@
-//! How far a job has come, as a terminal is told by a clock that a test sets.
+//! How far a job has come: what is told of that, by a clock that a test sets, and who is told.
 
-use super::check_bytes;
-use crate::sinks::Kept;
-use pif_cli::{Progress, WatchFiles};
+use super::terminals::ask_at_terminal;
+use super::{Kept, check_bytes, check_status};
+use crate::processes::Process;
+use arrayvec::ArrayVec;
+use pif_cli::{Progress, Runtime, WatchFiles};
 use pif_job_explore::Watch as WatchStates;
 use pif_job_judge::Watch;
 use pif_watch::WatchSteps;
 use std::cell::Cell;
 use std::io;
 use std::io::ErrorKind;
+use std::process::Abort;
+use std::rt::{Env, Files};
 use std::time::{Clock, Duration};
 
 /// A clock that shows so many milliseconds, or none.
@@ -92,4 +96,55 @@ fn progress_is_told_each_second(rt: HostRuntime) {
         come_on(&clock, is_terminal, &mut errors);
         check_bytes(&rt, errors.as_slice(), text.as_bytes(), "the errors");
     }
+}
+
+/// Keeps how many files were done at each that is begun, and of how many.
+#[derive(Drop)]
+struct Begun {
+    files: ArrayVec<(usize, usize), 8>,
+}
+
+impl Watch for Begun {
+    fn line(&mut self, _line: usize, _states: usize) {}
+
+    fn goes_on(&mut self) -> bool {
+        true
+    }
+}
+
+impl WatchStates for Begun {
+    fn found(&mut self, _states: usize, _steps: usize) {}
+}
+
+impl WatchSteps for Begun {
+    fn step(&mut self, _done: usize, _count: usize) {}
+}
+
+impl WatchFiles for Begun {
+    fn file(&mut self, done: usize, count: usize) {
+        let _ = self.files.try_push((done, count));
+    }
+}
+
+/// These files were begun.
+fn check_begun(rt: &impl Abort, begun: &Begun) {
+    assert!(rt; begun.files.as_slice() == [(0, 3), (1, 3), (2, 3)].as_slice());
+}
+
+/// A process that reads three files tells of each.
+fn check_files<P: Env + AllocGlobal + Files + Runtime + Sync>(rt: &impl Abort, process: &P) {
+    let (mut output, mut errors) = (Kept::new(), Kept::new());
+    let mut begun = Begun {
+        files: ArrayVec::new(),
+    };
+    let ended = ask_at_terminal(process, false, &mut output, &mut errors, &mut begun);
+    check_status(rt, ended, 0);
+    check_begun(rt, &begun);
+}
+
+#[test]
+fn each_file_is_told_as_it_is_begun(rt: HostRuntime) {
+    let words = ["pif", "check", "-", "/dev/null", "-"];
+    let process = (Process::of(words.as_slice(), None, &rt), rt.alloc());
+    check_files(&rt, &process);
 }

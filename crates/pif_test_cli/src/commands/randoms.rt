@@ -1,6 +1,5 @@
 //! Random scripts.
-use super::{NO_MEMORY, ask, check_bytes, check_end, check_ended};
-use crate::sinks::Kept;
+use super::{Kept, NO_MEMORY, ask, check_bytes, check_end, check_ended};
 use pif_cli::Runtime;
 use std::alloc::Global;
 use std::process::Abort;
@@ -172,7 +171,7 @@ fn only_what_was_asked_for_is_there(rt: HostRuntime) {
 }
 
 /// Words that ask for a script, and whether it is that of the first.
-static SEEDS: [(&[&str], bool); 2] = [
+const SEEDS: [(&[&str], bool); 2] = [
     (
         &[
             "pif",
@@ -201,10 +200,10 @@ static SEEDS: [(&[&str], bool); 2] = [
 fn a_seed_gives_one_script_that_has_no_fault(rt: HostRuntime) {
     let mut script = Kept::new();
     write_script(&rt, rt.alloc(), SEEDS[0].0, &mut script);
-    for (words, same) in &SEEDS {
+    for (words, same) in SEEDS {
         let mut given = Kept::new();
-        write_script(&rt, rt.alloc(), *words, &mut given);
-        check_same(&rt, &given, &script, *same);
+        write_script(&rt, rt.alloc(), words, &mut given);
+        check_same(&rt, &given, &script, same);
     }
     check_answered(&rt, answered(&rt, rt.alloc(), &script));
 }

@@ -1,7 +1,7 @@
 //! Stories that a shell saves and loads, and answers that are written into their file.
 
 use super::check_process;
-use crate::listed_files::{Deed, List};
+use crate::listed_files::{Deed, List, ListedFiles};
 use crate::processes::Process;
 use std::io::ErrorKind;
 use std::process::Abort;
@@ -323,7 +323,8 @@ fn files_are_saved_loaded_and_written(rt: HostRuntime) {
         for asked in table {
             let (words, input, deeds, status, output, errors) = *asked;
             let list = List::new(deeds);
-            let process = (Process::listed(words, &rt, &list), rt.alloc());
+            let files = ListedFiles::new(&list, &rt);
+            let process = (Process::of(words, None, &files), rt.alloc());
             check_process(&rt, &process, input, status, output, errors);
             check_met(&rt, &list, input);
         }

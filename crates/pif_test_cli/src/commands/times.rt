@@ -1,8 +1,7 @@
 //! The time of a search, by a clock that goes on by as much at each reading.
 
-use super::{ask_process, check_bytes, check_status};
+use super::{Kept, ask_process, check_bytes, check_status};
 use crate::processes::Process;
-use crate::sinks::Kept;
 use pif_cli::Runtime;
 use std::process::Abort;
 use std::rt::{Env, Files};

@@ -1,6 +1,8 @@
-use super::{BOOSTED, BOOSTED_ANSWERS, ask_process, check_bytes, check_process, check_status};
+use super::{
+    BOOSTED, BOOSTED_ANSWERS, Kept, ask_process, check_bytes, check_process, check_status,
+};
 use crate::processes::Process;
-use crate::sinks::Kept;
+use arrayvec::ArrayVec;
 use std::process::{Abort, ExitCode, Termination};
 use std::str::from_utf8;
 use std::test::Fail;
@@ -53,7 +55,7 @@ fn is_told_of_fast(rt: &impl Abort, errors: &[u8]) -> Result<(), Fail> {
 fn the_status_is_that_of_the_process(rt: HostRuntime) {
     let third = Some(b"\xff".as_slice());
     let process = (Process::of(WORDS, third, &rt), rt.alloc());
-    let mut errors = Kept::of_room(4);
+    let mut errors = ArrayVec::<u8, 4>::new();
     let ended = ask_process(&process, BOOSTED, &mut Kept::new(), &mut errors);
     assert!(rt; ended.report(&rt) == ExitCode::from(3));
 }
