@@ -46,12 +46,7 @@ fn needed_of<V: Watch>(
 {
     let limits = history.limits();
     let lines = history.shown.as_slice();
-    let numbers = history.numbers.as_slice();
-    let mut numbered = Numbered {
-        numbers,
-        shown: 0,
-        watch,
-    };
+    let mut numbered = Numbered::of(history, watch);
     match least(
         alloc,
         &history.allowed,
