@@ -2,7 +2,6 @@ pub mod Allowed
 pub mod Choosing
 pub mod Entering
 pub mod Inheriting
-pub mod Listed
 pub mod Loops
 pub mod Matching
 pub mod Nobody

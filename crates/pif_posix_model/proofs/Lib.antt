@@ -1,3 +1,4 @@
+pub mod AllResults
 pub mod DoingCalls
 pub mod DoingCases
 pub mod DoingChoices

@@ -1,4 +1,4 @@
-use Rattle.pif_posix.proofs.Listed.{only_entered, each_entered}
+use Rattle.pif_posix_model.proofs.AllResults.{only_entered, each_entered}
 use Rattle.pif_posix.proofs.state.State.enter.Goals as goal
 
 pub returns-clause-sound : goal.returns-clause-sound
