@@ -37,7 +37,7 @@ RENAMED = {
     "pif_nodes_model": ["pif_lists"],
     "pif_kernel_model": ["pif_owners", "pif_kernel_state"],
     "pif_kernel": ["pif_kernel", "pif_kernel_chains", "pif_kernel_steps", "pif_kernel_refusals"],
-    "pif_kernel_linked": ["pif_linked"],
+    "pif_chains_linked": ["pif_linked"],
     "pif_core_callers": ["pif_uses"],
     "pif_text_errors": ["pif_slips"],
     "pif_text_core": ["pif_show"],

@@ -1,5 +1,5 @@
 //! The kernel's calls on chains: `KernelOn` meets the trait `PiKernel` of `pif_kernel_calls`, where the calls are
-//! described, over any `Chains`. `pif_kernel_linked` has those over lists linked by index in one table of nodes, and
+//! described, over any `Chains`. `pif_chains_linked` has those over lists linked by index in one table of nodes, and
 //! `pif_plain` others. What a kernel keeps, and the kernel for which that stands, is in `pif_kernel_model`.
 //!
 //! A call is a test and then steps:

@@ -5,8 +5,8 @@ ghost use Rattle.pif_model.specs.Table.{has_thread, has_mutex, has_cond, line_at
 ghost use Rattle.pif_model.specs.Lines.{is_open};
 ghost use Rattle.pif_model.specs.Posix.{names_known};
 
+use pif_chains_linked::LinkedChains;
 use pif_kernel::{Chains, KernelOn, PiKernel, Status, Woken};
-use pif_kernel_linked::LinkedChains;
 use pif_model::Line;
 use pif_mutex::{Parts, Progress};
 use pif_plain::PlainChains;

@@ -10,8 +10,8 @@ ghost use Rattle.pif_model.specs.RobustList.{robust_at};
 ghost use Rattle.pif_kernel_model.specs.Inside.{kernel_of};
 
 use super::driver::{Reply, doing, level, see, who};
+use pif_chains_linked::LinkedChains;
 use pif_kernel::{Chains, KernelOn, PiKernel, Status, Took, Woken};
-use pif_kernel_linked::LinkedChains;
 use pif_plain::PlainChains;
 use pif_robust::RobustLists;
 use pif_types::{CondId, Errno, Limits, MutexId, Prio, Tid};

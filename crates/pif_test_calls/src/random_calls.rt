@@ -4,8 +4,8 @@
 ghost use Rattle.std.specs.Prelude.{◌≤◌};
 
 use super::driver::{Ask, Reply, Wish, answer, new_parts, see};
+use pif_chains_linked::LinkedChains;
 use pif_kernel::KernelOn;
-use pif_kernel_linked::LinkedChains;
 use pif_mutex::Parts;
 use pif_plain::PlainChains;
 use pif_types::{Kind, Limits};

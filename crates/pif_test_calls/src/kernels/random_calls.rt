@@ -4,7 +4,7 @@ ghost use Rattle.std.specs.Prelude.{◌≤◌, length};
 
 use super::super::driver::{Reply, see};
 use super::{Ask, Scene};
-use pif_kernel_linked::LinkedChains;
+use pif_chains_linked::LinkedChains;
 use pif_plain::PlainChains;
 use rand_core::{Rng, SeedableRng};
 use rand_xoshiro::SplitMix64;
