@@ -6,8 +6,8 @@ use crate::streams::Kept;
 use arrayvec::ArrayVec;
 use std::str::from_utf8;
 
-/// What the lines of a block say. Without a line of its own a read gives all that is asked for, the output has room,
-/// and the status is 0. A block with a mark that there is not is never met.
+/// What the lines of a block say. Without a line of its own a read gives all that is asked for, the output and standard
+/// error have room, and the status is 0. A block with a mark that there is not is never met.
 #[derive(Drop)]
 pub struct Block<'a> {
     lines: &'a str,
@@ -25,6 +25,8 @@ pub struct Block<'a> {
     has_other_mark: bool,
     /// How many bytes the output takes before a write fails.
     pub room: usize,
+    /// How many bytes standard error takes before a write fails.
+    pub errors_room: usize,
     is_cut: bool,
     first: Kept,
     output: Kept,
@@ -45,6 +47,7 @@ impl<'a> Block<'a> {
             is_unread: false,
             has_other_mark: false,
             room: usize::MAX,
+            errors_room: usize::MAX,
             is_cut: false,
             first: Kept::new(),
             output: Kept::new(),
@@ -126,6 +129,7 @@ fn hear<'a>(block: &mut Block<'a>, mark: &str, text: &'a str) {
         "breaks" => block.breaks = true,
         "unread" => block.is_unread = true,
         "takes" => block.room = number_of(text),
+        "!takes" => block.errors_room = number_of(text),
         "..." => cut(block),
         "" | "#" | "~" | "!~" => {}
         _ => block.has_other_mark = true,

@@ -6,14 +6,13 @@ mod randoms;
 mod saves;
 mod shows;
 mod terminals;
-mod texts;
 mod times;
 mod words_of_processes;
 
 use arrayvec::ArrayVec;
 use pif_cli::{Input, Output, Runtime, Status, command, command_of_process};
 use std::alloc::Global;
-use std::io::{Read, Write};
+use std::io::Write;
 use std::process::{Abort, ExitCode};
 use std::rt::{Env, Files};
 
@@ -34,30 +33,17 @@ const NO_MEMORY: &str = "pif: out of memory\n";
 /// What they are told if it is refused for notes alone.
 const NO_NOTES: &str = "pif: out of memory for notes\n";
 
-/// Asks the program for a job with these words over a reader. Answers the status.
-fn ask_over<R: Read, W: Write, E: Write>(
-    rt: &(impl Runtime + Sync),
-    alloc: Global,
-    words: &[&str],
-    reader: &mut R,
-    output: &mut W,
-    errors: &mut E,
-) -> u8 {
-    let (mut input, mut output) = (Input::new(reader), Output::new(output));
-    command(alloc, rt, words, &mut input, &mut output, errors)
-}
-
 /// Asks the program for a job with these words over an input. Answers the status.
-fn ask<W: Write, E: Write>(
+fn ask(
     rt: &(impl Runtime + Sync),
     alloc: Global,
     words: &[&str],
     input: &[u8],
-    output: &mut W,
-    errors: &mut E,
+    output: &mut Kept,
+    errors: &mut Kept,
 ) -> u8 {
-    let mut bytes = input;
-    ask_over(rt, alloc, words, &mut bytes, output, errors)
+    let (mut input, mut output) = (Input::new(input), Output::new(output));
+    command(alloc, rt, words, &mut input, &mut output, errors)
 }
 
 /// Lets a process do what its words ask for over an input. Answers its status.
@@ -69,11 +55,6 @@ fn ask_process<P: Env + AllocGlobal + Files + Runtime + Sync, W: Write, E: Write
 ) -> Status {
     let (mut input, mut output) = (Input::new(input.as_bytes()), Output::new(output));
     command_of_process(process, &mut input, &mut output, errors)
-}
-
-/// A status, and whether the errors are told of nothing, are as expected for this text.
-fn check_ended(rt: &impl Abort, ended: (u8, bool), expected: (u8, bool), text: &str) {
-    assert_eq!(rt; ended, expected, "{text:?}");
 }
 
 /// These bytes are written for this text.
@@ -101,22 +82,6 @@ fn check_process<P: Env + AllocGlobal + Files + Runtime + Sync>(
     check_status(rt, ended, status);
     check_bytes(rt, written.as_slice(), output.as_bytes(), "the output");
     check_bytes(rt, told.as_slice(), errors.as_bytes(), "the errors");
-}
-
-/// Does what these words ask for, at an output that takes four bytes: the status.
-pub(crate) fn fill(
-    rt: &(impl Runtime + Sync),
-    alloc: Global,
-    words: &[&str],
-    text: &[u8],
-    output: &mut ArrayVec<u8, 4>,
-) -> u8 {
-    ask(rt, alloc, words, text, output, &mut Kept::new())
-}
-
-/// A job ends with status 3, and has written these bytes.
-pub(crate) fn check_cut(rt: &impl Abort, ended: u8, written: &[u8], expected: &[u8]) {
-    assert!(rt; ended == 3 && written == expected);
 }
 
 /// What a job writes to the output and to the errors, or that it is out of memory: then nothing is written but the

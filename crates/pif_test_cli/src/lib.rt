@@ -3,7 +3,7 @@
 //!
 //! | Module | Tests of |
 //! |---|---|
-//! | `commands` | `pif_cli`: words of a process, files, stories that are saved, random scripts, memory, failing writes, drives |
+//! | `commands` | `pif_cli`: words of a process, files, stories that are saved, random scripts, memory, progress |
 //! | `processes` | none: the processes that the others share |
 //! | `listed_files` | none: files of which is known what they are to be asked |
 //!

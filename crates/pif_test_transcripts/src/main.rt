@@ -3,7 +3,7 @@
 #![tactic(auto)]
 
 use pif_cli::{Input, Output, Runtime, command};
-use pif_test_blocks::{Block, Kept, Sink, Source};
+use pif_test_blocks::{Block, Sink, Source};
 use std::alloc::Global;
 use std::io::{Read, Write};
 use std::rt::Files;
@@ -17,7 +17,7 @@ fn ask<R: Runtime + Sync, I: Read, O: Write>(
     words: &[&str],
     input: &mut I,
     output: &mut O,
-    errors: &mut Kept,
+    errors: &mut Sink,
 ) -> u8 {
     let (mut input, mut output) = (Input::new(input), Output::new(output));
     command(alloc, rt, words, &mut input, &mut output, errors)
@@ -29,7 +29,7 @@ fn do_job<R: Runtime + Sync>(
     alloc: Global,
     block: &Block<'_>,
     output: &mut Sink,
-    errors: &mut Kept,
+    errors: &mut Sink,
 ) -> (u8, usize) {
     let mut source = Source::new(block.input.text(), block.each_read, block.breaks);
     let status = ask(
@@ -65,7 +65,7 @@ fn play<R: Runtime + Sync + Print>(rt: &R, alloc: Global, block: &Block<'_>) -> 
         return Ok(false);
     }
     let mut output = Sink::new(block.room);
-    let mut errors = Kept::new();
+    let mut errors = Sink::new(block.errors_room);
     let (status, left) = do_job(rt, alloc, block, &mut output, &mut errors);
     if !block.is_met(status, left, output.text(), errors.text()) {
         print_difference(rt, status, output.text(), errors.text())?;

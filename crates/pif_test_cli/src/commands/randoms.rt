@@ -1,5 +1,5 @@
 //! Random scripts.
-use super::{Kept, NO_MEMORY, ask, check_bytes, check_end, check_ended};
+use super::{Kept, NO_MEMORY, ask, check_bytes, check_end};
 use pif_cli::Runtime;
 use std::alloc::Global;
 use std::process::Abort;
@@ -13,7 +13,12 @@ fn write_script(
 ) {
     let mut errors = Kept::new();
     let status = ask(rt, alloc, words, b"", script, &mut errors);
-    check_ended(rt, (status, errors.is_empty()), (0, true), "a script");
+    check_quiet(rt, status, &errors);
+}
+
+/// The status is 0, and the errors are told of nothing.
+fn check_quiet(rt: &impl Abort, status: u8, errors: &Kept) {
+    assert!(rt; status == 0 && errors.is_empty(), "{status}");
 }
 
 /// How many lines of a script begin so.
@@ -30,16 +35,41 @@ fn counts(script: &Kept) -> [usize; 4] {
     [b"thread ".as_slice(), b"mutex ", b"cond ", b""].map(|word| count(script, word))
 }
 
-/// A script adds so many threads, mutexes and condition variables, and has so many lines.
-fn check_counts(rt: &impl Abort, script: &Kept, wanted: [usize; 4]) {
-    assert_eq!(rt; counts(script), wanted);
+/// Whether a script has a robust mutex, an end and a tick.
+fn has(script: &Kept) -> [bool; 3] {
+    let robust = script
+        .as_slice()
+        .split(|byte| *byte == b'\n')
+        .any(|line| line.ends_with(b" robust"));
+    [
+        robust,
+        count(script, b"end ") > 0,
+        count(script, b"tick ") > 0,
+    ]
+}
+
+/// What a script has.
+#[derive(Clone, Copy)]
+enum Wanted {
+    /// So many threads, mutexes and condition variables, and so many lines.
+    Counts([usize; 4]),
+    /// A robust mutex, an end and a tick, or not.
+    Parts([bool; 3]),
+}
+
+/// A script has just this.
+fn check_script(rt: &impl Abort, script: &Kept, wanted: Wanted) {
+    match wanted {
+        Wanted::Counts(wanted) => assert_eq!(rt; counts(script), wanted),
+        Wanted::Parts(wanted) => assert_eq!(rt; has(script), wanted),
+    }
 }
 
 /// What asks for a script, and what it has.
-static COUNTED: [(&[&str], [usize; 4]); 5] = [
+static ASKED: [(&[&str], Wanted); 10] = [
     (
         &["pif", "random", "--seed", "3", "--lines", "8"],
-        [4, 3, 1, 9],
+        Wanted::Counts([4, 3, 1, 9]),
     ),
     (
         &[
@@ -53,7 +83,7 @@ static COUNTED: [(&[&str], [usize; 4]); 5] = [
             "2",
             "--seed=3",
         ],
-        [2, 5, 2, 10],
+        Wanted::Counts([2, 5, 2, 10]),
     ),
     (
         &[
@@ -64,7 +94,7 @@ static COUNTED: [(&[&str], [usize; 4]); 5] = [
             "--lines",
             "1",
         ],
-        [1, 0, 0, 2],
+        Wanted::Counts([1, 0, 0, 2]),
     ),
     (
         &[
@@ -81,7 +111,7 @@ static COUNTED: [(&[&str], [usize; 4]); 5] = [
             "--conds",
             "0",
         ],
-        [1, 0, 0, 3],
+        Wanted::Counts([1, 0, 0, 3]),
     ),
     (
         &[
@@ -98,39 +128,8 @@ static COUNTED: [(&[&str], [usize; 4]); 5] = [
             "--conds",
             "256",
         ],
-        [9, 0, 0, 10],
+        Wanted::Counts([9, 0, 0, 10]),
     ),
-];
-
-#[test]
-fn the_counts_are_those_that_were_asked_for(rt: HostRuntime) {
-    for (words, wanted) in &COUNTED {
-        let mut script = Kept::new();
-        write_script(&rt, rt.alloc(), *words, &mut script);
-        check_counts(&rt, &script, *wanted);
-    }
-}
-
-/// Whether a script has a robust mutex, an end and a tick.
-fn has(script: &Kept) -> [bool; 3] {
-    let robust = script
-        .as_slice()
-        .split(|byte| *byte == b'\n')
-        .any(|line| line.ends_with(b" robust"));
-    [
-        robust,
-        count(script, b"end ") > 0,
-        count(script, b"tick ") > 0,
-    ]
-}
-
-/// A script has just these of a robust mutex, an end and a tick.
-fn check_has(rt: &impl Abort, script: &Kept, wanted: [bool; 3]) {
-    assert_eq!(rt; has(script), wanted);
-}
-
-/// Words that ask for a script, and whether it has a robust mutex, an end and a tick.
-static PARTS: [(&[&str], [bool; 3]); 5] = [
     (
         &[
             "pif",
@@ -141,96 +140,33 @@ static PARTS: [(&[&str], [bool; 3]); 5] = [
             "--ends",
             "--robust",
         ],
-        [true, true, true],
+        Wanted::Parts([true, true, true]),
     ),
     (
         &["pif", "random", "--seed=5", "--lines=200", "--robust"],
-        [true, false, false],
+        Wanted::Parts([true, false, false]),
     ),
     (
         &["pif", "random", "--seed=5", "--lines=200", "--ends"],
-        [false, true, false],
+        Wanted::Parts([false, true, false]),
     ),
     (
         &["pif", "random", "--seed=5", "--lines=200", "--times"],
-        [false, false, true],
+        Wanted::Parts([false, false, true]),
     ),
     (
         &["pif", "random", "--seed=5", "--lines=200"],
-        [false, false, false],
+        Wanted::Parts([false, false, false]),
     ),
 ];
 
 #[test]
-fn only_what_was_asked_for_is_there(rt: HostRuntime) {
-    for (words, wanted) in &PARTS {
+fn a_script_has_what_was_asked_for(rt: HostRuntime) {
+    for (words, wanted) in &ASKED {
         let mut script = Kept::new();
         write_script(&rt, rt.alloc(), *words, &mut script);
-        check_has(&rt, &script, *wanted);
+        check_script(&rt, &script, *wanted);
     }
-}
-
-/// Words that ask for a script, and whether it is that of the first.
-const SEEDS: [(&[&str], bool); 2] = [
-    (
-        &[
-            "pif",
-            "random",
-            "--seed=7",
-            "--lines=90",
-            "--ends",
-            "--times",
-        ],
-        true,
-    ),
-    (
-        &[
-            "pif",
-            "random",
-            "--seed=8",
-            "--lines=90",
-            "--ends",
-            "--times",
-        ],
-        false,
-    ),
-];
-
-#[test]
-fn a_seed_gives_one_script_that_has_no_fault(rt: HostRuntime) {
-    let mut script = Kept::new();
-    write_script(&rt, rt.alloc(), SEEDS[0].0, &mut script);
-    for (words, same) in SEEDS {
-        let mut given = Kept::new();
-        write_script(&rt, rt.alloc(), words, &mut given);
-        check_same(&rt, &given, &script, same);
-    }
-    check_answered(&rt, answered(&rt, rt.alloc(), &script));
-}
-
-/// A script of 90 lines was run, and each was answered.
-fn check_answered(rt: &impl Abort, answered: (u8, usize)) {
-    assert_eq!(rt; answered, (0, 91));
-}
-
-/// Two scripts are the same, or not.
-fn check_same(rt: &impl Abort, one: &Kept, two: &Kept, same: bool) {
-    assert_eq!(rt; one.as_slice() == two.as_slice(), same);
-}
-
-/// Runs a script: the status, and how many lines are written.
-fn answered(rt: &(impl Runtime + Sync), alloc: Global, script: &Kept) -> (u8, usize) {
-    let mut answers = Kept::new();
-    let words = &["pif", "run"];
-    let status = ask(
-        rt,
-        alloc,
-        words,
-        script.as_slice(),
-        &mut answers,
-        &mut Kept::new(),
-    );
-    (status, count(&answers, b""))
 }
 
 /// Each allocation is refused in turn by `rt try --test --fail-alloc N`: then nothing is written but the message.
