@@ -4,7 +4,7 @@ use Rattle.pif_script_model.specs.declared.faults.CliFault.{CliFault}
 use Rattle.pif_script_model.specs.Running.{RunsTo}
 use Rattle.pif_story_model.specs.Checks.{Telling, TellsTo, check_telling}
 use Rattle.pif_story_model.specs.Showing.{ShowsStoryTo}
-use Rattle.pif_story_notes.specs.Notes.{ShowsNoting, TellsNoting}
+use Rattle.pif_story.specs.Notes.{ShowsNoting, TellsNoting}
 use Rattle.pif_job_run.specs.Noting.{RunsNoting}
 
 -- what was run, whatever is noted

@@ -13,7 +13,7 @@ use Rattle.pif_script_model.specs.Traces.{ReplaysTo}
 use Rattle.pif_script_model.specs.Runs.{WritesPart}
 use Rattle.pif_story_model.specs.Showing.{ShowsStoryTo, TracesStoryTo}
 use Rattle.pif_story_model.specs.Checks.{TellsTo, check_telling, fill_telling, strict_telling, titled_telling}
-use Rattle.pif_story_notes.specs.Notes.{ShowsNoting, TellsNoting}
+use Rattle.pif_story.specs.Notes.{ShowsNoting, TellsNoting}
 use Rattle.pif_job_draw.specs.Pictures.{DrawsTo, PicturesTo}
 use Rattle.pif_job_explore.specs.declared.faults.ExploreFault.{ExploreFault}
 use Rattle.pif_job_explore.specs.declared.faults.ExploreFault.TheVariants as explore_fault

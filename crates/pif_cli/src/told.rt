@@ -3,7 +3,7 @@ ghost use Rattle.std.specs.Prelude.{◌≡◌, [], Ok, OnOk};
 ghost use Rattle.pif_script_model.specs.Running.{RunsTo};
 ghost use Rattle.pif_story_model.specs.Checks.{TellsTo, check_telling};
 ghost use Rattle.pif_story_model.specs.Showing.{ShowsStoryTo};
-ghost use Rattle.pif_story_notes.specs.Notes.{ShowsNoting, TellsNoting};
+ghost use Rattle.pif_story.specs.Notes.{ShowsNoting, TellsNoting};
 ghost use Rattle.pif_cli.specs.Words.{EndsAsCli, RunsTold};
 
 use crate::notes::Notes;

@@ -2,3 +2,6 @@ mod Splitting
 mod StepLemmas
 mod WayLemmas
 pub mod Chosen
+mod TellingLemmas
+mod Appending
+mod RunLemmas

@@ -5,7 +5,7 @@ use Rattle.pif_script_model.specs.declared.faults.CliFault.{CliFault}
 use Rattle.pif_script_model.specs.declared.faults.CliFault.TheVariants.{Read, Write, NoMemory, Script, Differs}
 use Rattle.pif_script_model.specs.Migrating.{ReadsTo}
 use Rattle.pif_story_model.specs.Checks.{Telling, TellsTo, WritesTelling, check_telling, checked_telling}
-use Rattle.pif_story_notes.specs.Notes.{TellsNoting, story_notes}
+use Rattle.pif_story.specs.Notes.{TellsNoting, story_notes}
 
 -- all was told, and these are the notes
 pub noted : (name : List ℕ) (a b h k : Option (List ℕ)) (bytes text notes : List ℕ) (end : Result (Unit {0}) CliFault)

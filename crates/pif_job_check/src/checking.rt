@@ -3,16 +3,15 @@ ghost use Rattle.pif_story_model.specs.Checks.{IsUntold, OkExactly, StrictExactl
 ghost use Rattle.pif_story_model.specs.Lines.{lines, lines_behind, plain_lines};
 ghost use Rattle.pif_story_model.specs.Stories.{count_in, script_of};
 ghost use Rattle.pif_story_model.specs.Verdicts.{faulty, flaws_of};
-ghost use Rattle.pif_story_notes.specs.Notes.{TellsNoting, story_notes};
+ghost use Rattle.pif_story.specs.Notes.{TellsNoting, story_notes};
 ghost use Rattle.pif_text_model.specs.declared.replies.Cause.TheVariants.{Size};
 
 use pif_script::{CliFault, Notice, read_all, write_whole};
 use pif_story::{
-    MOST, compare, count_commands, filled_text, line_at_end, plain_story, script_of, titled_story,
-    verdict_text,
+    MOST, compare, count_commands, filled_text, line_at_end, notes_text, plain_story, run_story,
+    script_of, titled_story, verdict_text,
 };
 use pif_story_model::Flaw;
-use pif_story_notes::{notes_text, run_story};
 use pif_text::Cause;
 use std::alloc::{AllocError, Global};
 use std::io::{Read, Write};
@@ -122,7 +121,7 @@ fn judge<'a>(
 }
 
 /// What a check tells of a story of this name, and the notes on it.
-#[tactic(auto, unfolding(pif_story_model::specs::Checks::checked_telling, pif_story_model::specs::Checks::story_flaws, pif_story_model::specs::Stories::script_of, pif_story_notes::specs::Notes::story_notes))]
+#[tactic(auto, unfolding(pif_story_model::specs::Checks::checked_telling, pif_story_model::specs::Checks::story_flaws, pif_story_model::specs::Stories::script_of, pif_story::specs::Notes::story_notes))]
 fn check_text(
     alloc: Global,
     strict: bool,

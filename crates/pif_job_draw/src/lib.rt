@@ -3,8 +3,8 @@
 //!
 //! A story is read to its end, and its script is run, which gives each command with its answer. So a picture is made
 //! only of a story without a fault, and a story with one ends as filling it in ends. Then a core plays the commands
-//! again, of which none is read again, and what it shows is written down: by `pif_story_drawing`, `pif_story_states` or
-//! `pif_story_graph`. Each picture is kept in memory, and is written whole.
+//! again, of which none is read again, and what it shows is written down: by `pif_story_drawing` or `pif_story_states`.
+//! Each picture is kept in memory, and is written whole.
 #![tactic(auto)]
 
 mod drawings;

@@ -1,3 +1,4 @@
 mod JudgingLemmas
 mod LeastLemmas
 mod ObjectLemmas
+mod LeastRulesLemmas

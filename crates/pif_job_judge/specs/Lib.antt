@@ -4,3 +4,6 @@ pub mod Lines
 pub mod Needed
 pub mod Objects
 pub mod Why
+pub mod LeastRules
+pub mod Sets
+pub mod Texts

@@ -2,10 +2,10 @@
 use Rattle.std.specs.Prelude.{ℕ, ◌≡◌, List, ◌++◌, Result, Ok, Err}
 use Rattle.pif_rules_model.specs.declared.rules.Rules.{Rules}
 use Rattle.pif_history_text.specs.Histories.{Heard, limits_of}
-use Rattle.pif_least.specs.declared.search.Needed.{Needed}
-use Rattle.pif_least.specs.declared.search.Needed.TheVariants.{Legal, Undecided}
-use Rattle.pif_least.specs.Least.{IsLeast}
-use Rattle.pif_least.specs.Texts.{legal_with, undecided_with}
+use Rattle.pif_job_judge.specs.declared.search.Needed.{Needed}
+use Rattle.pif_job_judge.specs.declared.search.Needed.TheVariants.{Legal, Undecided}
+use Rattle.pif_job_judge.specs.LeastRules.{IsLeast}
+use Rattle.pif_job_judge.specs.Texts.{legal_with, undecided_with}
 use Rattle.pif_job_judge.specs.declared.faults.JudgeFault.{JudgeFault}
 use Rattle.pif_job_judge.specs.declared.faults.JudgeFault.TheVariants as fault
 use Rattle.pif_job_judge.specs.Why.{IsNumbered}

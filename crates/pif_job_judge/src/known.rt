@@ -7,7 +7,7 @@ ghost use Rattle.pif_job_judge.specs.Why.{IsKnown};
 use pif_allow::{possible_answers_allowing, possible_priorities_allowing};
 use pif_history::refusal;
 use pif_history_model::Line;
-use pif_history_page::Known;
+use pif_history_run::Known;
 use pif_history_text::History;
 use pif_script_model::CliFault;
 use std::alloc::Global;

@@ -4,16 +4,16 @@ ghost use Rattle.pif_history_text.specs.Reading.{IsPaired, heard_of};
 ghost use Rattle.pif_job_judge.specs.Judging.{AppendsTold, front_of};
 ghost use Rattle.pif_job_judge.specs.Least.{JudgesLeast, JudgesLeastTo};
 ghost use Rattle.pif_job_judge.specs.Needed.{AppendsNeeded};
-ghost use Rattle.pif_least.specs.Least.{IsLeast, IsLegalSomehow};
+ghost use Rattle.pif_job_judge.specs.LeastRules.{IsLeast, IsLegalSomehow};
 ghost use Rattle.pif_rules.specs.Sets.{both};
 
 use crate::faults::JudgeFault;
 use crate::forms::{Form, Judging};
 use crate::judging::{Numbered, allowing, front, judge_fault, tell_history, write_told};
 use crate::needed::tell_needed;
+use crate::search::{Needed, least};
 use pif_history::Watch;
 use pif_history_text::{History, read_history};
-use pif_least::{Needed, least};
 use pif_rules_model::Rules;
 use pif_script_model::CliFault;
 use std::alloc::Global;

@@ -12,6 +12,9 @@
 //! | `lines` | verdicts in lines for a person |
 //! | `objects` | verdicts in lines of JSON |
 //! | `judging` | a history, read and judged |
+//! | `sets` | the sets of rules, in the order in which they are tried |
+//! | `search` | the first of them with which lines are legal |
+//! | `texts` | lines that name a set |
 //! | `needed` | what is told of the rules that a history needs |
 //! | `least` | a history, read and judged with sets of rules |
 #![tactic(auto)]
@@ -25,7 +28,10 @@ mod lines;
 mod needed;
 mod objects;
 mod places;
+mod search;
+mod sets;
 mod telling;
+mod texts;
 mod unfound;
 
 pub use faults::JudgeFault;

@@ -2,13 +2,14 @@ ghost use Rattle.std.specs.Prelude.{◌≡◌, ◌++◌, IfErr, IfOk, OnOk};
 ghost use Rattle.pif_history_text.specs.Histories.{limits_of};
 ghost use Rattle.pif_history_text.specs.Reading.{IsPaired, heard_of};
 ghost use Rattle.pif_job_judge.specs.Needed.{AppendsNeeded};
-ghost use Rattle.pif_least.specs.Least.{IsLeast};
-ghost use Rattle.pif_least.specs.Texts.{legal_with, undecided_with};
+ghost use Rattle.pif_job_judge.specs.LeastRules.{IsLeast};
+ghost use Rattle.pif_job_judge.specs.Texts.{legal_with, undecided_with};
 
 use crate::faults::JudgeFault;
 use crate::places::number_at;
+use crate::search::Needed;
+use crate::texts::{push_legal_with, push_undecided_with};
 use pif_history_text::History;
-use pif_least::{Needed, push_legal_with, push_undecided_with};
 use pif_rules_model::Rules;
 use pif_script_model::CliFault;
 use std::alloc::Global;

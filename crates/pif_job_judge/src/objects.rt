@@ -16,7 +16,7 @@ use crate::unfound::unfound_at;
 use pif_allow::judge_allowing;
 use pif_history::{Unwatched, Verdict};
 use pif_history_model::Label;
-use pif_history_page::{
+use pif_history_run::{
     Began, Known, append_illegal, append_legal, append_undecided, first_shown, run_text,
 };
 use pif_history_text::History;

@@ -8,7 +8,7 @@ use crate::places::{number_at, unfound_of};
 use pif_allow::find_run_allowing;
 use pif_history::{Unwatched, Watch, answers_of, numbers_of, priorities_of};
 use pif_history_model::{Label, Line};
-use pif_history_page::Unfound;
+use pif_history_run::Unfound;
 use pif_history_text::History;
 use pif_script_model::CliFault;
 use pif_search::{Stop, push};

@@ -14,7 +14,7 @@ use Rattle.pif_script_model.specs.Scripts.{Scan, closed_at, ended_by, reading_of
 use Rattle.pif_script_model.proofs.DifferenceLemmas.{RunsTo-from}
 use Rattle.pif_script_model.proofs.RunLemmas.{RunsFrom-more, RunsPart-closed}
 use Rattle.pif_script_model.proofs.ScriptLemmas.{reading_of-append, reading_of-nil}
-use Rattle.pif_story_notes.specs.Notes.{story_notes}
+use Rattle.pif_story.specs.Notes.{story_notes}
 use Rattle.pif_job_run.specs.declared.kept.Kept.{Kept}
 use Rattle.pif_job_run.specs.Noting.{AreKept, AreNotesOn, KeepsPart, RunsKeeping, RunsNoting, run_notes}
 

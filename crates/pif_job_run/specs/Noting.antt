@@ -6,7 +6,7 @@ use Rattle.pif_script_model.specs.declared.faults.CliFault.{CliFault}
 use Rattle.pif_script_model.specs.Running.{RunsTo, script}
 use Rattle.pif_script_model.specs.Runs.{EndsAfter, RunsFrom}
 use Rattle.pif_script_model.specs.Scripts.{Scan, closed_at, reading_of, start}
-use Rattle.pif_story_notes.specs.Notes.{story_notes}
+use Rattle.pif_story.specs.Notes.{story_notes}
 use Rattle.pif_job_run.specs.declared.kept.Kept.{Kept}
 use Rattle.pif_job_run.specs.declared.kept.Kept.TheVariants.{All, Long, Refused}
 

@@ -6,7 +6,7 @@ ghost use Rattle.pif_job_run.specs.Noting.{AreKept, AreNotesOn, KeepsPart, RunsK
 use crate::kept::Kept;
 use pif_core::Core;
 use pif_script::{CHUNK, CliFault, Notice, Output, Scanner, close, feed};
-use pif_story_notes::story_notes;
+use pif_story::story_notes;
 use std::alloc::Global;
 use std::io::{Read, Write};
 

@@ -2,7 +2,7 @@
 
 use crate::remarks::Remark;
 use crate::sessions::Session;
-use pif_story_notes::{Known, append_missing, noted};
+use pif_story::{Known, append_missing, noted};
 use pif_text::{Command, Reply, Text, reply_text};
 use std::alloc::Global;
 

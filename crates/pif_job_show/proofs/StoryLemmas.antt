@@ -7,7 +7,7 @@ use Rattle.pif_script_model.specs.declared.faults.CliFault.TheVariants.{Read, Wr
 use Rattle.pif_script_model.specs.Migrating.{FailsToRead, IsAllRead, ReadsTo}
 use Rattle.pif_story_model.specs.Checks.{IsUntold}
 use Rattle.pif_story_model.specs.Showing.{LeavesScript, LeavesScriptTo, ShowsStoryTo}
-use Rattle.pif_story_notes.specs.Notes.{Shows, ShowsNoting, story_notes}
+use Rattle.pif_story.specs.Notes.{Shows, ShowsNoting, story_notes}
 
 -- nothing is left
 nothing : (xs : List ℕ) → length xs ≤ 0 → xs ≡ []

@@ -16,7 +16,7 @@ use Rattle.pif_text_model.specs.Errors.{errno_name}
 use Rattle.pif_text_model.specs.Replies.{text_of}
 use Rattle.pif_story_model.specs.Answers.{errors}
 use Rattle.pif_story_model.specs.Stories.{script_of}
-use Rattle.pif_story_names.specs.Names.{name_of, names_in}
+use Rattle.pif_story.specs.Names.{name_of, names_in}
 use Rattle.pif_text_json.specs.Json.{numbers}
 use Rattle.pif_script_model.specs.declared.details.Detail.{Detail}
 use Rattle.pif_script_model.specs.declared.details.Detail.TheVariants.{All, Changes}

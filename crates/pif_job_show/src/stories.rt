@@ -2,15 +2,13 @@ ghost use Rattle.std.specs.Prelude.{◌≡◌, ◌≤◌, List, Option, Some, Ok
 ghost use Rattle.std.specs.Io.KnownBytes.{Appends};
 ghost use Rattle.pif_story_model.specs.Showing.{ShowsStoryTo};
 ghost use Rattle.pif_story_model.specs.Stories.{script_of};
-ghost use Rattle.pif_story_notes.specs.Notes.{ShowsNoting};
+ghost use Rattle.pif_story.specs.Notes.{ShowsNoting};
 ghost use Rattle.pif_job_show.specs.Shows.{WritesStory, person_name, person_names, shown_text};
 
 use crate::showing::{Look, show_script};
 use pif_script::{CliFault, Notice, read_all};
 use pif_script_model::Detail;
-use pif_story::read_script_of_story;
-use pif_story_names::{name_of, names_in};
-use pif_story_notes::story_notes;
+use pif_story::{name_of, names_in, read_script_of_story, story_notes};
 use pif_types::Tid;
 use std::alloc::{AllocError, Global};
 use std::io::{Read, Write};

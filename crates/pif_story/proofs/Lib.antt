@@ -1,1 +1,3 @@
 mod FlawLemmas
+pub mod NameLemmas
+pub mod NoteLemmas

@@ -1,5 +1,6 @@
 //! The texts of stories: their lines, the script that is left of one, its answers beside the lines that a run prints,
-//! filling in, and the lines that say what a story comes to. A core does their commands one by one.
+//! filling in, and the lines that say what a story comes to; the names of threads, and notes. A core does their commands
+//! one by one.
 //!
 //! A line of a story is a command of scripts, with ` = ` and its answer behind it or without, or it has no words. Words
 //! stand between blanks, and `#` begins a comment. A CR at the end of a line and a byte order mark at the front are
@@ -18,6 +19,15 @@
 //! | `titles` | a story behind a comment with its name |
 //! | `commands` | a core that does the commands of a story one by one |
 //! | `verdicts` | what a story comes to, as lines |
+//! | `names`, `namings` | the names that a story gives its threads: a comment `# t1: low` gives t1 the name `low` |
+//! | `missing` | what was added, and the first name in a command that nobody has |
+//! | `notes` | the notes on the commands of a story, each name once |
+//! | `texts` | the lines in which notes are told |
+//! | `runs` | the script of a story, run in memory, and the notes on a story |
+//!
+//! Commands name threads as ever; a name is for those who look on. A note says what a command names that nobody has, or
+//! that a priority is out of range: a test that does so by mistake tests nothing, and is ok. A command with an answer
+//! behind it wants that answer, and has no note.
 #![tactic(auto)]
 
 mod answers;
@@ -25,9 +35,15 @@ mod commands;
 mod comparing;
 mod filling;
 mod lines;
+mod missing;
+mod names;
+mod namings;
+mod notes;
 mod plain;
 mod reading;
+mod runs;
 mod scripts;
+mod texts;
 mod titles;
 mod verdicts;
 
@@ -35,8 +51,12 @@ pub use commands::do_command;
 pub use comparing::{compare, count_commands};
 pub use filling::filled_text;
 pub use lines::{commentless, line_at_end, row_of, split_line, without_mark, without_return};
+pub use missing::{Known, Missing, Note, noted};
+pub use names::{name_of, names_in};
 pub use plain::{append_plain, plain_story};
 pub use reading::{MOST, read_script_of_story};
+pub use runs::{Ran, run_story, story_notes};
 pub use scripts::script_of;
+pub use texts::{append_missing, notes_text};
 pub use titles::titled_story;
 pub use verdicts::verdict_text;

@@ -2,7 +2,7 @@ use crate::pages::Page;
 use crate::plans::Plan;
 use crate::sheets::Sheet;
 use crate::styles::{LEGEND, STYLE};
-use pif_story_names::name_of;
+use pif_story::name_of;
 use pif_types::Tid;
 use std::str::from_utf8;
 

@@ -3,3 +3,5 @@ pub mod ChainLemmas
 pub mod FilterLemmas
 pub mod PieceLemmas
 pub mod StateLemmas
+pub mod CoreLemmas
+pub mod ListLemmas

@@ -2,13 +2,18 @@
 //! names a file of transcripts. Printed are the names that stand in it, what differs, and how many jobs were done.
 #![tactic(auto)]
 
+mod block;
+mod marks;
+mod streams;
+
+use block::Block;
 use pif_cli::{Input, Output, Runtime, command};
-use pif_test_blocks::{Block, Sink, Source};
 use std::alloc::Global;
 use std::io::{Read, Write};
 use std::rt::Files;
 use std::str::from_utf8;
 use std::{env, fs, io};
+use streams::{Sink, Source};
 
 /// Asks the program for a job with these words over an input. Answers the status.
 fn ask<R: Runtime + Sync, I: Read, O: Write>(

@@ -1,6 +1,6 @@
 //! Small programs, and their races, deadlocks, lost wake-ups and livelocks, which were worked out by hand.
 use super::programs::{Scene, Wish, call, plan_of, start_of};
-use pif_explore_faults::{Faults, faults_of};
+use pif_explore::{Faults, faults_of};
 use pif_explore_model::Point;
 use pif_explore_reduced::explore_reduced;
 use pif_reach::Unwatched;

@@ -3,7 +3,7 @@ use Rattle.pif_types.specs.Bounds.{Bounds}
 use Rattle.pif_history_model.specs.declared.lines.Line.{Line}
 use Rattle.pif_history_text.specs.Histories.{limits_of}
 use Rattle.pif_history_text.specs.Reading.{heard_of}
-use Rattle.pif_least.specs.Least.{IsLeast}
+use Rattle.pif_job_judge.specs.LeastRules.{IsLeast}
 use Rattle.pif_job_judge.proofs.least.needed_of.Goals as goal
 
 pub returns-in-Ok-clause-found : goal.returns-in-Ok-clause-found

@@ -2,10 +2,10 @@ use Rattle.std.proofs.Common.{Err, ap, arith, refl, subst}
 use Rattle.pif_history_text.specs.Histories.{limits_of}
 use Rattle.pif_history_text.specs.Reading.{heard_of}
 use Rattle.pif_job_judge.specs.declared.faults.JudgeFault.{JudgeFault}
-use Rattle.pif_least.specs.declared.search.Needed.{Needed}
-use Rattle.pif_least.specs.declared.search.Needed.TheVariants.{Legal, Undecided}
-use Rattle.pif_least.specs.Least.{IsLeast}
-use Rattle.pif_least.specs.Texts.{legal_with, undecided_with}
+use Rattle.pif_job_judge.specs.declared.search.Needed.{Needed}
+use Rattle.pif_job_judge.specs.declared.search.Needed.TheVariants.{Legal, Undecided}
+use Rattle.pif_job_judge.specs.LeastRules.{IsLeast}
+use Rattle.pif_job_judge.specs.Texts.{legal_with, undecided_with}
 use Rattle.pif_job_judge.proofs.needed.tell_needed.Goals as goal
 
 pub number_at-number-requires : goal.number_at-number-requires

@@ -1,5 +1,0 @@
-pub mod Finding
-pub mod Rivals
-pub mod Stuck
-pub mod Marking
-pub mod Looping

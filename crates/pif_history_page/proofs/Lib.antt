@@ -1,2 +1,0 @@
-mod Appending
-mod RunLemmas

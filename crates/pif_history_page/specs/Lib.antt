@@ -1,4 +1,0 @@
-pub mod Objects
-pub mod Pages
-pub mod Runs
-pub mod Verdicts

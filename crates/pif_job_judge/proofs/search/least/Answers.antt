@@ -1,0 +1,48 @@
+use Rattle.std.proofs.Common.{arith, subst, sym}
+use Rattle.pif_history.specs.declared.verdicts.Verdict.{Verdict}
+use Rattle.pif_allow.specs.Verdicts.{IsVerdictWith}
+use Rattle.pif_rules_model.specs.declared.rules.Rules.{Rules}
+use Rattle.pif_job_judge.specs.LeastRules.{IsLegalSomehow}
+use Rattle.pif_job_judge.proofs.LeastRulesLemmas.{all_illegal, behind_illegal, illegal_more}
+use Rattle.pif_job_judge.proofs.search.least.Goals as goal
+
+pub returns-in-Legal : goal.returns-in-Legal
+returns-in-Legal g c =
+    let legal = subst (λ (v : Verdict). IsVerdictWith c.index.result.now c.args.limits c.args.lines.now v) c.in-Legal.is
+    c.in_ok-judge_allowing.ensures in (
+      (c.in-Legal.field-0.items, legal),
+      behind_illegal c.args.base.now c.args.asked.now c.args.limits c.args.lines.now c.in_ok-sets.sets.items c.loop-place.place
+          c.index.result.now c.in_ok-sets.ensures
+          (omega (arith, c.loop-place-test.true, c.len-place-end.ensures, c.in_ok-sets.sets.ok.0)) c.index.ensures
+          c.loop-place.invariant,
+    )
+
+pub returns-in-Undecided : goal.returns-in-Undecided
+returns-in-Undecided g c =
+    let within = subst (λ (v : Verdict). IsVerdictWith c.index.result.now c.args.limits c.args.lines.now v) c.in-Undecided.is
+    c.in_ok-judge_allowing.ensures in (
+      within.0,
+      within.1,
+      behind_illegal c.args.base.now c.args.asked.now c.args.limits c.args.lines.now c.in_ok-sets.sets.items c.loop-place.place
+          c.index.result.now c.in_ok-sets.ensures
+          (omega (arith, c.loop-place-test.true, c.len-place-end.ensures, c.in_ok-sets.sets.ok.0)) c.index.ensures
+          c.loop-place.invariant,
+    )
+
+pub loop-place-preserved : goal.loop-place-preserved
+loop-place-preserved g c =
+    let illegal = subst (λ (v : Verdict). IsVerdictWith c.index.result.now c.args.limits c.args.lines.now v) c.in-Illegal.is
+    c.in_ok-judge_allowing.ensures in
+    illegal_more c.args.limits c.args.lines.now c.in_ok-sets.sets.items c.loop-place.place c.index.result.now
+    (omega (arith, c.loop-place-test.true, c.len-place-end.ensures, c.in_ok-sets.sets.ok.0)) c.index.ensures
+    (c.in-Illegal.field-0, illegal.2) c.loop-place.invariant
+
+pub returns : goal.returns
+returns g c =
+    let legal = subst (λ (r : Rules). IsLegalSomehow c.args.limits c.args.lines.now r) (sym c.both.ensures) c.requires in (
+      legal,
+      all_illegal c.args.base.now c.args.asked.now c.args.limits c.args.lines.now c.in_ok-sets.sets.items c.loop-place.place
+          c.both.result c.in_ok-sets.ensures
+          (omega (arith, c.loop-place-test.false, c.len-place-end.ensures, c.in_ok-sets.sets.ok.0)) c.both.ensures
+          c.loop-place.invariant,
+    )

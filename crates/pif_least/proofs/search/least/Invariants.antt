@@ -1,6 +1,0 @@
-use Rattle.std.proofs.Common.{All, take}
-use Rattle.pif_least.specs.Least.{IsIllegalSomewhere}
-use Rattle.pif_least.proofs.search.least.Given as goal
-
-abbrev pub invariant-loop-place : goal.invariant-loop-place
-invariant-loop-place g l = All (IsIllegalSomewhere l.limits l.lines) (take l.place l.sets.items)

@@ -1,3 +1,0 @@
-pub mod Least
-pub mod Sets
-pub mod Texts

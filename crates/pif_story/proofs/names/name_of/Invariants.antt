@@ -1,0 +1,12 @@
+use Rattle.std.proofs.Common.{◌≡◌, ◌+◌, length}
+use Rattle.std.specs.Prelude.{option_copied}
+use Rattle.std.specs.Option.{option_map_or}
+use Rattle.pif_story_model.specs.Lines.{lines_behind}
+use Rattle.pif_story.specs.Names.{first_name, name_of}
+use Rattle.pif_story.proofs.names.name_of.Given as goal
+
+abbrev pub invariant-lines : goal.invariant-lines
+invariant-lines l = name_of l.fn.names l.fn.thread ≡ first_name l.fn.thread (lines_behind (option_copied l.rest))
+
+abbrev pub decreases-lines : goal.decreases-lines
+decreases-lines l = option_map_or (λ text. length text.now + 1) l.rest 0

@@ -1,0 +1,24 @@
+use Rattle.std.proofs.Common.{◌+◌, ◌∙◌, arith, sym}
+use Rattle.std.specs.Prelude.{option_copied}
+use Rattle.pif_story_model.specs.Lines.{StoryRow, lines_behind}
+use Rattle.pif_story.proofs.NoteLemmas.{notes_end, notes_row}
+use Rattle.pif_story.proofs.notes.notes_of.Goals as goal
+
+pub lines-preserved-in-Some-row_of : goal.lines-preserved-in-Some-row_of
+lines-preserved-in-Some-row_of c =
+    let row : StoryRow = (c.in-Some-row_of.row.0.now, option_copied c.in-Some-row_of.row.1) in
+    let before = rw (c.in-Some.is, c.split_line.ensures.split) at c.lines.invariant.same in
+    let within = rw c.in-Some.is at c.lines.invariant.within in
+    record {
+      same = notes_row _ c.lines.notes.items c.take_row.new.notes.items c.lines.known c.take_row.new.known
+          (c.lines.number + 1) row c.split_line.result.0.now (lines_behind (option_copied c.split_line.result.1))
+          (lines_behind (option_copied c.lines.answers)) (lines_behind (option_copied c.in_ok-answers.answers))
+          (sym c.in-Some-row_of.ensures) c.in_ok-answers.ensures.notes c.in_ok-answers.ensures.known
+          c.in_ok-answers.ensures.left before;
+      within = omega (arith, within, c.split_line.ensures.parts);
+    }
+
+pub returns : goal.returns
+returns c =
+    let before = rw c.in_default.is at c.lines.invariant.same in
+    sym (before ∙ notes_end c.lines.notes.items c.lines.known _ _)

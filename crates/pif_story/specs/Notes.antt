@@ -1,0 +1,302 @@
+-- Notes on a story: names in its commands that nobody has, and priorities that are out of range.
+use Rattle.std.specs.Prelude.{ℕ, ◌≡◌, ◌≤◌, ◌<◌, ◌+◌, ◌-◌, ◌==◌, ◌&&◌, not, nat_le, nat_lt, nat_eq, Bool, true, false, List, [], ◌∷◌, ◌++◌, length, drop, flat_map, slice_get, Option, Some, None, Result, Ok, Err, option_map, if◌then◌else◌, bytes_eq, codes, decimal}
+use Rattle.std.specs.Io.KnownBytes.{Consumes}
+use Rattle.std.specs.List.{cons_option, starts_with, zip}
+use Rattle.pif_types.specs.declared.requests.Request.{Request}
+use Rattle.pif_types.specs.declared.requests.Request.TheVariants.{Lock, TryLock, Unlock, Consistent, Wait, Signal, Broadcast, SetPrio, TimedLock, TimedWait}
+use Rattle.pif_model.specs.declared.events.Event.{Event}
+use Rattle.pif_model.specs.declared.events.Event.TheVariants.{Begin, Go, End, Tick}
+use Rattle.pif_text_model.specs.declared.commands.Command.{Command}
+use Rattle.pif_text_model.specs.declared.commands.Command.TheVariants as command
+use Rattle.pif_text_model.specs.declared.commands.Addition.{Addition}
+use Rattle.pif_text_model.specs.declared.commands.Addition.TheVariants as addition
+use Rattle.pif_text_model.specs.declared.questions.Question.{Question}
+use Rattle.pif_text_model.specs.declared.questions.Question.TheVariants as question
+use Rattle.pif_text_model.specs.Commands.{command_in}
+use Rattle.pif_text_model.specs.Replies.{thread_name, mutex_name, cond_name}
+use Rattle.pif_script_model.specs.declared.faults.CliFault.{CliFault}
+use Rattle.pif_script_model.specs.Running.{RunsTo}
+use Rattle.pif_script_model.specs.Showing.{ShowsTo, as_done}
+use Rattle.pif_story_model.specs.Checks.{Telling, TellsOfStory, text_of_run}
+use Rattle.pif_story_model.specs.Lines.{StoryRow, commentless, is_blank, lines, without_mark}
+use Rattle.pif_story_model.specs.Showing.{EndsWith, LeavesScript}
+use Rattle.pif_story_model.specs.Stories.{NumberedRow, rows_of, script_of}
+use Rattle.pif_story_model.specs.Verdicts.{is_refusal}
+use Rattle.pif_story.specs.declared.missing.Known.{Known}
+use Rattle.pif_story.specs.declared.missing.Missing.{Missing}
+use Rattle.pif_story.specs.declared.missing.Missing.TheVariants.{Thread, Mutex, Cond, Priority}
+use Rattle.pif_story.specs.declared.missing.Note.{Note}
+
+-- ---- what was added
+
+-- before the first command
+abbrev pub nothing_known : Known
+nothing_known = record { threads = 0; mutexes = 0; conds = 0 }
+
+-- one more; there are no more names than this
+abbrev pub one_more : ℕ → ℕ
+one_more count = if nat_lt count 4294967295 then count + 1 else count
+
+-- what is there once this was added
+unfoldable pub known_with : Known → Addition → Known
+known_with known (addition.Thread p) = record known { threads = one_more known.threads }
+known_with known (addition.Mutex k robust) = record known { mutexes = one_more known.mutexes }
+known_with known (addition.Cond m) = record known { conds = one_more known.conds }
+
+-- what is there behind a command that is answered so; a refused one adds nothing
+unfoldable pub known_behind : Known → Command → (given : List ℕ) → Known
+known_behind known (command.Add a) given = if is_refusal given then known else known_with known a
+known_behind known (command.Limits t m c n) given = known
+known_behind known (command.Event e) given = known
+known_behind known (command.Run t q) given = known
+known_behind known (command.Ask q) given = known
+
+-- ---- what is missing
+
+-- the name of a thread that nobody has: threads are numbered from 1, one after the other
+abbrev pub missing_thread : Known → ℕ → Option Missing
+missing_thread known t = if nat_le t known.threads then None else Some (Thread t)
+
+-- the same of a mutex
+abbrev pub missing_mutex : Known → ℕ → Option Missing
+missing_mutex known m = if nat_le m known.mutexes then None else Some (Mutex m)
+
+-- the same of a condition variable
+abbrev pub missing_cond : Known → ℕ → Option Missing
+missing_cond known c = if nat_le c known.conds then None else Some (Cond c)
+
+-- the first of two that is missing
+abbrev pub first_of : (one other : Option Missing) → Option Missing
+first_of None other = other
+first_of (Some m) other = Some m
+
+-- the first name in a request that nobody has
+unfoldable pub missing_in_request : Known → Request → Option Missing
+missing_in_request known (Lock m) = missing_mutex known m
+missing_in_request known (TryLock m) = missing_mutex known m
+missing_in_request known (Unlock m) = missing_mutex known m
+missing_in_request known (Consistent m) = missing_mutex known m
+missing_in_request known (Wait c m) = first_of (missing_cond known c) (missing_mutex known m)
+missing_in_request known (Signal c) = missing_cond known c
+missing_in_request known (Broadcast c) = missing_cond known c
+missing_in_request known (SetPrio t p) = missing_thread known t
+missing_in_request known (TimedLock m d) = missing_mutex known m
+missing_in_request known (TimedWait c m d) = first_of (missing_cond known c) (missing_mutex known m)
+
+-- the same of a request, if there is one
+abbrev pub missing_in_run : Known → Option Request → Option Missing
+missing_in_run known None = None
+missing_in_run known (Some q) = missing_in_request known q
+
+-- the same of an event
+unfoldable pub missing_in_event : Known → Event → Option Missing
+missing_in_event known (Begin t q) = first_of (missing_thread known t) (missing_in_request known q)
+missing_in_event known (Go t) = missing_thread known t
+missing_in_event known (End t) = missing_thread known t
+missing_in_event known (Tick n) = None
+
+-- the same of a question
+unfoldable pub missing_in_question : Known → Question → Option Missing
+missing_in_question known (question.Word m) = missing_mutex known m
+missing_in_question known (question.Health m) = missing_mutex known m
+missing_in_question known (question.CondWord c) = missing_cond known c
+missing_in_question known (question.Prio t) = missing_thread known t
+missing_in_question known question.Pick = None
+
+-- the same of an addition: a condition variable is bound to a mutex
+abbrev pub missing_in_addition : Known → Addition → Option Missing
+missing_in_addition known (addition.Thread p) = None
+missing_in_addition known (addition.Mutex k robust) = None
+missing_in_addition known (addition.Cond m) = missing_mutex known m
+
+-- the same of a command
+unfoldable pub missing_in : Known → Command → Option Missing
+missing_in known (command.Limits t m c n) = None
+missing_in known (command.Add a) = missing_in_addition known a
+missing_in known (command.Event e) = missing_in_event known e
+missing_in known (command.Run t q) = first_of (missing_thread known t) (missing_in_run known q)
+missing_in known (command.Ask q) = missing_in_question known q
+
+-- the priority that a command asks for, if it adds a thread
+unfoldable pub asked_priority : Command → Option Missing
+asked_priority (command.Add (addition.Thread p)) = Some (Priority p)
+asked_priority (command.Add (addition.Mutex k robust)) = None
+asked_priority (command.Add (addition.Cond m)) = None
+asked_priority (command.Limits t m c n) = None
+asked_priority (command.Event e) = None
+asked_priority (command.Run t q) = None
+asked_priority (command.Ask q) = None
+
+-- what is noted of a command that is answered so: where it names something that is not there, the first name that nobody
+-- has; where a priority is out of range, that priority
+unfoldable pub noted : Known → Command → (given : List ℕ) → Option Missing
+noted known c given =
+    if bytes_eq given (codes "refused nosuch") then missing_in known c
+    else if bytes_eq given (codes "refused badprio") then asked_priority c else None
+
+-- ---- the notes on a story
+
+-- an answer that is written behind a command wants what is noted, so that nothing is told
+abbrev pub if_unanswered : Option (List ℕ) → Option Missing → Option Missing
+if_unanswered None missing = missing
+if_unanswered (Some written) missing = None
+
+-- the note in the line of this number on what is missing
+abbrev pub note_in : ℕ → Missing → Note
+note_in line m = record { line = line; missing = m }
+
+-- what is noted of the command that these words are
+unfoldable pub words_noted : Known → (words given : List ℕ) → Option Missing
+words_noted known words given = elim (command_in words) [ None ↦ None | Some c ↦ noted known c given ]
+
+-- the note on a command in the line of this number, beside what `run` prints for it, if there is one
+unfoldable pub row_note : Known → ℕ → StoryRow → (given : List ℕ) → Option Note
+row_note known line row given = option_map (note_in line) (if_unanswered row.1 (words_noted known row.0 given))
+
+-- what is there behind it
+unfoldable pub row_known : Known → (words given : List ℕ) → Known
+row_known known words given = elim (command_in words) [ None ↦ known | Some c ↦ known_behind known c given ]
+
+-- the notes on commands, each beside what `run` prints for it, in their order
+unfoldable pub rows_notes : Known → List (NumberedRow × List ℕ) → List Note
+rows_notes known [] = []
+rows_notes known (pair ∷ more) =
+    cons_option (row_note known pair.0.0 pair.0.1 pair.1) (rows_notes (row_known known pair.0.1.0 pair.1) more)
+
+-- whether two are the same
+abbrev pub is_same : Missing → Missing → Bool
+is_same (Thread m) (Thread n) = m == n
+is_same (Mutex m) (Mutex n) = m == n
+is_same (Cond m) (Cond n) = m == n
+is_same (Priority m) (Priority n) = m == n
+is_same one other = false
+
+-- whether a note is on this
+unfoldable pub is_told : Missing → List Note → Bool
+is_told missing [] = false
+is_told missing (note ∷ more) = if is_same note.missing missing then true else is_told missing more
+
+-- a note behind those that are told: each name is told once, and there are 20 notes at most
+unfoldable pub with_note : (told : List Note) → Note → List Note
+with_note told note =
+    if nat_lt (length told) 20 && not (is_told note.missing told) then told ++ note ∷ [] else told
+
+-- a note behind those that are told, if there is one
+abbrev pub with_found : (told : List Note) → Option Note → List Note
+with_found told None = told
+with_found told (Some note) = with_note told note
+
+-- notes behind those that are told, one after the other
+unfoldable pub with_notes : (told notes : List Note) → List Note
+with_notes told [] = told
+with_notes told (note ∷ more) = with_notes (with_note told note) more
+
+-- the notes on these commands beside the lines that `run` prints for them
+unfoldable pub notes_of_rows : List NumberedRow → (answers : List (List ℕ)) → List Note
+notes_of_rows rows answers = with_notes [] (rows_notes nothing_known (zip rows answers))
+
+-- ---- how they are told
+
+-- the word in a command that is missing
+unfoldable pub missing_word : Missing → List ℕ
+missing_word (Thread t) = thread_name t
+missing_word (Mutex m) = mutex_name m
+missing_word (Cond c) = cond_name c
+missing_word (Priority p) = decimal p
+
+-- what is said before it
+unfoldable pub words_before : Missing → List ℕ
+words_before (Thread t) = codes "there is no thread "
+words_before (Mutex m) = codes "there is no mutex "
+words_before (Cond c) = codes "there is no condition variable "
+words_before (Priority p) = codes "priority "
+
+-- and behind it
+unfoldable pub words_behind : Missing → List ℕ
+words_behind (Thread t) = []
+words_behind (Mutex m) = []
+words_behind (Cond c) = []
+words_behind (Priority p) = codes " is out of range (1 to 99)"
+
+-- what is said of what is missing
+abbrev pub missing_text : Missing → List ℕ
+missing_text m = words_before m ++ missing_word m ++ words_behind m
+
+-- whether a text is at an end of a word
+abbrev pub ends_word : List ℕ → Bool
+ends_word [] = true
+ends_word (byte ∷ more) = is_blank byte
+
+-- whether a text begins with this word
+abbrev pub begins_with : (word text : List ℕ) → Bool
+begins_with word text = starts_with nat_eq text word && ends_word (drop (length word) text)
+
+-- the column of a word in a text that begins in this column, and where a word may begin or not; that behind the text if
+-- it has no such word
+unfoldable pub column_from : ℕ → (begins : Bool) → (word text : List ℕ) → ℕ
+column_from column begins word [] = column
+column_from column begins word (byte ∷ more) =
+    if begins && begins_with word (byte ∷ more) then column
+    else column_from (column + 1) (is_blank byte) word more
+
+-- the column of a word in a line as it is written, from 1
+abbrev pub column_of : (word line : List ℕ) → ℕ
+column_of word line = column_from 1 true word (commentless line)
+
+-- a line, or an empty one if there is none
+abbrev pub line_or_empty : Option (List ℕ) → List ℕ
+line_or_empty None = []
+line_or_empty (Some line) = line
+
+-- the line of this number in a text, from 1
+abbrev pub line_in : (text : List ℕ) → ℕ → List ℕ
+line_in text number = line_or_empty (slice_get (lines text) (number - 1))
+
+-- a place in a file of this name, by line and column
+abbrev pub place_text : (name : List ℕ) → (line column : ℕ) → List ℕ
+place_text name line column =
+    name ++ codes ":" ++ decimal line ++ codes ":" ++ decimal column ++ codes ": "
+
+-- the column of a note in a story
+abbrev pub note_column : (story : List ℕ) → Note → ℕ
+note_column story note = column_of (missing_word note.missing) (line_in (without_mark story) note.line)
+
+-- the line of a note on a story of this name
+unfoldable pub note_line : (name story : List ℕ) → Note → List ℕ
+note_line name story note =
+    place_text name note.line (note_column story note) ++ missing_text note.missing ++ codes "\n"
+
+-- the notes on a story of this name whose commands stand beside these lines; there are none on one that is too large
+unfoldable pub notes_beside : (name story : List ℕ) → (answers : List (List ℕ)) → List ℕ
+notes_beside name story answers =
+    if nat_lt 16777216 (length story) then []
+    else flat_map (note_line name story) (notes_of_rows (rows_of story) answers)
+
+-- the notes on a story of this name: its commands beside the lines that `run` prints for its script
+unfoldable pub story_notes : (name story : List ℕ) → List ℕ
+story_notes name story = notes_beside name story (lines (text_of_run (script_of story)))
+
+-- ---- jobs with notes
+
+-- these are the notes on a story that was read, if the job was done
+abbrev pub AreNotes : (name story : List ℕ) → Result (List ℕ) CliFault → Type 0
+AreNotes name story (Ok notes) = notes ≡ story_notes name story
+AreNotes name story (Err fault) = Unit {0}
+
+-- what is to be told of a story of this name was, and these are the notes on it
+abbrev pub TellsNoting : (name : List ℕ) → (List ℕ → Telling) → (before after held holds : Option (List ℕ))
+    → Result (List ℕ) CliFault → Type 0
+TellsNoting name telling before after held holds result =
+    (read : List ℕ) × Consumes before after read × (length read ≤ 16777217)
+    × TellsOfStory telling read after held holds (as_done result) × AreNotes name read result
+
+-- the script that is left of these bytes of a story was shown
+abbrev pub Shows : List ℕ → (after held holds : Option (List ℕ)) → Result (Unit {0}) CliFault → Type 0
+Shows read after held holds result =
+    (script : Result (List ℕ) CliFault) × LeavesScript read after script × EndsWith ShowsTo script held holds result
+
+-- the script that is left of a story of this name was shown, and these are the notes on it
+abbrev pub ShowsNoting : (name : List ℕ) → (before after held holds : Option (List ℕ)) → Result (List ℕ) CliFault → Type 0
+ShowsNoting name before after held holds result =
+    (read : List ℕ) × Consumes before after read × (length read ≤ 16777217)
+    × Shows read after held holds (as_done result) × AreNotes name read result

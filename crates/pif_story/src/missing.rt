@@ -1,0 +1,269 @@
+ghost use Rattle.std.specs.Prelude.{◌≡◌};
+ghost use Rattle.pif_story.specs.Notes.{asked_priority, first_of, known_behind, known_with, missing_cond, missing_in, missing_in_addition, missing_in_event, missing_in_question, missing_in_request, missing_in_run, missing_mutex, missing_thread, nothing_known, noted, one_more};
+ghost use Rattle.pif_story_model.specs.Verdicts.{is_refusal};
+
+use pif_model::Event;
+use pif_text::{Addition, Command, Question};
+use pif_types::{CondId, MutexId, Request, Tid};
+
+/// What a command names or asks for, and isn't there.
+#[derive(Clone, Copy)]
+pub enum Missing {
+    /// The thread of this number: nobody has it.
+    Thread(u32),
+    /// The mutex of this number: nobody has it.
+    Mutex(u32),
+    /// The condition variable of this number: nobody has it.
+    Cond(u32),
+    /// A priority that is out of range.
+    Priority(u32),
+}
+
+/// What is noted of the command in the line of this number, from 1.
+#[derive(Clone, Copy)]
+pub struct Note {
+    /// The number of the line.
+    pub line: u64,
+    /// What isn't there.
+    pub missing: Missing,
+}
+
+/// How many threads, mutexes and condition variables were added. Each is numbered from 1, one after the other.
+#[derive(Clone, Copy)]
+pub struct Known {
+    /// How many threads.
+    pub threads: u32,
+    /// How many mutexes.
+    pub mutexes: u32,
+    /// How many condition variables.
+    pub conds: u32,
+}
+
+/// One more.
+fn one_more(count: u32) -> u32
+    ensures { result ≡ one_more count }
+{
+    if count < u32::MAX { count + 1 } else { count }
+}
+
+/// Whether it is printed that a command is refused.
+#[tactic(auto, unfolding(pif_story_model::specs::Verdicts::is_refusal))]
+fn is_refusal(given: &[u8]) -> bool
+    ensures { result ≡ is_refusal given.now }
+{
+    given.starts_with(b"refused ")
+}
+
+impl Known {
+    /// Before the first command.
+    pub fn nothing() -> Known
+        ensures { result ≡ nothing_known }
+    {
+        Known {
+            threads: 0,
+            mutexes: 0,
+            conds: 0,
+        }
+    }
+
+    /// What is there once this was added.
+    #[tactic(auto, unfolding(crate::specs::Notes::known_with))]
+    fn with(&self, addition: Addition) -> Known
+        ensures { result ≡ known_with self.now addition }
+    {
+        let Known {
+            threads,
+            mutexes,
+            conds,
+        } = *self;
+        match addition {
+            Addition::Thread(_) => Known {
+                threads: one_more(threads),
+                mutexes,
+                conds,
+            },
+            Addition::Mutex(..) => Known {
+                threads,
+                mutexes: one_more(mutexes),
+                conds,
+            },
+            Addition::Cond(_) => Known {
+                threads,
+                mutexes,
+                conds: one_more(conds),
+            },
+        }
+    }
+
+    /// What is there behind a command for which this is printed.
+    #[tactic(auto, unfolding(crate::specs::Notes::known_behind))]
+    pub fn behind(&self, command: Command, given: &[u8]) -> Known
+        ensures { result ≡ known_behind self.now command given.now }
+    {
+        match command {
+            Command::Add(addition) => {
+                if is_refusal(given) {
+                    *self
+                } else {
+                    self.with(addition)
+                }
+            }
+            Command::Limits(..) | Command::Event(_) | Command::Run(..) | Command::Ask(_) => *self,
+        }
+    }
+
+    /// The name of a thread, if nobody has it.
+    fn thread(&self, thread: Tid) -> Option<Missing>
+        ensures { result ≡ missing_thread self.now thread }
+    {
+        let number = thread.get();
+        if number <= self.threads {
+            None
+        } else {
+            Some(Missing::Thread(number))
+        }
+    }
+
+    /// The name of a mutex, if nobody has it.
+    fn mutex(&self, mutex: MutexId) -> Option<Missing>
+        ensures { result ≡ missing_mutex self.now mutex }
+    {
+        let number = mutex.get();
+        if number <= self.mutexes {
+            None
+        } else {
+            Some(Missing::Mutex(number))
+        }
+    }
+
+    /// The name of a condition variable, if nobody has it.
+    fn cond(&self, cond: CondId) -> Option<Missing>
+        ensures { result ≡ missing_cond self.now cond }
+    {
+        let number = cond.get();
+        if number <= self.conds {
+            None
+        } else {
+            Some(Missing::Cond(number))
+        }
+    }
+
+    /// The first name in a request that nobody has.
+    #[tactic(auto, unfolding(crate::specs::Notes::missing_in_request))]
+    fn in_request(&self, request: Request) -> Option<Missing>
+        ensures { result ≡ missing_in_request self.now request }
+    {
+        match request {
+            Request::Lock(mutex) => self.mutex(mutex),
+            Request::TryLock(mutex) => self.mutex(mutex),
+            Request::Unlock(mutex) => self.mutex(mutex),
+            Request::Consistent(mutex) => self.mutex(mutex),
+            Request::Wait(cond, mutex) => first_of(self.cond(cond), self.mutex(mutex)),
+            Request::Signal(cond) => self.cond(cond),
+            Request::Broadcast(cond) => self.cond(cond),
+            Request::SetPrio(thread, _) => self.thread(thread),
+            Request::TimedLock(mutex, _) => self.mutex(mutex),
+            Request::TimedWait(cond, mutex, _) => first_of(self.cond(cond), self.mutex(mutex)),
+        }
+    }
+
+    /// The first name in a request that nobody has, if there is a request.
+    fn in_run(&self, request: Option<Request>) -> Option<Missing>
+        ensures { result ≡ missing_in_run self.now request }
+    {
+        match request {
+            Some(request) => self.in_request(request),
+            None => None,
+        }
+    }
+
+    /// The first name in an event that nobody has.
+    #[tactic(auto, unfolding(crate::specs::Notes::missing_in_event))]
+    fn in_event(&self, event: Event) -> Option<Missing>
+        ensures { result ≡ missing_in_event self.now event }
+    {
+        match event {
+            Event::Begin(thread, request) => {
+                first_of(self.thread(thread), self.in_request(request))
+            }
+            Event::Go(thread) => self.thread(thread),
+            Event::End(thread) => self.thread(thread),
+            Event::Tick(_) => None,
+        }
+    }
+
+    /// The first name in a question that nobody has.
+    #[tactic(auto, unfolding(crate::specs::Notes::missing_in_question))]
+    fn in_question(&self, question: Question) -> Option<Missing>
+        ensures { result ≡ missing_in_question self.now question }
+    {
+        match question {
+            Question::Word(mutex) => self.mutex(mutex),
+            Question::Health(mutex) => self.mutex(mutex),
+            Question::CondWord(cond) => self.cond(cond),
+            Question::Prio(thread) => self.thread(thread),
+            Question::Pick => None,
+        }
+    }
+
+    /// The name of the mutex to which an addition is bound, if nobody has it.
+    fn in_addition(&self, addition: Addition) -> Option<Missing>
+        ensures { result ≡ missing_in_addition self.now addition }
+    {
+        match addition {
+            Addition::Thread(_) => None,
+            Addition::Mutex(..) => None,
+            Addition::Cond(mutex) => self.mutex(mutex),
+        }
+    }
+
+    /// The first name in a command that nobody has.
+    #[tactic(auto, unfolding(crate::specs::Notes::missing_in))]
+    fn in_command(&self, command: Command) -> Option<Missing>
+        ensures { result ≡ missing_in self.now command }
+    {
+        match command {
+            Command::Limits(..) => None,
+            Command::Add(addition) => self.in_addition(addition),
+            Command::Event(event) => self.in_event(event),
+            Command::Run(thread, request) => first_of(self.thread(thread), self.in_run(request)),
+            Command::Ask(question) => self.in_question(question),
+        }
+    }
+}
+
+/// The first of two that is missing.
+fn first_of(one: Option<Missing>, other: Option<Missing>) -> Option<Missing>
+    ensures { result ≡ first_of one other }
+{
+    match one {
+        Some(missing) => Some(missing),
+        None => other,
+    }
+}
+
+/// The priority that a command asks for, if it adds a thread.
+#[tactic(auto, unfolding(crate::specs::Notes::asked_priority))]
+fn asked_priority(command: Command) -> Option<Missing>
+    ensures { result ≡ asked_priority command }
+{
+    match command {
+        Command::Add(Addition::Thread(priority)) => Some(Missing::Priority(priority)),
+        _ => None,
+    }
+}
+
+/// What is noted of a command for which this is printed: the first name that nobody has if it is `refused nosuch`, and
+/// the priority that is out of range if it is `refused badprio`.
+#[tactic(auto, unfolding(crate::specs::Notes::noted))]
+pub fn noted(known: &Known, command: Command, given: &[u8]) -> Option<Missing>
+    ensures { result ≡ noted known.now command given.now }
+{
+    if given == b"refused nosuch".as_slice() {
+        known.in_command(command)
+    } else if given == b"refused badprio".as_slice() {
+        asked_priority(command)
+    } else {
+        None
+    }
+}

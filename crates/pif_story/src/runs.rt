@@ -1,0 +1,58 @@
+ghost use Rattle.std.specs.Prelude.{◌≡◌, IfErr, IfOk};
+ghost use Rattle.pif_story_model.specs.Checks.{IsUntold, script_fault, text_of_run};
+ghost use Rattle.pif_story_model.specs.Lines.{lines};
+ghost use Rattle.pif_story_model.specs.Stories.{rows_from, script_by};
+ghost use Rattle.pif_story.specs.Notes.{story_notes};
+
+use crate::texts::notes_text;
+use crate::{plain_story, script_of};
+use pif_script::{CliFault, run};
+use pif_text::Cause;
+use std::alloc::Global;
+
+/// What is printed for a script, and its first fault.
+pub type Ran = (Vec<u8>, Option<(u64, Cause)>);
+
+/// Runs the script of a story, of which nothing but its words is given. Answers what is printed for it, and its first
+/// fault, if it has one.
+///
+/// # Errors
+///
+/// `NoMemory`.
+pub fn run_story(alloc: Global, plain: &[u8]) -> Result<Ran, CliFault>
+    ensures printed { IfOk result (λ ran. ran.0.items ≡ text_of_run (script_by (rows_from 1 (lines plain.now)))) }
+    ensures fault { IfOk result (λ ran. ran.1 ≡ script_fault (script_by (rows_from 1 (lines plain.now)))) }
+    ensures failed { IfErr result IsUntold }
+{
+    let Ok(script) = script_of(alloc, plain) else {
+        return Err(CliFault::NoMemory);
+    };
+    let mut output = Vec::new(alloc);
+    match run(alloc, &mut script.as_slice(), &mut output) {
+        Ok(()) => Ok((output, None)),
+        Err(CliFault::Script(line, cause)) => Ok((output, Some((line, cause)))),
+        Err(CliFault::Write) => Err(CliFault::NoMemory),
+        Err(fault) => Err(fault),
+    }
+}
+
+/// The notes on a story of this name, a line for each.
+///
+/// # Errors
+///
+/// `NoMemory`.
+#[tactic(auto, unfolding(crate::specs::Notes::story_notes, pif_story_model::specs::Stories::script_of))]
+pub fn story_notes(alloc: Global, name: &[u8], story: &[u8]) -> Result<Vec<u8>, CliFault>
+    ensures notes { IfOk result (λ notes. notes.items ≡ story_notes name.now story.now) }
+    ensures failed { IfErr result IsUntold }
+{
+    let Ok(plain) = plain_story(alloc, story) else {
+        return Err(CliFault::NoMemory);
+    };
+    let words = plain.as_slice();
+    let (output, _) = run_story(alloc, words)?;
+    match notes_text(alloc, name, story, words, output.as_slice()) {
+        Ok(text) => Ok(text),
+        Err(_) => Err(CliFault::NoMemory),
+    }
+}

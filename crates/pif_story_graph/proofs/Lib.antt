@@ -1,2 +1,0 @@
-pub mod CoreLemmas
-pub mod ListLemmas

@@ -1,2 +1,0 @@
-pub mod Graphs
-pub mod Stories
