@@ -48,31 +48,32 @@ def part_of(pid):
 
 
 def below(root):
-    """The processes that stand below this one, each with what it has spent and the one above it."""
+    """The processes that stand below this one, each with the one above it, what it has spent, and when it began."""
     stats = {}
     for name in filter(str.isdigit, os.listdir("/proc")):
         fields = read(f"/proc/{name}/stat").rpartition(")")[2].split()
         if fields:
-            stats[int(name)] = int(fields[1]), (int(fields[11]) + int(fields[12])) / TICKS
+            stats[int(name)] = int(fields[1]), (int(fields[11]) + int(fields[12])) / TICKS, fields[19]
     found = {root}
     while True:
-        more = {pid for pid, (above, _) in stats.items() if above in found} - found
+        more = {pid for pid, (above, _, _) in stats.items() if above in found} - found
         if not more:
             return {pid: stats[pid] for pid in found if pid in stats}
         found |= more
 
 
 def sample(root, spent, parts):
-    """Notes what each process below `root` has spent so far, and for which part it works, where it or one above tells."""
+    """Notes what each process below `root` has spent so far, and for which part it works, where it or one above tells. A
+    process that has ended may leave its number to another, which began later."""
     found = below(root)
-    for pid, (above, seconds) in found.items():
+    for pid, (above, seconds, begun) in found.items():
         part = part_of(pid)
         at = above
         while part is None and at in found:
             part, at = part_of(at), found[at][0]
         if part:
-            parts[pid] = part
-        spent[pid] = seconds
+            parts[pid, begun] = part
+        spent[pid, begun] = seconds
 
 
 def longest_chain(each):
