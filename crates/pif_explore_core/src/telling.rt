@@ -3,7 +3,7 @@ ghost use Rattle.std.specs.Prelude.{◌≡◌, ◌++◌, OnOk, codes, decimal, f
 ghost use Rattle.pif_explore_core.specs.Lines.{claim_told, ending_told, others_told, outcome_told, played_told, unfinished_told};
 
 use crate::playing::{Mark, Played};
-use pif_explore_text::{push_all, push_number};
+use pif_explore_told::{push_all, push_number};
 use pif_search::Stop;
 
 /// Appends a number between two words.
