@@ -27,9 +27,15 @@ const FIRST_TICKET: u64 = 1;
 
 /// A core under limits: threads, mutexes, condition variables, and what library and kernel know of them. Only `new`
 /// takes memory.
-#[derive(Drop)]
 pub struct Core {
     pub(crate) parts: Parts<LinkedKernel>,
+}
+
+// A destructor of its own: what owns a core calls it, and has not to be proved to let go of each of its parts.
+impl Drop for Core {
+    fn drop(self) {
+        let Core { parts: _ } = self;
+    }
 }
 
 impl Model for Core {
