@@ -74,9 +74,8 @@ RENAMED = {
         "pif_script_tests",
         "pif_program_tests",
     ],
-    "pif_test_cli": ["pif_cli_tests"],
     "pif_test_blocks": ["pif_blocks"],
-    "pif_test_transcripts": ["pif_transcripts"],
+    "pif_test_transcripts": ["pif_test_transcripts", "pif_transcripts", "pif_test_cli", "pif_cli_tests"],
 }
 
 

@@ -1,10 +1,10 @@
 #!/usr/bin/env python3
 """Refuses each request for memory of the built program in turn, by a `malloc` and a `realloc` that refuse the Nth: for
-a run, a run that is shown, a replay, a trace, help, a wrong word and two clients in real threads. Each time it must end
-for that: with status 4, nothing on standard output and `pif: out of memory` on standard error, or with status 6 and
-`fault threads` if a thread could not be started. Or all must be as with no refusal, since the standard library asks
-again for some. A run may say besides that it is out of memory for notes. With the words of a job behind the program it
-is that job alone, over an example.
+a run, a run that is shown, a replay, a trace, a random script, help, a wrong word and two clients in real threads. Each
+time it must end for that: with status 4, nothing on standard output and `pif: out of memory` on standard error, or with
+status 6 and `fault threads` if a thread could not be started. Or all must be as with no refusal, since the standard
+library asks again for some. A run may say besides that it is out of memory for notes. With the words of a job behind
+the program it is that job alone, over an example.
 
 Two rows more are asked if they are built. The test `desk_keeps_receipts` of pif_test_core (by `rt test` there) asks
 again for what was refused, by `resume` if a call is open: no answer, book or replayed trace may change. The
@@ -38,8 +38,17 @@ REFUSALS = ((4, b"", b"pif: out of memory\n"), (6, b"fault threads\n", b"pif: a 
 # What a run prints of the error if only its notes are refused memory.
 NO_NOTES = b"pif: out of memory for notes\n"
 
-# The jobs of the program, each with its status. A replay reads the trace of the script, the others the script.
-JOBS = (("run", 0), ("show", 0), ("replay", 0), ("trace", 0), ("--help", 0), ("walk", 1), ("drive 2", 0))
+# The jobs of the program, each with its status. A replay reads the trace of the script, the others may read the script.
+JOBS = (
+    ("run", 0),
+    ("show", 0),
+    ("replay", 0),
+    ("trace", 0),
+    ("random --seed=1 --lines=9", 0),
+    ("--help", 0),
+    ("walk", 1),
+    ("drive 2", 0),
+)
 
 # What a benchmark measures is another number each time.
 MEASURED = re.compile(rb"[0-9]+(\.[0-9]+)? (ns|ps|bare pairs)")

@@ -1,9 +1,7 @@
 //! The program `pif`: `pif_cli`'s command line over the process's words and its standard streams.
 #![tactic(auto)]
 
-use pif_cli::{
-    Input, Output, Progress, Runtime, Status, WatchFiles, WatchJob, command_at_terminal,
-};
+use pif_cli::{Input, Output, Progress, Runtime, Status, WatchFiles, WatchJob, command_of_process};
 use std::io::{IsTerminal, Read, Write};
 use std::rt::{Env, Files};
 
@@ -23,7 +21,7 @@ fn answer<
     watch: &mut V,
 ) -> Status {
     let (mut input, mut output) = (Input::new(input), Output::new(output));
-    command_at_terminal(process, is_terminal, &mut input, &mut output, errors, watch)
+    command_of_process(process, is_terminal, &mut input, &mut output, errors, watch)
 }
 
 fn main(rt: HostRuntime) -> Status {

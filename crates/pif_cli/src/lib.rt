@@ -34,7 +34,7 @@ pub use pif_job_trace::{script_trace_is_the_same, trace, write_trace, written_tr
 pub use pif_script::{CliFault, run};
 pub use pif_script_model::Picture;
 pub use pif_text::Cause;
-pub use process::{command_at_terminal, command_of_process};
+pub use process::command_of_process;
 pub use progress::{Progress, WatchFiles, WatchJob};
 pub use statuses::{JobFault, Status};
 pub use streams::{Input, Output};

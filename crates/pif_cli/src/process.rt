@@ -5,7 +5,7 @@ ghost use Rattle.pif_cli.specs.Words.{EndsOver, HadNoWords};
 use crate::files::command_over_files;
 use crate::hosts::{Host, Runtime};
 use crate::messages::Message;
-use crate::progress::{Unwatched, WatchFiles, WatchJob};
+use crate::progress::{WatchFiles, WatchJob};
 use crate::shelves::FileShelf;
 use crate::statuses::Status;
 use crate::streams::{Input, Output};
@@ -18,12 +18,23 @@ use std::{env, io};
 /// What is said if a word is no text.
 const NO_TEXT: &str = "error: a word is not UTF-8\n";
 
-/// The program over the words of a process, as `command_of_process` has it. If `is_terminal`, `input` is a terminal,
-/// and `pif shell` writes a prompt before each line that it reads. `watch` is told of each file that a job begins with.
-/// Of each line of a history that `pif judge` judges it is told how many states were made, and of a program that `pif
-/// explore` explores how many states and steps were found. Of each line of `pif random` and each command of `pif draw` it
-/// is told that it is made. What it tells a person is no part of what `errors` is told.
-pub fn command_at_terminal<
+/// The program over the words of a process, its name first, as `command` is over words at hand: `main` hands over the
+/// process and its streams, and ends with what it is answered. The process starts the threads, and opens the files that
+/// the words name: the job is done over each in turn, and over `input` for `-`, and if they name none. The status is
+/// the first that is not 0. Of a file that cannot be opened `errors` is told in one line, and its status is 3. A story
+/// that `pif shell` saves is a new file of the process.
+///
+/// If `is_terminal`, `input` is a terminal, and `pif shell` writes a prompt before each line that it reads.
+///
+/// `watch` is told of each file that a job begins with. Of each line of a history that `pif judge` judges it is told
+/// how many states were made, and of a program that `pif explore` explores how many states and steps were found. Of
+/// each line of `pif random` and each command of `pif draw` it is told that it is made. What it tells a person is no
+/// part of what `errors` is told.
+///
+/// Where the words cannot be had, nothing is read. The status is then 1 where one of them is not UTF-8, which `errors`
+/// is told; 4 if it is out of memory; and 3 if they cannot be read, or if `errors` cannot be told of such a word. At
+/// 4, and where the words cannot be read, `errors` is told so in one line, as by `command`.
+pub fn command_of_process<
     P: Env + AllocGlobal + Files + Runtime + Sync,
     R: Read,
     W: Write,
@@ -57,28 +68,6 @@ pub fn command_at_terminal<
         }
         Err(error) => Status::new(refuse(error.kind(), errors)),
     }
-}
-
-/// The program over the words of a process, its name first, as `command` is over words at hand: `main` hands over the
-/// process and its streams, and ends with what it is answered. The process starts the threads, and opens the files that
-/// the words name: the job is done over each in turn, and over `input` for `-`, and if they name none. The status is
-/// the first that is not 0. Of a file that cannot be opened `errors` is told in one line, and its status is 3.
-///
-/// A story that `pif shell` saves is a new file of the process; it writes no prompt.
-///
-/// Where the words cannot be had, nothing is read. The status is then 1 where one of them is not UTF-8, which `errors`
-/// is told; 4 if it is out of memory; and 3 if they cannot be read, or if `errors` cannot be told of such a word. At
-/// 4, and where the words cannot be read, `errors` is told so in one line, as by `command`.
-pub fn command_of_process<
-    P: Env + AllocGlobal + Files + Runtime + Sync,
-    R: Read,
-    W: Write,
-    E: Write,
->(process: &P, input: &mut Input<R>, output: &mut Output<W>, errors: &mut E) -> Status
-    ensures { (words : Result (List (List ℕ)) IoErrorKind) × EndsOver words (R.remaining input.old) (R.remaining input.new)
-        (W.contents output.old) (W.contents output.new) (E.contents errors.old) (E.contents errors.new) result }
-{
-    command_at_terminal(process, false, input, output, errors, &mut Unwatched)
 }
 
 /// The words of a process, its name first.

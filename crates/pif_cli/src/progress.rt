@@ -29,10 +29,6 @@ impl Watch for Unwatched {
     }
 }
 
-impl WatchFiles for Unwatched {
-    fn file(&mut self, _done: usize, _count: usize) {}
-}
-
 impl WatchStates for Unwatched {
     fn found(&mut self, _states: usize, _steps: usize) {}
 }

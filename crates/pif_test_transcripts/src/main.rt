@@ -3,50 +3,22 @@
 #![tactic(auto)]
 
 mod block;
+mod deeds;
+mod jobs;
 mod marks;
+mod process;
 mod streams;
+mod told;
 
-use block::Block;
-use pif_cli::{Input, Output, Runtime, command};
+use block::{Asked, Block};
+use deeds::{List, ListedFiles};
+use jobs::do_block;
+use pif_cli::Runtime;
+use process::Process;
 use std::alloc::Global;
-use std::io::{Read, Write};
-use std::rt::Files;
+use std::rt::{Env, Files};
 use std::str::from_utf8;
 use std::{env, fs, io};
-use streams::{Sink, Source};
-
-/// Asks the program for a job with these words over an input. Answers the status.
-fn ask<R: Runtime + Sync, I: Read, O: Write>(
-    rt: &R,
-    alloc: Global,
-    words: &[&str],
-    input: &mut I,
-    output: &mut O,
-    errors: &mut Sink,
-) -> u8 {
-    let (mut input, mut output) = (Input::new(input), Output::new(output));
-    command(alloc, rt, words, &mut input, &mut output, errors)
-}
-
-/// Does what a block asks for. Answers the status, and how many bytes of the input are left.
-fn do_job<R: Runtime + Sync>(
-    rt: &R,
-    alloc: Global,
-    block: &Block<'_>,
-    output: &mut Sink,
-    errors: &mut Sink,
-) -> (u8, usize) {
-    let mut source = Source::new(block.input.text(), block.each_read, block.breaks);
-    let status = ask(
-        rt,
-        alloc,
-        block.words.as_slice(),
-        &mut source,
-        output,
-        errors,
-    );
-    (status, source.left())
-}
 
 /// Prints what a job has written, if it is text.
 fn print_written(rt: &impl Print, written: &[u8]) -> io::Result<()> {
@@ -64,48 +36,64 @@ fn print_difference(rt: &impl Print, status: u8, output: &[u8], errors: &[u8]) -
     print_written(rt, errors)
 }
 
-/// Does what a block asks for, and compares. Answers whether it asks for a job.
-fn play<R: Runtime + Sync + Print>(rt: &R, alloc: Global, block: &Block<'_>) -> io::Result<bool> {
-    if block.words.is_empty() {
+/// Prints the name of a block, does what it asks for, perhaps of one of these processes, and compares. Answers whether it
+/// asks for anything.
+fn play<
+    R: Runtime + Sync + Print + Eprint,
+    P: Env + AllocGlobal + Files + Runtime + Sync,
+    L: Env + AllocGlobal + Files + Runtime + Sync,
+>(
+    rt: &R,
+    alloc: Global,
+    block: &Block<'_>,
+    machine: &P,
+    listed: &L,
+    list: &List<'_>,
+) -> io::Result<bool> {
+    if !block.name.is_empty() {
+        println!(rt; "{}", block.name)?;
+    }
+    if let Asked::Nothing = block.asked {
         return Ok(false);
     }
-    let mut output = Sink::new(block.room);
-    let mut errors = Sink::new(block.errors_room);
-    let (status, left) = do_job(rt, alloc, block, &mut output, &mut errors);
-    if !block.is_met(status, left, output.text(), errors.text()) {
-        print_difference(rt, status, output.text(), errors.text())?;
+    let mut streams = block.streams();
+    let done = do_block(rt, alloc, block, machine, listed, list, &mut streams);
+    let (output, errors) = (streams.output.text(), streams.errors.text());
+    if !block.is_met(&done, output, errors) {
+        print_difference(rt, done.status, output, errors)?;
     }
     Ok(true)
 }
 
-/// Plays the blocks of a text, between which an empty line stands. Answers how many jobs were done.
-fn play_all<R: Runtime + Sync + Print>(rt: &R, alloc: Global, text: &str) -> io::Result<u32> {
+/// The texts of the files that the words name, with an empty line between them.
+fn texts_of<R: Env + AllocGlobal + Files>(rt: &R) -> io::Result<Vec<u8>> {
+    let mut texts = Vec::new(rt.alloc());
+    for name in env::args(rt)?.skip(1) {
+        texts.extend_from_slice(fs::read(rt, name.as_str())?.as_slice())?;
+        texts.push(b'\n')?;
+    }
+    Ok(texts)
+}
+
+/// These bytes as a text, which is empty if they are none.
+fn text_of(bytes: &[u8]) -> &str {
+    from_utf8(bytes).unwrap_or("")
+}
+
+/// Plays the blocks of the files that the words name. The processes of a block are made here, since only `main` has the
+/// machine's own runtime.
+fn main(rt: HostRuntime) -> io::Result<()> {
+    let texts = texts_of(&rt)?;
     let mut count = 0_u32;
-    for lines in text.split("\n\n") {
+    for lines in text_of(texts.as_slice()).split("\n\n") {
         let block = Block::of(lines);
-        if !block.name.is_empty() {
-            println!(rt; "{}", block.name)?;
-        }
-        if play(rt, alloc, &block)? {
+        let list = List::of(lines);
+        let files = ListedFiles::new(&list, &rt);
+        let machine = (Process::of(lines, &rt), rt.alloc());
+        let listed = (Process::of(lines, &files), rt.alloc());
+        if play(&rt, rt.alloc(), &block, &machine, &listed, &list)? {
             count = count.saturating_add(1);
         }
     }
-    Ok(count)
-}
-
-/// Plays the file of this name.
-fn play_file<R: Runtime + Sync + Print + Files + AllocGlobal>(
-    rt: &R,
-    name: &str,
-) -> io::Result<()> {
-    let text = fs::read_to_string(rt, name)?;
-    let count = play_all(rt, rt.alloc(), text.as_str())?;
-    println!(rt; "{name}: {count} jobs")
-}
-
-fn main(rt: HostRuntime) -> io::Result<()> {
-    for name in env::args(&rt)?.skip(1) {
-        play_file(&rt, name.as_str())?;
-    }
-    Ok(())
+    println!(&rt; "{count} jobs")
 }

@@ -2,6 +2,10 @@
 
 use crate::streams::Kept;
 use arrayvec::ArrayVec;
+use std::io::ErrorKind;
+
+/// The words of a job.
+pub type Words<'a> = ArrayVec<&'a str, 48>;
 
 /// The mark of a line, and the text behind it.
 pub fn mark_of(line: &str) -> (&str, &str) {
@@ -15,7 +19,7 @@ pub fn keep_line(kept: &mut Kept, text: &str) {
 }
 
 /// Keeps the words of a job, behind the program's name.
-pub fn keep_words<'a>(words: &mut ArrayVec<&'a str, 12>, text: &'a str) {
+pub fn keep_words<'a>(words: &mut Words<'a>, text: &'a str) {
     let _ = words.try_push("pif");
     for word in text.split_whitespace() {
         let _ = words.try_push(word);
@@ -52,5 +56,24 @@ pub fn keep_escaped(kept: &mut Kept, text: &str) {
         let (byte, rest) = escape(part);
         kept.append(&[byte]);
         kept.append(rest);
+    }
+}
+
+/// The bytes of a text with escapes.
+pub fn escaped(text: &str) -> Kept {
+    let mut kept = Kept::new();
+    keep_escaped(&mut kept, text);
+    kept
+}
+
+/// The failure of this name, if there is one.
+pub fn kind_of(name: &str) -> Option<ErrorKind> {
+    match name {
+        "AlreadyExists" => Some(ErrorKind::AlreadyExists),
+        "IsADirectory" => Some(ErrorKind::IsADirectory),
+        "NotFound" => Some(ErrorKind::NotFound),
+        "PermissionDenied" => Some(ErrorKind::PermissionDenied),
+        "StorageFull" => Some(ErrorKind::StorageFull),
+        _ => None,
     }
 }

@@ -83,14 +83,16 @@ impl Read for Source<'_> {
 pub struct Sink {
     kept: Kept,
     room: usize,
+    why: ErrorKind,
 }
 
 impl Sink {
-    /// Keeps up to so many bytes.
-    pub fn new(room: usize) -> Sink {
+    /// Keeps up to so many bytes, and then fails so.
+    pub fn new(room: usize, why: ErrorKind) -> Sink {
         Sink {
             kept: Kept::new(),
             room,
+            why,
         }
     }
 
@@ -103,7 +105,7 @@ impl Sink {
 impl Write for Sink {
     fn write(&mut self, buf: &[u8]) -> io::Result<usize> {
         if self.room == 0 {
-            return Err(io::Error::from(ErrorKind::StorageFull));
+            return Err(io::Error::from(self.why));
         }
         let count = buf.len().min(self.room);
         self.room -= count;

@@ -1,10 +1,13 @@
-//! Processes whose words a test chooses.
+//! The process that a job is asked of.
+ghost use Rattle.std.specs.Io.{WritesAtMost};
 
+use crate::marks::{Words, escaped, keep_words, mark_of};
+use crate::streams::Kept;
+use arrayvec::ArrayVec;
 use std::alloc::Allocator;
 use std::env::FillError;
 use std::fs::{Metadata, OpenOptions};
 use std::io;
-use std::io::ErrorKind;
 use std::rt::{Env, Files};
 use std::sync::Wait;
 use std::sync::atomic::{AtomicU64, Ordering};
@@ -25,62 +28,65 @@ impl Ticking {
     }
 }
 
-/// A process of these words, its name first, and of a last one if there is one, which may be no text. It starts threads
-/// and opens files as `rt` does.
+/// A clock of which a line of a block says how many milliseconds it shows more at each reading.
+fn clock_of(text: &str) -> Option<Ticking> {
+    match text.parse::<u64>() {
+        Ok(step) => Some(Ticking {
+            step,
+            time: AtomicU64::new(0),
+        }),
+        Err(_) => None,
+    }
+}
+
+/// A process of the words of a block, its name first, and of a last one if there is one, which may be no text. It starts
+/// threads and opens files as `rt` does.
 #[derive(Drop)]
-pub struct Process<'a, R> {
-    words: &'a [&'a str],
-    last: Option<&'a [u8]>,
-    rt: &'a R,
-    /// Whether it may open no file.
-    is_shut: bool,
+pub struct Process<'r, 't, R> {
+    words: Words<'t>,
+    last: Option<Kept>,
+    rt: &'r R,
     /// Its clock; that of `rt` if there is none.
     clock: Option<Ticking>,
 }
 
-impl<'a, R> Process<'a, R> {
-    /// A process of these words, and of the last one.
-    pub fn of(words: &'a [&'a str], last: Option<&'a [u8]>, rt: &'a R) -> Process<'a, R> {
-        Process {
-            words,
-            last,
-            rt,
-            is_shut: false,
-            clock: None,
-        }
-    }
-
-    /// A process of these words, whose clock shows so many milliseconds more at each reading.
-    pub fn ticking(words: &'a [&'a str], rt: &'a R, step: u64) -> Process<'a, R> {
-        Process {
-            words,
+impl<'r, 't, R> Process<'r, 't, R> {
+    /// The process of a block of these lines.
+    pub fn of(lines: &'t str, rt: &'r R) -> Process<'r, 't, R> {
+        let mut process = Process {
+            words: ArrayVec::new(),
             last: None,
             rt,
-            is_shut: false,
-            clock: Some(Ticking {
-                step,
-                time: AtomicU64::new(0),
-            }),
-        }
-    }
-
-    /// A process of these words that may open no file.
-    pub fn shut(words: &'a [&'a str], rt: &'a R) -> Process<'a, R> {
-        Process {
-            words,
-            last: None,
-            rt,
-            is_shut: true,
             clock: None,
+        };
+        for line in lines.split('\n') {
+            match mark_of(line) {
+                ("$", text) => keep_words(&mut process.words, text),
+                ("$\\", text) => process.last = Some(escaped(text)),
+                ("ticks", text) => process.clock = clock_of(text),
+                _ => {}
+            }
         }
+        process
     }
 }
 
-impl<'a, R: Threads> Threads for Process<'a, R> {}
+/// Hands over a word.
+fn fill(buf: &mut [u8], word: &[u8]) -> Result<usize, FillError>
+    ensures { WritesAtMost result buf.new }
+{
+    if buf.len() < word.len() {
+        return Err(FillError::TooLong);
+    }
+    buf[..word.len()].copy_from_slice(word);
+    Ok(word.len())
+}
 
-impl<'a, R: Wait> Wait for Process<'a, R> {}
+impl<R: Threads> Threads for Process<'_, '_, R> {}
 
-impl<'a, R: Clock> Clock for Process<'a, R> {
+impl<R: Wait> Wait for Process<'_, '_, R> {}
+
+impl<R: Clock> Clock for Process<'_, '_, R> {
     fn monotonic(&self) -> io::Result<Duration> {
         match &self.clock {
             Some(clock) => Ok(clock.reading()),
@@ -93,18 +99,15 @@ impl<'a, R: Clock> Clock for Process<'a, R> {
     }
 }
 
-impl<'a, R> Env for Process<'a, R> {
+impl<R> Env for Process<'_, '_, R> {
     fn arg(&self, i: usize, buf: &mut [u8]) -> Result<usize, FillError> {
-        let word = match self.words.get(i) {
-            Some(text) => text.as_bytes(),
-            None if i == self.words.len() => self.last.ok_or(FillError::NotPresent)?,
-            None => return Err(FillError::NotPresent),
-        };
-        if buf.len() < word.len() {
-            return Err(FillError::TooLong);
+        if let Some(text) = self.words.get(i) {
+            return fill(buf, text.as_bytes());
         }
-        buf[..word.len()].copy_from_slice(word);
-        Ok(word.len())
+        match &self.last {
+            Some(last) if i == self.words.len() => fill(buf, last.text()),
+            _ => Err(FillError::NotPresent),
+        }
     }
 
     fn var(&self, _name: &str, _buf: &mut [u8]) -> Result<usize, FillError> {
@@ -116,15 +119,12 @@ impl<'a, R> Env for Process<'a, R> {
     }
 }
 
-impl<'a, R: Files> Files for Process<'a, R> {
+impl<R: Files> Files for Process<'_, '_, R> {
     type File = R::File;
 
     type Dir = R::Dir;
 
     fn open_file(&self, how: &OpenOptions, path: &str) -> io::Result<R::File> {
-        if self.is_shut {
-            return Err(io::Error::from(ErrorKind::PermissionDenied));
-        }
         self.rt.open_file(how, path)
     }
 

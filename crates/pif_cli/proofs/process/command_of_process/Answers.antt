@@ -1,7 +1,7 @@
 use Rattle.std.proofs.Common.{Ok, Err, map, rules}
 use Rattle.std.specs.Prelude.{string_bytes}
 use Rattle.std.proofs.KnownBytes.{Keeps-refl}
-use Rattle.pif_cli.proofs.process.command_at_terminal.Goals as goal
+use Rattle.pif_cli.proofs.process.command_of_process.Goals as goal
 
 pub returns-in-Ok : goal.returns-in-Ok
 returns-in-Ok g c =
