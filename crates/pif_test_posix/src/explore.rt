@@ -1,5 +1,3 @@
 mod all_runs;
-mod faults;
-mod outcomes;
 mod programs;
 mod reduced;

@@ -1,5 +1,5 @@
 //! Tests of searches, of the POSIX machine as a program, of histories that are judged by it, and of programs that are
-//! explored on it.
+//! explored on it. What the command line can be asked is in the transcripts.
 //!
 //! | Module | What it has |
 //! |---|---|
@@ -15,9 +15,8 @@
 //! | `in_place` | moves and entries in place, which come or don't |
 //! | `plays` | how often a player plays the lines until it finds a run |
 //! | `replaced` | a history in which each answer is replaced by each other one |
-//! | `rules` | steps and histories that rules allow |
-//! | `wakeups` | waits that return though nothing can have woken them, and others |
-//! | `explore` | small programs: their outcomes and faults, worked out by hand; and the outcomes of all runs |
+//! | `rules` | steps that rules allow |
+//! | `explore` | small programs, which are drawn: the outcomes of all their runs, and the same with some steps alone |
 #![tactic(auto)]
 
 #[cfg(test)]
@@ -47,5 +46,3 @@ mod replaced;
 mod rules;
 #[cfg(test)]
 mod searches;
-#[cfg(test)]
-mod wakeups;

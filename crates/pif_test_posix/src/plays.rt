@@ -1,10 +1,39 @@
 //! Runs that a player finds, which keeps one state: how often it plays the lines.
-use super::wakeups::{
-    BROADCAST, DONE, LOCK, SIGNAL, Seen, Sight, TIMED_WAIT, UNLOCK, WAIT, limits, lines_of,
-};
+use super::asks::{Wish, request};
 use pif_history::{Watch, find_run};
-use pif_search::Stop;
+use pif_history_model::{HistoryLimits, Line};
+use pif_search::{Stop, push};
+use pif_types::{Answer, Kind, MutexId, Request, Tid};
 use std::alloc::Global;
+
+/// How many threads there are.
+const THREADS: u32 = 6;
+
+/// What is seen of a thread.
+#[derive(Clone, Copy)]
+enum Seen {
+    Begins(Wish),
+    Answered(Answer),
+    /// It is this late, for all.
+    Time(u32),
+}
+
+const LOCK: Seen = Seen::Begins(Wish::Lock(1));
+
+const UNLOCK: Seen = Seen::Begins(Wish::Unlock(1));
+
+const WAIT: Seen = Seen::Begins(Wish::Wait(1, 1));
+
+const TIMED_WAIT: Seen = Seen::Begins(Wish::TimedWait(1, 1, 9));
+
+const SIGNAL: Seen = Seen::Begins(Wish::Signal(1));
+
+const BROADCAST: Seen = Seen::Begins(Wish::Broadcast(1));
+
+const DONE: Seen = Seen::Answered(0);
+
+/// What is seen of threads, one after another.
+type Sight = (u32, Seen);
 
 /// How often a first line came.
 #[derive(Drop)]
@@ -104,6 +133,50 @@ static SLOW_BROADCAST: [Sight; 23] = [
     (1, DONE),
     (4, DONE),
 ];
+
+/// So much may be added.
+fn limits() -> HistoryLimits {
+    HistoryLimits {
+        threads: THREADS,
+        mutexes: 1,
+        conds: 1,
+        signals: 9,
+    }
+}
+
+/// Threads, a mutex, and a variable that is bound to it.
+fn additions(alloc: Global) -> Result<Vec<Line>, Stop> {
+    let _no_request: Option<Request> = None;
+    let mut lines = Vec::new(alloc);
+    for _ in 0..THREADS {
+        push(&mut lines, Line::Thread(10))?;
+    }
+    push(&mut lines, Line::Mutex(Kind::Normal, false))?;
+    let mutex = MutexId::new(1).ok_or(Stop::Range)?;
+    push(&mut lines, Line::Cond(mutex))?;
+    Ok(lines)
+}
+
+/// The line that tells this of a thread.
+fn line_of(thread: u32, seen: Seen) -> Option<Line> {
+    let thread = Tid::new(thread)?;
+    Some(match seen {
+        Seen::Begins(wish) => Line::Begin(thread, request(wish)?),
+        Seen::Answered(answer) => Line::Answer(thread, answer),
+        Seen::Time(time) => Line::Tick(time),
+    })
+}
+
+/// The lines that tell this, behind the additions.
+fn lines_of(alloc: Global, sights: &[Sight]) -> Result<Vec<Line>, Stop> {
+    let _no_request: Option<Request> = None;
+    let mut lines = additions(alloc)?;
+    for (thread, seen) in sights {
+        let line = line_of(*thread, *seen).ok_or(Stop::Range)?;
+        push(&mut lines, line)?;
+    }
+    Ok(lines)
+}
 
 /// How often the lines that tell this are played until a run is found; none if none is.
 fn plays_until_found(alloc: Global, sights: &[Sight]) -> Result<Option<usize>, Stop> {

@@ -37,7 +37,6 @@ pub struct Scene<'a> {
 #[derive(Clone, Copy)]
 pub enum Wish {
     Lock(u32),
-    TryLock(u32),
     Unlock(u32),
     Wait(u32, u32),
     Signal(u32),
@@ -47,7 +46,6 @@ pub enum Wish {
 fn request(wish: Wish) -> Option<Request> {
     Some(match wish {
         Wish::Lock(m) => Request::Lock(MutexId::new(m)?),
-        Wish::TryLock(m) => Request::TryLock(MutexId::new(m)?),
         Wish::Unlock(m) => Request::Unlock(MutexId::new(m)?),
         Wish::Wait(c, m) => Request::Wait(CondId::new(c)?, MutexId::new(m)?),
         Wish::Signal(c) => Request::Signal(CondId::new(c)?),
