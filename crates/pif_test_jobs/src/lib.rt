@@ -8,13 +8,13 @@
 //! | `places` | `pif_text_errors`: where that stands in a story, and which name is near |
 //! | `scripts` | scripts and traces: tables of ends in the middle of calls, long chains, reads and writes that fail |
 //! | `runs` | `pif_job_run`: which scripts have notes |
-//! | `shows` | `pif_job_show`: the longest line, a crowd, and writes that fail; the names of errors of `pif_text` |
-//! | `stories` | `pif_job_check`: stories that are shown and traced, and reads and writes that fail |
+//! | `shows` | `pif_job_show`: a crowd, and writes that fail; the names of errors of `pif_text` |
+//! | `stories` | `pif_job_check`: what a notice keeps, stories that are too large, and reads and writes that fail |
 //! | `shells` | `pif_job_shell`: a prompt, stories that are saved, sessions, and what fails |
 //! | `random` | `pif_job_random`: scripts by a seed |
 //! | `pictures` | `pif_job_draw`: writes and growths of memory that fail |
-//! | `histories` | `pif_history_text`: histories that are read, and their faults |
-//! | `explorations` | `pif_explore_text`: files of `pif explore` that are read, and their faults |
+//! | `histories` | `pif_history_text`: which rules a history allows, an earlier fault, and reads that fail |
+//! | `explorations` | `pif_explore_text`: what is read of files of `pif explore` |
 //! | `jobs` | none: what the others have done between two streams |
 //! | `streams` | none: the stream, which moves few bytes a call or fails once where it is told to |
 //! | `checks` | none: the checks of what a job writes and how it ends |

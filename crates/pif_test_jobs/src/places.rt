@@ -1,4 +1,4 @@
-use pif_text_errors::{Form, Wrong, line_of_command, line_of_number, nearest_name, written_column};
+use pif_text_errors::{line_of_command, line_of_number, nearest_name, written_column};
 use std::process::Abort;
 
 /// The text of a story, the number of a line, and that line.
@@ -105,50 +105,5 @@ fn check_near(rt: &impl Abort, word: &str, name: Option<&str>) {
 fn the_first_of_the_nearest_names_is_found(rt: HostRuntime) {
     for (word, name) in &NEAR {
         check_near(&rt, *word, *name);
-    }
-}
-
-/// What is wrong with a word, and the words that are allowed in its place.
-static ALLOWED: [(Wrong, &[&str]); 3] = [
-    (
-        Wrong::NoCall,
-        &[
-            "lock",
-            "trylock",
-            "unlock",
-            "consistent",
-            "wait",
-            "signal",
-            "broadcast",
-            "setprio",
-            "timedlock",
-            "timedwait",
-        ],
-    ),
-    (
-        Wrong::NoKind,
-        &["normal", "default", "errorcheck", "recursive"],
-    ),
-    (Wrong::NoWord, &[]),
-];
-
-/// Whether forms begin with these words, in their order.
-fn begin_with(forms: &[Form], words: &[&str]) -> bool {
-    forms.len() == words.len()
-        && forms
-            .iter()
-            .zip(words.iter())
-            .all(|(form, word)| form.name == *word)
-}
-
-/// In place of a word with which this is wrong, these words are allowed.
-fn check_allowed(rt: &impl Abort, wrong: Wrong, words: &[&str]) {
-    assert!(rt; begin_with(wrong.allowed(), words), "{wrong:?}");
-}
-
-#[test]
-fn calls_and_kinds_are_told_that_are_allowed(rt: HostRuntime) {
-    for (wrong, words) in &ALLOWED {
-        check_allowed(&rt, *wrong, *words);
     }
 }

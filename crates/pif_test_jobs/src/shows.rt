@@ -1,11 +1,9 @@
-//! What `show` writes of the longest line, what it tells of a write that fails, wherever that is, and the errors'
-//! names.
+//! What `show` tells of a write that fails, wherever that is, and the errors' names.
 
 mod states;
 
-use crate::checks::{check_job, check_parts, check_write};
+use crate::checks::{check_job, check_write};
 use crate::jobs::Job;
-use crate::streams::Part;
 use pif_script::CliFault;
 use pif_text::{Cause, errno_name, errno_of};
 use pif_types::Errno;
@@ -34,26 +32,6 @@ fn a_write_that_fails_at_any_byte_ends_what_is_shown(rt: HostRuntime) {
         check_write(&rt, alloc, job, SCRIPT, SHOWN, 4096, left, broken);
         check_write(&rt, alloc, job, SCRIPT, SHOWN, 4096, left, None);
     }
-}
-
-/// A line of 120 bytes, of which the first and the last are found nowhere else in it.
-const LINE: [Part<'_>; 3] = [("a", 1), ("b", 118), ("c\n", 1)];
-
-const SHOWN_LINE: [Part<'_>; 3] = [("> a", 1), ("b", 118), ("c\nfault 1 command\n", 1)];
-
-/// A longer one.
-const LONG_LINE: [Part<'_>; 3] = [("a", 1), ("b", 118), ("cd\n", 1)];
-
-const SHOWN_LONG_LINE: [Part<'_>; 3] = [("> a", 1), ("b", 118), ("c\nfault 1 long\n", 1)];
-
-/// Of a longer line there are its first 120 bytes.
-#[test]
-fn a_line_of_120_bytes_is_shown_to_its_last(rt: HostRuntime) {
-    let (job, alloc) = (Job::Show, rt.alloc());
-    let ended = Err(CliFault::Script(1, Cause::Command));
-    check_parts(&rt, alloc, job, &LINE, &SHOWN_LINE, ended);
-    let ended = Err(CliFault::Script(1, Cause::Long));
-    check_parts(&rt, alloc, job, &LONG_LINE, &SHOWN_LONG_LINE, ended);
 }
 
 /// Each error.

@@ -201,7 +201,12 @@ fn nothing_is_read_behind_a_difference(rt: HostRuntime) {
 }
 
 /// The first parts of a trace.
-static TRACES: [&str; 3] = ["", "pif-trace 1\n", "pif-trace 1\nthread 10 = t1\ngo"];
+static TRACES: [&str; 4] = [
+    "",
+    "pif-trace 1\n",
+    "pif-trace 1\nthread 10 = t1\ngo",
+    "pif-trace 1\nthread 10 = t1\nthr",
+];
 
 /// The first parts of a script, and the trace of the whole lines in each.
 static TRACED: [(&str, &str); 4] = [
@@ -231,7 +236,8 @@ fn stumble_by_each(rt: &impl Abort, alloc: Global, job: Job, texts: (&str, &str)
     }
 }
 
-/// A verdict and a trace that is migrated come behind all lines: nothing is written of some.
+/// A verdict and a trace that is migrated come behind all lines: nothing is written of some. So does a fault of a trace
+/// that is migrated.
 #[test]
 fn a_failed_read_of_a_trace_is_not_tried_again(rt: HostRuntime) {
     for first in &TRACES {
@@ -239,6 +245,8 @@ fn a_failed_read_of_a_trace_is_not_tried_again(rt: HostRuntime) {
         stumble_by_each(&rt, rt.alloc(), Job::Replay, texts, "");
         stumble_by_each(&rt, rt.alloc(), Job::Migrate, texts, "");
     }
+    let texts = ("pif-trace 3\n", "thread 10 = t1\n");
+    stumble_by_each(&rt, rt.alloc(), Job::Migrate, texts, "");
 }
 
 /// The trace of a script is that of the whole lines that were read before.

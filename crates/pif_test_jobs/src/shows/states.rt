@@ -1,5 +1,4 @@
-//! What `show` writes of a core: the line of a mutex for which a crowd waits, and a write that fails in each part of a
-//! text that is longer than a page.
+//! What `show` writes of a core: a write that fails in each part of a text that is longer than a page.
 
 use crate::checks::check_write;
 use crate::jobs::Job;
@@ -21,35 +20,15 @@ const CROWD: &str =
     call t7 lock m1\ncall t8 lock m1\ncall t9 lock m1\ncall t10 lock m1\ncall t11 lock m1\ncall t12 lock m1\n\
     call t13 lock m1\ncall t14 lock m1\n";
 
-/// The command and the answer before what is shown of all fourteen.
-const LAST_CALL: &str = "> call t14 lock m1\nwaits\n";
-
-/// The line of the mutex, 120 bytes long.
-const LINE: &str =
-    "  m1: normal, robust, fine; word t1 + WAITERS; owner t1; waiters t2, t3, t4, t5, t6, t7, t8, \
-    t9, t10, t11, t12, t13, t14";
-
-/// How many bytes are shown of all fourteen: more than a page, so that they are written in two parts.
+/// How many bytes are shown of all fourteen, behind the last command and its answer: more than a page, so that they are
+/// written in two parts. The transcript `a_crowd_waits_for_a_mutex` has them.
 const LENGTH: usize = 1_223;
 
 /// Behind how many of them a write fails: at the front, inside and at the end of each part.
 static PLACES: [usize; 8] = [0, 1, 511, 1_023, 1_024, 1_025, 1_100, 1_222];
 
-/// Checks what is shown of the crowd: its length, and the line of the mutex behind those of the threads.
-fn check_line(rt: &impl Abort, shown: &str) {
-    let state = match shown.split_once(LAST_CALL) {
-        Some((_, state)) => state,
-        None => "",
-    };
-    assert!(rt;
-        state.len() == LENGTH && state.lines().nth(14) == Some(LINE),
-        "{state:?}"
-    );
-}
-
 /// Checks that a write that fails in it is told, and that nothing is written after it.
 fn check_places(rt: &impl Abort, alloc: Global, shown: &str) {
-    check_line(rt, shown);
     let start = shown.len().saturating_sub(LENGTH);
     let broken = Some(ErrorKind::BrokenPipe);
     for place in &PLACES {
