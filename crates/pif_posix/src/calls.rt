@@ -105,24 +105,27 @@ impl State {
         Ok(true)
     }
 
-    /// Whether the open call of a thread has a result and is answered this.
+    /// Whether the open call of a thread has a result and is answered this. A thread that was never added has none.
     pub(crate) fn is_answered(&self, thread: usize, answer: Answer) -> bool
-        requires { thread < length self.now.threads }
         ensures { result ≡ is_answered (thread_at self.now thread).call (thread_at self.now thread).timer.expired answer }
     {
-        let task = &self.threads[thread];
-        task.is_answered(answer)
+        if thread < self.threads.len() {
+            let task = &self.threads[thread];
+            task.is_answered(answer)
+        } else {
+            false
+        }
     }
 
     /// The open call of a thread is answered this and closes; false where it isn't.
     pub(crate) fn answer(&mut self, thread: u32, answer: Answer) -> Result<bool, Stop>
         ensures { IfOk result (λ b. Does self.old (answered thread answer self.old) b self.new) }
     {
-        if thread as usize >= self.thread_count() {
-            return Err(Stop::Range);
-        }
         if !self.is_answered(thread as usize, answer) {
             return Ok(false);
+        }
+        if thread as usize >= self.thread_count() {
+            return Err(Stop::Range);
         }
         if self.go_refusal(thread).is_some() {
             return Ok(false);

@@ -85,9 +85,6 @@ impl State {
         ensures { IfOk result (λ v. v.items ≡ option_to_list (answered thread answer self.now)) }
     {
         let number = thread.get();
-        if number as usize >= self.thread_count() {
-            return Err(Stop::Range);
-        }
         if !self.is_answered(number as usize, answer) {
             return Ok(Vec::new(alloc));
         }
