@@ -19,9 +19,15 @@ use std::alloc::Global;
 use std::marker::Model;
 
 /// A kernel on these chains, whose waiters stand by the tickets of a counter. Only `new` takes memory.
-#[derive(Drop)]
 pub struct KernelOn<C: Chains + Drop> {
     parts: Parts<C>,
+}
+
+// A destructor of its own: what owns a kernel calls it, and has not to be proved to let go of each of its parts.
+impl<C: Chains + Drop> Drop for KernelOn<C> {
+    fn drop(self) {
+        let KernelOn { parts: _ } = self;
+    }
 }
 
 impl<C: Chains + Drop> Model for KernelOn<C> {

@@ -24,9 +24,15 @@ use std::marker::Model;
 /// The parts of a machine: the words, a kernel, the robust lists, and what the library keeps of threads, mutexes and
 /// condition variables - kinds, counts, open calls, and to which mutex each variable is bound. They are sound at any
 /// time. Only `new` takes memory.
-#[derive(Drop)]
 pub struct Parts<K: PiKernel + Drop> {
     state: State<K>,
+}
+
+// A destructor of its own: what owns such parts calls it, and has not to be proved to let go of each of them.
+impl<K: PiKernel + Drop> Drop for Parts<K> {
+    fn drop(self) {
+        let Parts { state: _ } = self;
+    }
 }
 
 impl<K: PiKernel + Drop> Model for Parts<K> {
