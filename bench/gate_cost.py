@@ -40,7 +40,7 @@ RENAMED = {
     "pif_chains_linked": ["pif_linked"],
     "pif_core_callers": ["pif_uses"],
     "pif_text_errors": ["pif_slips"],
-    "pif_text_core": ["pif_show"],
+    "pif_text_core": ["pif_text_core", "pif_show", "pif_waiting"],
     "pif_script": ["pif_reading"],
     "pif_story": ["pif_story_texts"],
     "pif_story_drawing": ["pif_drawing"],

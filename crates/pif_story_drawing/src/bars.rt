@@ -5,7 +5,7 @@ use crate::plans::{MOST_SLOTS, Moment, Plan};
 use crate::sheets::Sheet;
 use pif_core::Core;
 use pif_types::{Health, MutexId, Tid};
-use pif_waiting::owner_of;
+use pif_text_core::owner_of;
 use pif_word::owner_died;
 
 /// Who was last seen to hold a mutex, and its health as POSIX has it; since when, and where that is drawn in the lane.

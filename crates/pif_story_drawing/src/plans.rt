@@ -7,7 +7,7 @@ use pif_story::name_of;
 use pif_story_model::AnsweredRow;
 use pif_text::{Addition, Command};
 use pif_types::{MutexId, NoMemory, Request, Tid};
-use pif_waiting::owner_of;
+use pif_text_core::owner_of;
 use pif_watch::{Part, WatchSteps};
 use std::alloc::{AllocError, Global};
 

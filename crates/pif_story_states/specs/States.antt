@@ -13,7 +13,7 @@ use Rattle.pif_story_model.specs.Rows.{outcome_behind}
 use Rattle.pif_story_model.specs.Stories.{NumberedRow, rows_of}
 use Rattle.pif_story.specs.Names.{names_in}
 use Rattle.pif_text_json.specs.Json.{names_array, numbers, quoted, separated}
-use Rattle.pif_waiting.specs.Waiting.{begins_chain, conds_added, mutexes_added, order_in}
+use Rattle.pif_text_core.specs.Waiting.{begins_chain, conds_added, mutexes_added, order_in}
 use Rattle.pif_story_states.specs.Objects.{answer_object, chain_array, cond_object, mutex_object, thread_object}
 
 -- the threads, mutexes and condition variables that were added

@@ -1,11 +1,11 @@
 ghost use Rattle.std.specs.Prelude.{◌≡◌, ◌++◌, OnOk};
-ghost use Rattle.pif_waiting.specs.Waiting.{awaited, blocker};
+ghost use Rattle.pif_text_core.specs.Waiting.{awaited, blocker};
 ghost use Rattle.pif_story_states.specs.Objects.{chain_array, chain_from, mutex_link};
 
 use pif_core::Core;
 use pif_text_json::append_name;
 use pif_types::Tid;
-use pif_waiting::{awaited, blocker};
+use pif_text_core::{awaited, blocker};
 use std::alloc::AllocError;
 
 /// Appends the mutex for which a thread waits, if it waits for one, behind a comma.

@@ -7,7 +7,7 @@ use crate::nodes::append_thread;
 use crate::pieces::{Name, append_edge, append_node};
 use pif_core::Core;
 use pif_types::{CondId, MutexId, Tid};
-use pif_waiting::{conds_added, mutexes_added, owner_of};
+use pif_text_core::{conds_added, mutexes_added, owner_of};
 use std::alloc::AllocError;
 
 /// The nodes of threads.

@@ -1,12 +1,12 @@
 ghost use Rattle.std.specs.Prelude.{◌≡◌, ◌++◌, filter, OnOk};
 ghost use Rattle.pif_text_json.specs.Json.{name_text, names_array, numbers};
-ghost use Rattle.pif_waiting.specs.Waiting.{has, mutexes_added};
+ghost use Rattle.pif_text_core.specs.Waiting.{has, mutexes_added};
 ghost use Rattle.pif_story_states.specs.Objects.{holds_member};
 
 use pif_core::Core;
 use pif_text_json::{Listed, append_list, append_name};
 use pif_types::Tid;
-use pif_waiting::{has, mutexes_added};
+use pif_text_core::{has, mutexes_added};
 use std::alloc::AllocError;
 
 /// The mutexes that a thread holds.

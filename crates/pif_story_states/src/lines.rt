@@ -1,7 +1,7 @@
 ghost use Rattle.std.specs.Prelude.{◌≡◌, ◌++◌, true, map, OnOk};
 ghost use Rattle.pif_model.specs.Calls.{threads_answer};
 ghost use Rattle.pif_text_json.specs.Json.{numbers, separated};
-ghost use Rattle.pif_waiting.specs.Waiting.{begins_chain, conds_added, mutexes_added};
+ghost use Rattle.pif_text_core.specs.Waiting.{begins_chain, conds_added, mutexes_added};
 ghost use Rattle.pif_story_states.specs.Objects.{chain_array, cond_object, mutex_object, thread_object};
 ghost use Rattle.pif_story_states.specs.States.{order_members, state_line, things_members};
 
@@ -15,7 +15,7 @@ use pif_core::{Core, Order};
 use pif_text::Reply;
 use pif_text_json::{Listed, append_decimal, append_list, append_quoted};
 use pif_types::{CondId, MutexId, Tid};
-use pif_waiting::{begins_chain, conds_added, mutexes_added};
+use pif_text_core::{begins_chain, conds_added, mutexes_added};
 use std::alloc::AllocError;
 
 /// The threads of a core, with the names that these comments give.

@@ -1,10 +1,10 @@
 ghost use Rattle.std.specs.Prelude.{◌≡◌, ◌++◌, OnOk};
 ghost use Rattle.pif_text_json.specs.Json.{names_array};
-ghost use Rattle.pif_waiting.specs.Waiting.{all_in, order_in};
+ghost use Rattle.pif_text_core.specs.Waiting.{all_in, order_in};
 
 use pif_core::{Core, Order};
 use pif_text_json::{Sequence, append_names};
-use pif_waiting::nth;
+use pif_text_core::nth;
 use std::alloc::AllocError;
 
 /// The numbers of the threads of an order.

@@ -2,7 +2,7 @@ ghost use Rattle.std.specs.Prelude.{◌≡◌, ◌++◌, OnOk, option_and_then};
 ghost use Rattle.pif_model.specs.Calls.{base_answer, effective_answer, status_answer};
 ghost use Rattle.pif_story.specs.Names.{name_of};
 ghost use Rattle.pif_text_json.specs.Json.{or_null, quoted};
-ghost use Rattle.pif_waiting.specs.Waiting.{awaited};
+ghost use Rattle.pif_text_core.specs.Waiting.{awaited};
 ghost use Rattle.pif_story_states.specs.Objects.{call_member, cond_by, doing_members, priority_members, state_word, thread_object};
 
 use crate::holds::append_holds;
@@ -12,7 +12,7 @@ use pif_core::{Core, Status};
 use pif_story::name_of;
 use pif_text_json::{append_name, append_null, append_number_or_null, append_quoted};
 use pif_types::{CondId, Tid};
-use pif_waiting::awaited;
+use pif_text_core::awaited;
 use std::alloc::AllocError;
 
 /// What a thread of this status does, in one word.

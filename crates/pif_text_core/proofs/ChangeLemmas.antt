@@ -3,7 +3,7 @@ use Rattle.std.proofs.Common.{◌≡◌, ℕ, Bool, true, false, cond, List, [],
 use Rattle.std.specs.Prelude.{codes}
 use Rattle.pif_model.specs.declared.events.Order.TheVariants as order
 use Rattle.pif_model.specs.Table.{Table}
-use Rattle.pif_waiting.specs.Waiting.{begins_chain}
+use Rattle.pif_text_core.specs.Waiting.{begins_chain}
 use Rattle.pif_text_core.specs.Changes.{new_line, new_ready_line, order_stays}
 use Rattle.pif_text_core.specs.Texts.{chain_line, chain_line_at, ready_line}
 

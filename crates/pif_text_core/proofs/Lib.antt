@@ -5,3 +5,5 @@ pub mod ListLemmas
 pub mod OrderLemmas
 pub mod StateLemmas
 pub mod TellingLemmas
+pub mod AnyLemmas
+pub mod ReaderLemmas

@@ -3,7 +3,7 @@ use Rattle.std.proofs.Common.{◌≡◌, ℕ, suc, ◌+◌, ◌-◌, ◌<◌, �
 use Rattle.std.specs.Prelude.{◌&&◌, codes}
 use Rattle.pif_model.specs.Table.{Table}
 use Rattle.pif_text_model.specs.Replies.{mutex_name}
-use Rattle.pif_waiting.specs.Waiting.{awaited, begins_chain}
+use Rattle.pif_text_core.specs.Waiting.{awaited, begins_chain}
 use Rattle.pif_text_core.specs.declared.parts.Holder.{Holder}
 use Rattle.pif_text_core.specs.Changes.{awaited_holder, link_stays, links_stay, met_or_none}
 use Rattle.pif_text_core.specs.Texts.{chain_line, chain_line_at, holder_of, holder_text, if_some, links_text}

@@ -1,3 +1,4 @@
 pub mod Changes
 pub mod Pages
 pub mod Texts
+pub mod Waiting

@@ -13,7 +13,7 @@ use Rattle.pif_model.specs.Calls.{base_answer, bound_answer, cond_word_answer, e
 use Rattle.pif_text_model.specs.CommandTexts.{kind_word, request_text}
 use Rattle.pif_text_model.specs.Replies.{cond_name, health_text, mutex_name, thread_name}
 use Rattle.pif_text_json.specs.Json.{numbers}
-use Rattle.pif_waiting.specs.Waiting.{awaited, begins_chain, conds_added, has, mutexes_added, order_in, owner_of}
+use Rattle.pif_text_core.specs.Waiting.{awaited, begins_chain, conds_added, has, mutexes_added, order_in, owner_of}
 use Rattle.pif_text_core.specs.declared.parts.Holder.{Holder}
 
 -- ---- pieces

@@ -9,9 +9,9 @@ use crate::holders::{awaited_holder, holder_of};
 use crate::names::Names;
 use crate::pages::Page;
 use crate::threads::show_holder;
+use crate::waits::{awaited, begins_chain};
 use pif_core::Core;
 use pif_types::Tid;
-use pif_waiting::{awaited, begins_chain};
 use std::io::Write;
 
 /// Writes a line for each chain of waiting, from a thread that waits and for which nobody waits. If there is a core

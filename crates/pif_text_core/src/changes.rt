@@ -3,11 +3,11 @@ ghost use Rattle.pif_model.specs.Calls.{owner_answer};
 ghost use Rattle.pif_text_core.specs.Changes.{cond_stays, doing, doing_by, doing_stays, hold_changes, holds_stay, mutex_stays, priorities_stay, thread_stays, was_there};
 ghost use Rattle.pif_text_core.specs.Texts.{held_times};
 
+use crate::counts::mutexes_added;
 use crate::holders::{awaited_holder, holder_of};
 use crate::queues::is_same_queue;
 use pif_core::{Core, Order, Status, Woken};
 use pif_types::{CondId, MutexId, Tid};
-use pif_waiting::mutexes_added;
 
 /// What a thread of this status does, whatever woke it if it is ready.
 fn doing_by(status: Status) -> Status

@@ -1,18 +1,18 @@
 ghost use Rattle.std.specs.Prelude.{◌≤◌, flat_map, option_copied};
 ghost use Rattle.pif_text_json.specs.Json.{numbers};
-ghost use Rattle.pif_waiting.specs.Waiting.{conds_added};
 ghost use Rattle.pif_text_core.specs.Changes.{new_cond_line};
 ghost use Rattle.pif_text_core.specs.Pages.{Tells};
 ghost use Rattle.pif_text_core.specs.Texts.{cond_line};
+ghost use Rattle.pif_text_core.specs.Waiting.{conds_added};
 
 use crate::changes::was_cond_there;
+use crate::counts::conds_added;
 use crate::names::Names;
 use crate::pages::Page;
 use crate::queues::show_queue;
 use crate::threads::show_bound;
 use pif_core::{Core, Order};
 use pif_types::CondId;
-use pif_waiting::conds_added;
 use std::io::Write;
 
 /// Writes a line for each condition variable, or if there is a core from before, for each of which the line has

@@ -2,10 +2,11 @@ ghost use Rattle.std.specs.Prelude.{◌≡◌};
 ghost use Rattle.pif_text_core.specs.Changes.{awaited_holder};
 ghost use Rattle.pif_text_core.specs.Texts.{holder_of};
 
+use crate::holds::owner_of;
 use crate::parts::Holder;
+use crate::waits::awaited;
 use pif_core::Core;
 use pif_types::{MutexId, Tid};
-use pif_waiting::{awaited, owner_of};
 
 /// Who holds a mutex, if anybody does.
 pub fn holder_of(core: &Core, mutex: MutexId) -> Option<Holder>

@@ -14,20 +14,37 @@
 //! What is empty is left out, and a time of 0. Of changes the lines are written that weren't there before, and `none`
 //! for a run queue, or for chains, of which nothing is left. A thread that has a name for a person stands there as
 //! `t1 low`, but not in a call or a word. The text is written in parts, and takes no memory.
+//!
+//! Other texts and drawings of a core go by these too, which are what its readers answer:
+//!
+//! | Module | What it has |
+//! |---|---|
+//! | `counts` | how many mutexes and condition variables were added |
+//! | `holds` | who holds a mutex |
+//! | `orders` | which thread stands at a place of an order |
+//! | `waits` | for which mutex a thread waits, who holds it, and where a chain of waiting begins |
 #![tactic(auto)]
 
 mod calls;
 mod chains;
 mod changes;
 mod conds;
+mod counts;
 mod holders;
+mod holds;
 mod mutexes;
 mod names;
+mod orders;
 mod pages;
 mod parts;
 mod queues;
 mod states;
 mod threads;
+mod waits;
 
+pub use counts::{conds_added, mutexes_added};
+pub use holds::{has, owner_of};
+pub use orders::nth;
 pub use pages::Unwritten;
 pub use states::{write_changes, write_state};
+pub use waits::{awaited, begins_chain, blocker};

@@ -4,12 +4,13 @@ ghost use Rattle.pif_model.specs.Projection.{health_of};
 ghost use Rattle.pif_model.specs.Word.{health_word, word_of};
 ghost use Rattle.pif_text_model.specs.Replies.{health_text, thread_name};
 ghost use Rattle.pif_text_json.specs.Json.{numbers};
-ghost use Rattle.pif_waiting.specs.Waiting.{mutexes_added};
 ghost use Rattle.pif_text_core.specs.Changes.{new_mutex_line};
 ghost use Rattle.pif_text_core.specs.Pages.{Tells};
 ghost use Rattle.pif_text_core.specs.Texts.{has_own_line, health_at, health_part, if_some, lag_text, kind_by, lags, mutex_line, owner_text, state_by, times_text, word_front, word_text};
+ghost use Rattle.pif_text_core.specs.Waiting.{mutexes_added};
 
 use crate::changes::was_mutex_there;
+use crate::counts::mutexes_added;
 use crate::names::Names;
 use crate::pages::Page;
 use crate::queues::show_queue;
@@ -17,7 +18,6 @@ use crate::threads::{show_owner, show_times};
 use pif_core::{Core, Order};
 use pif_text::kind_word;
 use pif_types::{Health, MutexId};
-use pif_waiting::mutexes_added;
 use pif_word::{has_waiters, number, owner_died};
 use std::io::Write;
 

@@ -1,15 +1,15 @@
 ghost use Rattle.std.specs.Prelude.{◌≡◌, ◌++◌, ◌==◌, nat_eq, option_copied, slice_get};
 ghost use Rattle.std.specs.Option.{option_eq};
-ghost use Rattle.pif_waiting.specs.Waiting.{all_in, order_in};
 ghost use Rattle.pif_text_core.specs.Changes.{new_ready_line, order_stays};
 ghost use Rattle.pif_text_core.specs.Pages.{Tells};
 ghost use Rattle.pif_text_core.specs.Texts.{front_of, person_text, ready_line, threads_text};
+ghost use Rattle.pif_text_core.specs.Waiting.{all_in, order_in};
 
 use crate::names::Names;
+use crate::orders::nth;
 use crate::pages::Page;
 use pif_core::{Core, Order};
 use pif_types::Tid;
-use pif_waiting::nth;
 use std::io::Write;
 
 /// Writes the threads of an order with `head` before the first; nothing where there is none.

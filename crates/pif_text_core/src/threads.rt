@@ -2,20 +2,20 @@ ghost use Rattle.std.specs.Prelude.{flat_map, ◌≡◌, ◌≤◌, ◌++◌, []
 ghost use Rattle.pif_model.specs.Calls.{base_answer, bound_answer, effective_answer, open_call_answer, status_answer, threads_answer};
 ghost use Rattle.pif_text_model.specs.Replies.{cond_name, mutex_name};
 ghost use Rattle.pif_text_json.specs.Json.{numbers};
-ghost use Rattle.pif_waiting.specs.Waiting.{has, mutexes_added};
 ghost use Rattle.pif_text_core.specs.Changes.{new_thread_line};
 ghost use Rattle.pif_text_core.specs.Pages.{Tells};
 ghost use Rattle.pif_text_core.specs.Texts.{base_text, call_text, front_of, held_name, held_text, holder_of, holder_text, holding_text, if_some, priority_by, status_text, thread_line, times_text};
+ghost use Rattle.pif_text_core.specs.Waiting.{has, mutexes_added};
 
 use crate::calls::show_call;
 use crate::changes::{held_times, was_thread_there};
+use crate::counts::mutexes_added;
 use crate::holders::holder_of;
 use crate::names::Names;
 use crate::pages::Page;
 use crate::parts::Holder;
 use pif_core::{Core, Status};
 use pif_types::{CondId, MutexId, Tid};
-use pif_waiting::mutexes_added;
 use std::io::Write;
 
 /// Writes a line for each thread, or if there is a core from before, for each of which the line has changed.

@@ -1,7 +1,7 @@
 use Rattle.std.proofs.Common.{◌≡◌, ℕ, ◌++◌, ◌∙◌, true, List, map, ap, subst}
 use Rattle.std.specs.Prelude.{filter, OnOk}
 use Rattle.pif_text_json.specs.Json.{numbers, separated}
-use Rattle.pif_waiting.specs.Waiting.{conds_added}
+use Rattle.pif_text_core.specs.Waiting.{conds_added}
 use Rattle.pif_story_states.specs.Objects.{cond_object}
 use Rattle.pif_story_states.proofs.FilterLemmas.{all_kept}
 use Rattle.pif_story_states.proofs.lines.append_conds.Goals as goal

@@ -2,7 +2,7 @@ use Rattle.std.specs.Prelude.{codes, filter, map}
 use Rattle.pif_model.specs.declared.events.Order.TheVariants as order
 use Rattle.pif_model.specs.Calls.{threads_answer}
 use Rattle.pif_text_json.specs.Json.{names_array, numbers, separated}
-use Rattle.pif_waiting.specs.Waiting.{begins_chain, order_in}
+use Rattle.pif_text_core.specs.Waiting.{begins_chain, order_in}
 use Rattle.pif_story_states.specs.Objects.{chain_array}
 use Rattle.pif_story_states.specs.States.{order_members}
 use Rattle.pif_story_states.proofs.PieceLemmas.{six_pieces}

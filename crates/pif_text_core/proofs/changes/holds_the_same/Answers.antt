@@ -1,7 +1,7 @@
 use Rattle.std.proofs.Common.{◌≡◌, ◌∙◌, sym, ap, not, arith}
 use Rattle.std.specs.List.{list_any}
 use Rattle.pif_text_json.specs.Json.{numbers}
-use Rattle.pif_waiting.specs.Waiting.{mutexes_added}
+use Rattle.pif_text_core.specs.Waiting.{mutexes_added}
 use Rattle.pif_text_core.specs.Changes.{hold_changes, holds_stay}
 use Rattle.pif_text_core.proofs.ListLemmas.{any_found, any_next, any_none}
 use Rattle.pif_text_core.proofs.changes.holds_the_same.Goals as goal

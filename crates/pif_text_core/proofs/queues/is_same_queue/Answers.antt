@@ -1,7 +1,7 @@
 use Rattle.std.proofs.Common.{◌∙◌, ap, not, refl, sym, arith}
 use Rattle.std.specs.Prelude.{is_some}
 use Rattle.pif_model.specs.Calls.{threads_answer}
-use Rattle.pif_waiting.specs.Waiting.{all_in}
+use Rattle.pif_text_core.specs.Waiting.{all_in}
 use Rattle.pif_text_core.proofs.OrderLemmas.{differs_at, same_all, same_ended, same_next}
 use Rattle.pif_text_core.proofs.queues.is_same_queue.Goals as goal
 

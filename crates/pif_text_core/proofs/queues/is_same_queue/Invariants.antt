@@ -1,5 +1,5 @@
 use Rattle.std.proofs.Common.{◌≡◌, take}
-use Rattle.pif_waiting.specs.Waiting.{all_in}
+use Rattle.pif_text_core.specs.Waiting.{all_in}
 use Rattle.pif_text_core.proofs.queues.is_same_queue.Given as goal
 
 abbrev pub invariant-loop-place : goal.invariant-loop-place

@@ -1,7 +1,7 @@
 use Rattle.std.proofs.Common.{◌++◌, ◌∙◌, ap, sym}
 use Rattle.std.specs.Prelude.{◌==◌}
 use Rattle.std.proofs.lemmas.Option.{get_or_from_slice_get, slice_get_within}
-use Rattle.pif_waiting.specs.Waiting.{all_in}
+use Rattle.pif_text_core.specs.Waiting.{all_in}
 use Rattle.pif_text_core.specs.Texts.{front_of, person_text}
 use Rattle.pif_text_core.proofs.ListLemmas.{listed_next}
 use Rattle.pif_text_core.proofs.TellingLemmas.{nothing, same, then}

@@ -1,5 +1,5 @@
 use Rattle.std.proofs.Common.{map, take}
-use Rattle.pif_waiting.specs.Waiting.{all_in}
+use Rattle.pif_text_core.specs.Waiting.{all_in}
 use Rattle.pif_text_core.specs.Pages.{Tells}
 use Rattle.pif_text_core.specs.Texts.{listed, person_text}
 use Rattle.pif_text_core.proofs.queues.show_queue.Given as goal

@@ -1,7 +1,7 @@
 use Rattle.std.proofs.Common.{◌++◌, ◌∙◌, ap, sym}
 use Rattle.std.specs.Prelude.{codes}
 use Rattle.pif_model.specs.declared.events.Order.TheVariants as order
-use Rattle.pif_waiting.specs.Waiting.{order_in}
+use Rattle.pif_text_core.specs.Waiting.{order_in}
 use Rattle.pif_text_core.specs.Texts.{line_if, threads_text}
 use Rattle.pif_text_core.proofs.TellingLemmas.{same, then}
 use Rattle.pif_text_core.proofs.queues.show_ready.Goals as goal

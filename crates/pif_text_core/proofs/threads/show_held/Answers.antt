@@ -1,6 +1,6 @@
 use Rattle.std.proofs.Common.{◌∙◌, ap, map, sym}
 use Rattle.std.specs.Prelude.{codes, filter}
-use Rattle.pif_waiting.specs.Waiting.{has}
+use Rattle.pif_text_core.specs.Waiting.{has}
 use Rattle.pif_text_core.specs.Texts.{held_name, held_text, listed}
 use Rattle.pif_text_core.proofs.HeldLemmas.{first_next, held_next}
 use Rattle.pif_text_core.proofs.ListLemmas.{is_nil, numbers_none}

@@ -1,7 +1,7 @@
 use Rattle.std.proofs.Common.{◌≡◌}
 use Rattle.std.specs.Prelude.{filter}
 use Rattle.pif_text_json.specs.Json.{numbers}
-use Rattle.pif_waiting.specs.Waiting.{has}
+use Rattle.pif_text_core.specs.Waiting.{has}
 use Rattle.pif_text_core.specs.Pages.{Tells}
 use Rattle.pif_text_core.specs.Texts.{held_text}
 use Rattle.pif_text_core.proofs.ListLemmas.{is_nil}

@@ -5,7 +5,7 @@ use Rattle.pif_model.specs.declared.events.Order.{Order}
 use Rattle.pif_model.specs.declared.events.Order.TheVariants.{Parked, Ready, Waiters}
 use Rattle.pif_model.specs.Table.{Table}
 use Rattle.pif_model.specs.Calls.{order_answer}
-use Rattle.pif_waiting.specs.Waiting.{all_in}
+use Rattle.pif_text_core.specs.Waiting.{all_in}
 
 -- the reader answers the one that stands there
 pub in_order : (o : Order) (place : ℕ) (s : Table) → order_answer o place s ≡ slice_get (all_in o s) place

@@ -1,5 +1,5 @@
 ghost use Rattle.std.specs.Prelude.{◌≡◌};
-ghost use Rattle.pif_waiting.specs.Waiting.{conds_added, mutexes_added};
+ghost use Rattle.pif_text_core.specs.Waiting.{conds_added, mutexes_added};
 
 use pif_core::Core;
 

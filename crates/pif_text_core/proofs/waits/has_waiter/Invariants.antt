@@ -1,8 +1,8 @@
 use Rattle.std.proofs.Common.{◌≡◌, false}
 use Rattle.std.specs.List.{list_any}
 use Rattle.pif_text_json.specs.Json.{numbers}
-use Rattle.pif_waiting.specs.Waiting.{blocks}
-use Rattle.pif_waiting.proofs.waits.has_waiter.Given as goal
+use Rattle.pif_text_core.specs.Waiting.{blocks}
+use Rattle.pif_text_core.proofs.waits.has_waiter.Given as goal
 
 abbrev pub invariant-loop-place : goal.invariant-loop-place
 invariant-loop-place l = list_any (blocks l.thread l.core) (numbers l.place) ≡ false

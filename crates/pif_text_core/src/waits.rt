@@ -1,6 +1,6 @@
 ghost use Rattle.std.specs.Prelude.{◌≡◌, ◌≤◌, is_some};
 ghost use Rattle.pif_model.specs.Calls.{waiter_answer};
-ghost use Rattle.pif_waiting.specs.Waiting.{awaited, begins_chain, blocker, blocks, has_waiter, mutex_by};
+ghost use Rattle.pif_text_core.specs.Waiting.{awaited, begins_chain, blocker, blocks, has_waiter, mutex_by};
 
 use crate::counts::mutexes_added;
 use crate::holds::{has, owner_of};

@@ -1,5 +1,5 @@
 ghost use Rattle.std.specs.Prelude.{◌≡◌, ◌≤◌};
-ghost use Rattle.pif_waiting.specs.Waiting.{has, owner_of};
+ghost use Rattle.pif_text_core.specs.Waiting.{has, owner_of};
 
 use pif_core::Core;
 use pif_types::{MutexId, Tid};

@@ -1,2 +1,0 @@
-pub mod AnyLemmas
-pub mod OrderLemmas
