@@ -1,1 +1,6 @@
 mod KeepingLemmas
+pub mod ErrorLemmas
+pub mod HearingLemmas
+pub mod NameLemmas
+pub mod ShowLemmas
+pub mod StoryLemmas

@@ -7,7 +7,7 @@
 //! | `uses` | `pif_core_callers`: the callers to copy from; below it each of their ways out |
 //! | `driver` | none: the words of the tables of `cores` and `uses` |
 //! | `desk` | `pif_desk`: calls of real threads at a desk, sleep and time, refused memory, receipts and settling |
-//! | `traces` | `pif_desk` and `pif_job_trace`: the journal of a desk as a trace that replays the same |
+//! | `traces` | `pif_desk` and `pif_job_run`: the journal of a desk as a trace that replays the same |
 //! | `drives` | `pif_job_drive`: what the clients of a drive do, and that one without memory ends |
 //! | `leaving` | `pif_job_drive`: how a client ends at a fault, and which drives are refused |
 //! | `quick` | `pif_quick`: words from a try to a meeting, passes that wait, sums over many turns |

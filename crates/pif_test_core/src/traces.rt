@@ -3,7 +3,7 @@
 use arrayvec::ArrayVec;
 use pif_desk::{Book, Client, Desk, DeskFault, NoPause, Room};
 use pif_job_replay::replay;
-use pif_job_trace::write_trace;
+use pif_job_run::write_trace;
 use pif_script::CliFault;
 use pif_types::{CondId, Kind, Limits, MutexId, NoMemory, Refusal, Request, with_room};
 use std::alloc::Global;

@@ -8,7 +8,7 @@
 //! | `places` | `pif_text_errors`: where that stands in a story, and which name is near |
 //! | `scripts` | scripts and traces: tables of ends in the middle of calls, long chains, reads and writes that fail |
 //! | `runs` | `pif_job_run`: which scripts have notes |
-//! | `shows` | `pif_job_show`: a crowd, and writes that fail; the names of errors of `pif_text` |
+//! | `shows` | `show_story` of `pif_job_run`: a crowd, and writes that fail; the names of errors of `pif_text` |
 //! | `stories` | `pif_job_check`: what a notice keeps, stories that are too large, and reads and writes that fail |
 //! | `shells` | `pif_job_shell`: a prompt, stories that are saved, sessions, and what fails |
 //! | `random` | `pif_job_random`: scripts by a seed |
@@ -19,8 +19,8 @@
 //! | `streams` | none: the stream, which moves few bytes a call or fails once where it is told to |
 //! | `checks` | none: the checks of what a job writes and how it ends |
 //!
-//! `scripts` tests `pif_script`, `pif_job_replay` and `pif_job_trace`; `stories` also `show_story` of `pif_job_show` and
-//! `trace_story` of `pif_job_trace`. What words and an input can ask is a transcript of `pif_test_transcripts`.
+//! `scripts` tests `pif_script`, `pif_job_replay` and `trace` of `pif_job_run`; `stories` also `show_story` and
+//! `trace_story` of `pif_job_run`. What words and an input can ask is a transcript of `pif_test_transcripts`.
 #![tactic(auto)]
 
 #[cfg(test)]

@@ -2,7 +2,7 @@ use crate::checks::{check_job, check_memory, check_read, check_slowly, check_wri
 use crate::jobs::Job;
 use crate::streams::Stream;
 use pif_core::{Core, Entry, Event, Seen};
-use pif_job_trace::{write_trace, written_trace_is_the_same};
+use pif_job_run::{write_trace, written_trace_is_the_same};
 use pif_script::CliFault;
 use pif_text::{Addition, Command, command_of};
 use pif_types::{CondId, Kind, Limits, MutexId, Prio, Tid};

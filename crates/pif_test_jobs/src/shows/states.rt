@@ -3,7 +3,7 @@
 use crate::checks::check_write;
 use crate::jobs::Job;
 use crate::streams::Stream;
-use pif_job_show::show_story;
+use pif_job_run::show_story;
 use pif_script::{CliFault, Notice};
 use pif_script_model::Detail;
 use std::alloc::Global;

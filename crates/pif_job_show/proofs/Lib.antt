@@ -1,5 +1,0 @@
-pub mod ErrorLemmas
-pub mod HearingLemmas
-pub mod NameLemmas
-pub mod ShowLemmas
-pub mod StoryLemmas

@@ -1,7 +1,0 @@
-use Rattle.std.proofs.Common.{◌≡◌, map}
-use Rattle.pif_text_json.specs.Json.{numbers}
-use Rattle.pif_job_show.specs.Shows.{person_name}
-use Rattle.pif_job_show.proofs.stories.list_of.Given as goal
-
-abbrev pub invariant-loop-place : goal.invariant-loop-place
-invariant-loop-place l = map (λ name. name.now) l.list.items ≡ map (person_name l.names) (numbers l.place)

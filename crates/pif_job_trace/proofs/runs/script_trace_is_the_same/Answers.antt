@@ -1,5 +1,0 @@
-use Rattle.pif_script_model.proofs.AgainLemmas.{script_trace_back}
-use Rattle.pif_job_trace.proofs.runs.script_trace_is_the_same.Goals as goal
-
-pub returns : goal.returns
-returns c = script_trace_back
