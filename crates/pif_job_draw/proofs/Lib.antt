@@ -1,1 +1,8 @@
 pub mod PictureLemmas
+pub mod AnswerLemmas
+pub mod ChainLemmas
+pub mod FilterLemmas
+pub mod PieceLemmas
+pub mod StateLemmas
+pub mod CoreLemmas
+pub mod ListLemmas

@@ -1,1 +1,5 @@
 pub mod Pictures
+pub mod States
+pub mod Objects
+pub mod Graphs
+pub mod Stories

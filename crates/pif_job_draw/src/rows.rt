@@ -1,0 +1,81 @@
+use crate::growing_text::Page;
+use pif_model::{Event, Seen};
+use pif_story_model::AnsweredRow;
+use pif_text::{Command, Reply, Text, errno_name, errno_of, reply_text};
+use pif_types::{Errno, Tid};
+use std::str::from_utf8;
+
+/// A command of a story, with its words.
+#[derive(Clone, Copy)]
+pub struct Row<'a> {
+    /// The number of its line in the story, from 1.
+    pub line: u32,
+    /// The command as it is written.
+    pub words: &'a str,
+    /// What it asks for.
+    pub command: Command,
+    /// What the core answers it.
+    pub reply: Reply,
+}
+
+impl Row<'_> {
+    /// The thread that acts; none if something is added or asked, or if the time goes on.
+    pub fn actor(&self) -> Option<Tid> {
+        match self.command {
+            Command::Event(event) => actor_of(event),
+            Command::Run(thread, _) => Some(thread),
+            Command::Limits(..) | Command::Add(_) | Command::Ask(_) => None,
+        }
+    }
+}
+
+/// The thread to which an event belongs.
+fn actor_of(event: Event) -> Option<Tid> {
+    match event {
+        Event::Begin(thread, _) | Event::Go(thread) | Event::End(thread) => Some(thread),
+        Event::Tick(_) => None,
+    }
+}
+
+/// A command of a story, with its words as text; none if they are none.
+pub fn row_of<'a>(answered: &AnsweredRow<'a>) -> Option<Row<'a>> {
+    let words = from_utf8(answered.words).ok()?;
+    Some(Row {
+        line: answered.line,
+        words,
+        command: answered.command,
+        reply: answered.reply,
+    })
+}
+
+/// What a core answers a command, an error with its name.
+fn answer_text(reply: Reply) -> Text {
+    let error = error_of(&reply);
+    let mut text = Text::new();
+    reply_text(reply, &mut text);
+    if let Some(errno) = error {
+        let _ = text.try_extend_from_slice(b" ");
+        let _ = text.try_extend_from_slice(errno_name(errno).as_bytes());
+    }
+    text
+}
+
+/// The error that a call is answered.
+fn error_of(reply: &Reply) -> Option<Errno> {
+    match reply {
+        Reply::Seen(Seen::Answered(number)) => errno_of(*number),
+        _ => None,
+    }
+}
+
+/// Writes what a core answers a command, an error with its name.
+pub fn write_reply(reply: Reply, out: &mut Page) {
+    let text = answer_text(reply);
+    out.words(from_utf8(text.as_slice()).unwrap_or(""));
+}
+
+/// How many bytes a command has, with what it is answered.
+pub fn letters_of(row: &Row<'_>) -> usize {
+    let text = answer_text(row.reply);
+    row.words.len().saturating_add(text.len())
+}

@@ -1,4 +1,0 @@
-pub mod States
-pub mod Objects
-pub mod Graphs
-pub mod Stories
