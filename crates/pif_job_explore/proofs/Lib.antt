@@ -1,1 +1,2 @@
 mod ExploringLemmas
+mod Parts

@@ -1,8 +1,8 @@
 use Rattle.std.proofs.Common.{◌++◌}
 use Rattle.std.specs.Prelude.{codes, decimal}
-use Rattle.pif_explore_core.specs.Lines.{others_told, unfinished_told}
-use Rattle.pif_explore_core.proofs.Parts.{three_more}
-use Rattle.pif_explore_core.proofs.telling.push_ending.Goals as goal
+use Rattle.pif_job_explore.specs.Lines.{others_told, unfinished_told}
+use Rattle.pif_job_explore.proofs.Parts.{three_more}
+use Rattle.pif_job_explore.proofs.telling.push_ending.Goals as goal
 
 pub returns : goal.returns
 returns c =

@@ -1,8 +1,8 @@
 use Rattle.std.proofs.Common.{◌∙◌, ◌++◌, refl}
 use Rattle.std.specs.Prelude.{flat_map}
-use Rattle.pif_explore_core.specs.Lines.{outcome_told, claim_told, ending_told}
-use Rattle.pif_explore_core.proofs.Parts.{three_more}
-use Rattle.pif_explore_core.proofs.telling.push_played.Goals as goal
+use Rattle.pif_job_explore.specs.Lines.{outcome_told, claim_told, ending_told}
+use Rattle.pif_job_explore.proofs.Parts.{three_more}
+use Rattle.pif_job_explore.proofs.telling.push_played.Goals as goal
 
 pub returns : goal.returns
 returns c =

@@ -1,6 +1,6 @@
 //! What is told of schedules on cores, as bytes.
 ghost use Rattle.std.specs.Prelude.{◌≡◌, ◌++◌, OnOk, codes, decimal, flat_map};
-ghost use Rattle.pif_explore_core.specs.Lines.{claim_told, ending_told, others_told, outcome_told, played_told, unfinished_told};
+ghost use Rattle.pif_job_explore.specs.Lines.{claim_told, ending_told, others_told, outcome_told, played_told, unfinished_told};
 
 use crate::playing::{Mark, Played};
 use pif_explore_told::{push_all, push_number};
