@@ -49,7 +49,7 @@ RENAMED = {
     "pif_job_draw": ["pif_job_draw", "pif_pictures", "pif_story_drawing", "pif_drawing", "pif_story_states"],
     "pif_job_random": ["pif_random"],
     "pif_job_shell": ["pif_sessions", "pif_shell"],
-    "pif_job_judge": ["pif_job_judge", "pif_job_least"],
+    "pif_job_judge": ["pif_job_judge", "pif_job_least", "pif_history_run"],
     "pif_job_explore": ["pif_job_explore", "pif_explore_core"],
     "pif_job_drive": ["pif_drive"],
     "pif_cli_words": ["pif_arguments"],

@@ -16,11 +16,11 @@ use Rattle.pif_allow.specs.Verdicts.{IsVerdictWith}
 use Rattle.pif_history.specs.Verdicts.{IsRefusalThere}
 use Rattle.pif_history_text.specs.Histories.{Heard, limits_of}
 use Rattle.pif_history_text.specs.Verdicts.{illegal_line, legal_line, undecided_line}
-use Rattle.pif_history_run.specs.Pages.{IsPageOf}
-use Rattle.pif_history_run.specs.declared.verdicts.Began.{Began}
-use Rattle.pif_history_run.specs.declared.verdicts.Known.{Known}
-use Rattle.pif_history_run.specs.declared.verdicts.Known.TheVariants.{Numbers}
-use Rattle.pif_history_run.specs.declared.verdicts.Unfound.{Unfound}
+use Rattle.pif_job_judge.specs.Pages.{IsPageOf}
+use Rattle.pif_job_judge.specs.declared.verdicts.Began.{Began}
+use Rattle.pif_job_judge.specs.declared.verdicts.Known.{Known}
+use Rattle.pif_job_judge.specs.declared.verdicts.Known.TheVariants.{Numbers}
+use Rattle.pif_job_judge.specs.declared.verdicts.Unfound.{Unfound}
 use Rattle.pif_job_judge.specs.declared.telling.Says.{Says}
 use Rattle.pif_job_judge.specs.declared.faults.JudgeFault.{JudgeFault}
 use Rattle.pif_job_judge.specs.declared.faults.JudgeFault.TheVariants as fault

@@ -12,10 +12,10 @@ use Rattle.pif_history.specs.declared.verdicts.Verdict.{Verdict}
 use Rattle.pif_history.specs.declared.verdicts.Verdict.TheVariants.{Illegal, Undecided}
 use Rattle.pif_allow.specs.Verdicts.{IsVerdictWith}
 use Rattle.pif_history_text.specs.Histories.{Heard, limits_of}
-use Rattle.pif_history_run.specs.declared.verdicts.Began.{Began}
-use Rattle.pif_history_run.specs.declared.verdicts.Known.{Known}
-use Rattle.pif_history_run.specs.declared.verdicts.Unfound.{Unfound}
-use Rattle.pif_history_run.specs.Verdicts.{illegal_object, legal_object, undecided_object}
+use Rattle.pif_job_judge.specs.declared.verdicts.Began.{Began}
+use Rattle.pif_job_judge.specs.declared.verdicts.Known.{Known}
+use Rattle.pif_job_judge.specs.declared.verdicts.Unfound.{Unfound}
+use Rattle.pif_job_judge.specs.Verdicts.{illegal_object, legal_object, undecided_object}
 use Rattle.pif_job_judge.specs.declared.forms.Form.{Form}
 use Rattle.pif_job_judge.specs.declared.faults.JudgeFault.TheVariants as fault
 use Rattle.pif_job_judge.specs.Objects.{AppendsBefore, AppendsObjects, AppendsSteps, HasNoWitness, began_with, left_out_of}

@@ -7,3 +7,10 @@ pub mod Why
 pub mod LeastRules
 pub mod Sets
 pub mod Texts
+pub mod Steps
+pub mod Ways
+pub mod Tellings
+pub mod StateObjects
+pub mod Pages
+pub mod Runs
+pub mod Verdicts

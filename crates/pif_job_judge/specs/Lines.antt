@@ -13,11 +13,11 @@ use Rattle.pif_history_model.specs.Lines.{thread_of}
 use Rattle.pif_allow_model.specs.Allowed.{WideConfiguration}
 use Rattle.pif_history_text.specs.Histories.{Heard, limits_of}
 use Rattle.pif_history_text.specs.Verdicts.{began_line, found_line, illegal_line, legal_line, possible_line, refused_line, undecided_line}
-use Rattle.pif_history_run.specs.Tellings.{IsTold as IsRunTold}
-use Rattle.pif_history_run.specs.declared.verdicts.Began.{Began}
-use Rattle.pif_history_run.specs.declared.verdicts.Known.{Known}
-use Rattle.pif_history_run.specs.declared.verdicts.Known.TheVariants.{Refused, Numbers, Nothing}
-use Rattle.pif_history_run.specs.declared.verdicts.Unfound.{Unfound}
+use Rattle.pif_job_judge.specs.Tellings.{IsTold as IsRunTold}
+use Rattle.pif_job_judge.specs.declared.verdicts.Began.{Began}
+use Rattle.pif_job_judge.specs.declared.verdicts.Known.{Known}
+use Rattle.pif_job_judge.specs.declared.verdicts.Known.TheVariants.{Refused, Numbers, Nothing}
+use Rattle.pif_job_judge.specs.declared.verdicts.Unfound.{Unfound}
 use Rattle.pif_job_judge.specs.declared.forms.Form.{Form}
 use Rattle.pif_job_judge.specs.declared.forms.Form.TheVariants.{Witness}
 use Rattle.pif_job_judge.specs.declared.faults.JudgeFault.{JudgeFault}

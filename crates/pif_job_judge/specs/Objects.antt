@@ -10,13 +10,13 @@ use Rattle.pif_history.specs.declared.verdicts.Verdict.{Verdict}
 use Rattle.pif_history.specs.declared.verdicts.Verdict.TheVariants.{Legal, Illegal, Undecided}
 use Rattle.pif_allow.specs.Verdicts.{IsVerdictWith}
 use Rattle.pif_history_text.specs.Histories.{Heard, limits_of}
-use Rattle.pif_history_run.specs.declared.verdicts.Began.{Began}
-use Rattle.pif_history_run.specs.declared.verdicts.Known.{Known}
-use Rattle.pif_history_run.specs.declared.verdicts.Known.TheVariants.{Refused, Numbers, Nothing}
-use Rattle.pif_history_run.specs.declared.verdicts.Unfound.{Unfound}
-use Rattle.pif_history_run.specs.Runs.{Telling}
-use Rattle.pif_history_run.specs.Runs.{IsTold as IsRunTold}
-use Rattle.pif_history_run.specs.Verdicts.{illegal_object, legal_object, undecided_object}
+use Rattle.pif_job_judge.specs.declared.verdicts.Began.{Began}
+use Rattle.pif_job_judge.specs.declared.verdicts.Known.{Known}
+use Rattle.pif_job_judge.specs.declared.verdicts.Known.TheVariants.{Refused, Numbers, Nothing}
+use Rattle.pif_job_judge.specs.declared.verdicts.Unfound.{Unfound}
+use Rattle.pif_job_judge.specs.Runs.{Telling}
+use Rattle.pif_job_judge.specs.Runs.{IsTold as IsRunTold}
+use Rattle.pif_job_judge.specs.Verdicts.{illegal_object, legal_object, undecided_object}
 use Rattle.pif_job_judge.specs.declared.forms.Form.{Form}
 use Rattle.pif_job_judge.specs.declared.forms.Form.TheVariants.{Page}
 use Rattle.pif_job_judge.specs.declared.faults.JudgeFault.{JudgeFault}

@@ -5,10 +5,10 @@ use Rattle.pif_history_model.specs.declared.lines.Line.TheVariants.{Answer, Begi
 use Rattle.pif_allow_model.specs.Verdicts.{ArePossibleAnswersWith, ArePossiblePrioritiesWith}
 use Rattle.pif_history.specs.Verdicts.{IsRefusalThere}
 use Rattle.pif_history_text.specs.Histories.{Heard, limits_of}
-use Rattle.pif_history_run.specs.declared.verdicts.Began.{Began}
-use Rattle.pif_history_run.specs.declared.verdicts.Known.{Known}
-use Rattle.pif_history_run.specs.declared.verdicts.Known.TheVariants.{Refused, Numbers, Nothing}
-use Rattle.pif_history_run.specs.declared.verdicts.Unfound.{Unfound}
+use Rattle.pif_job_judge.specs.declared.verdicts.Began.{Began}
+use Rattle.pif_job_judge.specs.declared.verdicts.Known.{Known}
+use Rattle.pif_job_judge.specs.declared.verdicts.Known.TheVariants.{Refused, Numbers, Nothing}
+use Rattle.pif_job_judge.specs.declared.verdicts.Unfound.{Unfound}
 use Rattle.pif_job_judge.specs.declared.telling.Says.{Says}
 use Rattle.pif_job_judge.specs.declared.telling.Says.TheVariants as says
 

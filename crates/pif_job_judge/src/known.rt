@@ -4,10 +4,10 @@ ghost use Rattle.pif_history_text.specs.Histories.{limits_of};
 ghost use Rattle.pif_history_text.specs.Reading.{heard_of};
 ghost use Rattle.pif_job_judge.specs.Why.{IsKnown};
 
+use crate::verdicts::Known;
 use pif_allow::{possible_answers_allowing, possible_priorities_allowing};
 use pif_history::refusal;
 use pif_history_model::Line;
-use pif_history_run::Known;
 use pif_history_text::History;
 use pif_script_model::CliFault;
 use std::alloc::Global;

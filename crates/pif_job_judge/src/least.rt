@@ -3,8 +3,8 @@ ghost use Rattle.pif_history_text.specs.Histories.{limits_of};
 ghost use Rattle.pif_history_text.specs.Reading.{IsPaired, heard_of};
 ghost use Rattle.pif_job_judge.specs.Judging.{AppendsTold, front_of};
 ghost use Rattle.pif_job_judge.specs.Least.{JudgesLeast, JudgesLeastTo};
-ghost use Rattle.pif_job_judge.specs.Needed.{AppendsNeeded};
 ghost use Rattle.pif_job_judge.specs.LeastRules.{IsLeast, IsLegalSomehow};
+ghost use Rattle.pif_job_judge.specs.Needed.{AppendsNeeded};
 ghost use Rattle.pif_rules.specs.Sets.{both};
 
 use crate::faults::JudgeFault;

@@ -1,8 +1,8 @@
 ghost use Rattle.std.specs.Prelude.{◌≡◌, ◌++◌, IfErr, IfOk, OnOk};
 ghost use Rattle.pif_history_text.specs.Histories.{limits_of};
 ghost use Rattle.pif_history_text.specs.Reading.{IsPaired, heard_of};
-ghost use Rattle.pif_job_judge.specs.Needed.{AppendsNeeded};
 ghost use Rattle.pif_job_judge.specs.LeastRules.{IsLeast};
+ghost use Rattle.pif_job_judge.specs.Needed.{AppendsNeeded};
 ghost use Rattle.pif_job_judge.specs.Texts.{legal_with, undecided_with};
 
 use crate::faults::JudgeFault;

@@ -2,7 +2,7 @@ ghost use Rattle.std.specs.Prelude.{◌≡◌, ◌≤◌, ◌-◌, Err, IfErr, I
 ghost use Rattle.pif_history.specs.declared.verdicts.Verdict.TheVariants.{Illegal, Undecided};
 ghost use Rattle.pif_allow.specs.Verdicts.{IsVerdictWith};
 ghost use Rattle.pif_allow_model.specs.Verdicts.{IsLegalWith};
-ghost use Rattle.pif_history_run.specs.Ways.{IsRun};
+ghost use Rattle.pif_job_judge.specs.Ways.{IsRun};
 ghost use Rattle.pif_history_text.specs.Histories.{limits_of};
 ghost use Rattle.pif_history_text.specs.Reading.{IsPaired, heard_of};
 ghost use Rattle.pif_job_judge.specs.Objects.{AppendsBefore, AppendsObjects, AppendsSteps, began_with, left_out_of};
@@ -10,15 +10,15 @@ ghost use Rattle.pif_job_judge.specs.Objects.{AppendsBefore, AppendsObjects, App
 use crate::faults::JudgeFault;
 use crate::forms::{Form, Judging, Reach};
 use crate::known::known_of;
+use crate::pages::first_shown;
 use crate::places::{line_at, number_at};
+use crate::runs::run_text;
 use crate::telling::began_before;
 use crate::unfound::unfound_at;
+use crate::verdicts::{Began, Known, append_illegal, append_legal, append_undecided};
 use pif_allow::judge_allowing;
 use pif_history::{Unwatched, Verdict};
 use pif_history_model::Label;
-use pif_history_run::{
-    Began, Known, append_illegal, append_legal, append_undecided, first_shown, run_text,
-};
 use pif_history_text::History;
 use pif_script_model::CliFault;
 use std::alloc::Global;

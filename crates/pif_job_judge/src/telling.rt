@@ -6,8 +6,8 @@ ghost use Rattle.pif_history_text.specs.Verdicts.{legal_line};
 ghost use Rattle.pif_job_judge.specs.Lines.{began_text, known_text, unfound_line, unfound_text, why_text};
 ghost use Rattle.pif_job_judge.specs.Why.{open_of, said_of};
 
+use crate::verdicts::{Began, Known, Unfound};
 use pif_history_model::Line;
-use pif_history_run::{Began, Known, Unfound};
 use pif_history_text::{
     History, push_began, push_found, push_legal, push_possible, push_possible_undecided,
     push_refused,

@@ -1,7 +1,7 @@
 use Rattle.std.proofs.Common.{◌≡◌, ◌∙◌, ◌-◌, ℕ, Option, Some, arith, sym, subst, ap}
 use Rattle.std.proofs.lemmas.List.{get_or_read}
 use Rattle.pif_history_text.specs.Reading.{heard_of}
-use Rattle.pif_history_run.specs.declared.verdicts.Began.{Began}
+use Rattle.pif_job_judge.specs.declared.verdicts.Began.{Began}
 use Rattle.pif_job_judge.specs.declared.telling.Says.TheVariants as says
 use Rattle.pif_job_judge.specs.Why.{open_of}
 use Rattle.pif_job_judge.proofs.JudgingLemmas.{open-back}

@@ -1,7 +1,0 @@
-mod Splitting
-mod StepLemmas
-mod WayLemmas
-pub mod Chosen
-mod TellingLemmas
-mod Appending
-mod RunLemmas
