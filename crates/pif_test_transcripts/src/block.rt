@@ -1,10 +1,12 @@
 //! A block of a transcript: one job, with what it reads and what it has to answer. The page of
 //! `pif_test_transcripts` has its lines.
 
+use crate::deeds::{Giving, List, Source};
 use crate::marks::{Words, escaped, keep_escaped, keep_line, keep_words, kind_of, mark_of};
-use crate::streams::{Kept, Sink, Source};
+use crate::streams::{Kept, Sink, Taking};
 use crate::told::{Files, pair_of};
 use arrayvec::ArrayVec;
+use std::alloc::Global;
 use std::io::ErrorKind;
 use std::str::from_utf8;
 
@@ -23,6 +25,17 @@ pub enum Asked {
     Fault,
 }
 
+/// How often a job is done.
+#[derive(Clone, Copy)]
+enum Turns {
+    /// With each word and each number that are named, or once.
+    Named,
+    /// A write fails behind each byte of the output in turn.
+    Writes,
+    /// A read fails so behind each byte of the input in turn.
+    Reads(ErrorKind),
+}
+
 /// What a block has come to, beside what was written.
 #[derive(Drop)]
 pub struct Done {
@@ -36,10 +49,9 @@ pub struct Done {
     pub begun: Files,
 }
 
-/// The streams of a job.
+/// The streams to which a job writes.
 #[derive(Drop)]
-pub struct Streams<'a> {
-    pub input: Source<'a>,
+pub struct Streams {
     pub output: Sink,
     pub errors: Sink,
 }
@@ -48,6 +60,7 @@ pub struct Streams<'a> {
 /// error have room, and the status is 0. A block with a mark that there is not is never met.
 #[derive(Drop)]
 pub struct Block<'a> {
+    alloc: Global,
     /// The lines themselves.
     pub lines: &'a str,
     /// The name of the job, or an empty text.
@@ -58,20 +71,26 @@ pub struct Block<'a> {
     pub words: Words<'a>,
     /// Whether a person sits at a terminal.
     pub is_terminal: bool,
-    /// Whether it is known what the files of a process are asked. If not, they are the machine's.
-    pub has_deeds: bool,
     /// The name of the fault of which is told.
     pub fault: &'a str,
     input: Kept,
     /// The lines of the input since the last mark that says how often they stand there.
     group: Kept,
     times: usize,
-    each_read: usize,
-    breaks: bool,
+    giving: Giving,
+    /// What is done in turns.
+    turns: Turns,
+    /// The number of this turn, from 0.
+    turn: usize,
+    /// The word of this turn, or an empty text, and how many words there are.
+    word: &'a str,
+    word_count: usize,
+    /// The number of this turn that is named, and how many of them there are.
+    number: usize,
+    number_count: usize,
     is_unread: bool,
     has_other_mark: bool,
-    room: usize,
-    is_closed: bool,
+    taking: Taking,
     errors_room: usize,
     begun: Files,
     is_cut: bool,
@@ -83,32 +102,36 @@ pub struct Block<'a> {
 }
 
 impl<'a> Block<'a> {
-    /// The block of these lines.
-    pub fn of(lines: &'a str) -> Block<'a> {
+    /// The block of these lines in this turn.
+    pub fn of(alloc: Global, lines: &'a str, turn: usize) -> Block<'a> {
         let mut block = Block {
+            alloc,
             lines,
             name: "",
             asked: Asked::Nothing,
             words: ArrayVec::new(),
             is_terminal: false,
-            has_deeds: false,
             fault: "",
-            input: Kept::new(),
-            group: Kept::new(),
+            input: Kept::new(alloc),
+            group: Kept::new(alloc),
             times: 1,
-            each_read: usize::MAX,
-            breaks: false,
+            giving: Giving::all(),
+            turns: Turns::Named,
+            turn,
+            word: "",
+            word_count: 1,
+            number: 1,
+            number_count: 1,
             is_unread: false,
             has_other_mark: false,
-            room: usize::MAX,
-            is_closed: false,
+            taking: Taking::all(),
             errors_room: usize::MAX,
             begun: ArrayVec::new(),
             is_cut: false,
-            first: Kept::new(),
-            output: Kept::new(),
+            first: Kept::new(alloc),
+            output: Kept::new(alloc),
             knows_errors: false,
-            errors: Kept::new(),
+            errors: Kept::new(alloc),
             status: 0,
         };
         for line in lines.split('\n') {
@@ -119,17 +142,35 @@ impl<'a> Block<'a> {
         block
     }
 
-    /// The streams of the block's job.
-    pub fn streams(&self) -> Streams<'_> {
-        let full = if self.is_closed {
-            ErrorKind::BrokenPipe
-        } else {
-            ErrorKind::StorageFull
-        };
+    /// How many turns there are.
+    pub fn turns(&self) -> usize {
+        match self.turns {
+            Turns::Named => self.word_count.saturating_mul(self.number_count),
+            Turns::Writes => self.output.text().len(),
+            Turns::Reads(_) => self.input.text().len().saturating_add(1),
+        }
+    }
+
+    /// The input of the block's job.
+    pub fn source<'l, 't>(&self, list: &'l List<'t>) -> Source<'l, 't> {
+        let mut giving = self.giving;
+        if let Turns::Reads(why) = self.turns {
+            giving.stop = Some((self.turn, why));
+        }
+        Source::input(list, self.input.text(), giving)
+    }
+
+    /// The streams to which it writes.
+    pub fn streams(&self) -> Streams {
+        let mut taking = self.taking;
+        if let Turns::Writes = self.turns {
+            taking.room = self.turn;
+        }
+        let mut told = Taking::all();
+        told.room = self.errors_room;
         Streams {
-            input: Source::new(self.input.text(), self.each_read, self.breaks),
-            output: Sink::new(self.room, full),
-            errors: Sink::new(self.errors_room, ErrorKind::StorageFull),
+            output: Sink::new(self.alloc, taking),
+            errors: Sink::new(self.alloc, told),
         }
     }
 
@@ -143,7 +184,7 @@ impl<'a> Block<'a> {
             && self.has_errors(errors)
             && holds_parts(self.lines, "~", output)
             && holds_parts(self.lines, "!~", errors)
-            && holds_counts(self.lines, output)
+            && holds_counts(self.alloc, self.lines, output)
     }
 
     /// Whether files were asked what is known of them, and those were begun of which that is known.
@@ -153,10 +194,14 @@ impl<'a> Block<'a> {
 
     /// Whether this is the output, or begins and ends it, or only parts of it are known.
     fn has_output(&self, output: &[u8]) -> bool {
-        if self.is_cut {
-            output.starts_with(self.first.text()) && output.ends_with(self.output.text())
-        } else {
-            output == self.output.text()
+        let wanted = self.output.text();
+        match self.turns {
+            Turns::Writes => output.len() == self.turn && wanted.starts_with(output),
+            Turns::Reads(_) => wanted.starts_with(output),
+            Turns::Named if self.is_cut => {
+                output.starts_with(self.first.text()) && output.ends_with(wanted)
+            }
+            Turns::Named => output == wanted,
         }
     }
 
@@ -181,8 +226,8 @@ fn holds_parts(lines: &str, mark: &str, written: &[u8]) -> bool {
 }
 
 /// Whether each text that stands behind a mark `has` stands in what was written as often as it says.
-fn holds_counts(lines: &str, written: &[u8]) -> bool {
-    let mut behind = Kept::new();
+fn holds_counts(alloc: Global, lines: &str, written: &[u8]) -> bool {
+    let mut behind = Kept::new(alloc);
     behind.append(b"\n");
     behind.append(written);
     let written = from_utf8(behind.text()).unwrap_or("");
@@ -190,13 +235,13 @@ fn holds_counts(lines: &str, written: &[u8]) -> bool {
         .split('\n')
         .map(mark_of)
         .filter(|line| line.0 == "has")
-        .all(|line| is_counted(written, line.1))
+        .all(|line| is_counted(alloc, written, line.1))
 }
 
 /// Whether the text behind a number stands so often in what was written, or at all behind `some`.
-fn is_counted(written: &str, text: &str) -> bool {
+fn is_counted(alloc: Global, written: &str, text: &str) -> bool {
     let (number, part) = mark_of(text);
-    let part = escaped(part);
+    let part = escaped(alloc, part);
     let part = from_utf8(part.text()).unwrap_or("");
     let count = written.split(part).skip(1).count();
     match number {
@@ -214,7 +259,7 @@ fn number_of(text: &str) -> usize {
 fn cut(block: &mut Block<'_>) {
     block.is_cut = true;
     block.first.append(block.output.text());
-    block.output = Kept::new();
+    block.output.clear();
 }
 
 /// The lines of the group stand in the input as often as was said, and those of the next one will stand there so often.
@@ -222,8 +267,80 @@ fn close_group(block: &mut Block<'_>, times: usize) {
     for _ in 0..block.times {
         block.input.append(block.group.text());
     }
-    block.group = Kept::new();
+    block.group.clear();
     block.times = times;
+}
+
+/// A read fails so behind what stands in the input so far, or behind each byte in turn.
+fn stop(block: &mut Block<'_>, text: &str) {
+    close_group(block, 1);
+    let (is_each, name) = match mark_of(text) {
+        ("each", name) => (true, name),
+        _ => (false, text),
+    };
+    match kind_of(name) {
+        Some(why) if is_each => block.turns = Turns::Reads(why),
+        Some(why) => block.giving.stop = Some((block.input.text().len(), why)),
+        None => block.has_other_mark = true,
+    }
+}
+
+/// A write fails in turn, or behind so many bytes.
+fn take(block: &mut Block<'_>, text: &str) {
+    match text {
+        "each" => block.turns = Turns::Writes,
+        _ => block.taking.room = number_of(text),
+    }
+}
+
+/// A write fails so, or takes no byte.
+fn fail_writes(block: &mut Block<'_>, name: &str) {
+    block.taking.why = kind_of(name);
+    if block.taking.why.is_none() && name != "nothing" {
+        block.has_other_mark = true;
+    }
+}
+
+/// The job is done with each of these words.
+fn name_words<'a>(block: &mut Block<'a>, text: &'a str) {
+    block.word_count = text.split(' ').count();
+    let place = block.turn.checked_rem(block.word_count).unwrap_or(0);
+    block.word = text.split(' ').nth(place).unwrap_or("");
+}
+
+/// The job is done with each number from the first to the second, and each word.
+fn name_numbers(block: &mut Block<'_>, text: &str) {
+    let (first, last) = pair_of(text);
+    let place = block.turn.checked_div(block.word_count).unwrap_or(0);
+    block.number = first.saturating_add(place);
+    block.number_count = last.saturating_sub(first).saturating_add(1);
+}
+
+/// Keeps a line of the input, with the word of this turn in place of its first `%`, if there is a word.
+fn keep_input(block: &mut Block<'_>, text: &str) {
+    match text.split_once('%') {
+        Some((front, rest)) if !block.word.is_empty() => {
+            block.group.append(front.as_bytes());
+            block.group.append(block.word.as_bytes());
+            keep_line(&mut block.group, rest);
+        }
+        _ => keep_line(&mut block.group, text),
+    }
+}
+
+/// How many bytes a read gives: the number of this text, or of the word in its place.
+fn set_reads(block: &mut Block<'_>, text: &str) {
+    block.giving.each_read = match text {
+        "%" => number_of(block.word),
+        _ => number_of(text),
+    };
+}
+
+/// Keeps a text with escapes so many times.
+fn keep_times(kept: &mut Kept, text: &str, times: usize) {
+    for _ in 0..times {
+        keep_escaped(kept, text);
+    }
 }
 
 /// A job is asked for, over an input if it is of no process.
@@ -241,13 +358,14 @@ fn hear<'a>(block: &mut Block<'a>, mark: &str, text: &'a str) {
         "$" => ask(block, text),
         "process" => block.asked = Asked::Process,
         "terminal" => block.is_terminal = true,
-        "file" => block.has_deeds = true,
         "fails" if kind_of(text).is_none() => block.has_other_mark = true,
         "comes" => block.asked = Asked::Progress,
         "fault" => {
             block.asked = Asked::Fault;
             block.fault = text;
         }
+        "with" => name_words(block, text),
+        "each" => name_numbers(block, text),
         _ => hear_stream(block, mark, text),
     }
 }
@@ -255,11 +373,13 @@ fn hear<'a>(block: &mut Block<'a>, mark: &str, text: &'a str) {
 /// Hears a line with this mark, that says what is read and written.
 fn hear_stream(block: &mut Block<'_>, mark: &str, text: &str) {
     match mark {
-        "<" => keep_line(&mut block.group, text),
+        "<" => keep_input(block, text),
         "<\\" => keep_escaped(&mut block.group, text),
+        "<*" => keep_times(&mut block.group, text, block.number),
         "times" => close_group(block, number_of(text)),
         ">" => keep_line(&mut block.output, text),
         ">\\" => keep_escaped(&mut block.output, text),
+        ">*" => keep_times(&mut block.output, text, block.number),
         "!" => {
             block.knows_errors = true;
             keep_line(&mut block.errors, text);
@@ -269,17 +389,19 @@ fn hear_stream(block: &mut Block<'_>, mark: &str, text: &str) {
             keep_escaped(&mut block.errors, text);
         }
         "?" => block.status = number_of(text),
-        "reads" => block.each_read = number_of(text),
-        "breaks" => block.breaks = true,
+        "reads" => set_reads(block, text),
+        "breaks" => stop(block, text),
         "unread" => block.is_unread = true,
-        "takes" => block.room = number_of(text),
+        "takes" => take(block, text),
         "!takes" => block.errors_room = number_of(text),
-        "closed" => block.is_closed = true,
+        "writes" => block.taking.each_write = number_of(text),
+        "why" => fail_writes(block, text),
+        "once" => block.taking.is_once = true,
         "begins" => {
             let _ = block.begun.try_push(pair_of(text));
         }
         "..." => cut(block),
-        "" | "#" | "~" | "!~" | "has" | "$\\" | "ticks" | "fails" => {}
+        "" | "#" | "~" | "!~" | "has" | "$\\" | "ticks" | "file" | "fails" => {}
         _ => block.has_other_mark = true,
     }
 }

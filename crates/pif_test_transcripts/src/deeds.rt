@@ -1,9 +1,9 @@
-//! Files of which is known what they are asked.
+//! What jobs read: their input, and files of which is known what they are asked.
 
 use crate::marks::{escaped, keep_escaped, kind_of, mark_of};
 use crate::streams::Kept;
 use arrayvec::ArrayVec;
-use std::alloc::Allocator;
+use std::alloc::{Allocator, Global};
 use std::fs::{Metadata, OpenFile, OpenOptions, Permissions};
 use std::io;
 use std::io::{ErrorKind, Read, Seek, SeekFrom, Write};
@@ -43,8 +43,13 @@ impl<'a> Deed<'a> {
     }
 
     /// Whether it asks this of a file of this name.
-    fn asks(&self, what: &str, name: &str) -> bool {
-        self.what == what && self.text == name
+    fn asks(&self, alloc: Global, what: &str, name: &str) -> bool {
+        self.what == what && escaped(alloc, self.text).text() == name.as_bytes()
+    }
+
+    /// Whether it stands in no order: a file is opened at any time.
+    fn is_open(&self) -> bool {
+        self.what == "each"
     }
 
     /// Whether the file of the first name gets the second.
@@ -83,28 +88,55 @@ fn fail_last(deeds: &mut ArrayVec<Deed<'_>, 16>, name: &str) {
     }
 }
 
+/// The deeds of a block that come one after the other.
+fn deeds_in_order(lines: &str) -> ArrayVec<Deed<'_>, 16> {
+    let mut deeds = ArrayVec::new();
+    for deed in deeds_of(lines).iter().filter(|deed| !deed.is_open()) {
+        let _ = deeds.try_push(*deed);
+    }
+    deeds
+}
+
 /// The deeds of a block, one after the other, and whether another was asked for.
 #[derive(Drop)]
 pub struct List<'t> {
+    alloc: Global,
     lines: &'t str,
     next: AtomicUsize,
     is_other: AtomicBool,
+    /// How many bytes of the input are left.
+    left: AtomicUsize,
 }
 
 impl<'t> List<'t> {
     /// The deeds of a block of these lines, of which none was done.
-    pub fn of(lines: &'t str) -> List<'t> {
+    pub fn of(alloc: Global, lines: &'t str) -> List<'t> {
         List {
+            alloc,
             lines,
             next: AtomicUsize::new(0),
             is_other: AtomicBool::new(false),
+            left: AtomicUsize::new(0),
         }
+    }
+
+    /// How many bytes of the input are left.
+    pub fn left(&self) -> usize {
+        self.left.load(Ordering::SeqCst)
     }
 
     /// The next deed, if there is one.
     fn next(&self) -> Option<Deed<'t>> {
         let place = self.next.fetch_add(1, Ordering::SeqCst);
-        deeds_of(self.lines).get(place).copied()
+        deeds_in_order(self.lines).get(place).copied()
+    }
+
+    /// The deed by which a file of this name is opened at any time, if there is one.
+    fn at_any_time(&self, name: &str) -> Option<Deed<'t>> {
+        deeds_of(self.lines)
+            .iter()
+            .find(|deed| deed.asks(self.alloc, "each", name))
+            .copied()
     }
 
     /// Another deed was wanted.
@@ -116,14 +148,14 @@ impl<'t> List<'t> {
     /// The files are asked this of a file of this name.
     fn ask(&self, what: &str, name: &str) -> io::Result<()> {
         match self.next() {
-            Some(deed) if deed.asks(what, name) => deed.answer(),
+            Some(deed) if deed.asks(self.alloc, what, name) => deed.answer(),
             _ => Err(self.miss()),
         }
     }
 
     /// Whether all deeds were asked for, and no other.
     pub fn is_met(&self) -> bool {
-        self.next.load(Ordering::SeqCst) == deeds_of(self.lines).len()
+        self.next.load(Ordering::SeqCst) == deeds_in_order(self.lines).len()
             && !self.is_other.load(Ordering::SeqCst)
     }
 }
@@ -162,11 +194,49 @@ fn times_of(text: &str) -> (usize, &str) {
     (times.parse::<usize>().unwrap_or(0), text)
 }
 
-/// A file that was opened or made.
+/// How a text is given.
+#[derive(Clone, Copy)]
+pub struct Giving {
+    /// How many bytes a read gives at most.
+    pub each_read: usize,
+    /// Behind how many bytes a read fails once, and how it fails.
+    pub stop: Option<(usize, ErrorKind)>,
+}
+
+impl Giving {
+    /// All that a read asks for.
+    pub fn all() -> Giving {
+        Giving {
+            each_read: usize::MAX,
+            stop: None,
+        }
+    }
+
+    /// How many of so many bytes a read gives, or how it fails.
+    fn count(&mut self, most: usize) -> io::Result<usize> {
+        let most = most.min(self.each_read);
+        match self.stop {
+            Some((0, why)) => {
+                self.stop = None;
+                Err(io::Error::from(why))
+            }
+            Some((left, why)) => {
+                let count = most.min(left);
+                self.stop = Some((left - count, why));
+                Ok(count)
+            }
+            None => Ok(most),
+        }
+    }
+}
+
+/// What a job reads: its input, or a file that was opened or made.
 #[derive(Drop)]
-pub struct Listed<'l, 't> {
+pub struct Source<'l, 't> {
     list: &'l List<'t>,
-    /// Whether its text was asked for.
+    is_input: bool,
+    giving: Giving,
+    /// Whether the text of a file was asked for.
     is_read: bool,
     text: Kept,
     /// How many bytes of the text were read.
@@ -175,16 +245,35 @@ pub struct Listed<'l, 't> {
     more: usize,
 }
 
-impl<'l, 't> Listed<'l, 't> {
+impl<'l, 't> Source<'l, 't> {
+    /// An input of this text, which is given so.
+    pub fn input(list: &'l List<'t>, text: &[u8], giving: Giving) -> Source<'l, 't> {
+        let mut source = Source::empty(list);
+        source.is_input = true;
+        source.giving = giving;
+        source.text.append(text);
+        list.left.store(text.len(), Ordering::SeqCst);
+        source
+    }
+
     /// A file of which nothing was read.
-    fn new(list: &'l List<'t>) -> Listed<'l, 't> {
-        Listed {
+    fn new(list: &'l List<'t>) -> Source<'l, 't> {
+        Source {
             list,
+            is_input: false,
+            giving: Giving::all(),
             is_read: false,
-            text: Kept::new(),
+            text: Kept::new(list.alloc),
             read: 0,
             more: 0,
         }
+    }
+
+    /// A file that has no byte.
+    fn empty(list: &'l List<'t>) -> Source<'l, 't> {
+        let mut source = Source::new(list);
+        source.is_read = true;
+        source
     }
 
     /// Asks for the text of the file.
@@ -212,9 +301,18 @@ impl<'l, 't> Listed<'l, 't> {
             self.read = 0;
         }
     }
+
+    /// So many bytes of the text were read.
+    fn pass(&mut self, count: usize) {
+        self.read = self.read.saturating_add(count);
+        if self.is_input {
+            let left = self.text.text().len().saturating_sub(self.read);
+            self.list.left.store(left, Ordering::SeqCst);
+        }
+    }
 }
 
-impl Read for Listed<'_, '_> {
+impl Read for Source<'_, '_> {
     fn read(&mut self, buf: &mut [u8]) -> io::Result<usize> {
         if !self.is_read {
             self.ask_text()?;
@@ -222,22 +320,23 @@ impl Read for Listed<'_, '_> {
         self.begin_again();
         let text = self.text.text();
         let from = self.read.min(text.len());
-        let count = buf.len().min(text.len() - from);
+        let most = buf.len().min(text.len() - from);
+        let count = self.giving.count(most)?.min(most);
         buf[..count].copy_from_slice(&text[from..from + count]);
-        self.read = from + count;
+        self.pass(count);
         Ok(count)
     }
 }
 
 /// Whether a deed is that this is written.
-fn writes(deed: &Deed<'_>, bytes: &[u8]) -> bool {
-    deed.what == "write" && escaped(deed.text).text() == bytes
+fn writes(alloc: Global, deed: &Deed<'_>, bytes: &[u8]) -> bool {
+    deed.what == "write" && escaped(alloc, deed.text).text() == bytes
 }
 
-impl Write for Listed<'_, '_> {
+impl Write for Source<'_, '_> {
     fn write(&mut self, buf: &[u8]) -> io::Result<usize> {
         match self.list.next() {
-            Some(deed) if writes(&deed, buf) => {
+            Some(deed) if writes(self.list.alloc, &deed, buf) => {
                 deed.answer()?;
                 Ok(buf.len())
             }
@@ -250,13 +349,13 @@ impl Write for Listed<'_, '_> {
     }
 }
 
-impl Seek for Listed<'_, '_> {
+impl Seek for Source<'_, '_> {
     fn seek(&mut self, _to: SeekFrom) -> io::Result<u64> {
         Err(self.list.miss())
     }
 }
 
-impl OpenFile for Listed<'_, '_> {
+impl OpenFile for Source<'_, '_> {
     fn metadata(&self) -> io::Result<Metadata> {
         Err(self.list.miss())
     }
@@ -283,17 +382,21 @@ impl OpenFile for Listed<'_, '_> {
 }
 
 impl<'l, 't, R> Files for ListedFiles<'l, 't, R> {
-    type File = Listed<'l, 't>;
+    type File = Source<'l, 't>;
 
     type Dir = io::Empty;
 
-    fn open_file(&self, how: &OpenOptions, path: &str) -> io::Result<Listed<'l, 't>> {
+    fn open_file(&self, how: &OpenOptions, path: &str) -> io::Result<Source<'l, 't>> {
+        if let Some(deed) = self.list.at_any_time(path) {
+            deed.answer()?;
+            return Ok(Source::empty(self.list));
+        }
         match (how.asks_create_new(), how.asks_write()) {
             (true, _) => self.list.ask("make", path)?,
             (false, false) => self.list.ask("open", path)?,
             (false, true) => return Err(self.list.miss()),
         }
-        Ok(Listed::new(self.list))
+        Ok(Source::new(self.list))
     }
 
     fn open_dir(&self, _path: &str) -> io::Result<io::Empty> {
@@ -306,8 +409,9 @@ impl<'l, 't, R> Files for ListedFiles<'l, 't, R> {
 
     fn symlink_metadata(&self, path: &str) -> io::Result<Metadata> {
         match self.list.next() {
-            Some(deed) if deed.asks("link", path) => Ok(Metadata::of_symlink(0)),
-            Some(deed) if deed.asks("look", path) => {
+            Some(deed) if deed.asks(self.list.alloc, "link", path) => Ok(Metadata::of_symlink(0)),
+            Some(deed) if deed.asks(self.list.alloc, "folder", path) => Ok(Metadata::of_dir()),
+            Some(deed) if deed.asks(self.list.alloc, "look", path) => {
                 deed.answer()?;
                 Ok(Metadata::of_file(0))
             }

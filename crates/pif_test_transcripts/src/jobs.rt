@@ -1,7 +1,7 @@
 //! What a block asks is done.
 
 use crate::block::{Asked, Block, Done, Streams};
-use crate::deeds::List;
+use crate::deeds::{List, Source};
 use crate::streams::Sink;
 use crate::told::{Begun, come_on, tell_fault};
 use arrayvec::ArrayVec;
@@ -12,11 +12,11 @@ use std::process::{ExitCode, Termination};
 use std::rt::{Env, Files};
 
 /// Asks the program for a job over an input. Answers the status.
-fn ask<R: Runtime + Sync, I: Read, O: Write>(
+fn ask<R: Runtime + Sync, I: Read + Drop, O: Write>(
     rt: &R,
     alloc: Global,
     words: &[&str],
-    input: &mut I,
+    input: I,
     output: &mut O,
     errors: &mut Sink,
 ) -> u8 {
@@ -27,14 +27,14 @@ fn ask<R: Runtime + Sync, I: Read, O: Write>(
 /// Lets a process do what its words ask for. Answers its status.
 fn ask_process<
     P: Env + AllocGlobal + Files + Runtime + Sync,
-    I: Read,
+    I: Read + Drop,
     O: Write,
     E: Write,
     V: WatchFiles + WatchJob,
 >(
     process: &P,
     is_terminal: bool,
-    input: &mut I,
+    input: I,
     output: &mut O,
     errors: &mut E,
     watch: &mut V,
@@ -55,13 +55,14 @@ fn ask_over<P: Env + AllocGlobal + Files + Runtime + Sync>(
     rt: &impl Eprint,
     process: &P,
     is_terminal: bool,
-    streams: &mut Streams<'_>,
+    input: Source<'_, '_>,
+    streams: &mut Streams,
     begun: &mut Begun,
 ) -> u8 {
     let ended = ask_process(
         process,
         is_terminal,
-        &mut streams.input,
+        input,
         &mut streams.output,
         &mut streams.errors,
         begun,
@@ -69,58 +70,51 @@ fn ask_over<P: Env + AllocGlobal + Files + Runtime + Sync>(
     number_of(ended.report(rt))
 }
 
-/// Asks the program for the job of a block. Answers the status.
-fn ask_job<R: Runtime + Sync>(
-    rt: &R,
-    alloc: Global,
+/// Asks the program for the job of a block, which opens no file. Answers the status.
+fn ask_job<P: AllocGlobal + Runtime + Sync>(
+    process: &P,
     block: &Block<'_>,
-    streams: &mut Streams<'_>,
+    input: Source<'_, '_>,
+    streams: &mut Streams,
 ) -> u8 {
     ask(
-        rt,
-        alloc,
+        process,
+        process.alloc(),
         block.words.as_slice(),
-        &mut streams.input,
+        input,
         &mut streams.output,
         &mut streams.errors,
     )
 }
 
-/// Does what a block asks for. A process is `listed` if it is known what its files are asked, and `list` has that. Else
-/// it is `machine`, whose files are the machine's.
-pub fn do_block<
-    R: Runtime + Sync + Eprint,
-    P: Env + AllocGlobal + Files + Runtime + Sync,
-    L: Env + AllocGlobal + Files + Runtime + Sync,
->(
-    rt: &R,
-    alloc: Global,
+/// Does what a block asks for, over this input, of a process whose files are asked what `list` has.
+pub fn do_block<P: Env + AllocGlobal + Files + Runtime + Sync>(
+    rt: &impl Eprint,
     block: &Block<'_>,
-    machine: &P,
-    listed: &L,
+    process: &P,
     list: &List<'_>,
-    streams: &mut Streams<'_>,
+    input: Source<'_, '_>,
+    streams: &mut Streams,
 ) -> Done {
     let mut begun = Begun {
         files: ArrayVec::new(),
     };
-    let status = match (block.asked, block.has_deeds) {
-        (Asked::Nothing, _) => 0,
-        (Asked::Job, _) => ask_job(rt, alloc, block, streams),
-        (Asked::Process, false) => ask_over(rt, machine, block.is_terminal, streams, &mut begun),
-        (Asked::Process, true) => ask_over(rt, listed, block.is_terminal, streams, &mut begun),
-        (Asked::Progress, _) => {
+    let status = match block.asked {
+        Asked::Nothing => 0,
+        Asked::Job => ask_job(process, block, input, streams),
+        Asked::Process => ask_over(rt, process, block.is_terminal, input, streams, &mut begun),
+        Asked::Progress => {
             come_on(block.lines, block.is_terminal, &mut streams.errors);
             0
         }
-        (Asked::Fault, _) => {
+        Asked::Fault => {
             tell_fault(block.fault, &mut streams.errors);
             0
         }
     };
     Done {
         status,
-        left: streams.input.left(),
+        left: list.left(),
         has_deeds: list.is_met(),
         begun: begun.files,
     }

@@ -36,33 +36,31 @@ fn print_difference(rt: &impl Print, status: u8, output: &[u8], errors: &[u8]) -
     print_written(rt, errors)
 }
 
-/// Prints the name of a block, does what it asks for, perhaps of one of these processes, and compares. Answers whether it
-/// asks for anything.
-fn play<
-    R: Runtime + Sync + Print + Eprint,
-    P: Env + AllocGlobal + Files + Runtime + Sync,
-    L: Env + AllocGlobal + Files + Runtime + Sync,
->(
+/// Does what a block asks for, perhaps of this process, and compares.
+fn play<R: Print + Eprint, P: Env + AllocGlobal + Files + Runtime + Sync>(
     rt: &R,
-    alloc: Global,
     block: &Block<'_>,
-    machine: &P,
-    listed: &L,
+    process: &P,
     list: &List<'_>,
-) -> io::Result<bool> {
+) -> io::Result<()> {
+    let (input, mut streams) = (block.source(list), block.streams());
+    let done = do_block(rt, block, process, list, input, &mut streams);
+    let (output, errors) = (streams.output.text(), streams.errors.text());
+    if block.is_met(&done, output, errors) {
+        return Ok(());
+    }
+    print_difference(rt, done.status, output, errors)
+}
+
+/// Prints the name of a block, and answers how many turns it asks for.
+fn begin(rt: &impl Print, block: &Block<'_>) -> io::Result<usize> {
     if !block.name.is_empty() {
         println!(rt; "{}", block.name)?;
     }
-    if let Asked::Nothing = block.asked {
-        return Ok(false);
+    match block.asked {
+        Asked::Nothing => Ok(0),
+        _ => Ok(block.turns()),
     }
-    let mut streams = block.streams();
-    let done = do_block(rt, alloc, block, machine, listed, list, &mut streams);
-    let (output, errors) = (streams.output.text(), streams.errors.text());
-    if !block.is_met(&done, output, errors) {
-        print_difference(rt, done.status, output, errors)?;
-    }
-    Ok(true)
 }
 
 /// The texts of the files that the words name, with an empty line between them.
@@ -80,18 +78,21 @@ fn text_of(bytes: &[u8]) -> &str {
     from_utf8(bytes).unwrap_or("")
 }
 
-/// Plays the blocks of the files that the words name. The processes of a block are made here, since only `main` has the
+/// Plays the blocks of the files that the words name. The process of a block is made here, since only `main` has the
 /// machine's own runtime.
 fn main(rt: HostRuntime) -> io::Result<()> {
     let texts = texts_of(&rt)?;
     let mut count = 0_u32;
     for lines in text_of(texts.as_slice()).split("\n\n") {
-        let block = Block::of(lines);
-        let list = List::of(lines);
-        let files = ListedFiles::new(&list, &rt);
-        let machine = (Process::of(lines, &rt), rt.alloc());
-        let listed = (Process::of(lines, &files), rt.alloc());
-        if play(&rt, rt.alloc(), &block, &machine, &listed, &list)? {
+        let turns = begin(&rt, &Block::of(rt.alloc(), lines, 0))?;
+        for turn in 0..turns {
+            let block = Block::of(rt.alloc(), lines, turn);
+            let list = List::of(rt.alloc(), lines);
+            let files = ListedFiles::new(&list, &rt);
+            let process = (Process::of(rt.alloc(), lines, &files), rt.alloc());
+            play(&rt, &block, &process, &list)?;
+        }
+        if turns > 0 {
             count = count.saturating_add(1);
         }
     }

@@ -2,6 +2,7 @@
 
 use crate::streams::Kept;
 use arrayvec::ArrayVec;
+use std::alloc::Global;
 use std::io::ErrorKind;
 
 /// The words of a job.
@@ -60,8 +61,8 @@ pub fn keep_escaped(kept: &mut Kept, text: &str) {
 }
 
 /// The bytes of a text with escapes.
-pub fn escaped(text: &str) -> Kept {
-    let mut kept = Kept::new();
+pub fn escaped(alloc: Global, text: &str) -> Kept {
+    let mut kept = Kept::new(alloc);
     keep_escaped(&mut kept, text);
     kept
 }
@@ -70,10 +71,15 @@ pub fn escaped(text: &str) -> Kept {
 pub fn kind_of(name: &str) -> Option<ErrorKind> {
     match name {
         "AlreadyExists" => Some(ErrorKind::AlreadyExists),
+        "BrokenPipe" => Some(ErrorKind::BrokenPipe),
+        "Interrupted" => Some(ErrorKind::Interrupted),
         "IsADirectory" => Some(ErrorKind::IsADirectory),
         "NotFound" => Some(ErrorKind::NotFound),
         "PermissionDenied" => Some(ErrorKind::PermissionDenied),
         "StorageFull" => Some(ErrorKind::StorageFull),
+        "TimedOut" => Some(ErrorKind::TimedOut),
+        "UnexpectedEof" => Some(ErrorKind::UnexpectedEof),
+        "WouldBlock" => Some(ErrorKind::WouldBlock),
         _ => None,
     }
 }

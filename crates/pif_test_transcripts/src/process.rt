@@ -4,7 +4,7 @@ ghost use Rattle.std.specs.Io.{WritesAtMost};
 use crate::marks::{Words, escaped, keep_words, mark_of};
 use crate::streams::Kept;
 use arrayvec::ArrayVec;
-use std::alloc::Allocator;
+use std::alloc::{Allocator, Global};
 use std::env::FillError;
 use std::fs::{Metadata, OpenOptions};
 use std::io;
@@ -52,7 +52,7 @@ pub struct Process<'r, 't, R> {
 
 impl<'r, 't, R> Process<'r, 't, R> {
     /// The process of a block of these lines.
-    pub fn of(lines: &'t str, rt: &'r R) -> Process<'r, 't, R> {
+    pub fn of(alloc: Global, lines: &'t str, rt: &'r R) -> Process<'r, 't, R> {
         let mut process = Process {
             words: ArrayVec::new(),
             last: None,
@@ -62,7 +62,7 @@ impl<'r, 't, R> Process<'r, 't, R> {
         for line in lines.split('\n') {
             match mark_of(line) {
                 ("$", text) => keep_words(&mut process.words, text),
-                ("$\\", text) => process.last = Some(escaped(text)),
+                ("$\\", text) => process.last = Some(escaped(alloc, text)),
                 ("ticks", text) => process.clock = clock_of(text),
                 _ => {}
             }

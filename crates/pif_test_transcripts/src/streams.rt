@@ -1,21 +1,26 @@
-//! The streams of a job.
+//! What a job writes to.
 
-use arrayvec::ArrayVec;
+use std::alloc::Global;
 use std::io;
-use std::io::{ErrorKind, Read, Write};
+use std::io::{ErrorKind, Write};
 
-/// Keeps what is written, up to 65,536 bytes.
+/// Keeps what is written.
 #[derive(Drop)]
 pub struct Kept {
-    bytes: ArrayVec<u8, 65536>,
+    bytes: Vec<u8>,
 }
 
 impl Kept {
     /// Keeps nothing yet.
-    pub fn new() -> Kept {
+    pub fn new(alloc: Global) -> Kept {
         Kept {
-            bytes: ArrayVec::new(),
+            bytes: Vec::new(alloc),
         }
+    }
+
+    /// Keeps nothing any more.
+    pub fn clear(&mut self) {
+        self.bytes.clear();
     }
 
     /// What was kept.
@@ -23,17 +28,17 @@ impl Kept {
         self.bytes.as_slice()
     }
 
-    /// Keeps these bytes too, if there is room for them.
+    /// Keeps these bytes too, if there is memory for them.
     pub fn append(&mut self, bytes: &[u8]) {
-        let _ = self.bytes.try_extend_from_slice(bytes);
+        let _ = self.bytes.extend_from_slice(bytes);
     }
 }
 
 impl Write for Kept {
     fn write(&mut self, buf: &[u8]) -> io::Result<usize> {
-        match self.bytes.try_extend_from_slice(buf) {
+        match self.bytes.extend_from_slice(buf) {
             Ok(()) => Ok(buf.len()),
-            Err(_) => Err(io::Error::from(ErrorKind::WriteZero)),
+            Err(_) => Err(io::Error::from(ErrorKind::OutOfMemory)),
         }
     }
 
@@ -42,57 +47,44 @@ impl Write for Kept {
     }
 }
 
-/// Gives a text, at most so many bytes a read, and fails at its end if it breaks.
-#[derive(Drop)]
-pub struct Source<'a> {
-    text: &'a [u8],
-    each_read: usize,
-    breaks: bool,
+/// How a stream takes what is written.
+#[derive(Clone, Copy)]
+pub struct Taking {
+    /// How many bytes before a write fails.
+    pub room: usize,
+    /// How many bytes a write at most.
+    pub each_write: usize,
+    /// How a write fails; without it, it takes no byte.
+    pub why: Option<ErrorKind>,
+    /// Whether only one write fails, and more is taken behind it.
+    pub is_once: bool,
 }
 
-impl<'a> Source<'a> {
-    /// Gives this text, at most `each_read` bytes a read; if `breaks`, a read at its end fails.
-    pub fn new(text: &'a [u8], each_read: usize, breaks: bool) -> Source<'a> {
-        Source {
-            text,
-            each_read,
-            breaks,
+impl Taking {
+    /// All, and whole writes.
+    pub fn all() -> Taking {
+        Taking {
+            room: usize::MAX,
+            each_write: usize::MAX,
+            why: Some(ErrorKind::StorageFull),
+            is_once: false,
         }
     }
-
-    /// How many bytes are left.
-    pub fn left(&self) -> usize {
-        self.text.len()
-    }
 }
 
-impl Read for Source<'_> {
-    fn read(&mut self, buf: &mut [u8]) -> io::Result<usize> {
-        if self.breaks && self.text.is_empty() {
-            return Err(io::Error::from(ErrorKind::TimedOut));
-        }
-        let count = buf.len().min(self.each_read).min(self.text.len());
-        buf[..count].copy_from_slice(&self.text[..count]);
-        self.text = &self.text[count..];
-        Ok(count)
-    }
-}
-
-/// Keeps so many bytes, and then fails.
+/// Keeps what is written, as far as it is taken.
 #[derive(Drop)]
 pub struct Sink {
     kept: Kept,
-    room: usize,
-    why: ErrorKind,
+    taking: Taking,
 }
 
 impl Sink {
-    /// Keeps up to so many bytes, and then fails so.
-    pub fn new(room: usize, why: ErrorKind) -> Sink {
+    /// Takes what is written so.
+    pub fn new(alloc: Global, taking: Taking) -> Sink {
         Sink {
-            kept: Kept::new(),
-            room,
-            why,
+            kept: Kept::new(alloc),
+            taking,
         }
     }
 
@@ -100,15 +92,29 @@ impl Sink {
     pub fn text(&self) -> &[u8] {
         self.kept.text()
     }
+
+    /// How a write fails, if it does not just take no byte.
+    fn fail(&mut self) -> Option<io::Error> {
+        if self.taking.is_once {
+            self.taking.room = usize::MAX;
+        }
+        match self.taking.why {
+            Some(why) => Some(io::Error::from(why)),
+            None => None,
+        }
+    }
 }
 
 impl Write for Sink {
     fn write(&mut self, buf: &[u8]) -> io::Result<usize> {
-        if self.room == 0 {
-            return Err(io::Error::from(self.why));
+        if self.taking.room == 0 {
+            return match self.fail() {
+                Some(error) => Err(error),
+                None => Ok(0),
+            };
         }
-        let count = buf.len().min(self.room);
-        self.room -= count;
+        let count = buf.len().min(self.taking.each_write).min(self.taking.room);
+        self.taking.room -= count;
         self.kept.write(&buf[..count])
     }
 
