@@ -1,10 +1,11 @@
 #!/usr/bin/env python3
 """Refuses each request for memory of the built program in turn, by a `malloc` and a `realloc` that refuse the Nth: for
-a run, a run that is shown, a replay, a trace, a random script, help, a wrong word and two clients in real threads. Each
-time it must end for that: with status 4, nothing on standard output and `pif: out of memory` on standard error, or with
-status 6 and `fault threads` if a thread could not be started. Or all must be as with no refusal, since the standard
-library asks again for some. A run may say besides that it is out of memory for notes. With the words of a job behind
-the program it is that job alone, over an example.
+a run, a run that is shown, a replay, a migration, a trace, checks, pictures, a random script, help, a wrong word and two
+clients in real threads. Each time it must end for that: with status 4, nothing on standard output and `pif: out of
+memory` on standard error, or with status 6 and `fault threads` if a thread could not be started. Or all must be as with
+no refusal, since the standard library asks again for some. A run may say besides that it is out of memory for notes. A
+shell may go on, and say that a line has changed nothing. With the words of a job behind the program it is that job
+alone, over an example.
 
 Two rows more are asked if they are built. The test `desk_keeps_receipts` of pif_test_core (by `rt test` there) asks
 again for what was refused, by `resume` if a call is open: no answer, book or replayed trace may change. The
@@ -38,17 +39,32 @@ REFUSALS = ((4, b"", b"pif: out of memory\n"), (6, b"fault threads\n", b"pif: a 
 # What a run prints of the error if only its notes are refused memory.
 NO_NOTES = b"pif: out of memory for notes\n"
 
-# The jobs of the program, each with its status. A replay reads the trace of the script, the others may read the script.
+# The jobs of the program, each with its status. A replay and a migration read the trace of the script, a shell its own
+# lines, and the others may read the script.
 JOBS = (
     ("run", 0),
     ("show", 0),
     ("replay", 0),
+    ("migrate", 0),
     ("trace", 0),
+    ("show --all", 0),
+    ("show --json", 0),
+    ("show --dot", 0),
+    ("draw", 0),
+    ("draw --html", 0),
+    ("check", 0),
+    ("check --strict", 0),
+    ("check --print", 0),
+    ("shell", 0),
     ("random --seed=1 --lines=9", 0),
     ("--help", 0),
     ("walk", 1),
     ("drive 2", 0),
 )
+
+# The lines of a shell, and what it says of one that was refused memory.
+LINES = b"thread 10\nundo\nthread 10\nload %s\nundo\nload %s\n" % ((os.path.relpath(SCRIPT).encode(),) * 2)
+NOTHING_CHANGED = b"out of memory: nothing has changed\n"
 
 # What a benchmark measures is another number each time.
 MEASURED = re.compile(rb"[0-9]+(\.[0-9]+)? (ns|ps|bare pairs)")
@@ -134,7 +150,8 @@ def sweep(room, row):
 
 def is_refused(ended, whole):
     """Whether a job of the program ended so for a refused request; without one it ends as whole."""
-    return ended in REFUSALS or ended == (0, whole[1], NO_NOTES)
+    return ended in REFUSALS or ended == (0, whole[1], NO_NOTES) or (
+        ended[::2] == (0, b"") and NOTHING_CHANGED in ended[1])
 
 
 def rows_of(program, words):
@@ -142,7 +159,7 @@ def rows_of(program, words):
     script = SCRIPT.read_bytes()
     trace = subprocess.run([program, "trace"], input=script, stdout=subprocess.PIPE, check=True).stdout
     for job, status in [(" ".join(words), 0)] if words else JOBS:
-        text = trace if job == "replay" else script
+        text = {"replay": trace, "migrate": trace, "shell": LINES}.get(job, script)
         yield Row("pif " + job, [program] + (words or job.split(" ")), text, status, is_refused)
     if words:
         return

@@ -113,20 +113,3 @@ pub fn check_write(
         Err(CliFault::Write),
     );
 }
-
-/// Whether a job has ended with all that is wanted, or out of memory with nothing.
-fn is_all_or_nothing(ended: Ended, output: &Stream<'_>) -> bool {
-    match ended {
-        Ok(()) => output.is_met(),
-        Err(fault) => fault == CliFault::NoMemory && output.done() == 0,
-    }
-}
-
-/// Has a job done that writes this text, or nothing if it runs out of memory.
-pub fn check_memory(rt: &impl Abort, alloc: Global, job: Job, read: &str, written: &str) {
-    let (read, written) = ([(read, 1)], [(written, 1)]);
-    let mut input = Stream::new(&read);
-    let mut output = Stream::new(&written);
-    let ended = do_job(job, alloc, &mut input, &mut output, &mut Notice::new());
-    assert!(rt; is_all_or_nothing(ended, &output), "{ended:?}");
-}

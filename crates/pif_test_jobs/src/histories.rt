@@ -5,7 +5,6 @@ use pif_rules_model::Rules;
 use pif_script_model::CliFault;
 use pif_text::Cause;
 use std::alloc::Global;
-use std::io::ErrorKind;
 use std::process::Abort;
 
 /// Checks which rules a history allows.
@@ -65,17 +64,4 @@ fn check_parts(rt: &impl Abort, alloc: Global, parts: &[Part<'_>], line: u64, ca
 fn an_earlier_fault_comes_first(rt: HostRuntime) {
     let parts = [("no\n", 1), (LINE, MOST)];
     check_parts(&rt, rt.alloc(), &parts, 1, Cause::Command);
-}
-
-/// The reads of a history fail once behind so many bytes of it.
-#[test]
-fn reads_fail(rt: HostRuntime) {
-    for most in [0, 1, 9, 4096, 8999] {
-        let parts = [("thread 1\n", 1000)];
-        let mut stream = Stream::failing(&parts, most, Some(ErrorKind::Other));
-        match read_history(rt.alloc(), &mut stream) {
-            Err(fault) => assert!(rt; fault == CliFault::Read),
-            Ok(_) => assert!(rt; false),
-        }
-    }
 }

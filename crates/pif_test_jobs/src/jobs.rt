@@ -1,14 +1,12 @@
 //! What the tests have done between two streams.
 
 use crate::streams::Stream;
-use pif_job_check::{check, check_strictly, fill, fill_as_one_of_several};
-use pif_job_draw::{Drawn, draw, write_drawn, write_graph, write_states};
+use pif_job_check::check;
+use pif_job_draw::Drawn;
 use pif_job_replay::{migrate, replay};
 use pif_job_run::{run_noted, show_story, trace, trace_story};
-use pif_job_shell::{NoShelf, shell};
 use pif_script::{CliFault, Notice, run};
 use pif_script_model::Detail;
-use pif_watch::Unwatched;
 use std::alloc::Global;
 use std::io::{Read, Write};
 
@@ -29,24 +27,7 @@ pub enum Job {
     Migrate,
     /// Checks a story of the name `story`.
     Check,
-    /// Checks it strictly.
-    Strict,
-    /// Fills it in.
-    Fill,
-    /// Fills it in as one of several.
-    FillSeveral,
-    /// Shows a script.
-    Show,
-    /// Shows a script with all of its core.
-    ShowAll,
     Tell(Telling),
-    Draw,
-    /// Draws all of a story as a page.
-    Page,
-    States,
-    Graph,
-    /// Talks with a shell that has no prompt and saves nothing.
-    Talk,
 }
 
 /// A page of a whole story.
@@ -95,16 +76,6 @@ pub fn do_job(
         Job::Trace => trace(alloc, reader, writer),
         Job::Migrate => migrate(alloc, reader, writer),
         Job::Check => check(alloc, b"story", reader, writer),
-        Job::Strict => check_strictly(alloc, b"story", reader, writer, notice),
-        Job::Fill => fill(alloc, b"story", reader, writer),
-        Job::FillSeveral => fill_as_one_of_several(alloc, b"story", reader, writer, notice),
-        Job::Show => show_story(Detail::Changes, alloc, reader, writer, notice),
-        Job::ShowAll => show_story(Detail::All, alloc, reader, writer, notice),
         Job::Tell(telling) => tell(telling, alloc, reader, writer, notice),
-        Job::Draw => draw(alloc, reader, writer, notice),
-        Job::Page => write_drawn(PAGE, alloc, reader, writer, notice, &mut Unwatched),
-        Job::States => write_states(alloc, reader, writer, notice),
-        Job::Graph => write_graph(alloc, reader, writer, notice),
-        Job::Talk => shell(alloc, &NoShelf, false, reader, writer),
     }
 }

@@ -6,21 +6,22 @@
 //! | `lines` | `pif_text`: the commands of lines, and the texts of commands, replies and faults |
 //! | `syntax_errors` | `pif_text_errors`: why a line is no command |
 //! | `places` | `pif_text_errors`: where that stands in a story, and which name is near |
-//! | `scripts` | scripts and traces: tables of ends in the middle of calls, long chains, reads and writes that fail |
+//! | `scripts` | scripts and traces: long chains, sizes, notices, and when is read and written |
 //! | `runs` | `pif_job_run`: which scripts have notes |
-//! | `shows` | `show_story` of `pif_job_run`: a crowd, and writes that fail; the names of errors of `pif_text` |
-//! | `stories` | `pif_job_check`: what a notice keeps, stories that are too large, and reads and writes that fail |
-//! | `shells` | `pif_job_shell`: a prompt, stories that are saved, sessions, and what fails |
+//! | `shows` | the names of errors of `pif_text` |
+//! | `stories` | `pif_job_check`: what a notice keeps, and stories that are too large |
+//! | `shells` | `pif_job_shell`: sessions |
 //! | `random` | `pif_job_random`: scripts by a seed |
-//! | `pictures` | `pif_job_draw`: writes and growths of memory that fail |
-//! | `histories` | `pif_history_text`: which rules a history allows, an earlier fault, and reads that fail |
+//! | `pictures` | `pif_job_draw`: what is told while a picture is made |
+//! | `histories` | `pif_history_text`: which rules a history allows, and an earlier fault |
 //! | `explorations` | `pif_explore_text`: what is read of files of `pif explore` |
 //! | `jobs` | none: what the others have done between two streams |
 //! | `streams` | none: the stream, which moves few bytes a call or fails once where it is told to |
 //! | `checks` | none: the checks of what a job writes and how it ends |
 //!
 //! `scripts` tests `pif_script`, `pif_job_replay` and `trace` of `pif_job_run`; `stories` also `show_story` and
-//! `trace_story` of `pif_job_run`. What words and an input can ask is a transcript of `pif_test_transcripts`.
+//! `trace_story` of `pif_job_run`. What words, an input and a stream that fails can ask is a transcript of
+//! `pif_test_transcripts`.
 #![tactic(auto)]
 
 #[cfg(test)]

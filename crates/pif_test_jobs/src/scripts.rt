@@ -1,19 +1,11 @@
-mod deaths;
 mod edges;
-mod kinds;
 mod limits;
 mod long_chains;
 mod migrations;
 mod notices;
 mod reading;
-mod steps;
 mod traces;
 mod transcripts;
-mod uses;
-mod waits;
-
-use crate::checks::check_memory;
-use crate::jobs::Job;
 
 const BOOSTED: &str =
     "thread 10\nthread 50\nmutex normal\ncall t1 lock m1\ncall t2 lock m1\nword m1\nprio t1\n\
@@ -22,9 +14,3 @@ const BOOSTED: &str =
 const BOOSTED_ANSWERS: &str =
     "t1\nt2\nm1\nanswer 0\nwaits\n0x80000001\n50\nanswer 0\n0x80000002\n10\nanswer 0\nanswer 0\n\
     0x00000000\n";
-
-/// Each allocation of a run is refused in turn by `rt try --test --fail-alloc N`: then nothing is written.
-#[test]
-fn out_of_memory_writes_nothing(rt: HostRuntime) {
-    check_memory(&rt, rt.alloc(), Job::Run, BOOSTED, BOOSTED_ANSWERS);
-}

@@ -80,12 +80,7 @@ impl<'a> Stream<'a> {
         } else {
             rest_at(self.parts, self.done).is_empty()
         };
-        is_through && self.is_front()
-    }
-
-    /// Whether the first bytes of the text were taken, and no other.
-    pub fn is_front(&self) -> bool {
-        !self.is_other
+        is_through && !self.is_other
     }
 
     /// How many bytes a call may move, or `None` if it fails.

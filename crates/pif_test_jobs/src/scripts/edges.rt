@@ -1,108 +1,12 @@
-//! Faults at the bytes around the end of a chunk, and at those of a line.
+//! Scripts that are too large, at each byte of a line, of a read and around the end of a chunk.
 
 use crate::checks::check_streams;
 use crate::jobs::Job;
-use crate::streams::{Part, Stream};
+use crate::streams::Stream;
 use pif_script::CliFault;
 use pif_text::Cause;
-use std::alloc::{AllocError, Global};
+use std::alloc::Global;
 use std::process::Abort;
-use std::test::Fail;
-
-/// As many bytes as are read at once.
-const CHUNK: usize = 4096;
-
-/// How many bytes readers give at a time: one, primes, and as many as are asked for.
-static PORTIONS: [usize; 5] = [1, 7, 241, 4093, 4096];
-
-/// The last line of a script in two parts, and the fault that it is, with its word.
-type Last = (Part<'static>, Part<'static>, Cause, &'static str);
-
-/// Has a script run by readers of each kind, and checks that it ends so.
-fn check_portions(
-    rt: &impl Abort,
-    alloc: Global,
-    script: &[Part<'_>],
-    answers: &[Part<'_>],
-    fault: CliFault,
-) {
-    for each in &PORTIONS {
-        let mut input = Stream::new(&*script);
-        let mut output = Stream::new(&*answers);
-        input.pace(*each, 0, *each);
-        check_streams(rt, alloc, Job::Run, &mut input, &mut output, Err(fault));
-    }
-}
-
-/// Has a script run whose last line begins at this byte, at least the 20th, and checks that it is this fault, in the
-/// line of this number. All other lines have five bytes, or six.
-fn check_start(
-    rt: &impl Abort,
-    alloc: Global,
-    start: usize,
-    last: &Last,
-    number: usize,
-    text: &str,
-) {
-    let (front, end, cause, _) = last;
-    let longer = start % 5;
-    let shorter = (start / 5).saturating_sub(longer);
-    let script = [("go t1\n", longer), ("pick\n", shorter), *front, *end];
-    let answers = [("refused nosuch\n", longer), ("none\n", shorter), (text, 1)];
-    let fault = CliFault::Script(number as u64, *cause);
-    check_portions(rt, alloc, &script, &answers, fault);
-}
-
-/// The same, with the text of the fault.
-fn check_fault(
-    rt: &impl Abort,
-    alloc: Global,
-    start: usize,
-    last: &Last,
-) -> Result<(), AllocError> {
-    let (_, _, _, word) = last;
-    let number = (start / 5).saturating_add(1);
-    let text = format!(in alloc; "fault {number} {word}\n")?;
-    check_start(rt, alloc, start, last, number, text.as_str());
-    Ok(())
-}
-
-static LONG: Last = (("x", 121), ("", 0), Cause::Long, "long");
-
-#[test]
-fn a_line_is_too_long_wherever_a_chunk_ends(rt: HostRuntime) -> Result<(), Fail> {
-    for start in CHUNK - 122..CHUNK + 2 {
-        check_fault(&rt, rt.alloc(), start, &LONG)?;
-    }
-    Ok(())
-}
-
-static WHOLE: Last = (("x", 120), ("\n", 1), Cause::Command, "command");
-
-#[test]
-fn a_line_of_120_bytes_is_whole_wherever_a_chunk_ends(rt: HostRuntime) -> Result<(), Fail> {
-    for start in CHUNK - 122..CHUNK + 2 {
-        check_fault(&rt, rt.alloc(), start, &WHOLE)?;
-    }
-    Ok(())
-}
-
-static CUT: [Last; 4] = [
-    (("p", 1), ("", 0), Cause::Cut, "cut"),
-    (("pi", 1), ("", 0), Cause::Cut, "cut"),
-    (("pic", 1), ("", 0), Cause::Cut, "cut"),
-    (("pick", 1), ("", 0), Cause::Cut, "cut"),
-];
-
-#[test]
-fn a_line_is_cut_wherever_a_chunk_ends(rt: HostRuntime) -> Result<(), Fail> {
-    for last in &CUT {
-        for start in CHUNK - 5..CHUNK + 2 {
-            check_fault(&rt, rt.alloc(), start, last)?;
-        }
-    }
-    Ok(())
-}
 
 /// A first line, what it is answered, how often `pick` is answered behind it before the script is too large, and the
 /// fault.

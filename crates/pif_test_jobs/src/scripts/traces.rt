@@ -1,4 +1,4 @@
-use crate::checks::{check_job, check_memory, check_read, check_slowly, check_write};
+use crate::checks::check_job;
 use crate::jobs::Job;
 use crate::streams::Stream;
 use pif_core::{Core, Entry, Event, Seen};
@@ -11,26 +11,7 @@ use std::io::ErrorKind;
 use std::process::Abort;
 use std::test::Fail;
 
-const LOCKED: &str =
-    "pif-trace 1\nthread 10 = t1\nmutex normal = m1\nbegin t1 lock m1 = begun\ngo t1 = went\n\
-    go t1 = answer 0\n";
-
 const BROKEN: Option<ErrorKind> = Some(ErrorKind::BrokenPipe);
-
-#[test]
-fn failing_reader_and_writer(rt: HostRuntime) {
-    let (job, alloc) = (Job::Replay, rt.alloc());
-    let part = "pif-trace 1\nthread 10 = t1\nthr";
-    check_read(&rt, alloc, job, part, part.len(), ErrorKind::TimedOut, "");
-    check_slowly(&rt, alloc, job, LOCKED, "same 5\n");
-    check_write(&rt, alloc, job, LOCKED, "same", 4096, 4, BROKEN);
-}
-
-/// Each allocation of a replay is refused in turn by `rt try --test --fail-alloc N`: then nothing is written.
-#[test]
-fn out_of_memory_writes_nothing(rt: HostRuntime) {
-    check_memory(&rt, rt.alloc(), Job::Replay, LOCKED, "same 5\n");
-}
 
 /// Adds to a core, and answers the entry of its history.
 fn added(core: &mut Core, addition: Addition) -> Option<Entry> {

@@ -1,4 +1,4 @@
-use crate::checks::{check_job, check_memory, check_read, check_slowly, check_write};
+use crate::checks::{check_job, check_read, check_slowly, check_write};
 use crate::jobs::{Ended, Job};
 use pif_script::CliFault;
 use pif_text::Cause;
@@ -61,10 +61,4 @@ fn failing_reader_and_writer_of_a_trace(rt: HostRuntime) {
     check_slowly(&rt, alloc, job, SCRIPT, TRACE);
     let broken = Some(ErrorKind::BrokenPipe);
     check_write(&rt, alloc, job, SCRIPT, TRACE, 4096, 40, broken);
-}
-
-/// Each allocation of a trace is refused in turn by `rt try --test --fail-alloc N`: then nothing is written.
-#[test]
-fn out_of_memory_writes_no_trace(rt: HostRuntime) {
-    check_memory(&rt, rt.alloc(), Job::Trace, SCRIPT, TRACE);
 }
