@@ -1,7 +1,7 @@
 //! What the tables of the tests are made of, by numbers.
 use pif_posix::State;
 use pif_search::{Stop, push};
-use pif_types::{CondId, Kind, MutexId, Request, Tid};
+use pif_types::{CondId, Kind, MutexId, Request};
 use rand_core::Rng;
 use rand_xoshiro::SplitMix64;
 
@@ -14,12 +14,9 @@ pub enum Wish {
     Lock(u32),
     TryLock(u32),
     Unlock(u32),
-    Consistent(u32),
     Wait(u32, u32),
     Signal(u32),
     Broadcast(u32),
-    SetPrio(u32, u32),
-    TimedLock(u32, u32),
     TimedWait(u32, u32, u32),
 }
 
@@ -29,12 +26,9 @@ pub fn request(wish: Wish) -> Option<Request> {
         Wish::Lock(m) => Request::Lock(MutexId::new(m)?),
         Wish::TryLock(m) => Request::TryLock(MutexId::new(m)?),
         Wish::Unlock(m) => Request::Unlock(MutexId::new(m)?),
-        Wish::Consistent(m) => Request::Consistent(MutexId::new(m)?),
         Wish::Wait(c, m) => Request::Wait(CondId::new(c)?, MutexId::new(m)?),
         Wish::Signal(c) => Request::Signal(CondId::new(c)?),
         Wish::Broadcast(c) => Request::Broadcast(CondId::new(c)?),
-        Wish::SetPrio(t, p) => Request::SetPrio(Tid::new(t)?, p),
-        Wish::TimedLock(m, time) => Request::TimedLock(MutexId::new(m)?, time),
         Wish::TimedWait(c, m, time) => Request::TimedWait(CondId::new(c)?, MutexId::new(m)?, time),
     })
 }

@@ -11,10 +11,8 @@
 //! | `blocked` | blocked waits, and trylocks that are busy, make few states |
 //! | `furthest` | how many lines of a history some run shows, by a search that reduces nothing |
 //! | `judged` | random histories, in which each answer is replaced by each other one |
-//! | `examples` | worked examples: their answers are possible, and no others at the last call |
 //! | `in_place` | moves and entries in place, which come or don't |
 //! | `plays` | how often a player plays the lines until it finds a run |
-//! | `replaced` | a history in which each answer is replaced by each other one |
 //! | `rules` | steps that rules allow |
 //! | `explore` | small programs, which are drawn: the outcomes of all their runs, and the same with some steps alone |
 #![tactic(auto)]
@@ -29,8 +27,6 @@ mod blocked;
 mod cloud;
 pub mod counters;
 #[cfg(test)]
-mod examples;
-#[cfg(test)]
 mod explore;
 #[cfg(test)]
 mod furthest;
@@ -40,8 +36,6 @@ mod in_place;
 mod judged;
 #[cfg(test)]
 mod plays;
-#[cfg(test)]
-mod replaced;
 #[cfg(test)]
 mod rules;
 #[cfg(test)]
