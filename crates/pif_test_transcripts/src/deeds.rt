@@ -3,15 +3,11 @@
 use crate::marks::{escaped, keep_escaped, kind_of, mark_of};
 use crate::streams::Kept;
 use arrayvec::ArrayVec;
-use std::alloc::{Allocator, Global};
+use std::alloc::Global;
 use std::fs::{Metadata, OpenFile, OpenOptions, Permissions};
 use std::io;
 use std::io::{ErrorKind, Read, Seek, SeekFrom, Write};
-use std::rt::Files;
-use std::sync::Wait;
 use std::sync::atomic::{AtomicBool, AtomicUsize, Ordering};
-use std::thread::Threads;
-use std::time::{Clock, Duration};
 
 /// What files are asked once: what, and of which name or text.
 #[derive(Clone, Copy, Default)]
@@ -140,7 +136,7 @@ impl<'t> List<'t> {
     }
 
     /// Another deed was wanted.
-    fn miss(&self) -> io::Error {
+    pub fn miss(&self) -> io::Error {
         self.is_other.store(true, Ordering::SeqCst);
         io::Error::from(ErrorKind::Unsupported)
     }
@@ -153,38 +149,50 @@ impl<'t> List<'t> {
         }
     }
 
+    /// The file of this name is opened so.
+    pub fn open<'l>(&'l self, how: &OpenOptions, name: &str) -> io::Result<Source<'l, 't>> {
+        if let Some(deed) = self.at_any_time(name) {
+            deed.answer()?;
+            return Ok(Source::empty(self));
+        }
+        match (how.asks_create_new(), how.asks_write()) {
+            (true, _) => self.ask("make", name)?,
+            (false, false) => self.ask("open", name)?,
+            (false, true) => return Err(self.miss()),
+        }
+        Ok(Source::new(self))
+    }
+
+    /// What this name has, without following a link.
+    pub fn look(&self, name: &str) -> io::Result<Metadata> {
+        match self.next() {
+            Some(deed) if deed.asks(self.alloc, "link", name) => Ok(Metadata::of_symlink(0)),
+            Some(deed) if deed.asks(self.alloc, "folder", name) => Ok(Metadata::of_dir()),
+            Some(deed) if deed.asks(self.alloc, "look", name) => {
+                deed.answer()?;
+                Ok(Metadata::of_file(0))
+            }
+            _ => Err(self.miss()),
+        }
+    }
+
+    /// The file of the first name gets the second.
+    pub fn rename(&self, from: &str, to: &str) -> io::Result<()> {
+        match self.next() {
+            Some(deed) if deed.renames(from, to) => deed.answer(),
+            _ => Err(self.miss()),
+        }
+    }
+
+    /// The file of this name is removed.
+    pub fn remove(&self, name: &str) -> io::Result<()> {
+        self.ask("remove", name)
+    }
+
     /// Whether all deeds were asked for, and no other.
     pub fn is_met(&self) -> bool {
         self.next.load(Ordering::SeqCst) == deeds_in_order(self.lines).len()
             && !self.is_other.load(Ordering::SeqCst)
-    }
-}
-
-/// The files of a process that starts threads as `rt` does.
-#[derive(Drop)]
-pub struct ListedFiles<'l, 't, R> {
-    list: &'l List<'t>,
-    rt: &'l R,
-}
-
-impl<'l, 't, R> ListedFiles<'l, 't, R> {
-    /// Files that are to be asked these deeds.
-    pub fn new(list: &'l List<'t>, rt: &'l R) -> ListedFiles<'l, 't, R> {
-        ListedFiles { list, rt }
-    }
-}
-
-impl<R: Threads> Threads for ListedFiles<'_, '_, R> {}
-
-impl<R: Wait> Wait for ListedFiles<'_, '_, R> {}
-
-impl<R: Clock> Clock for ListedFiles<'_, '_, R> {
-    fn monotonic(&self) -> io::Result<Duration> {
-        self.rt.monotonic()
-    }
-
-    fn since_1970(&self) -> io::Result<Duration> {
-        self.rt.since_1970()
     }
 }
 
@@ -378,71 +386,5 @@ impl OpenFile for Source<'_, '_> {
         } else {
             Err(self.list.miss())
         }
-    }
-}
-
-impl<'l, 't, R> Files for ListedFiles<'l, 't, R> {
-    type File = Source<'l, 't>;
-
-    type Dir = io::Empty;
-
-    fn open_file(&self, how: &OpenOptions, path: &str) -> io::Result<Source<'l, 't>> {
-        if let Some(deed) = self.list.at_any_time(path) {
-            deed.answer()?;
-            return Ok(Source::empty(self.list));
-        }
-        match (how.asks_create_new(), how.asks_write()) {
-            (true, _) => self.list.ask("make", path)?,
-            (false, false) => self.list.ask("open", path)?,
-            (false, true) => return Err(self.list.miss()),
-        }
-        Ok(Source::new(self.list))
-    }
-
-    fn open_dir(&self, _path: &str) -> io::Result<io::Empty> {
-        Err(self.list.miss())
-    }
-
-    fn metadata(&self, _path: &str) -> io::Result<Metadata> {
-        Err(self.list.miss())
-    }
-
-    fn symlink_metadata(&self, path: &str) -> io::Result<Metadata> {
-        match self.list.next() {
-            Some(deed) if deed.asks(self.list.alloc, "link", path) => Ok(Metadata::of_symlink(0)),
-            Some(deed) if deed.asks(self.list.alloc, "folder", path) => Ok(Metadata::of_dir()),
-            Some(deed) if deed.asks(self.list.alloc, "look", path) => {
-                deed.answer()?;
-                Ok(Metadata::of_file(0))
-            }
-            _ => Err(self.list.miss()),
-        }
-    }
-
-    fn copy(&self, _from: &str, _to: &str) -> io::Result<u64> {
-        Err(self.list.miss())
-    }
-
-    fn rename(&self, from: &str, to: &str) -> io::Result<()> {
-        match self.list.next() {
-            Some(deed) if deed.renames(from, to) => deed.answer(),
-            _ => Err(self.list.miss()),
-        }
-    }
-
-    fn remove_file(&self, path: &str) -> io::Result<()> {
-        self.list.ask("remove", path)
-    }
-
-    fn create_dir(&self, _path: &str) -> io::Result<()> {
-        Err(self.list.miss())
-    }
-
-    fn remove_dir(&self, _path: &str) -> io::Result<()> {
-        Err(self.list.miss())
-    }
-
-    fn remove_dir_all<B: Allocator>(&self, _alloc: B, _path: &str) -> io::Result<()> {
-        Err(self.list.miss())
     }
 }

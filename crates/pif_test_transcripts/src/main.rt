@@ -11,7 +11,7 @@ mod streams;
 mod told;
 
 use block::{Asked, Block};
-use deeds::{List, ListedFiles};
+use deeds::List;
 use jobs::do_block;
 use pif_cli::Runtime;
 use process::Process;
@@ -88,8 +88,7 @@ fn main(rt: HostRuntime) -> io::Result<()> {
         for turn in 0..turns {
             let block = Block::of(rt.alloc(), lines, turn);
             let list = List::of(rt.alloc(), lines);
-            let files = ListedFiles::new(&list, &rt);
-            let process = (Process::of(rt.alloc(), lines, &files), rt.alloc());
+            let process = (Process::of(rt.alloc(), lines, &list, &rt), rt.alloc());
             play(&rt, &block, &process, &list)?;
         }
         if turns > 0 {

@@ -22,8 +22,10 @@ pub fn keep_line(kept: &mut Kept, text: &str) {
 /// Keeps the words of a job, behind the program's name.
 pub fn keep_words<'a>(words: &mut Words<'a>, text: &'a str) {
     let _ = words.try_push("pif");
-    for word in text.split_whitespace() {
-        let _ = words.try_push(word);
+    for word in text.split(' ') {
+        if !word.is_empty() {
+            let _ = words.try_push(word);
+        }
     }
 }
 
@@ -40,11 +42,20 @@ fn escape(bytes: &[u8]) -> (u8, &[u8]) {
     }
 }
 
+/// The number of a hexadecimal digit; 0 of another byte.
+fn number_of_digit(digit: u8) -> u8 {
+    match digit {
+        b'0'..=b'9' => digit - b'0',
+        b'a'..=b'f' => digit - b'a' + 10,
+        _ => 0,
+    }
+}
+
 /// The byte of two hexadecimal digits.
 fn byte_of(high: u8, low: u8) -> u8 {
-    let digits = [high, low];
-    let text = str::from_utf8(digits.as_slice()).unwrap_or("");
-    u8::from_str_radix(text, 16).unwrap_or(0)
+    number_of_digit(high)
+        .wrapping_mul(16)
+        .wrapping_add(number_of_digit(low))
 }
 
 /// Keeps a text with escapes, and nothing behind it.

@@ -1,6 +1,7 @@
 //! The process that a job is asked of.
 ghost use Rattle.std.specs.Io.{WritesAtMost};
 
+use crate::deeds::{List, Source};
 use crate::marks::{Words, escaped, keep_words, mark_of};
 use crate::streams::Kept;
 use arrayvec::ArrayVec;
@@ -40,11 +41,12 @@ fn clock_of(text: &str) -> Option<Ticking> {
 }
 
 /// A process of the words of a block, its name first, and of a last one if there is one, which may be no text. It starts
-/// threads and opens files as `rt` does.
+/// threads as `rt` does, and its files are those of a list.
 #[derive(Drop)]
 pub struct Process<'r, 't, R> {
     words: Words<'t>,
     last: Option<Kept>,
+    list: &'r List<'t>,
     rt: &'r R,
     /// Its clock; that of `rt` if there is none.
     clock: Option<Ticking>,
@@ -52,10 +54,11 @@ pub struct Process<'r, 't, R> {
 
 impl<'r, 't, R> Process<'r, 't, R> {
     /// The process of a block of these lines.
-    pub fn of(alloc: Global, lines: &'t str, rt: &'r R) -> Process<'r, 't, R> {
+    pub fn of(alloc: Global, lines: &'t str, list: &'r List<'t>, rt: &'r R) -> Process<'r, 't, R> {
         let mut process = Process {
             words: ArrayVec::new(),
             last: None,
+            list,
             rt,
             clock: None,
         };
@@ -119,48 +122,48 @@ impl<R> Env for Process<'_, '_, R> {
     }
 }
 
-impl<R: Files> Files for Process<'_, '_, R> {
-    type File = R::File;
+impl<'r, 't, R> Files for Process<'r, 't, R> {
+    type File = Source<'r, 't>;
 
-    type Dir = R::Dir;
+    type Dir = io::Empty;
 
-    fn open_file(&self, how: &OpenOptions, path: &str) -> io::Result<R::File> {
-        self.rt.open_file(how, path)
+    fn open_file(&self, how: &OpenOptions, path: &str) -> io::Result<Source<'r, 't>> {
+        self.list.open(how, path)
     }
 
-    fn open_dir(&self, path: &str) -> io::Result<R::Dir> {
-        self.rt.open_dir(path)
+    fn open_dir(&self, _path: &str) -> io::Result<io::Empty> {
+        Err(self.list.miss())
     }
 
-    fn metadata(&self, path: &str) -> io::Result<Metadata> {
-        self.rt.metadata(path)
+    fn metadata(&self, _path: &str) -> io::Result<Metadata> {
+        Err(self.list.miss())
     }
 
     fn symlink_metadata(&self, path: &str) -> io::Result<Metadata> {
-        self.rt.symlink_metadata(path)
+        self.list.look(path)
     }
 
-    fn copy(&self, from: &str, to: &str) -> io::Result<u64> {
-        self.rt.copy(from, to)
+    fn copy(&self, _from: &str, _to: &str) -> io::Result<u64> {
+        Err(self.list.miss())
     }
 
     fn rename(&self, from: &str, to: &str) -> io::Result<()> {
-        self.rt.rename(from, to)
+        self.list.rename(from, to)
     }
 
     fn remove_file(&self, path: &str) -> io::Result<()> {
-        self.rt.remove_file(path)
+        self.list.remove(path)
     }
 
-    fn create_dir(&self, path: &str) -> io::Result<()> {
-        self.rt.create_dir(path)
+    fn create_dir(&self, _path: &str) -> io::Result<()> {
+        Err(self.list.miss())
     }
 
-    fn remove_dir(&self, path: &str) -> io::Result<()> {
-        self.rt.remove_dir(path)
+    fn remove_dir(&self, _path: &str) -> io::Result<()> {
+        Err(self.list.miss())
     }
 
-    fn remove_dir_all<B: Allocator>(&self, alloc: B, path: &str) -> io::Result<()> {
-        self.rt.remove_dir_all(alloc, path)
+    fn remove_dir_all<B: Allocator>(&self, _alloc: B, _path: &str) -> io::Result<()> {
+        Err(self.list.miss())
     }
 }
