@@ -3,12 +3,16 @@
 
     cd the top of a clean clone && python3 bench/gate_sample.py [LOG]      LOG is where the gate's own output goes (gate.log)
     python3 bench/gate_sample.py --below PID     samples what PID starts until SIGTERM comes; .ci/run does this beside `rt ci`
+    python3 bench/gate_sample.py --jobs          prints how many crates `rt ci` is to check side by side; .ci/run asks for it
 
 Once a second it reads what each process of the prover has spent so far, and adds it to the crate and part that the
 process works for; what a process spends in its last second is lost, and so are linking and the runs of programs. Last
 come the sums, and the longest chain: the crates that have to be proved one after the other, with the tests or edits of
 the last. It judges nothing; the status is that of `rt ci`. `--below` prints the sums and the ten dearest parts alone.
 bench/gate_cost.py measures one part after the other, which takes hours.
+
+`rt ci` runs with RT_JOBS set: one check for each processor, in one process each. Without that it gives idle processors to
+a check that has begun, which then loads its libraries several times: half as many processor seconds more.
 """
 
 import os
@@ -113,6 +117,12 @@ class Sums:
         return f"processor minutes: {each}, together {sum(minutes.values()):.1f}; wall {wall:.1f} minutes"
 
 
+def jobs():
+    """How many checks run side by side: one for each processor, and 5 GB of memory for each. RT_JOBS overrides it."""
+    gigabytes = os.sysconf("SC_PAGE_SIZE") * os.sysconf("SC_PHYS_PAGES") // 1_000_000_000
+    return os.environ.get("RT_JOBS") or str(max(1, min(len(os.sched_getaffinity(0)), gigabytes // 5)))
+
+
 def watch(root):
     """Samples what this process starts until SIGTERM comes, and prints the sums and the ten dearest parts."""
     ended = []
@@ -132,7 +142,7 @@ def gate(log):
     """Runs `rt ci`, its output to this file, and prints what each crate cost. The status is that of `rt ci`."""
     sums = Sums()
     with open(log, "w", encoding="utf-8") as output:
-        run = subprocess.Popen(["rt", "ci"], stdout=output, stderr=subprocess.STDOUT)
+        run = subprocess.Popen(["rt", "ci"], env={**os.environ, "RT_JOBS": jobs()}, stdout=output, stderr=subprocess.STDOUT)
         while run.poll() is None:
             sums.sample(run.pid)
             time.sleep(1)
@@ -147,6 +157,9 @@ def gate(log):
 def main():
     if sys.argv[1:] in (["-h"], ["--help"]):
         print(__doc__, end="")
+        return 0
+    if sys.argv[1:] == ["--jobs"]:
+        print(jobs())
         return 0
     if sys.argv[1:2] == ["--below"]:
         return watch(int(sys.argv[2]))
