@@ -3,8 +3,8 @@ use Rattle.std.specs.Prelude.{ℕ, List, [], ◌∷◌, Option, Some, None, Resu
 use Rattle.pif_model.specs.Table.{Table}
 use Rattle.pif_text_model.specs.declared.commands.Command.{Command}
 use Rattle.pif_text_model.specs.declared.replies.Cause.{Cause}
-use Rattle.pif_script_model.specs.Running.{Answer}
-use Rattle.pif_story_model.specs.Rows.{Asked, asked_by, outcome_behind}
+use Rattle.pif_script_model.specs.Running.{Answer, outcome_behind}
+use Rattle.pif_story_model.specs.Rows.{Asked, asked_by}
 use Rattle.pif_story_model.specs.Stories.{NumberedRow, rows_of}
 use Rattle.pif_job_draw.specs.Graphs.{graph, parts_of}
 

@@ -147,6 +147,16 @@ Makes meant (Err (Ended (Fault c))) = meant ≡ Err c
 Makes meant (Err (Ended (Differs r))) = ⊥
 Makes meant (Err NoMemory) = IsAnswer meant
 
+-- what a command does, or why it is a fault: the first one makes the core
+abbrev pub outcome_behind : Option Table → Command → Result Answer Cause
+outcome_behind None c = first_answer c
+outcome_behind (Some s) c = answer_or_fault (command_answer c s)
+
+-- a command was done so: it had this answer, and left this core; or it is a fault, or memory ran out
+abbrev pub IsDone : Result Answer Cause → (after : Option Table) → Result Reply OpenFault → Type 0
+IsDone meant after (Ok r) = (s : Table) × (meant ≡ Ok (r, s)) × (after ≡ Some s)
+IsDone meant after (Err fault) = Makes meant (Err fault)
+
 -- an answer as a line
 abbrev pub answer_line : Result Answer Cause → Meaning Table
 answer_line (Ok a) = Ok (text_of a.0 ++ 10 ∷ [], a.1)

@@ -1,6 +1,5 @@
 //! The texts of stories: their lines, the script that is left of one, its answers beside the lines that a run prints,
-//! filling in, and the lines that say what a story comes to; the names of threads, and notes. A core does their commands
-//! one by one.
+//! filling in, and the lines that say what a story comes to; the names of threads, and notes.
 //!
 //! A line of a story is a command of scripts, with ` = ` and its answer behind it or without, or it has no words. Words
 //! stand between blanks, and `#` begins a comment. A CR at the end of a line and a byte order mark at the front are
@@ -17,7 +16,6 @@
 //! | `comparing` | the answers that are written, beside the lines that are printed |
 //! | `filling` | a story with the lines that are printed as its answers |
 //! | `titles` | a story behind a comment with its name |
-//! | `commands` | a core that does the commands of a story one by one |
 //! | `verdicts` | what a story comes to, as lines |
 //! | `names`, `namings` | the names that a story gives its threads: a comment `# t1: low` gives t1 the name `low` |
 //! | `missing` | what was added, and the first name in a command that nobody has |
@@ -31,7 +29,6 @@
 #![tactic(auto)]
 
 mod answers;
-mod commands;
 mod comparing;
 mod filling;
 mod lines;
@@ -47,7 +44,6 @@ mod texts;
 mod titles;
 mod verdicts;
 
-pub use commands::do_command;
 pub use comparing::{compare, count_commands};
 pub use filling::filled_text;
 pub use lines::{commentless, line_at_end, row_of, split_line, without_mark, without_return};

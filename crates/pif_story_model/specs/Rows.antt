@@ -1,14 +1,12 @@
 -- The commands of a story, one after the other: what they ask for, and what that does.
-use Rattle.std.specs.Prelude.{ℕ, ◌≡◌, ◌+◌, nat_le, nat_lt, min, false, List, [], length, map, Option, Some, None, Result, Ok, Err, if◌then◌else◌}
+use Rattle.std.specs.Prelude.{ℕ, ◌≡◌, ◌+◌, nat_le, nat_lt, min, false, List, [], length, map, Option, Some, None, Result, Err, if◌then◌else◌}
 use Rattle.pif_model.specs.Table.{Table}
 use Rattle.pif_text_model.specs.declared.commands.Command.{Command}
 use Rattle.pif_text_model.specs.declared.replies.Cause.{Cause}
 use Rattle.pif_text_model.specs.declared.replies.Cause.TheVariants as cause
-use Rattle.pif_text_model.specs.declared.replies.Reply.{Reply}
 use Rattle.pif_text_model.specs.Commands.{command_in}
-use Rattle.pif_script_model.specs.declared.ending.OpenFault.{OpenFault}
 use Rattle.pif_script_model.specs.declared.faults.CliFault.{CliFault}
-use Rattle.pif_script_model.specs.Running.{Answer, Makes, answer_or_fault, command_answer, first_answer}
+use Rattle.pif_script_model.specs.Running.{Answer, outcome_behind}
 use Rattle.pif_story_model.specs.declared.rows.AnsweredRow.{AnsweredRow}
 use Rattle.pif_story_model.specs.Checks.{check_end, script_fault}
 use Rattle.pif_story_model.specs.Stories.{NumberedRow, rows_from, script_by}
@@ -30,16 +28,6 @@ asked_in row = (row.line, row.words.now, Some row.command)
 -- what they ask for
 abbrev pub AreRowsOf : List NumberedRow → List AnsweredRow → Type 0
 AreRowsOf numbered rows = map asked_in rows ≡ map asked_by numbered
-
--- what a command does, or why it is a fault: the first one makes the core
-abbrev pub outcome_behind : Option Table → Command → Result Answer Cause
-outcome_behind None c = first_answer c
-outcome_behind (Some s) c = answer_or_fault (command_answer c s)
-
--- a command was done so: it had this answer, and left this core; or it is a fault, or memory ran out
-abbrev pub IsDone : Result Answer Cause → (after : Option Table) → Result Reply OpenFault → Type 0
-IsDone meant after (Ok r) = (s : Table) × (meant ≡ Ok (r, s)) × (after ≡ Some s)
-IsDone meant after (Err fault) = Makes meant (Err fault)
 
 -- what a command of these words does, or why it is a fault
 abbrev pub words_outcome : Option Table → (words : List ℕ) → Result Answer Cause

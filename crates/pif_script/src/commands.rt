@@ -1,7 +1,8 @@
-ghost use Rattle.pif_story_model.specs.Rows.{IsDone, outcome_behind};
+ghost use Rattle.pif_script_model.specs.Running.{IsDone, outcome_behind};
 
+use crate::running::{obey, open_core};
 use pif_core::Core;
-use pif_script::{Ending, OpenFault, obey, open_core};
+use pif_script_model::{Ending, OpenFault};
 use pif_text::{Cause, Command, Reply};
 use std::alloc::Global;
 
