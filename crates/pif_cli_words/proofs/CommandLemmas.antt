@@ -1,9 +1,9 @@
 -- Commands that got one more argument or one more command.
 use Rattle.std.proofs.Common.{◌≡◌, ◌∙◌, ◌||◌, Bool, true, false, Result, Ok, Err, IfOk, ap}
-use Rattle.clap.specs.Words.{AddsArg, AddsSubcommand, App, app_of, rule_of, shape_of, with_rule, with_subcommand}
+use Rattle.clap.specs.Words.{AddsArg, AddsSubcommand, App, rule_of, shape_of, with_rule, with_subcommand}
 use Rattle.clap.specs.declared.builder.arg.Arg.{Arg}
 use Rattle.clap.specs.declared.builder.command.Command.{Command}
-use Rattle.pif_cli_words.specs.Commands.{IsApp, IsCommand}
+use Rattle.pif_cli_words.specs.Commands.{IsCommand, IsMade}
 
 nothing_more : (a b : Bool) → a ≡ false → b ≡ false → (a || b) ≡ false
 nothing_more true b h k = cc
@@ -11,7 +11,7 @@ nothing_more false b h k = k
 
 -- a command that got one more argument of its own
 pub added : {E : Type 0} (made : Result Command E) (old : Command) (a : Arg) (app : App)
-    → IfOk made (λ new. AddsArg old a new) → a.global ≡ false → IsApp {E = E} app (Ok old) → IsApp (with_rule app (rule_of a)) made
+    → IfOk made (λ new. AddsArg old a new) → a.global ≡ false → IsCommand app old → IsMade (with_rule app (rule_of a)) made
 added (Ok new) old a app adds local is = (
   adds.shape local ∙ ap (λ (x : App). with_rule x (rule_of a)) is.0,
   adds.globals ∙ nothing_more _ _ is.1 local,
@@ -20,16 +20,11 @@ added (Err e) old a app adds local is = tt
 
 -- a program that got one more command
 pub joined : {E : Type 0} (made : Result Command E) (old sub : Command) (app more : App)
-    → IfOk made (λ new. AddsSubcommand old sub new) → IsApp {E = E} app (Ok old) → IsCommand more sub
-    → IsApp (with_subcommand app more.top) made
+    → IfOk made (λ new. AddsSubcommand old sub new) → IsCommand app old → IsCommand more sub
+    → IsMade (with_subcommand app more.top) made
 joined (Ok new) old sub app more adds is mine = (
   adds.shape mine.1 ∙ ap (λ (x : App). with_subcommand x (shape_of sub)) is.0
       ∙ ap (λ (x : App). with_subcommand app x.top) mine.0,
   adds.globals ∙ nothing_more _ _ is.1 mine.1,
 )
 joined (Err e) old sub app more adds is mine = tt
-
--- a command that was made is this one
-pub is_made : {E : Type 0} (made : Result Command E) (app : App) → IsApp app made → IfOk made (λ c. app_of c ≡ app)
-is_made (Ok c) app is = is.0
-is_made (Err e) app is = tt

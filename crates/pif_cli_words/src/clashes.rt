@@ -49,10 +49,17 @@ impl Clash {
         ensures { HasKind (clash_kinds (Some self)) result }
     {
         match program(alloc) {
-            Ok(mut pif) => match pif.error(self.kind(), self.words()) {
-                Ok(error) => error,
-                Err(failed) => clap::Error::from(failed),
-            },
+            Ok(mut pif) => self.told(&mut *pif),
+            Err(failed) => clap::Error::from(failed),
+        }
+    }
+
+    /// The same, of the program that was made.
+    fn told(self, pif: &mut clap::Command) -> clap::Error
+        ensures { HasKind (clash_kinds (Some self)) result }
+    {
+        match pif.error(self.kind(), self.words()) {
+            Ok(error) => error,
             Err(failed) => clap::Error::from(failed),
         }
     }

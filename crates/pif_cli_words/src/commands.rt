@@ -1,8 +1,8 @@
 //! The program's commands, as `clap` takes them. A command is handed on as it was made, so that only `with_arg`,
-//! `with_subcommand` and `with_command` ask whether memory was refused.
-ghost use Rattle.std.specs.Prelude.{◌≡◌, IfOk, false};
-ghost use Rattle.clap.specs.Words.{App, app_of, new_app, rule_of, with_rule, with_subcommand};
-ghost use Rattle.pif_cli_words.specs.Commands.{IsApp, IsCommand};
+//! `with_subcommand` and `with_command` ask whether memory was refused. It is large, so it is handed on in a box.
+ghost use Rattle.std.specs.Prelude.{◌≡◌, false};
+ghost use Rattle.clap.specs.Words.{App, new_app, rule_of, with_rule, with_subcommand};
+ghost use Rattle.pif_cli_words.specs.Commands.{IsApp, IsCommand, IsMade};
 ghost use Rattle.pif_cli_words.specs.Options.{flag_rule, number_rule};
 ghost use Rattle.pif_cli_words.specs.Words.{bare_program, check_app, clients_rule, draw_app, drive_app, explore_app, file_rule, files_rule, judge_app, program, show_app, with_job, with_runs, with_states, with_traces};
 
@@ -24,7 +24,14 @@ use clap::builder::ValueParser;
 use std::alloc::{AllocError, Global};
 
 /// A command while it is made, or that memory was refused.
-pub type Made<'a> = Result<clap::Command<'a>, AllocError>;
+pub type Made<'a> = Result<Box<clap::Command<'a>>, AllocError>;
+
+/// What was made, in a box.
+fn boxed<'a>(alloc: Global, made: Result<clap::Command<'a>, AllocError>) -> Made<'a>
+    ensures { (app : App) → IsMade app made.entry → IsApp app result }
+{
+    Ok(Box::new(alloc, made?)?)
+}
 
 /// A command of this name without arguments, with what help shows of it: what it is about, how it is called, and more
 /// at the end.
@@ -41,17 +48,21 @@ pub fn described<'a>(
         .about(about)
         .override_usage(usage)
         .after_help(more);
-    Ok(command)
+    boxed(alloc, Ok(command))
 }
 
 /// A command with one more argument.
-pub fn with_arg<'a>(made: Made<'a>, arg: clap::Arg<'a>) -> Made<'a>
+pub fn with_arg<'a>(alloc: Global, made: Made<'a>, arg: clap::Arg<'a>) -> Made<'a>
     requires { arg.global ≡ false }
     ensures { (app : App) → IsApp app made.entry → IsApp (with_rule app (rule_of arg.entry)) result }
 {
     match made {
-        Ok(command) => command.arg(arg),
-        Err(error) => Err(error),
+        Ok(command) => boxed(alloc, Box::into_inner(command).arg(arg)),
+        Err(error) => {
+            // One call, where a drop at the end of the arm is a call for each part of the argument.
+            drop(arg);
+            Err(error)
+        }
     }
 }
 
@@ -59,26 +70,29 @@ pub fn with_arg<'a>(made: Made<'a>, arg: clap::Arg<'a>) -> Made<'a>
 pub fn with_flag<'a>(alloc: Global, made: Made<'a>, name: &'a str, help: &'a str) -> Made<'a>
     ensures { (app : App) → IsApp app made.entry → IsApp (with_rule app (flag_rule name.now)) result }
 {
-    with_arg(made, flag_given(alloc, name, help))
+    with_arg(alloc, made, flag_given(alloc, name, help))
 }
 
 /// The program with this command.
-fn with_subcommand<'a>(pif: Made<'a>, command: clap::Command<'a>) -> Made<'a>
-    ensures { (app more : App) → IsApp app pif.entry → IsCommand more command.entry
+fn with_subcommand<'a>(alloc: Global, pif: Made<'a>, command: Box<clap::Command<'a>>) -> Made<'a>
+    ensures { (app more : App) → IsApp app pif.entry → IsCommand more command.entry.value
         → IsApp (with_subcommand app more.top) result }
 {
     match pif {
-        Ok(program) => program.subcommand(command),
+        Ok(program) => {
+            let program = Box::into_inner(program);
+            boxed(alloc, program.subcommand(Box::into_inner(command)))
+        }
         Err(error) => Err(error),
     }
 }
 
 /// The program with one more command.
-fn with_command<'a>(pif: Made<'a>, made: Made<'a>) -> Made<'a>
+fn with_command<'a>(alloc: Global, pif: Made<'a>, made: Made<'a>) -> Made<'a>
     ensures { (app more : App) → IsApp app pif.entry → IsApp more made.entry → IsApp (with_subcommand app more.top) result }
 {
     match made {
-        Ok(command) => with_subcommand(pif, command),
+        Ok(command) => with_subcommand(alloc, pif, command),
         Err(error) => Err(error),
     }
 }
@@ -92,7 +106,7 @@ fn bare_program<'a>(alloc: Global) -> Made<'a>
         .about(ABOUT)
         .after_help(EXAMPLE)
         .subcommand_required(true);
-    Ok(command)
+    boxed(alloc, Ok(command))
 }
 
 /// The file of a command over one input.
@@ -107,7 +121,7 @@ fn file_given<'a>(alloc: Global) -> clap::Arg<'a>
 fn with_file<'a>(alloc: Global, made: Made<'a>) -> Made<'a>
     ensures { (app : App) → IsApp app made.entry → IsApp (with_rule app file_rule) result }
 {
-    with_arg(made, file_given(alloc))
+    with_arg(alloc, made, file_given(alloc))
 }
 
 /// The program with one more command over one input, which has this name and these texts.
@@ -122,7 +136,7 @@ fn with_job<'a>(
     ensures { (app : App) → IsApp app pif.entry → IsApp (with_job app name.now) result }
 {
     let job = with_file(alloc, described(alloc, name, about, usage, more));
-    with_command(pif, job)
+    with_command(alloc, pif, job)
 }
 
 /// The files of a command over any number of inputs, with what help says of them.
@@ -148,7 +162,11 @@ fn show_command<'a>(alloc: Global) -> Made<'a>
 fn with_line<'a>(alloc: Global, made: Made<'a>, name: &'a str, help: &'a str) -> Made<'a>
     ensures { (app : App) → IsApp app made.entry → IsApp (with_rule app (number_rule name.now 1 4294967295)) result }
 {
-    with_arg(made, number_given(alloc, name, "L", 1, 4_294_967_295, help))
+    with_arg(
+        alloc,
+        made,
+        number_given(alloc, name, "L", 1, 4_294_967_295, help),
+    )
 }
 
 /// The command `draw`.
@@ -170,7 +188,7 @@ fn check_command<'a>(alloc: Global) -> Made<'a>
     let strict = with_flag(alloc, check, "strict", ABOUT_STRICT);
     let print = with_flag(alloc, strict, "print", ABOUT_PRINT);
     let write = with_flag(alloc, print, "write", ABOUT_WRITE);
-    with_arg(write, files_given(alloc, ABOUT_FILES))
+    with_arg(alloc, write, files_given(alloc, ABOUT_FILES))
 }
 
 /// A command with an option for a number from `low` to `high`.
@@ -184,7 +202,7 @@ fn with_number<'a>(
 ) -> Made<'a>
     ensures { (app : App) → IsApp app made.entry → IsApp (with_rule app (number_rule name.now low high)) result }
 {
-    with_arg(made, number_given(alloc, name, "N", low, high, help))
+    with_arg(alloc, made, number_given(alloc, name, "N", low, high, help))
 }
 
 /// The command `judge`.
@@ -208,8 +226,8 @@ fn judge_command<'a>(alloc: Global) -> Made<'a>
     );
     let seconds = with_number(alloc, states, "seconds", 0, 86_400, ABOUT_SECONDS);
     let jobs = with_number(alloc, seconds, "jobs", 1, 64, ABOUT_JOBS);
-    let allow = with_arg(jobs, rules_given(alloc, ABOUT_ALLOW));
-    with_arg(allow, files_given(alloc, ABOUT_HISTORIES))
+    let allow = with_arg(alloc, jobs, rules_given(alloc, ABOUT_ALLOW));
+    with_arg(alloc, allow, files_given(alloc, ABOUT_HISTORIES))
 }
 
 /// The command `explore`.
@@ -230,8 +248,8 @@ fn with_states<'a>(alloc: Global, pif: Made<'a>) -> Made<'a>
     ensures { (app : App) → IsApp app pif.entry → IsApp (with_states app) result }
 {
     let run = with_job(alloc, pif, "run", ABOUT_RUN, USAGE_RUN, MORE_RUN);
-    let show = with_command(run, show_command(alloc));
-    with_command(show, draw_command(alloc))
+    let show = with_command(alloc, run, show_command(alloc));
+    with_command(alloc, show, draw_command(alloc))
 }
 
 /// The program with the commands over scripts and stories that show answers.
@@ -240,10 +258,10 @@ fn with_runs<'a>(alloc: Global, pif: Made<'a>) -> Made<'a>
 {
     let states = with_states(alloc, pif);
     let shell = described(alloc, "shell", ABOUT_SHELL, USAGE_SHELL, MORE_SHELL);
-    let shells = with_command(states, shell);
-    let checks = with_command(shells, check_command(alloc));
-    let judges = with_command(checks, judge_command(alloc));
-    with_command(judges, explore_command(alloc))
+    let shells = with_command(alloc, states, shell);
+    let checks = with_command(alloc, shells, check_command(alloc));
+    let judges = with_command(alloc, checks, judge_command(alloc));
+    with_command(alloc, judges, explore_command(alloc))
 }
 
 /// The program with the commands over traces.
@@ -285,15 +303,15 @@ fn drive_command<'a>(alloc: Global) -> Made<'a>
     ensures { IsApp drive_app result }
 {
     let drive = described(alloc, "drive", ABOUT_DRIVE, USAGE_DRIVE, MORE_DRIVE);
-    with_arg(drive, clients_given(alloc))
+    with_arg(alloc, drive, clients_given(alloc))
 }
 
 /// The program's commands.
 pub fn program<'a>(alloc: Global) -> Made<'a>
-    ensures { IfOk result (λ c. app_of c ≡ program) }
+    ensures { IsApp program result }
 {
     let runs = with_runs(alloc, bare_program(alloc));
     let traces = with_traces(alloc, runs);
-    let random = with_command(traces, random_command(alloc));
-    with_command(random, drive_command(alloc))
+    let random = with_command(alloc, traces, random_command(alloc));
+    with_command(alloc, random, drive_command(alloc))
 }

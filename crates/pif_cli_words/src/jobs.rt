@@ -135,7 +135,8 @@ pub fn read_words<'r, 'a, S: AsStr>(
     ensures rewrites { IfOk result (λ asked. asked.rewrites ≡ rewrites (map S.text words.now)) }
 {
     complete(words, room)?;
-    let matches = program(alloc)?.try_get_matches_from(room.as_slice())?;
+    let pif = Box::into_inner(program(alloc)?);
+    let matches = pif.try_get_matches_from(room.as_slice())?;
     match matches.subcommand() {
         Some((name, given)) => match clash_in(name, given) {
             Some(clash) => Err(clash.error(alloc)),

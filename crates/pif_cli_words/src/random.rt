@@ -38,7 +38,7 @@ fn with_needed<'a>(
     ensures { (app : App) → IsApp app made.entry → IsApp (with_rule app (needed_rule name.now low high)) result }
 {
     let number = number_given(alloc, name, value, low, high, help);
-    with_arg(made, number.required(true))
+    with_arg(alloc, made, number.required(true))
 }
 
 /// A command with one more option, whose number is `default` where none is given.
@@ -55,7 +55,7 @@ pub fn with_chosen<'a>(
     ensures { (app : App) → IsApp app made.entry → IsApp (with_rule app (chosen_rule name.now low high default.now)) result }
 {
     let number = number_given(alloc, name, value, low, high, help);
-    with_arg(made, number.default_value(default))
+    with_arg(alloc, made, number.default_value(default))
 }
 
 /// The highest seed.

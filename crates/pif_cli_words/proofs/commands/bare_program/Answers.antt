@@ -7,7 +7,7 @@ use Rattle.pif_cli_words.proofs.commands.bare_program.Goals as goal
 pub returns : goal.returns
 returns c =
     let app = λ (f : Command-F Command). app_of_fields (record f { subcommand_required = true }) in
-    let field = λ (f : Command-F Command). f.has_globals in (
+    let field = λ (f : Command-F Command). f.has_globals in c.boxed.ensures _ (
       ap app_of_fields c.subcommand_required-command.ensures ∙ ap app c.after_help.ensures ∙ ap app c.about.ensures
           ∙ ap app c.version.ensures
           ∙ ap (λ (a : App). record a { top = record a.top { has_version = true; subcommand_required = true } }) c.new.ensures.app,
