@@ -1,2 +1,1 @@
-mod Darkness
 mod Searching

@@ -1,10 +1,9 @@
 -- The steps of a counter are among those that are made.
 use Rattle.std.proofs.Common.{ℕ, ◌≡◌, ◌<◌, ◌+◌, ◌∙◌, Bool, true, false, List, [], ◌∷◌, Some, None, Option, Result, Ok, Err, IfOk, Vec, Global, not, refl, sym, ap, arith}
-use Rattle.pif_search.specs.Steps.{HasCover, IsCovered}
+use Rattle.pif_search.specs.Steps.{HasCover}
 use Rattle.pif_search.specs.declared.machine.Stop.{Stop}
-use Rattle.pif_test_posix.specs.Counting.{Counts, CountsInTheDark, is_hidden}
+use Rattle.pif_test_posix.specs.Counting.{Counts, is_hidden}
 use Rattle.pif_test_posix.specs.Counting.Counts.{rises, switches, says}
-use Rattle.pif_test_posix.specs.Counting.CountsInTheDark.{rises as rises_too, says as says_too}
 use Rattle.pif_test_posix.specs.declared.counters.Counter.{Counter}
 use Rattle.pif_test_posix.specs.declared.counters.Label.{Label}
 use Rattle.pif_test_posix.specs.declared.counters.Label.TheVariants.{Rise, Switch, Say}
@@ -15,12 +14,6 @@ counter n x = record { count = n; lamp = x }
 
 same_counter : (a b : Counter) → a.count ≡ b.count → a.lamp ≡ b.lamp → a ≡ b
 same_counter a b e f = ap (λ (n : ℕ). counter n a.lamp) e ∙ ap (λ (x : Bool). counter b.count x) f
-
--- where only the rise is made
-pub dark_rise : (top : ℕ) (s r t : Counter) (l : Label) (items : List (Label × Counter)) → items ≡ (Rise, r) ∷ [] → r.count ≡ s.count + 1
-    → is_hidden l ≡ true → CountsInTheDark top s l t → HasCover (λ (a b : Counter). a.count ≡ b.count) items t
-dark_rise top s r t l items e n h (rises_too a lt b d) = record { place = 0; label = Rise; state = r; there = rw e refl; covers = n ∙ sym b }
-dark_rise top s r t l items e n h (says_too a b) = absurd (let f : is_hidden (Say s.count) ≡ true = rw a at h in cc)
 
 -- where the switch and the rise are made
 pub whole_both : (top : ℕ) (s w r t : Counter) (l : Label) (items : List (Label × Counter)) → items ≡ (Switch, w) ∷ (Rise, r) ∷ []
@@ -37,9 +30,3 @@ pub whole_switch : (top : ℕ) (s w t : Counter) (l : Label) (items : List (Labe
 whole_switch top s w t l items e wc wl none h (rises a lt b d) = absurd (none lt)
 whole_switch top s w t l items e wc wl none h (switches a b d) = record { place = 0; label = Switch; state = w; there = rw e refl; covers = same_counter w t (wc ∙ sym b) (wl ∙ sym d) }
 whole_switch top s w t l items e wc wl none h (says a b) = absurd (let f : is_hidden (Say s.count) ≡ true = rw a at h in cc)
-
--- what is said is the counter itself
-pub dark_says : (top : ℕ) (s t : Counter) (l : Label) (items : List Counter) → is_hidden l ≡ false → (l ≡ Say s.count → items ≡ s ∷ [])
-    → CountsInTheDark top s l t → IsCovered (λ (a b : Counter). a.count ≡ b.count) items t
-dark_says top s t l items h f (rises_too a lt b d) = absurd (let g : is_hidden Rise ≡ false = rw a at h in cc)
-dark_says top s t l items h f (says_too a b) = record { place = 0; state = s; there = rw (f a) refl; covers = ap (λ (x : Counter). x.count) (sym b) }

@@ -15,8 +15,3 @@ pub data Counts (top : ℕ) (s : Counter) (l : Label) (t : Counter) : Type 0 whe
   rises : l ≡ Rise → s.count < top → t.count ≡ s.count + 1 → t.lamp ≡ s.lamp → Counts top s l t
   switches : l ≡ Switch → t.count ≡ s.count → t.lamp ≡ not s.lamp → Counts top s l t
   says : l ≡ Say s.count → t ≡ s → Counts top s l t
-
--- one step that doesn't switch
-pub data CountsInTheDark (top : ℕ) (s : Counter) (l : Label) (t : Counter) : Type 0 where
-  rises : l ≡ Rise → s.count < top → t.count ≡ s.count + 1 → t.lamp ≡ s.lamp → CountsInTheDark top s l t
-  says : l ≡ Say s.count → t ≡ s → CountsInTheDark top s l t

@@ -2,12 +2,11 @@
 //! on. After each event the machine may be in a state in which the answers are those of the core, and so are the
 //! effective priority of each thread and whether it rests. Where calls come one after the other, each answer is the
 //! only one that the machine allows.
-use super::asks::random_kind;
-use super::cloud::Cloud;
+use super::cloud::{Cloud, Sight};
 use pif_core::{Core, Entry, Event, Seen};
 use pif_posix_model::HistoryLimits;
 use pif_search::Stop;
-use pif_types::{CondId, Limits, MutexId, Prio, Request, Tid};
+use pif_types::{CondId, Kind, Limits, MutexId, Prio, Request, Tid};
 use rand_core::{Rng, SeedableRng};
 use rand_xoshiro::SplitMix64;
 use std::alloc::Global;
@@ -52,30 +51,27 @@ struct Scene {
 }
 
 fn new_scene(alloc: Global, seed: u64, mode: Mode) -> Result<Scene, Stop> {
-    let cloud = Cloud::new(alloc, LIMITS)?;
-    let core = new_core(alloc)?;
-    Ok(Scene {
-        core,
-        cloud,
-        rng: SplitMix64::seed_from_u64(seed),
-        mode,
-    })
-}
-
-fn new_core(alloc: Global) -> Result<Core, Stop> {
     let _event: Option<Event> = None;
-    match Limits::new(LIMITS.threads, LIMITS.mutexes, LIMITS.conds, LIMITS.signals) {
-        Some(limits) => match Core::new(alloc, limits) {
-            Ok(core) => Ok(core),
-            Err(_) => Err(Stop::NoMemory),
-        },
-        None => Err(Stop::Range),
+    let cloud = Cloud::new(alloc, LIMITS)?;
+    let limits = Limits::new(LIMITS.threads, LIMITS.mutexes, LIMITS.conds, LIMITS.signals);
+    match Core::new(alloc, limits.ok_or(Stop::Range)?) {
+        Ok(core) => Ok(Scene {
+            core,
+            cloud,
+            rng: SplitMix64::seed_from_u64(seed),
+            mode,
+        }),
+        Err(_) => Err(Stop::NoMemory),
     }
 }
 
 /// Adds a mutex of a random kind to both.
 fn add_mutex(scene: &mut Scene) -> Result<(), Stop> {
-    let kind = random_kind(&mut scene.rng);
+    let kind = match scene.rng.next_u32() % 3 {
+        0 => Kind::Normal,
+        1 => Kind::Recursive,
+        _ => Kind::ErrorCheck,
+    };
     let robust = scene.rng.next_u32() % 2 == 0;
     match scene.core.add_mutex(kind, robust) {
         Ok(mutex) => scene.cloud.enter(&Entry::Mutex(mutex, kind, robust)),
@@ -169,14 +165,15 @@ fn go(rt: &impl Abort, scene: &mut Scene, thread: Tid, seens: &mut Seens) -> Res
     let wakes = may_wake(&scene.core, thread);
     let seen = scene.core.step(Event::Go(thread));
     match seen {
-        Seen::Refused(refusal) => scene.cloud.keep_refused(&Event::Go(thread), refusal),
+        Seen::Refused(refusal) => scene.cloud.keep(&Sight::Refused(Event::Go(thread), refusal)),
         Seen::Answered(answer) => {
             move_on(&mut scene.cloud, thread, wakes)?;
             see_answer(rt, scene, thread, answer, seens)?;
         }
         _ => {
             move_on(&mut scene.cloud, thread, wakes)?;
-            scene.cloud.keep_resting(thread.get(), seen == Seen::Waits);
+            let sight = Sight::Rests(thread.get(), seen == Seen::Waits);
+            scene.cloud.keep(&sight);
         }
     }
     Ok(seen)
@@ -205,7 +202,7 @@ fn see_answer(
 fn happen(scene: &mut Scene, event: &Event) -> Result<Seen, Stop> {
     let seen = scene.core.step(*event);
     match seen {
-        Seen::Refused(refusal) => scene.cloud.keep_refused(event, refusal),
+        Seen::Refused(refusal) => scene.cloud.keep(&Sight::Refused(*event, refusal)),
         _ => scene.cloud.enter(&Entry::Step(*event, seen))?,
     }
     Ok(seen)
@@ -251,12 +248,13 @@ fn is_late(core: &Core, thread: Tid) -> bool {
 fn compare(scene: &mut Scene, thread: Tid) {
     let _event: Option<Event> = None;
     if let Some(prio) = scene.core.effective(thread) {
-        scene.cloud.keep_effective(thread.get(), prio.get());
+        let sight = Sight::Effective(thread.get(), prio.get());
+        scene.cloud.keep(&sight);
     }
     match scene.core.waiting(thread) {
-        Some(true) => scene.cloud.keep_resting(thread.get(), true),
+        Some(true) => scene.cloud.keep(&Sight::Rests(thread.get(), true)),
         Some(false) if !is_late(&scene.core, thread) => {
-            scene.cloud.keep_resting(thread.get(), false);
+            scene.cloud.keep(&Sight::Rests(thread.get(), false));
         }
         _ => {}
     }
@@ -280,7 +278,7 @@ fn play_event(rt: &impl Abort, scene: &mut Scene, seens: &mut Seens) -> Result<(
             compare(scene, thread);
         }
     }
-    seens.states = usize::max(seens.states, scene.cloud.len());
+    seens.states = usize::max(seens.states, scene.cloud.states.len());
     Ok(())
 }
 
@@ -306,40 +304,34 @@ fn play_events(
     for at in 0..50 {
         play_event(rt, scene, seens)?;
         assert!(rt;
-            scene.cloud.len() > 0,
+            scene.cloud.states.len() > 0,
             "seed {seed}: not possible at event {at}"
         );
     }
     Ok(())
 }
 
-#[test]
-fn answers_of_a_core_are_possible(rt: HostRuntime) -> Result<(), Stop> {
-    let mut seens = Seens {
-        answers: 0,
-        states: 0,
-    };
-    for seed in 0..20 {
-        play_list(&rt, rt.alloc(), seed, Mode::Overlapping, &mut seens)?;
-    }
-    assert!(rt;
-        seens.answers >= 40 && seens.states >= 4,
-        "{} {}",
-        seens.answers,
-        seens.states
-    );
-    Ok(())
-}
+/// How events come, how many lists are played, and how many answers and states are seen at least. Whole calls have no
+/// other answer.
+const PLAYED: [(Mode, u64, u32, usize); 2] =
+    [(Mode::Overlapping, 20, 40, 4), (Mode::Whole, 10, 100, 1)];
 
 #[test]
-fn answers_of_whole_calls_are_the_only_ones(rt: HostRuntime) -> Result<(), Stop> {
-    let mut seens = Seens {
-        answers: 0,
-        states: 0,
-    };
-    for seed in 0..10 {
-        play_list(&rt, rt.alloc(), seed, Mode::Whole, &mut seens)?;
+fn answers_of_a_core_are_possible(rt: HostRuntime) -> Result<(), Stop> {
+    for (mode, lists, answers, states) in PLAYED {
+        let mut seens = Seens {
+            answers: 0,
+            states: 0,
+        };
+        for seed in 0..lists {
+            play_list(&rt, rt.alloc(), seed, mode, &mut seens)?;
+        }
+        assert!(rt;
+            seens.answers >= answers && seens.states >= states,
+            "{} answers, {} states",
+            seens.answers,
+            seens.states
+        );
     }
-    assert!(rt; seens.answers >= 100, "{} {}", seens.answers, seens.states);
     Ok(())
 }

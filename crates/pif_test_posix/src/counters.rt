@@ -1,12 +1,12 @@
 ghost use Rattle.std.specs.Prelude.{◌≡◌, ◌<◌, ◌+◌, ◌∷◌, [], IfOk, IfSome, None};
-ghost use Rattle.pif_test_posix.specs.Counting.{Counts, CountsInTheDark, is_hidden};
+ghost use Rattle.pif_test_posix.specs.Counting.{Counts, is_hidden};
 ghost use Rattle.pif_test_posix.specs.declared.counters.Label.TheVariants.{Say};
 
-use pif_search::{Machine, Stop};
+use pif_search::{Machine, Stop, one};
 use std::alloc::Global;
 
 /// What a counter does.
-#[derive(Clone, Copy, Drop, PartialEq)]
+#[derive(Clone, Copy, Drop)]
 pub enum Label {
     /// It rises by 1.
     Rise,
@@ -37,16 +37,6 @@ impl Counter {
         } else {
             None
         }
-    }
-}
-
-fn one<T: Drop>(alloc: Global, item: T) -> Result<Vec<T>, Stop>
-    ensures { IfOk result (λ v. v.items ≡ item ∷ []) }
-{
-    let mut items = Vec::new(alloc);
-    match items.push(item) {
-        Ok(()) => Ok(items),
-        Err(_) => Err(Stop::NoMemory),
     }
 }
 
@@ -113,49 +103,6 @@ impl Machine for Whole {
 
     fn is_same(&self, kept: &Counter, other: &Counter) -> bool {
         kept.count == other.count && kept.lamp == other.lamp
-    }
-
-    fn key(&self, state: &Counter) -> u64 {
-        u64::from(state.count)
-    }
-}
-
-/// A counter of which no switch is searched, since nothing that it says depends on the lamp.
-#[derive(Drop)]
-pub struct Dark {
-    pub top: u32,
-}
-
-impl Machine for Dark {
-    type State = Counter;
-
-    type Label = Label;
-
-    ghost step = { λ m s l t. Counts m.top s l t };
-
-    ghost hides = { λ m l. is_hidden l };
-
-    ghost seeks = { λ m s l t. CountsInTheDark m.top s l t };
-
-    ghost covers = { λ m u t. u.count ≡ t.count };
-
-    fn moves(&self, alloc: Global, from: &Counter) -> Result<Vec<(Label, Counter)>, Stop> {
-        match from.risen(self.top) {
-            Some(risen) => {
-                let steps = one(alloc, (Label::Rise, risen))?;
-                Ok(steps)
-            }
-            None => Ok(Vec::new(alloc)),
-        }
-    }
-
-    fn after(&self, alloc: Global, from: &Counter, label: &Label) -> Result<Vec<Counter>, Stop> {
-        let states = said(alloc, from, label)?;
-        Ok(states)
-    }
-
-    fn is_same(&self, kept: &Counter, other: &Counter) -> bool {
-        kept.count == other.count
     }
 
     fn key(&self, state: &Counter) -> u64 {

@@ -1,150 +1,218 @@
-//! Runs that a player finds, which keeps one state: how often it plays the lines.
-use super::asks::{Wish, request};
-use pif_history::{Watch, find_run};
+//! Histories of six threads that lock, try and unlock a mutex, wait and signal: how often a player plays their lines
+//! until it finds a run, and how few states an exact search makes of calls that are open at once.
+use pif_history::{Verdict, Watch, find_run, judge_lines};
 use pif_history_model::{HistoryLimits, Line};
 use pif_search::{Stop, push};
-use pif_types::{Answer, Kind, MutexId, Request, Tid};
+use pif_types::{Answer, CondId, Kind, MutexId, Request, Tid};
 use std::alloc::Global;
 
 /// How many threads there are.
 const THREADS: u32 = 6;
 
+/// So much may be added.
+const LIMITS: HistoryLimits = HistoryLimits {
+    threads: THREADS,
+    mutexes: 1,
+    conds: 1,
+    signals: 9,
+};
+
 /// What is seen of a thread.
 #[derive(Clone, Copy)]
 enum Seen {
-    Begins(Wish),
+    Lock,
+    TryLock,
+    Unlock,
+    Wait,
+    TimedWait(u32),
+    Signal,
+    Broadcast,
     Answered(Answer),
     /// It is this late, for all.
     Time(u32),
 }
-
-const LOCK: Seen = Seen::Begins(Wish::Lock(1));
-
-const UNLOCK: Seen = Seen::Begins(Wish::Unlock(1));
-
-const WAIT: Seen = Seen::Begins(Wish::Wait(1, 1));
-
-const TIMED_WAIT: Seen = Seen::Begins(Wish::TimedWait(1, 1, 9));
-
-const SIGNAL: Seen = Seen::Begins(Wish::Signal(1));
-
-const BROADCAST: Seen = Seen::Begins(Wish::Broadcast(1));
 
 const DONE: Seen = Seen::Answered(0);
 
 /// What is seen of threads, one after another.
 type Sight = (u32, Seen);
 
-/// How often a first line came.
+/// How often a first line came, and the most states behind a line since then.
 #[derive(Drop)]
-struct Plays {
-    count: usize,
+struct Told {
+    plays: usize,
+    states: usize,
 }
 
-impl Watch for Plays {
+impl Watch for Told {
     fn goes_on(&mut self) -> bool {
         true
     }
 
-    fn line(&mut self, line: usize, _states: usize) {
+    fn line(&mut self, line: usize, states: usize) {
         if line == 1 {
-            self.count = self.count.saturating_add(1);
+            self.plays = self.plays.saturating_add(1);
+            self.states = 0;
         }
+        self.states = usize::max(self.states, states);
     }
 }
 
 /// Two threads wait, and one signal wakes both. Then two others wait. One more, which waits until a deadline, is blocked
 /// behind the next signal. So the last signal has to wake one of the two, and the one before must leave it blocked.
 static THREE_SIGNALS: [Sight; 48] = [
-    (5, LOCK),
+    (5, Seen::Lock),
     (5, DONE),
-    (5, WAIT),
-    (6, LOCK),
+    (5, Seen::Wait),
+    (6, Seen::Lock),
     (6, DONE),
-    (6, WAIT),
-    (4, LOCK),
+    (6, Seen::Wait),
+    (4, Seen::Lock),
     (4, DONE),
-    (4, UNLOCK),
+    (4, Seen::Unlock),
     (4, DONE),
-    (4, SIGNAL),
+    (4, Seen::Signal),
     (4, DONE),
     (5, DONE),
-    (5, UNLOCK),
+    (5, Seen::Unlock),
     (5, DONE),
     (6, DONE),
-    (6, UNLOCK),
+    (6, Seen::Unlock),
     (6, DONE),
-    (1, LOCK),
+    (1, Seen::Lock),
     (1, DONE),
-    (1, WAIT),
-    (2, LOCK),
+    (1, Seen::Wait),
+    (2, Seen::Lock),
     (2, DONE),
-    (2, WAIT),
-    (4, LOCK),
+    (2, Seen::Wait),
+    (4, Seen::Lock),
     (4, DONE),
-    (4, UNLOCK),
+    (4, Seen::Unlock),
     (4, DONE),
-    (4, SIGNAL),
+    (4, Seen::Signal),
     (4, DONE),
     (2, DONE),
-    (2, UNLOCK),
+    (2, Seen::Unlock),
     (2, DONE),
-    (3, LOCK),
+    (3, Seen::Lock),
     (3, DONE),
-    (3, TIMED_WAIT),
-    (4, LOCK),
+    (3, Seen::TimedWait(9)),
+    (4, Seen::Lock),
     (4, DONE),
-    (4, UNLOCK),
+    (4, Seen::Unlock),
     (4, DONE),
-    (4, SIGNAL),
+    (4, Seen::Signal),
     (4, DONE),
     (1, DONE),
-    (1, UNLOCK),
+    (1, Seen::Unlock),
     (1, DONE),
     (3, Seen::Time(9)),
     (3, Seen::Answered(110)),
-    (3, UNLOCK),
+    (3, Seen::Unlock),
 ];
 
 /// A broadcast wakes a thread twice: it has used its variable when it wakes the first wait, and chooses when the other
 /// thread, which was blocked before it began, has run out of time.
 static SLOW_BROADCAST: [Sight; 23] = [
-    (3, LOCK),
+    (3, Seen::Lock),
     (3, DONE),
-    (3, TIMED_WAIT),
-    (1, LOCK),
+    (3, Seen::TimedWait(9)),
+    (1, Seen::Lock),
     (1, DONE),
-    (1, WAIT),
-    (4, LOCK),
+    (1, Seen::Wait),
+    (4, Seen::Lock),
     (4, DONE),
-    (4, UNLOCK),
+    (4, Seen::Unlock),
     (4, DONE),
-    (4, BROADCAST),
+    (4, Seen::Broadcast),
     (1, DONE),
-    (1, WAIT),
-    (2, LOCK),
+    (1, Seen::Wait),
+    (2, Seen::Lock),
     (2, DONE),
-    (2, UNLOCK),
+    (2, Seen::Unlock),
     (2, DONE),
     (3, Seen::Time(9)),
     (3, Seen::Answered(110)),
-    (3, UNLOCK),
+    (3, Seen::Unlock),
     (3, DONE),
     (1, DONE),
     (4, DONE),
 ];
 
-/// So much may be added.
-fn limits() -> HistoryLimits {
-    HistoryLimits {
-        threads: THREADS,
-        mutexes: 1,
-        conds: 1,
-        signals: 9,
-    }
+/// Each thread waits for one variable, one after another, with the mutex that it locked.
+static WAITS: [Sight; 18] = [
+    (1, Seen::Lock),
+    (1, DONE),
+    (1, Seen::Wait),
+    (2, Seen::Lock),
+    (2, DONE),
+    (2, Seen::Wait),
+    (3, Seen::Lock),
+    (3, DONE),
+    (3, Seen::Wait),
+    (4, Seen::Lock),
+    (4, DONE),
+    (4, Seen::Wait),
+    (5, Seen::Lock),
+    (5, DONE),
+    (5, Seen::Wait),
+    (6, Seen::Lock),
+    (6, DONE),
+    (6, Seen::Wait),
+];
+
+/// The first thread owns a mutex.
+static OWNED: [Sight; 2] = [(1, Seen::Lock), (1, DONE)];
+
+/// All others try to lock it at once.
+static TRIES: [Sight; 5] = [
+    (2, Seen::TryLock),
+    (3, Seen::TryLock),
+    (4, Seen::TryLock),
+    (5, Seen::TryLock),
+    (6, Seen::TryLock),
+];
+
+/// And all are told that it is busy.
+static BUSY: [Sight; 5] = [
+    (2, Seen::Answered(16)),
+    (3, Seen::Answered(16)),
+    (4, Seen::Answered(16)),
+    (5, Seen::Answered(16)),
+    (6, Seen::Answered(16)),
+];
+
+/// The first thread is told that it may not wait, or not unlock, though it owned the mutex.
+static REFUSED: [Sight; 2] = [(1, Seen::Unlock), (1, Seen::Answered(1))];
+
+/// The line that tells this of a thread.
+fn line_of(thread: u32, seen: Seen) -> Option<Line> {
+    let (thread, mutex, cond) = (Tid::new(thread)?, MutexId::new(1)?, CondId::new(1)?);
+    let request = match seen {
+        Seen::Lock => Request::Lock(mutex),
+        Seen::TryLock => Request::TryLock(mutex),
+        Seen::Unlock => Request::Unlock(mutex),
+        Seen::Wait => Request::Wait(cond, mutex),
+        Seen::TimedWait(time) => Request::TimedWait(cond, mutex, time),
+        Seen::Signal => Request::Signal(cond),
+        Seen::Broadcast => Request::Broadcast(cond),
+        Seen::Answered(answer) => return Some(Line::Answer(thread, answer)),
+        Seen::Time(time) => return Some(Line::Tick(time)),
+    };
+    Some(Line::Begin(thread, request))
 }
 
-/// Threads, a mutex, and a variable that is bound to it.
+/// Adds the lines that tell this.
+fn tell(lines: &mut Vec<Line>, sights: &[Sight]) -> Result<(), Stop> {
+    let _no_request: Option<Request> = None;
+    for (thread, seen) in sights {
+        let line = line_of(*thread, *seen).ok_or(Stop::Range)?;
+        push(lines, line)?;
+    }
+    Ok(())
+}
+
+/// The threads, a mutex, and a variable that is bound to it.
 fn additions(alloc: Global) -> Result<Vec<Line>, Stop> {
     let _no_request: Option<Request> = None;
     let mut lines = Vec::new(alloc);
@@ -157,61 +225,76 @@ fn additions(alloc: Global) -> Result<Vec<Line>, Stop> {
     Ok(lines)
 }
 
-/// The line that tells this of a thread.
-fn line_of(thread: u32, seen: Seen) -> Option<Line> {
-    let thread = Tid::new(thread)?;
-    Some(match seen {
-        Seen::Begins(wish) => Line::Begin(thread, request(wish)?),
-        Seen::Answered(answer) => Line::Answer(thread, answer),
-        Seen::Time(time) => Line::Tick(time),
-    })
-}
-
-/// The lines that tell this, behind the additions.
-fn lines_of(alloc: Global, sights: &[Sight]) -> Result<Vec<Line>, Stop> {
-    let _no_request: Option<Request> = None;
-    let mut lines = additions(alloc)?;
-    for (thread, seen) in sights {
-        let line = line_of(*thread, *seen).ok_or(Stop::Range)?;
-        push(&mut lines, line)?;
-    }
-    Ok(lines)
-}
-
 /// How often the lines that tell this are played until a run is found; none if none is.
 fn plays_until_found(alloc: Global, sights: &[Sight]) -> Result<Option<usize>, Stop> {
-    let lines = lines_of(alloc, sights)?;
-    let mut watch = Plays { count: 0 };
-    let found = find_run(alloc, limits(), lines.as_slice(), 10_000, &mut watch)?;
-    Ok(found.map(|_| watch.count))
+    let mut lines = additions(alloc)?;
+    tell(&mut lines, sights)?;
+    let mut told = Told {
+        plays: 0,
+        states: 0,
+    };
+    let found = find_run(alloc, LIMITS, lines.as_slice(), 10_000, &mut told)?;
+    Ok(found.map(|_| told.plays))
 }
 
 #[test]
-fn lines_are_played_again_if_a_signal_must_leave_a_wait_blocked(
-    rt: HostRuntime,
-) -> Result<(), Stop> {
-    // Nobody runs out of time.
-    assert_eq!(rt;
-        plays_until_found(rt.alloc(), &THREE_SIGNALS[..33])?,
-        Some(1)
-    );
-    // No signal has to wake two.
-    assert_eq!(rt;
-        plays_until_found(rt.alloc(), &THREE_SIGNALS[18..])?,
-        Some(1)
-    );
-    assert_eq!(rt;
-        plays_until_found(rt.alloc(), THREE_SIGNALS.as_slice())?,
-        Some(3)
-    );
+fn lines_are_played_again_if_a_wake_up_must_be_chosen(rt: HostRuntime) -> Result<(), Stop> {
+    let rows: [(&[Sight], usize); 4] = [
+        // Nobody runs out of time.
+        (&THREE_SIGNALS[..33], 1),
+        // No signal has to wake two.
+        (&THREE_SIGNALS[18..], 1),
+        (&THREE_SIGNALS, 3),
+        (&SLOW_BROADCAST, 2),
+    ];
+    for (sights, plays) in rows {
+        let found = plays_until_found(rt.alloc(), sights)?;
+        assert!(rt; found == Some(plays), "{plays} plays of {} lines", sights.len());
+    }
     Ok(())
 }
 
+/// The most states after a line of the last search, which is exact, if it says that the last line of these parts alone
+/// is impossible.
+fn most_states(alloc: Global, parts: &[&[Sight]]) -> Result<Option<usize>, Stop> {
+    let mut lines = additions(alloc)?;
+    for part in parts {
+        tell(&mut lines, part)?;
+    }
+    let mut told = Told {
+        plays: 0,
+        states: 0,
+    };
+    let verdict = judge_lines(alloc, LIMITS, lines.as_slice(), 10_000, &mut told)?;
+    Ok(match verdict {
+        Verdict::Illegal(n) if n == lines.len() => Some(told.states),
+        _ => None,
+    })
+}
+
+/// A wait that has begun is fresh, has found the mutex, has joined those that are blocked, or has given the mutex up:
+/// that makes 4 states behind its line. The waits before it have all given the mutex up, or it wouldn't have been locked
+/// since. Behind the next lock's begin there is one more: the lock has taken the mutex, which the wait gave up.
 #[test]
-fn a_broadcast_chooses_when_a_line_needs_it(rt: HostRuntime) -> Result<(), Stop> {
-    assert_eq!(rt;
-        plays_until_found(rt.alloc(), SLOW_BROADCAST.as_slice())?,
-        Some(2)
-    );
+fn blocked_waits_make_few_states(rt: HostRuntime) -> Result<(), Stop> {
+    for count in 1..7_usize {
+        let wanted = if count == 1 { 4 } else { 5 };
+        let most = most_states(rt.alloc(), &[&WAITS[..3 * count], &REFUSED[1..]])?;
+        assert!(rt; most == Some(wanted), "{count}");
+    }
+    Ok(())
+}
+
+/// A trylock that has begun is fresh, or has failed at once: that makes 2 states behind its line, since those before it
+/// have failed. The lock before them made 2, too: it was fresh, or had the mutex.
+#[test]
+fn busy_trylocks_make_few_states(rt: HostRuntime) -> Result<(), Stop> {
+    for count in 0..6_usize {
+        let most = most_states(
+            rt.alloc(),
+            &[&OWNED, &TRIES[..count], &BUSY[..count], &REFUSED],
+        )?;
+        assert!(rt; most == Some(2), "{count}");
+    }
     Ok(())
 }

@@ -1,12 +1,18 @@
 ghost use Rattle.std.specs.Prelude.{◌≡◌, false, IfOk, All};
 ghost use Rattle.pif_test_posix.specs.Counting.{is_hidden};
 
-use crate::counters::{Counter, Dark, Label, Whole};
+use crate::counters::{Counter, Label, Whole};
 use pif_search::{Stop, Unwatched, Verdict, Watch, judge, possible, searches_all_steps};
 use std::alloc::Global;
 
+/// How a counter starts.
+const START: Counter = Counter {
+    count: 0,
+    lamp: false,
+};
+
 /// What is expected of lines.
-#[derive(Clone, Copy, Debug, Drop, PartialEq)]
+#[derive(Clone, Copy, PartialEq)]
 enum Expected {
     /// Legal, by a run of so many steps.
     Legal(usize),
@@ -14,7 +20,7 @@ enum Expected {
     Undecided(usize),
 }
 
-/// Counts the lines and the states of which it is told, and ends a search behind `most` lines.
+/// Keeps the lines and the states of which it was told last, and ends a search behind `most` lines.
 #[derive(Drop)]
 struct Told {
     lines: usize,
@@ -33,26 +39,6 @@ impl Watch for Told {
     }
 }
 
-fn nothing_told() -> Told {
-    told_at_most(usize::MAX)
-}
-
-fn told_at_most(most: usize) -> Told {
-    Told {
-        lines: 0,
-        states: 0,
-        most,
-    }
-}
-
-fn found(verdict: &Verdict<Label>) -> Expected {
-    match verdict {
-        Verdict::Legal(run) => Expected::Legal(run.len()),
-        Verdict::Illegal(n) => Expected::Illegal(*n),
-        Verdict::Undecided(n) => Expected::Undecided(*n),
-    }
-}
-
 /// That the counter says these counts.
 fn says(alloc: Global, counts: &[u32]) -> Result<Vec<Label>, Stop>
     ensures { IfOk result (λ v. All (λ l. is_hidden l ≡ false) v.items) }
@@ -67,57 +53,41 @@ fn says(alloc: Global, counts: &[u32]) -> Result<Vec<Label>, Stop>
     Ok(lines)
 }
 
-fn search_whole(
-    alloc: Global,
-    counts: &[u32],
-    limit: usize,
-    told: &mut Told,
-) -> Result<Expected, Stop> {
+/// What is searched: counts that are said, how many states may be made for one, and behind how many lines the search
+/// is ended.
+type Asked = (&'static [u32], usize, usize);
+
+/// What is found, and the lines and states of which was told last.
+type Found = (Expected, usize, usize);
+
+fn search(alloc: Global, asked: &Asked) -> Result<Found, Stop> {
+    let (counts, limit, most) = *asked;
     let machine = Whole { top: 5 };
     let lines = says(alloc, counts)?;
-    let start = Counter {
-        count: 0,
-        lamp: false,
+    let mut told = Told {
+        lines: 0,
+        states: 0,
+        most,
     };
-    searches_all_steps(&machine, &start);
-    let verdict = judge(&machine, alloc, start, lines.as_slice(), limit, told)?;
-    Ok(found(&verdict))
+    searches_all_steps(&machine, &START);
+    let expected = match judge(&machine, alloc, START, lines.as_slice(), limit, &mut told)? {
+        Verdict::Legal(run) => Expected::Legal(run.len()),
+        Verdict::Illegal(n) => Expected::Illegal(n),
+        Verdict::Undecided(n) => Expected::Undecided(n),
+    };
+    Ok((expected, told.lines, told.states))
 }
 
-fn search_dark(
-    alloc: Global,
-    counts: &[u32],
-    limit: usize,
-    told: &mut Told,
-) -> Result<Expected, Stop> {
-    let machine = Dark { top: 5 };
+/// How many of the counts 2, 3, 5 and 6 can be said behind these, and 99 if that is undecided.
+fn search_next(alloc: Global, counts: &[u32], limit: usize) -> Result<usize, Stop> {
     let lines = says(alloc, counts)?;
-    let start = Counter {
-        count: 0,
-        lamp: false,
-    };
-    let verdict = judge(&machine, alloc, start, lines.as_slice(), limit, told)?;
-    Ok(found(&verdict))
-}
-
-/// How many of these counts can be said next, and 99 if that is undecided.
-fn search_next(
-    alloc: Global,
-    counts: &[u32],
-    candidates: &[u32],
-    limit: usize,
-) -> Result<usize, Stop> {
-    let machine = Dark { top: 5 };
-    let lines = says(alloc, counts)?;
-    let labels = says(alloc, candidates)?;
-    let start = Counter {
-        count: 0,
-        lamp: false,
-    };
+    let labels = says(alloc, &[2, 3, 5, 6])?;
+    let machine = Whole { top: 5 };
+    searches_all_steps(&machine, &START);
     match possible(
         &machine,
         alloc,
-        start,
+        START,
         lines.as_slice(),
         labels.as_slice(),
         limit,
@@ -128,108 +98,31 @@ fn search_next(
     }
 }
 
-// What follows asks a second time if memory was refused at the first.
+/// All of 12 states are met by 22 steps before the first line. Behind a line that says N there are those with a count
+/// from N to 5, each twice.
+static ROWS: [(Asked, Found); 11] = [
+    ((&[], 1000, 9), (Expected::Legal(0), 0, 0)),
+    ((&[1, 3], 1000, 9), (Expected::Legal(5), 2, 6)),
+    ((&[1, 3, 3], 1000, 9), (Expected::Legal(6), 3, 6)),
+    ((&[3, 1], 1000, 9), (Expected::Illegal(2), 1, 6)),
+    ((&[6], 1000, 9), (Expected::Illegal(1), 0, 0)),
+    ((&[5, 5, 4, 5], 1000, 9), (Expected::Illegal(3), 2, 2)),
+    ((&[5], 22, 9), (Expected::Legal(6), 1, 2)),
+    ((&[5], 21, 9), (Expected::Undecided(0), 0, 0)),
+    ((&[0, 1], 22, 9), (Expected::Undecided(1), 0, 0)),
+    ((&[1, 3, 3], 1000, 0), (Expected::Undecided(1), 0, 0)),
+    ((&[1, 3, 3], 1000, 2), (Expected::Undecided(3), 2, 6)),
+];
 
-fn judge_whole(
-    alloc: Global,
-    counts: &[u32],
-    limit: usize,
-    told: &mut Told,
-) -> Result<Expected, Stop> {
-    match search_whole(alloc, counts, limit, told) {
-        Err(Stop::NoMemory) => search_whole(alloc, counts, limit, told),
-        answer => answer,
-    }
-}
-
-fn judge_dark(
-    alloc: Global,
-    counts: &[u32],
-    limit: usize,
-    told: &mut Told,
-) -> Result<Expected, Stop> {
-    match search_dark(alloc, counts, limit, told) {
-        Err(Stop::NoMemory) => search_dark(alloc, counts, limit, told),
-        answer => answer,
-    }
-}
-
-fn next_counts(
-    alloc: Global,
-    counts: &[u32],
-    candidates: &[u32],
-    limit: usize,
-) -> Result<usize, Stop> {
-    match search_next(alloc, counts, candidates, limit) {
-        Err(Stop::NoMemory) => search_next(alloc, counts, candidates, limit),
-        answer => answer,
-    }
-}
-
+/// It asks a second time if memory was refused at the first, and so does what follows.
 #[test]
-fn legal_and_illegal_lines_on_both_counters(rt: HostRuntime) -> Result<(), Stop> {
-    let rows: [(&[u32], Expected); 5] = [
-        (&[], Expected::Legal(0)),
-        (&[1, 3, 3], Expected::Legal(6)),
-        (&[3, 1], Expected::Illegal(2)),
-        (&[6], Expected::Illegal(1)),
-        (&[5, 5, 4, 5], Expected::Illegal(3)),
-    ];
-    for (counts, expected) in rows {
-        assert_eq!(rt;
-            judge_whole(rt.alloc(), counts, 1000, &mut nothing_told())?,
-            expected
-        );
-        assert_eq!(rt;
-            judge_dark(rt.alloc(), counts, 1000, &mut nothing_told())?,
-            expected
-        );
-    }
-    Ok(())
-}
-
-// All of 12 states are met by 22 steps before the first line, and without switches 5 by 5.
-#[test]
-fn undecided_by_how_many_states_are_made_for_a_line(rt: HostRuntime) -> Result<(), Stop> {
-    let rows: [(&[u32], usize, Expected, usize, Expected); 3] = [
-        (&[5], 22, Expected::Legal(6), 5, Expected::Legal(6)),
-        (&[5], 21, Expected::Undecided(0), 4, Expected::Undecided(0)),
-        (
-            &[0, 1],
-            22,
-            Expected::Undecided(1),
-            5,
-            Expected::Undecided(1),
-        ),
-    ];
-    for (counts, whole, in_whole, dark, in_dark) in rows {
-        assert_eq!(rt;
-            judge_whole(rt.alloc(), counts, whole, &mut nothing_told())?,
-            in_whole
-        );
-        assert_eq!(rt;
-            judge_dark(rt.alloc(), counts, dark, &mut nothing_told())?,
-            in_dark
-        );
-    }
-    Ok(())
-}
-
-#[test]
-fn watch_is_told_lines_and_states(rt: HostRuntime) -> Result<(), Stop> {
-    let mut told = nothing_told();
-    judge_whole(rt.alloc(), &[1, 3], 1000, &mut told)?;
-    assert_eq!(rt; (told.lines, told.states), (2, 6));
-    judge_dark(rt.alloc(), &[3], 1000, &mut told)?;
-    assert_eq!(rt; (told.lines, told.states), (1, 3));
-    Ok(())
-}
-
-#[test]
-fn a_search_that_is_ended_has_not_decided_the_next_line(rt: HostRuntime) -> Result<(), Stop> {
-    for most in 0..3 {
-        let ended = judge_whole(rt.alloc(), &[1, 3, 3], 1000, &mut told_at_most(most))?;
-        assert_eq!(rt; ended, Expected::Undecided(most + 1));
+fn searches_find_what_was_worked_out_by_hand(rt: HostRuntime) -> Result<(), Stop> {
+    for (row, (asked, wanted)) in ROWS.iter().enumerate() {
+        let found = match search(rt.alloc(), asked) {
+            Err(Stop::NoMemory) => search(rt.alloc(), asked),
+            answer => answer,
+        };
+        assert!(rt; found? == *wanted, "row {row}");
     }
     Ok(())
 }
@@ -237,11 +130,12 @@ fn a_search_that_is_ended_has_not_decided_the_next_line(rt: HostRuntime) -> Resu
 #[test]
 fn next_counts_are_possible(rt: HostRuntime) -> Result<(), Stop> {
     let rows: [(&[u32], usize, usize); 3] = [(&[3], 1000, 2), (&[3, 1], 1000, 0), (&[3], 4, 99)];
-    for (counts, limit, expected) in rows {
-        assert_eq!(rt;
-            next_counts(rt.alloc(), counts, &[2, 3, 5, 6], limit)?,
-            expected
-        );
+    for (counts, limit, wanted) in rows {
+        let found = match search_next(rt.alloc(), counts, limit) {
+            Err(Stop::NoMemory) => search_next(rt.alloc(), counts, limit),
+            answer => answer,
+        };
+        assert!(rt; found? == wanted, "{counts:?} at {limit}");
     }
     Ok(())
 }

@@ -1,3 +1,0 @@
-mod all_runs;
-mod programs;
-mod reduced;
