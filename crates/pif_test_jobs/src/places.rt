@@ -1,61 +1,70 @@
-use pif_text_errors::{line_of_command, line_of_number, nearest_name, written_column};
-use std::process::Abort;
+use pif_text_errors::{
+    Wrong, line_of_command, line_of_number, nearest_name, read_command, written_column,
+};
 
-/// The text of a story, the number of a line, and that line.
-static LINES: [(&str, u64, Option<&str>); 6] = [
-    ("a\nb", 1, Some("a")),
-    ("a\nb", 2, Some("b")),
-    ("a\nb\n", 2, Some("b")),
-    ("a\nb", 3, None),
-    ("a\nb", 0, None),
-    ("\u{feff}a\nb", 1, Some("a")),
+/// A line that is no command, what is wrong with it, and the column and the word.
+static WORDS: [(&[u8], Wrong, usize, &[u8]); 9] = [
+    (b"", Wrong::Empty, 1, b""),
+    (b"go  t1\r", Wrong::CarriageReturn, 7, b"\r"),
+    (b"go\tt1 now", Wrong::Spaces, 3, b"\tt1"),
+    (b"#two  threads\r", Wrong::Comment, 1, b"#two"),
+    (b"pif-trace 2", Wrong::NoCommand, 1, b"pif-trace"),
+    (b"mutex normal robsut x", Wrong::NoWord, 14, b"robsut"),
+    (b"call t1", Wrong::Missing, 8, b""),
+    (b"tick 1 = ticked", Wrong::TooMany, 8, b"="),
+    (b"thread 5\0", Wrong::NotNumber, 8, b"5\0"),
 ];
 
-/// A line of a story is found as this one.
-fn check_line(rt: &impl Abort, story: &str, number: u64, line: Option<&str>) {
-    let is_found = match (line_of_number(story.as_bytes(), number), line) {
-        (Some(found), Some(wanted)) => found == wanted.as_bytes(),
-        (None, None) => true,
-        _ => false,
-    };
-    assert!(rt; is_found, "line {number} of {story:?}");
+#[test]
+fn words_of_syntax_errors_are_found(rt: HostRuntime) {
+    for (line, wrong, column, word) in &WORDS {
+        let is_found = match read_command(line) {
+            Ok(_) => false,
+            Err(error) => {
+                error.wrong == *wrong && error.column == *column && error.word == *word
+            }
+        };
+        assert!(rt; is_found, "{line:?}");
+    }
 }
+
+/// The text of a story, the number of a line, and that line.
+static LINES: [(&[u8], u64, Option<&[u8]>); 6] = [
+    (b"a\nb", 1, Some(b"a")),
+    (b"a\nb", 2, Some(b"b")),
+    (b"a\nb\n", 2, Some(b"b")),
+    (b"a\nb", 3, None),
+    (b"a\nb", 0, None),
+    (b"\xef\xbb\xbfa\nb", 1, Some(b"a")),
+];
 
 #[test]
 fn lines_of_stories_are_found(rt: HostRuntime) {
     for (story, number, line) in &LINES {
-        check_line(&rt, *story, *number, *line);
+        let found = line_of_number(story, *number);
+        assert!(rt; found == *line, "line {number} of {story:?}");
     }
 }
 
 /// A story with comments before and between its two commands.
-const COMMENTED: &str = "pick\n\n# x\n  # y\nprio t1 # z";
+const COMMENTED: &[u8] = b"pick\n\n# x\n  # y\nprio t1 # z";
 
 /// The text of a story, the number of a command, and its line with the line's number.
-static COMMANDS: [(&str, u64, Option<(u64, &str)>); 7] = [
-    (COMMENTED, 1, Some((1, "pick"))),
-    (COMMENTED, 2, Some((5, "prio t1 # z"))),
+static COMMANDS: [(&[u8], u64, Option<(u64, &[u8])>); 7] = [
+    (COMMENTED, 1, Some((1, b"pick"))),
+    (COMMENTED, 2, Some((5, b"prio t1 # z"))),
     (COMMENTED, 0, None),
     (COMMENTED, 3, None),
-    ("\u{feff}\npick\n", 1, Some((2, "pick"))),
-    ("\t \npick", 1, Some((2, "pick"))),
-    ("", 1, None),
+    (b"\xef\xbb\xbf\npick\n", 1, Some((2, b"pick"))),
+    (b"\t \npick", 1, Some((2, b"pick"))),
+    (b"", 1, None),
 ];
-
-/// The line of a command is found as this one.
-fn check_command(rt: &impl Abort, story: &str, number: u64, place: Option<(u64, &str)>) {
-    let is_found = match (line_of_command(story.as_bytes(), number), place) {
-        (Some((line, text)), Some((wanted, words))) => line == wanted && text == words.as_bytes(),
-        (None, None) => true,
-        _ => false,
-    };
-    assert!(rt; is_found, "command {number} of {story:?}");
-}
 
 #[test]
 fn commands_of_stories_are_found(rt: HostRuntime) {
     for (story, number, place) in &COMMANDS {
-        check_command(&rt, *story, *number, *place);
+        let found = line_of_command(story, *number);
+        assert!(rt; found == *place, "command {number} of {story:?}");
     }
 }
 
@@ -95,15 +104,10 @@ static NEAR: [(&str, Option<&str>); 8] = [
     ("lxxk", None),
 ];
 
-/// The name that is nearest to a word is this one.
-fn check_near(rt: &impl Abort, word: &str, name: Option<&str>) {
-    let found = nearest_name(word.as_bytes(), NAMES.as_slice());
-    assert!(rt; found == name, "{word:?}: {found:?}");
-}
-
 #[test]
 fn the_first_of_the_nearest_names_is_found(rt: HostRuntime) {
     for (word, name) in &NEAR {
-        check_near(&rt, *word, *name);
+        let found = nearest_name(word.as_bytes(), NAMES.as_slice());
+        assert!(rt; found == *name, "{word:?}: {found:?}");
     }
 }

@@ -31,7 +31,8 @@ pub struct Stream<'a> {
     most: usize,
     failure: Option<ErrorKind>,
     has_failed: bool,
-    done: usize,
+    /// How many bytes are through.
+    pub done: usize,
     is_other: bool,
 }
 
@@ -61,16 +62,6 @@ impl<'a> Stream<'a> {
         self.early = early;
         self.turn = turn;
         self.late = late;
-    }
-
-    /// What is given or wanted.
-    pub fn parts(&self) -> &'a [Part<'a>] {
-        self.parts
-    }
-
-    /// How many bytes are through.
-    pub fn done(&self) -> usize {
-        self.done
     }
 
     /// Whether the bytes of the text were taken and no other: all, or those before the call that has failed.
@@ -133,13 +124,10 @@ impl<'a> Stream<'a> {
             at = from + more;
             self.done = self.done.saturating_add(more);
         }
-        self.miss(count.saturating_sub(at));
-    }
-
-    /// Takes so many bytes behind the text.
-    fn miss(&mut self, count: usize) {
-        self.is_other = self.is_other || count > 0;
-        self.done = self.done.saturating_add(count);
+        // What stands behind the text is other, too.
+        let behind = count.saturating_sub(at);
+        self.is_other = self.is_other || behind > 0;
+        self.done = self.done.saturating_add(behind);
     }
 }
 

@@ -165,7 +165,9 @@ fn go(rt: &impl Abort, scene: &mut Scene, thread: Tid, seens: &mut Seens) -> Res
     let wakes = may_wake(&scene.core, thread);
     let seen = scene.core.step(Event::Go(thread));
     match seen {
-        Seen::Refused(refusal) => scene.cloud.keep(&Sight::Refused(Event::Go(thread), refusal)),
+        Seen::Refused(refusal) => scene
+            .cloud
+            .keep(&Sight::Refused(Event::Go(thread), refusal)),
         Seen::Answered(answer) => {
             move_on(&mut scene.cloud, thread, wakes)?;
             see_answer(rt, scene, thread, answer, seens)?;
@@ -313,8 +315,10 @@ fn play_events(
 
 /// How events come, how many lists are played, and how many answers and states are seen at least. Whole calls have no
 /// other answer.
-const PLAYED: [(Mode, u64, u32, usize); 2] =
-    [(Mode::Overlapping, 20, 40, 4), (Mode::Whole, 10, 100, 1)];
+const PLAYED: [(Mode, u64, u32, usize); 2] = [
+    (Mode::Overlapping, 20, 40, 4),
+    (Mode::Whole, 10, 100, 1),
+];
 
 #[test]
 fn answers_of_a_core_are_possible(rt: HostRuntime) -> Result<(), Stop> {

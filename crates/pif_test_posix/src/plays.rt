@@ -249,7 +249,11 @@ fn lines_are_played_again_if_a_wake_up_must_be_chosen(rt: HostRuntime) -> Result
     ];
     for (sights, plays) in rows {
         let found = plays_until_found(rt.alloc(), sights)?;
-        assert!(rt; found == Some(plays), "{plays} plays of {} lines", sights.len());
+        assert!(rt;
+            found == Some(plays),
+            "{plays} plays of {} lines",
+            sights.len()
+        );
     }
     Ok(())
 }

@@ -1,6 +1,5 @@
 //! What is told while a picture is made.
 
-use crate::jobs::Ended;
 use crate::streams::Stream;
 use pif_job_draw::{Drawn, write_drawn, write_picture};
 use pif_script::Notice;
@@ -21,9 +20,6 @@ impl WatchSteps for Told {
     }
 }
 
-/// A story of two commands.
-const STORY: &str = "thread 10\nthread 20\n";
-
 /// A page of all commands.
 const PAGE: Drawn = Drawn {
     page: true,
@@ -41,43 +37,40 @@ const ONCE: &[(usize, usize)] = &[(0, 2), (1, 2)];
 const PARTS: &[(usize, usize)] = &[(0, 6), (1, 6), (2, 6), (3, 6), (4, 6), (5, 6)];
 
 /// A picture of the story, or for `None` its page, and what is told of it.
-type Steps = (Option<Picture>, &'static [(usize, usize)]);
-
-static PICTURES: [Steps; 4] = [
+static PICTURES: [(Option<Picture>, &[(usize, usize)]); 4] = [
     (Some(Picture::Drawing), DRAWING),
     (Some(Picture::States), ONCE),
     (Some(Picture::Graph), ONCE),
     (None, PARTS),
 ];
 
-/// Makes a picture of the story, or its page.
-fn make(alloc: Global, picture: Option<Picture>, told: &mut Told) -> Ended {
-    let story = [(STORY, 1)];
-    let (mut input, mut output) = (Stream::new(&story), Stream::new(&[]));
+/// Makes a picture of a story of two commands, or its page. Of it this is told.
+fn check_told(
+    rt: &impl Abort,
+    alloc: Global,
+    told: &mut Told,
+    picture: Option<Picture>,
+    wanted: &[(usize, usize)],
+) {
+    let (mut input, mut output) = (
+        Stream::new(&[("thread 10\nthread 20\n", 1)]),
+        Stream::new(&[]),
+    );
     let mut notice = Notice::new();
-    match picture {
+    let ended = match picture {
         Some(picture) => write_picture(picture, alloc, &mut input, &mut output, &mut notice, told),
         None => write_drawn(PAGE, alloc, &mut input, &mut output, &mut notice, told),
-    }
-}
-
-/// A picture is made, of which this is told.
-fn check_steps(rt: &impl Abort, alloc: Global, steps: &Steps) {
-    let (picture, wanted) = *steps;
-    let mut told = Told {
-        steps: Vec::new(alloc),
     };
-    let ended = make(alloc, picture, &mut told);
-    assert!(rt;
-        ended.is_ok() && told.steps.as_slice() == wanted,
-        "{:?}",
-        told.steps.as_slice()
-    );
+    let steps = told.steps.as_slice();
+    assert!(rt; ended.is_ok() && steps == wanted, "{steps:?}");
 }
 
 #[test]
 fn parts_are_told_as_steps_of_the_whole(rt: HostRuntime) {
-    for steps in &PICTURES {
-        check_steps(&rt, rt.alloc(), steps);
+    for (picture, wanted) in &PICTURES {
+        let mut told = Told {
+            steps: Vec::new(rt.alloc()),
+        };
+        check_told(&rt, rt.alloc(), &mut told, *picture, wanted);
     }
 }

@@ -1,3 +1,0 @@
-mod faults;
-mod notices;
-mod shows;

@@ -1,0 +1,186 @@
+//! Traces of scripts that are read from a stream, and of histories.
+
+use crate::streams::Stream;
+use pif_core::{Entry, Event, Seen};
+use pif_job_run::{trace, write_trace, written_trace_is_the_same};
+use pif_script::CliFault;
+use pif_text::Cause;
+use pif_types::{CondId, Kind, Limits, MutexId, Prio, Request, Tid};
+use std::alloc::Global;
+use std::io::ErrorKind;
+use std::process::Abort;
+use std::test::Fail;
+
+/// Each command once, additions and events that are refused, and each question.
+const SCRIPT: &str =
+    "limits 2 1 1 1\nthread 100\nthread 10\nthread 20\nthread 30\nmutex errorcheck robust\nmutex normal\n\
+    cond m2\ncond m1\ncond m1\nword m1\nhealth m1\ncondword c1\nprio t1\npick\n\
+    begin t1 lock m1\ngo t1\nbegin t1 lock m1\nfinish t1\ncall t2 trylock m1\ncall t2 lock m2\nfinish t2\n\
+    end t2\ngo t2\n";
+
+/// The trace of that script: of a robust lock the way is load, set_pending, take, and then load, health, link_next,
+/// link_head and clear_pending; of a refused trylock load, set_pending, take, the kernel's call and clear_pending.
+const TRACE: &str =
+    "pif-trace 2\nlimits 2 1 1 1 = ok\nthread 10 = t1\nthread 20 = t2\nmutex errorcheck robust = m1\ncond m1 = c1\n\
+    begin t1 lock m1 = begun\ngo t1 = went\nbegin t1 lock m1 = refused busy\ngo t1 = went\ngo t1 = went\n\
+    go t1 = went\ngo t1 = went\ngo t1 = went\ngo t1 = answer 0\n\
+    begin t2 trylock m1 = begun\ngo t2 = went\ngo t2 = went\ngo t2 = went\ngo t2 = went\ngo t2 = answer 16\n\
+    begin t2 lock m2 = refused nosuch\ngo t2 = refused idle\nend t2 = ended\ngo t2 = refused dead\n";
+
+/// The trace of a first thread.
+const THREAD: &str = "pif-trace 2\nlimits 1024 1024 256 4294967295 = ok\nthread 10 = t1\n";
+
+/// What stands behind a read that fails.
+const MORE: &str = "d 20\n";
+
+/// How a read fails: `Interrupted`, at which readers of std try again, is like the others.
+const INTERRUPTED: Option<ErrorKind> = Some(ErrorKind::Interrupted);
+
+const BLOCKED: Option<ErrorKind> = Some(ErrorKind::WouldBlock);
+
+const EARLY: Option<ErrorKind> = Some(ErrorKind::UnexpectedEof);
+
+const READ: Result<(), CliFault> = Err(CliFault::Read);
+
+/// What is read of a script, how the next read fails once if it does, what stands behind that, how many bytes a writer
+/// takes before it fails, what is written, and how that ends.
+type Row = (
+    &'static str,
+    Option<ErrorKind>,
+    &'static str,
+    usize,
+    &'static str,
+    Result<(), CliFault>,
+);
+
+static ROWS: [Row; 20] = [
+    ("", None, "", 4096, "", Ok(())),
+    (
+        "pik\n",
+        None,
+        "",
+        4096,
+        "",
+        Err(CliFault::Script(1, Cause::Command)),
+    ),
+    (
+        "limits 0 1 1 1\n",
+        None,
+        "",
+        4096,
+        "",
+        Err(CliFault::Script(1, Cause::Limits)),
+    ),
+    (
+        "thread 10",
+        None,
+        "",
+        4096,
+        "",
+        Err(CliFault::Script(1, Cause::Cut)),
+    ),
+    (
+        "limits 1 0 0 1\n",
+        None,
+        "",
+        4096,
+        "pif-trace 2\nlimits 1 0 0 1 = ok\n",
+        Ok(()),
+    ),
+    (SCRIPT, None, "", 4096, TRACE, Ok(())),
+    (SCRIPT, None, "", 40, TRACE, Err(CliFault::Write)),
+    (
+        "limits 1 1 1 1\nthread 10\nthr",
+        Some(ErrorKind::TimedOut),
+        "",
+        4096,
+        "pif-trace 2\nlimits 1 1 1 1 = ok\nthread 10 = t1\n",
+        READ,
+    ),
+    ("", INTERRUPTED, MORE, 4096, "", READ),
+    ("", BLOCKED, MORE, 4096, "", READ),
+    ("", EARLY, MORE, 4096, "", READ),
+    ("threa", INTERRUPTED, MORE, 4096, "", READ),
+    ("threa", BLOCKED, MORE, 4096, "", READ),
+    ("threa", EARLY, MORE, 4096, "", READ),
+    ("thread 10\n", INTERRUPTED, MORE, 4096, THREAD, READ),
+    ("thread 10\n", BLOCKED, MORE, 4096, THREAD, READ),
+    ("thread 10\n", EARLY, MORE, 4096, THREAD, READ),
+    ("thread 10\npi", INTERRUPTED, MORE, 4096, THREAD, READ),
+    ("thread 10\npi", BLOCKED, MORE, 4096, THREAD, READ),
+    ("thread 10\npi", EARLY, MORE, 4096, THREAD, READ),
+];
+
+/// A script is traced so, by writes of so many bytes at most.
+fn check_traced(rt: &impl Abort, alloc: Global, row: usize, asked: &Row, each: usize) {
+    let (first, failure, second, room, written, wanted) = *asked;
+    let (script, texts) = ([(first, 1), (second, 1)], [(written, 1)]);
+    let most = if failure.is_some() {
+        first.len()
+    } else {
+        usize::MAX
+    };
+    let mut input = Stream::failing(&script, most, failure);
+    let mut output = Stream::failing(&texts, room, Some(ErrorKind::BrokenPipe));
+    output.pace(each, 0, each);
+    let ended = trace(alloc, &mut input, &mut output);
+    assert!(rt;
+        ended == wanted && output.is_met(),
+        "row {row} by {each}: {ended:?}"
+    );
+}
+
+#[test]
+fn failing_reader_and_writer_of_a_trace(rt: HostRuntime) {
+    for (row, asked) in ROWS.iter().enumerate() {
+        check_traced(&rt, rt.alloc(), row, asked, 4096);
+        check_traced(&rt, rt.alloc(), row, asked, 1);
+    }
+}
+
+/// The entries of t7 with priority 99, m3 and c256, and of a lock by t7.
+fn entries() -> Option<[Entry; 6]> {
+    let _no_request: Option<Request> = None;
+    let (thread, mutex) = (Tid::new(7)?, MutexId::new(3)?);
+    Some([
+        Entry::Thread(thread, Prio::new(99)?),
+        Entry::Mutex(mutex, Kind::Normal, true),
+        Entry::Cond(CondId::new(256)?, mutex),
+        Entry::Step(Event::Begin(thread, Request::Lock(mutex)), Seen::Begun),
+        Entry::Step(Event::Go(thread), Seen::Went),
+        Entry::Step(Event::Go(thread), Seen::Answered(0)),
+    ])
+}
+
+const HISTORY: &str =
+    "pif-trace 2\nlimits 1024 1024 256 4294967295 = ok\nthread 99 = t7\nmutex normal robust = m3\n\
+    cond m3 = c256\nbegin t7 lock m3 = begun\ngo t7 = went\ngo t7 = answer 0\n";
+
+/// Writes the trace of entries to a writer that takes so many bytes, and so many a call.
+fn check_written(rt: &impl Abort, entries: &[Entry], limits: Limits, room: usize, each: usize) {
+    let parts = [(HISTORY, 1)];
+    let mut output = Stream::failing(&parts, room, Some(ErrorKind::BrokenPipe));
+    output.pace(each, 0, each);
+    let ended = write_trace(limits, entries, &mut output);
+    let wanted = if room < HISTORY.len() {
+        Err(CliFault::Write)
+    } else {
+        Ok(())
+    };
+    assert!(rt;
+        ended == wanted && output.is_met(),
+        "{room} by {each}: {ended:?}"
+    );
+}
+
+#[test]
+fn trace_names_each_entry(rt: HostRuntime) -> Result<(), Fail> {
+    let limits = Limits::new(1024, 1024, 256, u32::MAX).ok_or("limits")?;
+    let entries = entries().ok_or("entries")?;
+    for room in [4096, 0, 4, 12, 40, 100] {
+        check_written(&rt, &entries, limits, room, 4096);
+        check_written(&rt, &entries, limits, room, 1);
+    }
+    written_trace_is_the_same();
+    Ok(())
+}
