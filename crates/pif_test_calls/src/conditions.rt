@@ -2,15 +2,7 @@
 use super::driver::{Ask, Reply, Wish, play};
 use pif_mutex::Progress;
 use pif_types::{Kind, Limits};
-use std::alloc::Global;
-use std::process::Abort;
 use std::test::Fail;
-
-/// Plays tables under limits of four threads, two mutexes, and one variable that may be used three times.
-fn try_all<R: Abort>(rt: &R, alloc: Global, tables: &[&[(Ask, Reply)]]) -> Result<(), Fail> {
-    let limits = Limits::new(4, 2, 1, 3).ok_or("limits")?;
-    play(rt, alloc, limits, tables)
-}
 
 /// Two mutexes, a variable that is bound to mutex 1, and two threads of priorities 10 and 20.
 static TWO: [(Ask, Reply); 5] = [
@@ -46,11 +38,6 @@ static HANDED: [(Ask, Reply); 10] = [
     (Ask::Finish(1), Reply::Ended(1, Progress::Done(0))),
 ];
 
-#[test]
-fn signal_hands_the_mutex_to_one_that_waits(rt: HostRuntime) -> Result<(), Fail> {
-    try_all(&rt, rt.alloc(), &[&TWO, &HANDED])
-}
-
 static NOT_LOST: [(Ask, Reply); 9] = [
     (
         Ask::Call(1, Wish::Lock(1)),
@@ -68,11 +55,6 @@ static NOT_LOST: [(Ask, Reply); 9] = [
     (Ask::Uses(1), Reply::Bits(1)),
     (Ask::Finish(1), Reply::Ended(2, Progress::Done(0))),
 ];
-
-#[test]
-fn signal_before_the_park_is_not_lost(rt: HostRuntime) -> Result<(), Fail> {
-    try_all(&rt, rt.alloc(), &[&TWO, &NOT_LOST])
-}
 
 static ROBUST: [(Ask, Reply); 10] = [
     (Ask::AddMutex(Kind::Normal, true), Reply::Added(1)),
@@ -95,11 +77,6 @@ static ROBUST: [(Ask, Reply); 10] = [
     (Ask::Word(1), Reply::Bits(1)),
     (Ask::Finish(1), Reply::Ended(5, Progress::Done(0))),
 ];
-
-#[test]
-fn wait_takes_a_robust_mutex_over_again(rt: HostRuntime) -> Result<(), Fail> {
-    try_all(&rt, rt.alloc(), &[&ROBUST])
-}
 
 static ERRORS_ADDED: [(Ask, Reply); 5] = [
     (Ask::AddMutex(Kind::Recursive, false), Reply::Added(1)),
@@ -150,11 +127,6 @@ static ERRORS: [(Ask, Reply); 12] = [
     (Ask::Uses(1), Reply::Bits(3)),
     (Ask::Word(1), Reply::Bits(1)),
 ];
-
-#[test]
-fn wait_and_signal_name_their_errors(rt: HostRuntime) -> Result<(), Fail> {
-    try_all(&rt, rt.alloc(), &[&ERRORS_ADDED, &ERRORS])
-}
 
 /// Thread 1 has priority 5, and threads 2, 3 and 4 have 10, 30 and 20 and wait on the variable.
 static THREE_WAIT: [(Ask, Reply); 12] = [
@@ -235,11 +207,6 @@ static HANDED_ON: [(Ask, Reply); 12] = [
     (Ask::Word(1), Reply::Bits(0x0000_0000)),
 ];
 
-#[test]
-fn broadcast_wakes_by_priority(rt: HostRuntime) -> Result<(), Fail> {
-    try_all(&rt, rt.alloc(), &[&THREE_WAIT, &WOKEN, &HANDED_ON])
-}
-
 static GREATEST: [(Ask, Reply); 13] = [
     (Ask::AddMutex(Kind::Normal, false), Reply::Added(1)),
     (Ask::AddCond(1), Reply::Added(1)),
@@ -270,11 +237,6 @@ static GREATEST: [(Ask, Reply); 13] = [
     (Ask::Finish(3), Reply::Ended(1, Progress::Done(0))),
     (Ask::Finish(2), Reply::Ended(1, Progress::Waits)),
 ];
-
-#[test]
-fn signal_takes_greatest_priority(rt: HostRuntime) -> Result<(), Fail> {
-    try_all(&rt, rt.alloc(), &[&GREATEST])
-}
 
 /// Thread 2 is parked as the owner of mutex 2: who locks that boosts it, and so it goes before thread 3.
 static REKEYED_ADDED: [(Ask, Reply); 7] = [
@@ -323,74 +285,40 @@ static REKEYED: [(Ask, Reply); 12] = [
     (Ask::Finish(2), Reply::Ended(1, Progress::Done(0))),
 ];
 
-#[test]
-fn parked_thread_is_rekeyed(rt: HostRuntime) -> Result<(), Fail> {
-    try_all(&rt, rt.alloc(), &[&REKEYED_ADDED, &REKEYED])
-}
-
-/// Mutexes 1 and 65 share a bucket of the kernel on linked lists.
-static FOUR_THREADS: [(Ask, Reply); 4] = [
-    (Ask::AddThread(10), Reply::Added(1)),
-    (Ask::AddThread(20), Reply::Added(2)),
-    (Ask::AddThread(10), Reply::Added(3)),
-    (Ask::AddThread(20), Reply::Added(4)),
-];
-
-static TWO_HELD: [(Ask, Reply); 9] = [
-    (
-        Ask::Call(1, Wish::Lock(1)),
-        Reply::Ended(2, Progress::Done(0)),
-    ),
-    (
-        Ask::Call(2, Wish::Lock(1)),
-        Reply::Ended(3, Progress::Waits),
-    ),
-    (
-        Ask::Call(3, Wish::Lock(65)),
-        Reply::Ended(2, Progress::Done(0)),
-    ),
-    (
-        Ask::Call(4, Wish::Lock(65)),
-        Reply::Ended(3, Progress::Waits),
-    ),
-    (
-        Ask::Call(3, Wish::Unlock(65)),
-        Reply::Ended(3, Progress::Done(0)),
-    ),
-    (Ask::Word(65), Reply::Bits(0x8000_0004)),
-    (Ask::Word(1), Reply::Bits(0x8000_0001)),
-    (Ask::Effective(1), Reply::Prio(20)),
-    (Ask::Effective(3), Reply::Prio(10)),
-];
-
-#[test]
-fn two_mutexes_of_one_bucket(rt: HostRuntime) -> Result<(), Fail> {
-    let limits = Limits::new(4, 65, 1, 1).ok_or("limits")?;
-    let mut mutexes = [(Ask::AddMutex(Kind::Normal, false), Reply::Added(1)); 65];
-    for place in 0..65 {
-        mutexes[place] = (
-            Ask::AddMutex(Kind::Normal, false),
-            Reply::Added(1 + place as u32),
-        );
-    }
-    play(
-        &rt,
-        rt.alloc(),
-        limits,
-        &[&FOUR_THREADS, &mutexes, &TWO_HELD],
-    )
-}
-
 /// What the parts say beside the answers of calls: the limits, how many of each were added, and the open call of a
 /// thread.
 static TOLD: [(Ask, Reply); 4] = [
-    (Ask::Limits(4, 2, 1, 3), Reply::Done),
-    (Ask::Counts(2, 2, 1), Reply::Done),
+    (Ask::Limits, Reply::Limits(4, 2, 1, 3)),
+    (Ask::Counts, Reply::Counts(2, 2, 1)),
     (Ask::Begin(1, Wish::Wait(1, 1)), Reply::Done),
     (Ask::IsOpen(1, Wish::Wait(1, 1)), Reply::Done),
 ];
 
 #[test]
-fn parts_tell_counts_and_open_calls(rt: HostRuntime) -> Result<(), Fail> {
-    try_all(&rt, rt.alloc(), &[&TWO, &TOLD])
+fn calls_on_variables_answer_at_each_step(rt: HostRuntime) -> Result<(), Fail> {
+    let limits = Limits::new(4, 2, 1, 3).ok_or("limits")?;
+    play(
+        &rt,
+        rt.alloc(),
+        limits,
+        &[
+            (
+                "signal_hands_the_mutex_to_one_that_waits",
+                [&TWO, &HANDED, &[]],
+            ),
+            ("signal_before_the_park_is_not_lost", [&TWO, &NOT_LOST, &[]]),
+            ("wait_takes_a_robust_mutex_over_again", [&ROBUST, &[], &[]]),
+            (
+                "wait_and_signal_name_their_errors",
+                [&ERRORS_ADDED, &ERRORS, &[]],
+            ),
+            (
+                "broadcast_wakes_by_priority",
+                [&THREE_WAIT, &WOKEN, &HANDED_ON],
+            ),
+            ("signal_takes_greatest_priority", [&GREATEST, &[], &[]]),
+            ("parked_thread_is_rekeyed", [&REKEYED_ADDED, &REKEYED, &[]]),
+            ("parts_tell_counts_and_open_calls", [&TWO, &TOLD, &[]]),
+        ],
+    )
 }

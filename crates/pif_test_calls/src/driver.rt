@@ -41,9 +41,10 @@ pub enum Ask {
     Parked(u32, u32),
     Ready(u32),
     Pick,
-    // Whether the limits are these, so many of each were added, and the open call of a thread is this one.
-    Limits(u32, u32, u32, u32),
-    Counts(u32, u32, u32),
+    // The limits, and how many threads, mutexes and variables were added.
+    Limits,
+    Counts,
+    // Whether this call of a thread is open.
     IsOpen(u32, Wish),
 }
 
@@ -86,8 +87,17 @@ pub enum Reply {
     HasEnded,
     Prio(u32),
     Thread(u32),
+    Limits(u32, u32, u32, u32),
+    Counts(u32, u32, u32),
+    // There is nothing to be read.
     Nobody,
 }
+
+/// What is asked, and what is answered.
+pub type Steps = &'static [(Ask, Reply)];
+
+/// What new parts are asked: the name of that, and the steps, table after table.
+pub type Story = (&'static str, [Steps; 3]);
 
 /// Parts on a kernel of these chains, under these limits and with this first ticket, to which nothing was added.
 pub fn new_parts<C: Chains + Drop>(
@@ -101,31 +111,21 @@ pub fn new_parts<C: Chains + Drop>(
     Ok(Parts::new(alloc, limits, kernel)?)
 }
 
-/// Adds a thread where there is room for it.
-fn thread<K: PiKernel + Drop>(parts: &mut Parts<K>, level: u32) -> Option<Tid> {
-    let prio = Prio::new(level)?;
-    if parts.threads() < parts.limits().threads() {
-        Some(parts.add_thread(prio))
-    } else {
-        None
-    }
-}
-
-/// Adds a mutex, robust or not, where there is room for it.
-fn mutex<K: PiKernel + Drop>(parts: &mut Parts<K>, kind: Kind, robust: bool) -> Option<MutexId> {
-    if parts.mutexes() < parts.limits().mutexes() {
-        Some(parts.add_mutex(kind, robust))
-    } else {
-        None
-    }
-}
-
-/// Adds a variable that is bound to this mutex, where there is room for it and the mutex was added.
-fn variable<K: PiKernel + Drop>(parts: &mut Parts<K>, m: MutexId) -> Option<CondId> {
-    if m.get() <= parts.mutexes() && parts.conds() < parts.limits().conds() {
-        Some(parts.add_cond(m))
-    } else {
-        None
+/// Adds a thread, a mutex or a variable, where there is room for it and the mutex of the variable was added. Answers
+/// its number.
+fn add<K: PiKernel + Drop>(parts: &mut Parts<K>, ask: Ask) -> Option<u32> {
+    let limits = parts.limits();
+    match ask {
+        Ask::AddThread(level) if parts.threads() < limits.threads() => {
+            Some(parts.add_thread(Prio::new(level)?).get())
+        }
+        Ask::AddMutex(kind, robust) if parts.mutexes() < limits.mutexes() => {
+            Some(parts.add_mutex(kind, robust).get())
+        }
+        Ask::AddCond(m) if m <= parts.mutexes() && parts.conds() < limits.conds() => {
+            Some(parts.add_cond(MutexId::new(m)?).get())
+        }
+        _ => None,
     }
 }
 
@@ -179,27 +179,15 @@ fn go<K: PiKernel + Drop>(parts: &mut Parts<K>, t: Tid) -> Option<Progress> {
     }
 }
 
-/// A thread goes on up to the first step that isn't `Went`: the number of that step, and what it came to.
-fn finish<K: PiKernel + Drop>(parts: &mut Parts<K>, t: Tid) -> Option<(u32, Progress)> {
+/// A thread goes on up to the first step that isn't `Went`.
+fn finish<K: PiKernel + Drop>(parts: &mut Parts<K>, t: Tid) -> Option<Reply> {
     for step in 1..=8 {
         match go(parts, t)? {
             Progress::Went => (),
-            progress => return Some((step, progress)),
+            progress => return Some(Reply::Ended(step, progress)),
         }
     }
     None
-}
-
-/// A thread begins a call, and goes on up to the first step that isn't `Went`.
-fn call<K: PiKernel + Drop>(parts: &mut Parts<K>, t: Tid, wish: Wish) -> Option<Reply> {
-    begin(parts, t, request(wish)?)?;
-    end_of(parts, t)
-}
-
-/// The same of a call that was begun.
-fn end_of<K: PiKernel + Drop>(parts: &mut Parts<K>, t: Tid) -> Option<Reply> {
-    let (step, progress) = finish(parts, t)?;
-    Some(Reply::Ended(step, progress))
 }
 
 /// The request of these numbers. `None` if one is nobody's.
@@ -220,52 +208,6 @@ fn request(wish: Wish) -> Option<Request> {
     })
 }
 
-/// A living thread ends.
-fn end<K: PiKernel + Drop>(parts: &mut Parts<K>, t: Tid) -> Option<Reply> {
-    if t.get() > parts.threads() || !parts.is_living(t) {
-        return None;
-    }
-    parts.end(t);
-    Some(Reply::Done)
-}
-
-/// The time is this from now on, if it is not before the present one.
-fn tick<K: PiKernel + Drop>(parts: &mut Parts<K>, time: u32) -> Option<Reply> {
-    if time < parts.time() {
-        return None;
-    }
-    parts.tick(time);
-    Some(Reply::Done)
-}
-
-/// What a thread does, if it was added.
-fn status<K: PiKernel + Drop>(parts: &Parts<K>, t: Tid) -> Option<Reply> {
-    if t.get() > parts.threads() {
-        return None;
-    }
-    Some(doing(parts.status(t)))
-}
-
-/// Whether so many threads, mutexes and variables were added.
-fn has_counts<K: PiKernel + Drop>(
-    parts: &Parts<K>,
-    threads: u32,
-    mutexes: u32,
-    conds: u32,
-) -> bool {
-    parts.threads() == threads && parts.mutexes() == mutexes && parts.conds() == conds
-}
-
-/// Whether a thread, if it was added, has this call open.
-fn has_open<K: PiKernel + Drop>(parts: &Parts<K>, t: Tid, request: Request) -> bool {
-    t.get() <= parts.threads() && parts.open_call(t) == Some(request)
-}
-
-/// What is answered where this holds.
-fn done(holds: bool) -> Option<Reply> {
-    if holds { Some(Reply::Done) } else { None }
-}
-
 /// What a thread of this status does.
 pub fn doing(status: Status) -> Reply {
     match status {
@@ -277,119 +219,141 @@ pub fn doing(status: Status) -> Reply {
     }
 }
 
-pub fn who(read: Option<Tid>) -> Reply {
-    match read {
-        Some(t) => Reply::Thread(t.get()),
-        None => Reply::Nobody,
-    }
-}
-
-pub fn level(read: Option<Prio>) -> Reply {
-    match read {
-        Some(prio) => Reply::Prio(prio.get()),
-        None => Reply::Nobody,
-    }
-}
-
-fn bits(read: Option<u32>) -> Reply {
-    match read {
-        Some(word) => Reply::Bits(word),
-        None => Reply::Nobody,
-    }
-}
-
-fn health(read: Option<Health>) -> Reply {
-    match read {
-        Some(health) => Reply::Is(health),
-        None => Reply::Nobody,
-    }
-}
-
 /// The answer to what is asked. `None` if it can't be asked: a number is nobody's, there is no room, or the thread of a
 /// step has no call open, or has one where it begins one.
 pub fn answer<K: PiKernel + Drop>(parts: &mut Parts<K>, ask: Ask) -> Option<Reply> {
     Some(match ask {
-        Ask::AddThread(level) => Reply::Added(thread(parts, level)?.get()),
-        Ask::AddMutex(kind, robust) => Reply::Added(mutex(parts, kind, robust)?.get()),
-        Ask::AddCond(m) => Reply::Added(variable(parts, MutexId::new(m)?)?.get()),
+        Ask::AddThread(_) | Ask::AddMutex(_, _) | Ask::AddCond(_) => Reply::Added(add(parts, ask)?),
         Ask::Begin(t, wish) => {
             begin(parts, Tid::new(t)?, request(wish)?)?;
             Reply::Done
         }
         Ask::Go(t) => Reply::Step(go(parts, Tid::new(t)?)?),
-        Ask::Call(t, wish) => call(parts, Tid::new(t)?, wish)?,
-        Ask::Finish(t) => end_of(parts, Tid::new(t)?)?,
-        Ask::End(t) => end(parts, Tid::new(t)?)?,
-        Ask::Tick(time) => tick(parts, time)?,
-        Ask::Status(t) => status(parts, Tid::new(t)?)?,
-        other => read(parts, other)?,
+        Ask::Call(t, wish) => {
+            let t = Tid::new(t)?;
+            begin(parts, t, request(wish)?)?;
+            finish(parts, t)?
+        }
+        Ask::Finish(t) => finish(parts, Tid::new(t)?)?,
+        Ask::End(t) => {
+            end(parts, Tid::new(t)?)?;
+            Reply::Done
+        }
+        Ask::Tick(time) => {
+            tick(parts, time)?;
+            Reply::Done
+        }
+        other => read(parts, other).unwrap_or(Reply::Nobody),
     })
 }
 
-/// The same of what reads and can always be asked.
+/// A living thread ends.
+fn end<K: PiKernel + Drop>(parts: &mut Parts<K>, t: Tid) -> Option<()> {
+    if !parts.is_living(t) {
+        return None;
+    }
+    parts.end(t);
+    Some(())
+}
+
+/// The time is this from now on, if it is not before the present one.
+fn tick<K: PiKernel + Drop>(parts: &mut Parts<K>, time: u32) -> Option<()> {
+    if time < parts.time() {
+        return None;
+    }
+    parts.tick(time);
+    Some(())
+}
+
+/// What is read. `None` if nothing is there.
 fn read<K: PiKernel + Drop>(parts: &Parts<K>, ask: Ask) -> Option<Reply> {
     Some(match ask {
-        Ask::Word(m) => bits(parts.word(MutexId::new(m)?)),
-        Ask::Health(m) => health(parts.health(MutexId::new(m)?)),
-        Ask::Uses(c) => bits(parts.cond_word(CondId::new(c)?)),
-        Ask::Effective(t) => level(parts.effective(Tid::new(t)?)),
-        Ask::Base(t) => level(parts.base(Tid::new(t)?)),
-        Ask::Waiter(m, place) => who(parts.waiter(MutexId::new(m)?, place)),
-        Ask::Parked(c, place) => who(parts.parked(CondId::new(c)?, place)),
-        Ask::Ready(place) => who(parts.ready(place)),
-        Ask::Pick => who(parts.pick()),
-        Ask::Limits(threads, mutexes, conds, uses) => {
-            done(Some(parts.limits()) == Limits::new(threads, mutexes, conds, uses))?
-        }
-        Ask::Counts(threads, mutexes, conds) => done(has_counts(parts, threads, mutexes, conds))?,
-        Ask::IsOpen(t, wish) => done(has_open(parts, Tid::new(t)?, request(wish)?))?,
-        _ => return None,
+        Ask::Word(m) => Reply::Bits(parts.word(MutexId::new(m)?)?),
+        Ask::Health(m) => Reply::Is(parts.health(MutexId::new(m)?)?),
+        Ask::Uses(c) => Reply::Bits(parts.cond_word(CondId::new(c)?)?),
+        Ask::Effective(t) => Reply::Prio(parts.effective(Tid::new(t)?)?.get()),
+        Ask::Base(t) => Reply::Prio(parts.base(Tid::new(t)?)?.get()),
+        Ask::Waiter(m, place) => Reply::Thread(parts.waiter(MutexId::new(m)?, place)?.get()),
+        Ask::Parked(c, place) => Reply::Thread(parts.parked(CondId::new(c)?, place)?.get()),
+        Ask::Ready(place) => Reply::Thread(parts.ready(place)?.get()),
+        Ask::Pick => Reply::Thread(parts.pick()?.get()),
+        Ask::Counts => Reply::Counts(parts.threads(), parts.mutexes(), parts.conds()),
+        other => read_more(parts, other)?,
     })
+}
+
+/// The same of limits, and of a thread that was added.
+fn read_more<K: PiKernel + Drop>(parts: &Parts<K>, ask: Ask) -> Option<Reply> {
+    match ask {
+        Ask::Limits => {
+            let limits = parts.limits();
+            Some(Reply::Limits(
+                limits.threads(),
+                limits.mutexes(),
+                limits.conds(),
+                limits.signals(),
+            ))
+        }
+        Ask::Status(t) if t <= parts.threads() => Some(doing(parts.status(Tid::new(t)?))),
+        Ask::IsOpen(t, wish) if t <= parts.threads() => {
+            let open = parts.open_call(Tid::new(t)?) == Some(request(wish)?);
+            if open { Some(Reply::Done) } else { None }
+        }
+        _ => None,
+    }
 }
 
 /// Sees that what was answered at this place is this.
-pub fn see(rt: &impl Abort, read: Option<Reply>, reply: Option<Reply>, place: u32) {
-    assert!(rt; read == reply, "at place {place}");
+pub fn see(rt: &impl Abort, read: Option<Reply>, reply: Option<Reply>, name: &str, place: u32) {
+    assert!(rt; read == reply, "{name}, at place {place}");
 }
 
-/// Asks all this in turn, and sees that each answer is the one beside it.
-fn check<K: PiKernel + Drop>(rt: &impl Abort, parts: &mut Parts<K>, steps: &[(Ask, Reply)]) {
-    let mut place = 0_u32;
-    for (ask, reply) in steps {
-        see(rt, answer(parts, *ask), Some(*reply), place);
-        place = place.saturating_add(1);
-    }
-}
-
-/// The same with what stands in these tables.
-fn check_all<K: PiKernel + Drop>(
+/// Asks all that stands in a table in turn, and sees that each answer is the one beside it. Answers the place behind it.
+fn check_steps<K: PiKernel + Drop>(
     rt: &impl Abort,
     parts: &mut Parts<K>,
-    tables: &[&[(Ask, Reply)]],
-) {
+    steps: &[(Ask, Reply)],
+    name: &str,
+    first: u32,
+) -> u32 {
+    let mut place = first;
+    for (ask, reply) in steps {
+        see(rt, answer(parts, *ask), Some(*reply), name, place);
+        place = place.saturating_add(1);
+    }
+    place
+}
+
+/// The same of each of the tables of a story.
+fn check<K: PiKernel + Drop>(rt: &impl Abort, parts: &mut Parts<K>, story: &Story) {
+    let (name, tables) = *story;
+    let mut place = 0_u32;
     for steps in tables {
-        check(rt, parts, steps);
+        place = check_steps(rt, parts, steps, name, place);
     }
 }
 
-/// The same of new parts under these limits, with either kernel.
+/// Does so with each of these stories, each time on new parts under these limits, with either kernel.
 pub fn play<R: Abort>(
     rt: &R,
     alloc: Global,
     limits: Limits,
-    tables: &[&[(Ask, Reply)]],
+    stories: &[Story],
 ) -> Result<(), Fail> {
-    play_on::<PlainChains, R>(rt, alloc, limits, tables)?;
-    play_on::<LinkedChains, R>(rt, alloc, limits, tables)
+    for story in stories {
+        play_on::<PlainChains, R>(rt, alloc, limits, story)?;
+        play_on::<LinkedChains, R>(rt, alloc, limits, story)?;
+    }
+    Ok(())
 }
 
 fn play_on<C: Chains + Drop, R: Abort>(
     rt: &R,
     alloc: Global,
     limits: Limits,
-    tables: &[&[(Ask, Reply)]],
+    story: &Story,
 ) -> Result<(), Fail> {
     let mut parts = new_parts::<C>(alloc, limits, 1)?;
-    check_all(rt, &mut parts, tables);
+    check(rt, &mut parts, story);
     Ok(())
 }

@@ -9,12 +9,10 @@
 //! | `run_queue` | `pif_runq`: who is picked |
 //! | `buckets` | `pif_queue`: words of one bucket, the order of parked threads, their targets and their tickets |
 //! | `robust_lists` | `pif_robust`: each write of a lock and an unlock, and the walk at an end |
-//! | `seen` | none: it compares what was read with what is wanted |
 mod buckets;
 mod nodes;
 mod numbers;
 mod robust_lists;
 mod run_queue;
-mod seen;
 mod sorted_lists;
 mod words;

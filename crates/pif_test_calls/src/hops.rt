@@ -5,8 +5,7 @@ ghost use Rattle.pif_kernel_model.specs.Owners.{owner_at, count};
 ghost use Rattle.pif_kernel_model.specs.States.{owners_in};
 ghost use Rattle.pif_test_calls.specs.ChainExamples.{AreNewStates, IsAtRest, StandSettled};
 
-use super::seen::{number_of, see};
-use super::walks::{priority, thread};
+use super::seen::{priority, see, thread};
 use pif_boost::{walk, would_close};
 use pif_kernel_model::Key;
 use pif_nodes::NodeTable;
@@ -88,14 +87,14 @@ fn chain_up(
     for number in 1..1000 {
         let state = state_of(owners, queue, table, thread(number));
         let hops = wait_on(owners, queue, table, state, thread(number + 1));
-        see(rt, number_of(hops), Some(1));
+        see(rt, hops, Some(1), number);
     }
     let state = state_of(owners, queue, table, thread(1000));
     wait_on(owners, queue, table, state, thread(1001))
 }
 
 // Threads 1 to 1,000 wait in a chain, and then thread 1,001 of this priority.
-fn walk_in(rt: &impl Abort, owners: &mut RtMutexes, table: &mut NodeTable, last: u32, hops: u64)
+fn walk_in(rt: &impl Abort, owners: &mut RtMutexes, table: &mut NodeTable, last: u32, hops: u32)
     requires owners { AreNewStates 1001 owners.old }
     requires table { table.old ≡ record { lists = replicate 2101 []; keys = replicate 3003 no_key } }
     requires apart { IsApart table.old }
@@ -104,15 +103,12 @@ fn walk_in(rt: &impl Abort, owners: &mut RtMutexes, table: &mut NodeTable, last:
 {
     let mut queue = RunQueue::new(2002, 2002, 1001);
     admit_all(owners, &queue, table, last);
-    see(
-        rt,
-        number_of(chain_up(rt, owners, &mut queue, table)),
-        Some(hops),
-    );
+    let walked = chain_up(rt, owners, &mut queue, table);
+    see(rt, walked, Some(hops), last);
 }
 
 // The last of 1,001 threads, of this priority, waits at the end of a chain of 1,000 of priority 1.
-fn walk_up_a_chain(rt: &impl Abort, alloc: Global, last: u32, hops: u64) -> Result<(), Fail>
+fn walk_up_a_chain(rt: &impl Abort, alloc: Global, last: u32, hops: u32) -> Result<(), Fail>
     requires least { 1 ≤ last }
     requires most { last ≤ 99 }
 {

@@ -4,12 +4,12 @@ mod parked;
 mod random_calls;
 mod tickets;
 
-ghost use Rattle.std.specs.Prelude.{◌≡◌, ◌<◌, ◌≤◌, ◌+◌, ℕ, true, false, length, OnSome};
+ghost use Rattle.std.specs.Prelude.{◌≡◌, ◌<◌, ◌≤◌, ◌+◌, ℕ, true, length, IfSome};
 ghost use Rattle.pif_model.specs.PiKernel.{has_seat, is_living, is_ready, seat_at};
 ghost use Rattle.pif_model.specs.RobustList.{robust_at};
 ghost use Rattle.pif_kernel_model.specs.Inside.{kernel_of};
 
-use super::driver::{Reply, doing, level, see, who};
+use super::driver::{Reply, doing, see};
 use pif_chains_linked::LinkedChains;
 use pif_kernel::{Chains, KernelOn, PiKernel, Status, Took, Woken};
 use pif_plain::PlainChains;
@@ -20,10 +20,10 @@ use std::alloc::Global;
 use std::process::Abort;
 use std::test::Fail;
 
-// A kernel on chains of some form, words beside it, and where the lists of a thread that ends take their memory.
+// A kernel, words beside it, and where the lists of a thread that ends take their memory.
 #[derive(Drop)]
-struct Scene<C: Chains + Drop> {
-    kernel: KernelOn<C>,
+struct Scene<K: PiKernel + Drop> {
+    kernel: K,
     words: Words,
     alloc: Global,
 }
@@ -54,168 +54,139 @@ enum Ask {
     // Of the threads from this one on along whom each waits for, the one at this place.
     Path(u32, u32),
     Pick,
-    NextTicket,
     Word(u32),
     Store(u32, u32),
     StoreUses(u32, u32),
 }
 
-impl<C: Chains + Drop> Scene<C> {
-    // A thread of each of these priorities and room for one more, this first ticket, so many mutexes, and two variables;
-    // all words are 0.
-    fn new(alloc: Global, levels: &[u32], mutexes: u32, first_ticket: u64) -> Result<Scene<C>, Fail>
-        requires threads { length levels.now ≤ 1024 }
-        requires ticket { 1 ≤ first_ticket }
-    {
-        let limits = Limits::new(levels.len() as u32 + 1, mutexes, 2, 1).ok_or("limits")?;
-        let words = Words::new(alloc, limits)?;
-        let kernel: KernelOn<C> = kernel_with(alloc, limits, levels, first_ticket)?;
-        Ok(Scene {
-            kernel,
-            words,
-            alloc,
-        })
-    }
+// What is asked, and what is answered.
+type Steps = &'static [(Ask, Reply)];
 
-    // `None` if it can't be asked: a number is nobody's, or the thread of a call may not run.
-    fn answer(&mut self, ask: Ask) -> Option<Reply> {
-        match ask {
-            Ask::Lock(t, m) => self.lock(Tid::new(t)?, MutexId::new(m)?),
-            Ask::TryLock(t, m) => self.trylock(Tid::new(t)?, MutexId::new(m)?),
-            Ask::Unlock(t, m) => self.unlock(Tid::new(t)?, MutexId::new(m)?),
-            Ask::Park(t, c, expected, m) => {
-                self.park(Tid::new(t)?, CondId::new(c)?, expected, MutexId::new(m)?)
-            }
-            Ask::Requeue(c, expected, m, val, more) => {
-                self.requeue(CondId::new(c)?, expected, MutexId::new(m)?, val, more)
-            }
-            Ask::SetPrio(t, p) => self.set_prio(Tid::new(t)?, p),
-            Ask::Stop(t) => self.stop(Tid::new(t)?),
-            Ask::Expire(t) => self.expire(Tid::new(t)?),
-            Ask::End(t, m) => self.end(Tid::new(t)?, MutexId::new(m)?),
-            Ask::Store(m, bits) => self.store(MutexId::new(m)?, bits),
-            Ask::StoreUses(c, uses) => self.store_uses(CondId::new(c)?, uses),
-            other => self.read(other),
+// What a new scene is asked: the name of that, the priorities of its threads, how many mutexes it has, and the steps,
+// table after table.
+type Story = (&'static str, &'static [u32], u32, [Steps; 3]);
+
+// A kernel with a thread of each of these priorities and room for one more, this first ticket, so many mutexes, and two
+// variables; all words are 0.
+fn new_scene<C: Chains + Drop>(
+    alloc: Global,
+    levels: &[u32],
+    mutexes: u32,
+    first_ticket: u64,
+) -> Result<Scene<KernelOn<C>>, Fail>
+    requires { 1 ≤ first_ticket }
+{
+    let threads = u32::try_from(levels.len()).map_err(|_| "threads")?;
+    let limits = Limits::new(threads.saturating_add(1), mutexes, 2, 1).ok_or("limits")?;
+    let words = Words::new(alloc, limits)?;
+    let mut kernel: KernelOn<C> = KernelOn::new(alloc, limits, first_ticket)?;
+    add_all(&mut kernel, levels)?;
+    Ok(Scene {
+        kernel,
+        words,
+        alloc,
+    })
+}
+
+// Adds a thread of each of these priorities, for whom there is room.
+fn add_all<C: Chains + Drop>(kernel: &mut KernelOn<C>, levels: &[u32]) -> Result<(), Fail>
+    requires { length (kernel_of kernel.old).seats + length levels.now ≤ (kernel_of kernel.old).limits.threads + 1 }
+{
+    for level in levels {
+        let prio = Prio::new(*level).ok_or("a priority")?;
+        kernel.add(prio);
+    }
+    Ok(())
+}
+
+// The answer to what is asked. `None` if it can't be asked: a number is nobody's, or the thread of a call may not run.
+fn answer<K: PiKernel + Drop>(scene: &mut Scene<K>, ask: Ask) -> Option<Reply> {
+    match ask {
+        Ask::Lock(t, _)
+        | Ask::TryLock(t, _)
+        | Ask::Unlock(t, _)
+        | Ask::Park(t, _, _, _)
+        | Ask::Stop(t) => {
+            let t = ready(&scene.kernel, t)?;
+            call(scene, t, ask)
         }
-    }
-
-    // The same of what reads.
-    fn read(&self, ask: Ask) -> Option<Reply> {
-        match ask {
-            Ask::Word(m) => self.word(MutexId::new(m)?),
-            Ask::Status(t) => self.status(Tid::new(t)?),
-            Ask::Effective(t) => Some(level(self.kernel.effective(Tid::new(t)?))),
-            Ask::Base(t) => self.base(Tid::new(t)?),
-            Ask::Waiter(m, place) => Some(who(self.kernel.waiter(MutexId::new(m)?, place))),
-            Ask::Parked(c, place) => Some(who(self.kernel.parked(CondId::new(c)?, place))),
-            Ask::Ready(place) => Some(who(self.kernel.ready(place))),
-            Ask::Path(t, place) => self.path(Tid::new(t)?, place),
-            Ask::Pick => Some(who(self.kernel.pick())),
-            Ask::NextTicket => Some(Reply::Ticket(self.kernel.next_ticket())),
-            _ => None,
+        Ask::Requeue(c, expected, m, val, more) => {
+            let (c, m) = (CondId::new(c)?, MutexId::new(m)?);
+            let answer = scene
+                .kernel
+                .cmp_requeue_pi(&mut scene.words, c, m, val, more, expected);
+            Some(match answer {
+                Ok(taken) => Reply::Taken(taken),
+                Err(errno) => Reply::Refused(errno),
+            })
         }
+        Ask::SetPrio(t, p) => Some(done(scene.kernel.set_prio(Tid::new(t)?, p))),
+        Ask::Expire(t) => expire(&mut scene.kernel, t),
+        Ask::End(t, m) => end(scene, t, MutexId::new(m)?),
+        Ask::Store(m, bits) => store(&mut scene.words, &Cell::Mutex(MutexId::new(m)?), bits),
+        Ask::StoreUses(c, uses) => store(&mut scene.words, &Cell::Cond(CondId::new(c)?), uses),
+        other => Some(read(scene, other).unwrap_or(Reply::Nobody)),
     }
+}
 
-    fn path(&self, t: Tid, place: u32) -> Option<Reply> {
-        let path = self.kernel.path(t);
-        Some(who(path.as_slice().get(place as usize).copied()))
-    }
-
-    fn lock(&mut self, t: Tid, m: MutexId) -> Option<Reply> {
-        see_ready(&self.kernel, t)?;
-        Some(match self.kernel.lock_pi(&mut self.words, t, m) {
+// The same of a call by a thread that may run.
+fn call<K: PiKernel + Drop>(scene: &mut Scene<K>, t: Tid, ask: Ask) -> Option<Reply>
+    requires added { has_seat (K.meaning scene.old.kernel) t ≡ true }
+    requires ready { is_ready (seat_at (K.meaning scene.old.kernel) t).status ≡ true }
+{
+    let Scene { kernel, words, .. } = scene;
+    Some(match ask {
+        Ask::Lock(_, m) => match kernel.lock_pi(words, t, MutexId::new(m)?) {
             Ok(Took::Owns) => Reply::Owns,
             Ok(Took::Queued) => Reply::Queued,
             Err(errno) => Reply::Refused(errno),
-        })
-    }
-
-    fn trylock(&mut self, t: Tid, m: MutexId) -> Option<Reply> {
-        see_ready(&self.kernel, t)?;
-        Some(done(self.kernel.trylock_pi(&mut self.words, t, m)))
-    }
-
-    fn unlock(&mut self, t: Tid, m: MutexId) -> Option<Reply> {
-        see_ready(&self.kernel, t)?;
-        Some(done(self.kernel.unlock_pi(&mut self.words, t, m)))
-    }
-
-    fn park(&mut self, t: Tid, c: CondId, expected: u32, m: MutexId) -> Option<Reply> {
-        see_ready(&self.kernel, t)?;
-        Some(done(self.kernel.wait_requeue_pi(&self.words, t, c, expected, m)))
-    }
-
-    fn requeue(
-        &mut self,
-        c: CondId,
-        expected: u32,
-        m: MutexId,
-        val: u32,
-        more: u32,
-    ) -> Option<Reply> {
-        match self
-            .kernel
-            .cmp_requeue_pi(&mut self.words, c, m, val, more, expected)
-        {
-            Ok(taken) => Some(Reply::Taken(taken)),
-            Err(errno) => Some(Reply::Refused(errno)),
+        },
+        Ask::TryLock(_, m) => done(kernel.trylock_pi(words, t, MutexId::new(m)?)),
+        Ask::Unlock(_, m) => done(kernel.unlock_pi(words, t, MutexId::new(m)?)),
+        Ask::Park(_, c, expected, m) => {
+            done(kernel.wait_requeue_pi(words, t, CondId::new(c)?, expected, MutexId::new(m)?))
         }
-    }
-
-    fn set_prio(&mut self, t: Tid, p: u32) -> Option<Reply> {
-        Some(done(self.kernel.set_prio(t, p)))
-    }
-
-    fn stop(&mut self, t: Tid) -> Option<Reply> {
-        see_ready(&self.kernel, t)?;
-        self.kernel.stop(t);
-        Some(Reply::Done)
-    }
-
-    fn expire(&mut self, t: Tid) -> Option<Reply> {
-        see_waiting(&self.kernel, t)?;
-        self.kernel.expire(t);
-        Some(Reply::Done)
-    }
-
-    fn end(&mut self, t: Tid, m: MutexId) -> Option<Reply> {
-        see_living(&self.kernel, t)?;
-        let mut lists = lists_with(self.alloc, t, m)?;
-        self.kernel.exit(&mut self.words, &mut lists, t);
-        Some(Reply::Done)
-    }
-
-    fn status(&self, t: Tid) -> Option<Reply> {
-        see_living(&self.kernel, t)?;
-        Some(doing(self.kernel.status(t)))
-    }
-
-    fn base(&self, t: Tid) -> Option<Reply> {
-        see_living(&self.kernel, t)?;
-        Some(Reply::Prio(self.kernel.base(t).get()))
-    }
-
-    fn word(&self, m: MutexId) -> Option<Reply> {
-        if !self.words.has(Cell::Mutex(m)) {
-            return None;
+        _ => {
+            kernel.stop(t);
+            Reply::Done
         }
-        Some(Reply::Bits(self.words.load(Cell::Mutex(m))))
-    }
+    })
+}
 
-    fn store(&mut self, m: MutexId, bits: u32) -> Option<Reply> {
-        if !self.words.has(Cell::Mutex(m)) {
-            return None;
+// What is read. `None` if nothing is there.
+fn read<K: PiKernel + Drop>(scene: &Scene<K>, ask: Ask) -> Option<Reply> {
+    let kernel = &scene.kernel;
+    Some(match ask {
+        Ask::Word(m) => {
+            let cell = Cell::Mutex(MutexId::new(m)?);
+            if !scene.words.has(cell) {
+                return None;
+            }
+            Reply::Bits(scene.words.load(cell))
         }
-        self.words.store(Cell::Mutex(m), bits);
-        Some(Reply::Done)
-    }
+        Ask::Status(t) => doing(kernel.status(living(kernel, t)?)),
+        Ask::Effective(t) => Reply::Prio(kernel.effective(Tid::new(t)?)?.get()),
+        Ask::Base(t) => Reply::Prio(kernel.base(living(kernel, t)?).get()),
+        Ask::Waiter(m, place) => Reply::Thread(kernel.waiter(MutexId::new(m)?, place)?.get()),
+        Ask::Parked(c, place) => Reply::Thread(kernel.parked(CondId::new(c)?, place)?.get()),
+        Ask::Ready(place) => Reply::Thread(kernel.ready(place)?.get()),
+        Ask::Path(t, place) => {
+            let path = kernel.path(Tid::new(t)?);
+            Reply::Thread(path.as_slice().get(place as usize)?.get())
+        }
+        Ask::Pick => Reply::Thread(kernel.pick()?.get()),
+        _ => return None,
+    })
+}
 
-    fn store_uses(&mut self, c: CondId, uses: u32) -> Option<Reply> {
-        if !self.words.has(Cell::Cond(c)) {
-            return None;
+fn expire<K: PiKernel + Drop>(kernel: &mut K, t: u32) -> Option<Reply> {
+    let t = living(kernel, t)?;
+    match kernel.status(t) {
+        Status::Ready(_) => None,
+        Status::Queued(_) | Status::Parked(_) | Status::Stopped | Status::Ended => {
+            kernel.expire(t);
+            Some(Reply::Done)
         }
-        self.words.store(Cell::Cond(c), uses);
-        Some(Reply::Done)
     }
 }
 
@@ -231,15 +202,23 @@ fn list(lists: &mut RobustLists, t: Tid, m: MutexId)
     }
 }
 
-// New robust lists of 99 threads and mutexes, of which that of this thread has this mutex, if their numbers are below
-// 100.
-fn lists_with(alloc: Global, t: Tid, m: MutexId) -> Option<RobustLists> {
-    let limits = Limits::new(99, 99, 0, 1)?;
-    let mut lists = RobustLists::new(alloc, limits).ok()?;
+// A thread ends whose robust list has this mutex, if both have a number below 100.
+fn end<K: PiKernel + Drop>(scene: &mut Scene<K>, t: u32, m: MutexId) -> Option<Reply> {
+    let t = living(&scene.kernel, t)?;
+    let mut lists = RobustLists::new(scene.alloc, Limits::new(99, 99, 0, 1)?).ok()?;
     if t.get() < 100 && m.get() < 100 {
         list(&mut lists, t, m);
     }
-    Some(lists)
+    scene.kernel.exit(&mut scene.words, &mut lists, t);
+    Some(Reply::Done)
+}
+
+fn store(words: &mut Words, cell: &Cell, bits: u32) -> Option<Reply> {
+    if !words.has(*cell) {
+        return None;
+    }
+    words.store(*cell, bits);
+    Some(Reply::Done)
 }
 
 fn done(answer: Result<(), Errno>) -> Reply {
@@ -249,132 +228,75 @@ fn done(answer: Result<(), Errno>) -> Reply {
     }
 }
 
-// A new kernel under these limits, with a thread of each of these priorities and this first ticket.
-fn kernel_with<C: Chains + Drop>(
-    alloc: Global,
-    limits: Limits,
-    levels: &[u32],
-    first_ticket: u64,
-) -> Result<KernelOn<C>, Fail>
-    requires threads { length levels.now ≤ limits.threads }
-    requires ticket { 1 ≤ first_ticket }
+// The living thread of this number. `None` if there is none.
+fn living<K: PiKernel + Drop>(kernel: &K, number: u32) -> Option<Tid>
+    ensures living { IfSome result (λ t. is_living (K.meaning kernel.now) t ≡ true) }
+    ensures added { IfSome result (λ t. has_seat (K.meaning kernel.now) t ≡ true) }
 {
-    let mut kernel: KernelOn<C> = KernelOn::new(alloc, limits, first_ticket)?;
-    add_all(&mut kernel, levels)?;
-    Ok(kernel)
-}
-
-// Adds a thread of each of these priorities, for whom there is room.
-fn add_all<C: Chains + Drop>(kernel: &mut KernelOn<C>, levels: &[u32]) -> Result<(), Fail>
-    requires { length (kernel_of kernel.old).seats + length levels.now ≤ (kernel_of kernel.old).limits.threads + 1 }
-{
-    for level in levels {
-        let prio = Prio::new(*level).ok_or("a priority")?;
-        kernel.add(prio);
-    }
-    Ok(())
-}
-
-// `None` if the thread doesn't live.
-fn see_living<C: Chains + Drop>(kernel: &KernelOn<C>, t: Tid) -> Option<()>
-    ensures living { OnSome result (is_living (kernel_of kernel.now) t ≡ true) }
-    ensures added { OnSome result (has_seat (kernel_of kernel.now) t ≡ true) }
-{
+    let t = Tid::new(number)?;
     let _prio = kernel.effective(t)?;
-    Some(())
+    Some(t)
 }
 
-// `None` if the thread wasn't added or may not run.
-fn see_ready<C: Chains + Drop>(kernel: &KernelOn<C>, t: Tid) -> Option<()>
-    ensures added { OnSome result (has_seat (kernel_of kernel.now) t ≡ true) }
-    ensures ready { OnSome result (is_ready (seat_at (kernel_of kernel.now) t).status ≡ true) }
+// The same if it may run.
+fn ready<K: PiKernel + Drop>(kernel: &K, number: u32) -> Option<Tid>
+    ensures added { IfSome result (λ t. has_seat (K.meaning kernel.now) t ≡ true) }
+    ensures ready { IfSome result (λ t. is_ready (seat_at (K.meaning kernel.now) t).status ≡ true) }
 {
-    see_living(kernel, t)?;
+    let t = living(kernel, number)?;
     match kernel.status(t) {
-        Status::Ready(_) => Some(()),
+        Status::Ready(_) => Some(t),
         Status::Queued(_) | Status::Parked(_) | Status::Stopped | Status::Ended => None,
     }
 }
 
-// `None` if the thread doesn't live, or may run.
-fn see_waiting<C: Chains + Drop>(kernel: &KernelOn<C>, t: Tid) -> Option<()>
-    ensures living { OnSome result (is_living (kernel_of kernel.now) t ≡ true) }
-    ensures unready { OnSome result (is_ready (seat_at (kernel_of kernel.now) t).status ≡ false) }
-{
-    see_living(kernel, t)?;
-    match kernel.status(t) {
-        Status::Ready(_) => None,
-        Status::Queued(_) | Status::Parked(_) | Status::Stopped | Status::Ended => Some(()),
-    }
-}
-
-// Asks all this in turn, and sees that each answer is the one beside it.
-fn check<C: Chains + Drop>(rt: &impl Abort, scene: &mut Scene<C>, steps: &[(Ask, Reply)]) {
+// Asks all that stands in these tables in turn, and sees that each answer is the one beside it.
+fn check<K: PiKernel + Drop>(
+    rt: &impl Abort,
+    scene: &mut Scene<K>,
+    name: &str,
+    tables: [Steps; 3],
+) {
     let mut place = 0_u32;
-    for (ask, reply) in steps {
-        see(rt, scene.answer(*ask), Some(*reply), place);
-        place = place.saturating_add(1);
-    }
-}
-
-// The same with what stands in these tables.
-fn check_all<C: Chains + Drop>(rt: &impl Abort, scene: &mut Scene<C>, tables: &[&[(Ask, Reply)]]) {
     for steps in tables {
-        check(rt, scene, steps);
+        for (ask, reply) in steps {
+            see(rt, answer(scene, *ask), Some(*reply), name, place);
+            place = place.saturating_add(1);
+        }
     }
 }
 
-// The same of a new scene of such threads and so many mutexes, on either kernel.
-fn play<R: Abort>(
-    rt: &R,
-    alloc: Global,
-    levels: &[u32],
-    mutexes: u32,
-    tables: &[&[(Ask, Reply)]],
-) -> Result<(), Fail>
-    requires { length levels.now ≤ 1024 }
-{
-    play_from(rt, alloc, levels, mutexes, 1, tables)
-}
-
-// The same with this first ticket.
-fn play_from<R: Abort>(
-    rt: &R,
-    alloc: Global,
-    levels: &[u32],
-    mutexes: u32,
-    first_ticket: u64,
-    tables: &[&[(Ask, Reply)]],
-) -> Result<(), Fail>
-    requires threads { length levels.now ≤ 1024 }
-    requires ticket { 1 ≤ first_ticket }
-{
-    play_on::<PlainChains, R>(rt, alloc, levels, mutexes, first_ticket, tables)?;
-    play_on::<LinkedChains, R>(rt, alloc, levels, mutexes, first_ticket, tables)
-}
-
-fn play_on<C: Chains + Drop, R: Abort>(
-    rt: &R,
-    alloc: Global,
-    levels: &[u32],
-    mutexes: u32,
-    first_ticket: u64,
-    tables: &[&[(Ask, Reply)]],
-) -> Result<(), Fail>
-    requires threads { length levels.now ≤ 1024 }
-    requires ticket { 1 ≤ first_ticket }
-{
-    let mut scene: Scene<C> = Scene::new(alloc, levels, mutexes, first_ticket)?;
-    check_all(rt, &mut scene, tables);
+// Does so with each of these stories.
+fn play_all<R: Abort>(rt: &R, alloc: Global, stories: &[Story]) -> Result<(), Fail> {
+    for story in stories {
+        play(rt, alloc, story)?;
+    }
     Ok(())
 }
 
-static NOBODY_RUNS: [(Ask, Reply); 1] = [(Ask::Pick, Reply::Nobody)];
-
-#[test]
-fn nobody_runs_in_a_new_kernel(rt: HostRuntime) -> Result<(), Fail> {
-    play(&rt, rt.alloc(), &[], 1, &[&NOBODY_RUNS])
+// Does so with this story, on either kernel.
+fn play<R: Abort>(rt: &R, alloc: Global, story: &Story) -> Result<(), Fail> {
+    play_on::<PlainChains, R>(rt, alloc, story, 1)?;
+    play_on::<LinkedChains, R>(rt, alloc, story, 1)?;
+    Ok(())
 }
+
+// The same on one of them, with this first ticket. Answers the next one then.
+fn play_on<C: Chains + Drop, R: Abort>(
+    rt: &R,
+    alloc: Global,
+    story: &Story,
+    first_ticket: u64,
+) -> Result<u64, Fail>
+    requires { 1 ≤ first_ticket }
+{
+    let (name, levels, mutexes, tables) = *story;
+    let mut scene: Scene<KernelOn<C>> = new_scene(alloc, levels, mutexes, first_ticket)?;
+    check(rt, &mut scene, name, tables);
+    Ok(scene.kernel.next_ticket())
+}
+
+static NOBODY_RUNS: [(Ask, Reply); 1] = [(Ask::Pick, Reply::Nobody)];
 
 static FREE_MUTEX: [(Ask, Reply); 5] = [
     (Ask::Pick, Reply::Thread(1)),
@@ -384,21 +306,11 @@ static FREE_MUTEX: [(Ask, Reply); 5] = [
     (Ask::Word(1), Reply::Bits(1)),
 ];
 
-#[test]
-fn a_thread_takes_a_free_mutex(rt: HostRuntime) -> Result<(), Fail> {
-    play(&rt, rt.alloc(), &[10], 1, &[&FREE_MUTEX])
-}
-
 static STOPS: [(Ask, Reply); 3] = [
     (Ask::Stop(1), Reply::Done),
     (Ask::Pick, Reply::Nobody),
     (Ask::Status(1), Reply::Stopped),
 ];
-
-#[test]
-fn a_thread_that_stops_is_not_picked(rt: HostRuntime) -> Result<(), Fail> {
-    play(&rt, rt.alloc(), &[10], 1, &[&STOPS])
-}
 
 // lock_pi by thread 1 of three, on words that no thread wrote.
 static STORED_WORDS: [(Ask, Reply); 19] = [
@@ -426,7 +338,16 @@ static STORED_WORDS: [(Ask, Reply); 19] = [
 
 #[test]
 fn kernel_on_stored_words(rt: HostRuntime) -> Result<(), Fail> {
-    play(&rt, rt.alloc(), &[10, 10, 10], 1, &[&STORED_WORDS])
+    play(
+        &rt,
+        rt.alloc(),
+        &(
+            "kernel_on_stored_words",
+            &[10, 10, 10],
+            1,
+            [&STORED_WORDS, &[], &[]],
+        ),
+    )
 }
 
 // trylock_pi and unlock_pi by thread 1 of three, on words that no thread wrote.
@@ -460,7 +381,16 @@ static ANY_WORDS: [(Ask, Reply); 24] = [
 
 #[test]
 fn kernel_refusals_on_any_words(rt: HostRuntime) -> Result<(), Fail> {
-    play(&rt, rt.alloc(), &[10, 10, 10], 1, &[&ANY_WORDS])
+    play(
+        &rt,
+        rt.alloc(),
+        &(
+            "kernel_refusals_on_any_words",
+            &[10, 10, 10],
+            1,
+            [&ANY_WORDS, &[], &[]],
+        ),
+    )
 }
 
 // Thread 1 holds mutex 1, thread 2 holds mutex 2 and waits for mutex 1, and thread 3 waits for mutex 2.
@@ -479,11 +409,6 @@ static BOOSTED: [(Ask, Reply); 5] = [
     (Ask::Lock(1, 2), Reply::Refused(Errno::Deadlock)),
 ];
 
-#[test]
-fn boosts_go_through_a_chain(rt: HostRuntime) -> Result<(), Fail> {
-    play(&rt, rt.alloc(), &[1, 2, 99], 2, &[&CHAIN, &BOOSTED])
-}
-
 static PATHS: [(Ask, Reply); 8] = [
     (Ask::Path(3, 0), Reply::Thread(3)),
     (Ask::Path(3, 1), Reply::Thread(2)),
@@ -495,22 +420,12 @@ static PATHS: [(Ask, Reply); 8] = [
     (Ask::Path(4, 0), Reply::Nobody),
 ];
 
-#[test]
-fn paths_go_up_a_chain(rt: HostRuntime) -> Result<(), Fail> {
-    play(&rt, rt.alloc(), &[1, 2, 99], 2, &[&CHAIN, &PATHS])
-}
-
 static UNLOCKED: [(Ask, Reply); 4] = [
     (Ask::Unlock(1, 1), Reply::Done),
     (Ask::Effective(1), Reply::Prio(1)),
     (Ask::Status(2), Reply::Ready(Woken::Owns)),
     (Ask::Pick, Reply::Thread(2)),
 ];
-
-#[test]
-fn who_unlocks_loses_the_boost(rt: HostRuntime) -> Result<(), Fail> {
-    play(&rt, rt.alloc(), &[1, 2, 99], 2, &[&CHAIN, &UNLOCKED])
-}
 
 static PRIORITY_SET: [(Ask, Reply); 9] = [
     (Ask::Lock(1, 1), Reply::Owns),
@@ -523,11 +438,6 @@ static PRIORITY_SET: [(Ask, Reply); 9] = [
     (Ask::Unlock(1, 1), Reply::Done),
     (Ask::Word(1), Reply::Bits(0x8000_0002)),
 ];
-
-#[test]
-fn priority_is_set_and_places_stay(rt: HostRuntime) -> Result<(), Fail> {
-    play(&rt, rt.alloc(), &[10, 20, 20], 1, &[&PRIORITY_SET])
-}
 
 // Thread 1 holds mutex 1, for which threads 2, 3 and 4, of priorities 20, 50 and 20, wait in that order. Threads 5 and
 // 6, of priorities 30 and 40, are parked on variable 1, and thread 7, of priority 50, is ready.
@@ -557,17 +467,6 @@ static PLACES: [(Ask, Reply); 13] = [
     (Ask::Base(1), Reply::Prio(10)),
 ];
 
-#[test]
-fn places_are_read_in_order(rt: HostRuntime) -> Result<(), Fail> {
-    play(
-        &rt,
-        rt.alloc(),
-        &[10, 20, 50, 20, 30, 40, 50],
-        1,
-        &[&WAITING, &PLACES],
-    )
-}
-
 // The word of the mutex on the list of thread 1, which ends, has the number of thread 2.
 static OF_ANOTHER: [(Ask, Reply); 6] = [
     (Ask::Store(1, 0x0000_0002), Reply::Done),
@@ -591,8 +490,26 @@ static OF_ITS_OWN: [(Ask, Reply); 6] = [
 // And marks one of its own.
 #[test]
 fn exit_leaves_words_of_others(rt: HostRuntime) -> Result<(), Fail> {
-    play(&rt, rt.alloc(), &[20, 10], 1, &[&OF_ANOTHER])?;
-    play(&rt, rt.alloc(), &[20, 10], 1, &[&OF_ITS_OWN])
+    play(
+        &rt,
+        rt.alloc(),
+        &(
+            "exit_leaves_words_of_others",
+            &[20, 10],
+            1,
+            [&OF_ANOTHER, &[], &[]],
+        ),
+    )?;
+    play(
+        &rt,
+        rt.alloc(),
+        &(
+            "exit_leaves_words_of_others",
+            &[20, 10],
+            1,
+            [&OF_ITS_OWN, &[], &[]],
+        ),
+    )
 }
 
 // Thread 1 ends as the owner of mutex 1, for which threads 2 and 3 wait.
@@ -608,6 +525,60 @@ static OWNED: [(Ask, Reply); 8] = [
 ];
 
 #[test]
-fn exit_hands_over_to_the_next_waiter(rt: HostRuntime) -> Result<(), Fail> {
-    play(&rt, rt.alloc(), &[10, 10, 20], 1, &[&OWNED])
+fn kernels_answer_each_call(rt: HostRuntime) -> Result<(), Fail> {
+    play_all(
+        &rt,
+        rt.alloc(),
+        &[
+            (
+                "nobody_runs_in_a_new_kernel",
+                &[],
+                1,
+                [&NOBODY_RUNS, &[], &[]],
+            ),
+            (
+                "a_thread_takes_a_free_mutex",
+                &[10],
+                1,
+                [&FREE_MUTEX, &[], &[]],
+            ),
+            (
+                "a_thread_that_stops_is_not_picked",
+                &[10],
+                1,
+                [&STOPS, &[], &[]],
+            ),
+            (
+                "boosts_go_through_a_chain",
+                &[1, 2, 99],
+                2,
+                [&CHAIN, &BOOSTED, &[]],
+            ),
+            ("paths_go_up_a_chain", &[1, 2, 99], 2, [&CHAIN, &PATHS, &[]]),
+            (
+                "who_unlocks_loses_the_boost",
+                &[1, 2, 99],
+                2,
+                [&CHAIN, &UNLOCKED, &[]],
+            ),
+            (
+                "priority_is_set_and_places_stay",
+                &[10, 20, 20],
+                1,
+                [&PRIORITY_SET, &[], &[]],
+            ),
+            (
+                "places_are_read_in_order",
+                &[10, 20, 50, 20, 30, 40, 50],
+                1,
+                [&WAITING, &PLACES, &[]],
+            ),
+            (
+                "exit_hands_over_to_the_next_waiter",
+                &[10, 10, 20],
+                1,
+                [&OWNED, &[], &[]],
+            ),
+        ],
+    )
 }

@@ -6,9 +6,9 @@
 //! | `foundation` | types, words, robust lists, the lists in one table, the run queue and `pif_queue` |
 //! | `owner_states`, `walks` | `pif_plain`: its owner states, and its walk over them |
 //! | `linked_states`, `hops` | `pif_rtmutex` and `pif_boost`: owner states in one table, and how far a walk goes over them |
-//! | `seen` | none: it compares what was read with what is wanted |
+//! | `seen` | none: it compares what was read with what is wanted, and makes threads and priorities |
 //! | `kernels` | both kernels: each call on any words, boosts, parked threads, deadlines and ends, and random calls |
-//! | `driver` | none: it makes calls step by step, over the parts with either kernel |
+//! | `driver` | none: it plays tables of calls step by step, over the parts with either kernel |
 //! | `mutexes` | `pif_mutex`: the calls on mutexes, changes of priority and ends |
 //! | `conditions` | `pif_cond`: waits, signals and broadcasts |
 //! | `random_calls` | both kernels below the same calls in any interleaving: they answer the same |

@@ -7,12 +7,10 @@ ghost use Rattle.pif_kernel_model.specs.States.{owners_in};
 ghost use Rattle.pif_kernel_model.specs.Holds.{HoldsStates};
 ghost use Rattle.pif_test_calls.specs.ChainExamples.{AreNewStates, IsAtFirst};
 
-use super::seen::{key_of, number, prio, see, who};
-use super::walks::{priority, thread};
+use super::seen::{priority, see, thread};
 use pif_kernel_model::Key;
 use pif_nodes::NodeTable;
 use pif_rtmutex::RtMutexes;
-use std::alloc::Global;
 use std::process::Abort;
 use std::test::Fail;
 
@@ -24,52 +22,29 @@ fn stand_at_first(mutexes: &RtMutexes, table: &NodeTable)
     ensures { IsAtFirst mutexes.now table.now }
 {}
 
-// What is done with owner states that were just made.
-#[derive(Clone, Copy)]
-enum Scene {
-    Priorities,
-    Order,
-    HandOver,
-}
-
-// Makes owner states of three threads in a table, and does this with them.
-fn play(rt: &impl Abort, alloc: Global, scene: Scene) -> Result<(), Fail> {
-    let mut table = NodeTable::new(alloc, 6, 6)?;
-    let mut mutexes = RtMutexes::new(alloc, 0, 0, 3)?;
-    stand_at_first(&mutexes, &table);
-    play_scene(rt, &mut mutexes, &mut table, scene);
-    Ok(())
-}
-
-fn play_scene(rt: &impl Abort, mutexes: &mut RtMutexes, table: &mut NodeTable, scene: Scene)
-    requires { IsAtFirst mutexes.old table.old }
-{
-    match scene {
-        Scene::Priorities => give_priorities(rt, mutexes, table),
-        Scene::Order => stand_by_priority_and_ticket(rt, mutexes, table),
-        Scene::HandOver => pass_to_top_waiter(rt, mutexes, table),
-    }
-}
-
 #[test]
 fn threads_have_the_priorities_they_were_given(rt: HostRuntime) -> Result<(), Fail> {
-    play(&rt, rt.alloc(), Scene::Priorities)
+    let table = NodeTable::new(rt.alloc(), 6, 6)?;
+    let mut mutexes = RtMutexes::new(rt.alloc(), 0, 0, 3)?;
+    stand_at_first(&mutexes, &table);
+    give_priorities(&rt, &mut mutexes, &table);
+    Ok(())
 }
 
 fn give_priorities(rt: &impl Abort, mutexes: &mut RtMutexes, table: &NodeTable)
     requires { IsAtFirst mutexes.old table.now }
 {
     let (t1, t2) = (thread(1), thread(2));
-    see(rt, number(mutexes.threads()), Some(3));
+    see(rt, mutexes.threads(), 3, 0);
     mutexes.admit(table, t1, priority(10));
     mutexes.set_local(table, t1, priority(20));
-    see(rt, prio(mutexes.base(table, t1)), Some(10));
-    see(rt, prio(mutexes.local(table, t1)), Some(20));
+    let read = (mutexes.base(table, t1), mutexes.local(table, t1));
+    see(rt, read, (Some(priority(10)), Some(priority(20))), 1);
     mutexes.set_base(table, t1, priority(99));
-    see(rt, prio(mutexes.base(table, t1)), Some(99));
-    see(rt, prio(mutexes.local(table, t1)), Some(20));
-    see(rt, prio(mutexes.base(table, t2)), None);
-    see(rt, prio(mutexes.local(table, t2)), None);
+    let read = (mutexes.base(table, t1), mutexes.local(table, t1));
+    see(rt, read, (Some(priority(99)), Some(priority(20))), 2);
+    let read = (mutexes.base(table, t2), mutexes.local(table, t2));
+    see(rt, read, (None, None), 3);
 }
 
 // Makes a state of thread 1 on which threads 2 and 3 are queued, in this order, with priority 20.
@@ -87,7 +62,11 @@ fn queue_two(mutexes: &mut RtMutexes, table: &mut NodeTable) -> Key
 
 #[test]
 fn waiters_stand_by_priority_and_ticket(rt: HostRuntime) -> Result<(), Fail> {
-    play(&rt, rt.alloc(), Scene::Order)
+    let mut table = NodeTable::new(rt.alloc(), 6, 6)?;
+    let mut mutexes = RtMutexes::new(rt.alloc(), 0, 0, 3)?;
+    stand_at_first(&mutexes, &table);
+    stand_by_priority_and_ticket(&rt, &mut mutexes, &mut table);
+    Ok(())
 }
 
 fn stand_by_priority_and_ticket(rt: &impl Abort, mutexes: &mut RtMutexes, table: &mut NodeTable)
@@ -95,20 +74,24 @@ fn stand_by_priority_and_ticket(rt: &impl Abort, mutexes: &mut RtMutexes, table:
 {
     let (t2, t3) = (thread(2), thread(3));
     let key = queue_two(mutexes, table);
-    see(rt, who(mutexes.top(table, key)), Some(2));
+    see(rt, mutexes.top(table, key), Some(t2), 0);
     mutexes.rekey(table, key, t2, priority(30));
-    see(rt, prio(mutexes.maximum(table, thread(1))), Some(30));
+    see(rt, mutexes.maximum(table, thread(1)), Some(priority(30)), 1);
     mutexes.rekey(table, key, t2, priority(20));
-    see(rt, who(mutexes.top(table, key)), Some(2));
+    see(rt, mutexes.top(table, key), Some(t2), 2);
     mutexes.set_ticket(table, t3, 7);
-    see(rt, mutexes.ticket(table, t2), Some(1));
-    see(rt, mutexes.ticket(table, t3), Some(7));
-    see(rt, who(mutexes.top(table, key)), Some(2));
+    let read = (mutexes.ticket(table, t2), mutexes.ticket(table, t3));
+    see(rt, read, (Some(1), Some(7)), 3);
+    see(rt, mutexes.top(table, key), Some(t2), 4);
 }
 
 #[test]
 fn state_passes_to_its_top_waiter(rt: HostRuntime) -> Result<(), Fail> {
-    play(&rt, rt.alloc(), Scene::HandOver)
+    let mut table = NodeTable::new(rt.alloc(), 6, 6)?;
+    let mut mutexes = RtMutexes::new(rt.alloc(), 0, 0, 3)?;
+    stand_at_first(&mutexes, &table);
+    pass_to_top_waiter(&rt, &mut mutexes, &mut table);
+    Ok(())
 }
 
 fn pass_to_top_waiter(rt: &impl Abort, mutexes: &mut RtMutexes, table: &mut NodeTable)
@@ -116,12 +99,12 @@ fn pass_to_top_waiter(rt: &impl Abort, mutexes: &mut RtMutexes, table: &mut Node
 {
     let (t2, t3) = (thread(2), thread(3));
     let key = queue_two(mutexes, table);
-    see(rt, number(mutexes.owner(table, key).get()), Some(1));
-    see(rt, number(mutexes.row(table, key)), Some(2));
-    see(rt, number(mutexes.hand_over(table, key).get()), Some(2));
-    see(rt, number(mutexes.owner(table, key).get()), Some(2));
-    see(rt, who(mutexes.top(table, key)), Some(3));
-    see(rt, key_of(mutexes.waits_on(table, t2)), None);
+    see(rt, mutexes.owner(table, key), thread(1), 0);
+    see(rt, mutexes.row(table, key), 2, 1);
+    see(rt, mutexes.hand_over(table, key), t2, 2);
+    let read = (mutexes.owner(table, key), mutexes.top(table, key));
+    see(rt, read, (t2, Some(t3)), 3);
+    see(rt, mutexes.waits_on(table, t2), None, 4);
     // The calls below ask for what these two find.
     assert_eq!(rt; mutexes.waits_on(table, t3), Some(key));
     mutexes.dequeue(table, key, t3);

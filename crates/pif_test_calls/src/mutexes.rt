@@ -3,15 +3,7 @@ use super::driver::{Ask, Reply, Wish, play};
 use pif_kernel::Woken;
 use pif_mutex::Progress;
 use pif_types::{Health, Kind, Limits};
-use std::alloc::Global;
-use std::process::Abort;
 use std::test::Fail;
-
-/// Plays tables under limits of four threads, two mutexes, and one variable that may be used once.
-fn try_all<R: Abort>(rt: &R, alloc: Global, tables: &[&[(Ask, Reply)]]) -> Result<(), Fail> {
-    let limits = Limits::new(4, 2, 1, 1).ok_or("limits")?;
-    play(rt, alloc, limits, tables)
-}
 
 /// Mutex 1, which is NORMAL, and a thread of priority 10.
 static NORMAL: [(Ask, Reply); 2] = [
@@ -31,11 +23,6 @@ static ADDED: [(Ask, Reply); 9] = [
     (Ask::Word(2), Reply::Nobody),
 ];
 
-#[test]
-fn parts_say_what_was_added(rt: HostRuntime) -> Result<(), Fail> {
-    try_all(&rt, rt.alloc(), &[&ADDED])
-}
-
 static UNCONTENDED: [(Ask, Reply); 5] = [
     (
         Ask::Call(1, Wish::Lock(1)),
@@ -52,11 +39,6 @@ static UNCONTENDED: [(Ask, Reply); 5] = [
         Reply::Ended(1, Progress::Done(1)),
     ),
 ];
-
-#[test]
-fn uncontended_calls_make_no_kernel_call(rt: HostRuntime) -> Result<(), Fail> {
-    try_all(&rt, rt.alloc(), &[&NORMAL, &UNCONTENDED])
-}
 
 static HANDED: [(Ask, Reply); 12] = [
     (Ask::AddThread(50), Reply::Added(2)),
@@ -81,11 +63,6 @@ static HANDED: [(Ask, Reply); 12] = [
     (Ask::Effective(1), Reply::Prio(10)),
     (Ask::Go(2), Reply::Step(Progress::Done(0))),
 ];
-
-#[test]
-fn mutex_is_handed_to_who_waits(rt: HostRuntime) -> Result<(), Fail> {
-    try_all(&rt, rt.alloc(), &[&NORMAL, &HANDED])
-}
 
 /// A RECURSIVE mutex 1, and thread 1, which has locked it.
 static RECURSIVE: [(Ask, Reply); 3] = [
@@ -122,10 +99,10 @@ static AS_OFTEN: [(Ask, Reply); 7] = [
     (Ask::Word(1), Reply::Bits(0)),
 ];
 
-#[test]
-fn recursive_mutex_is_unlocked_as_often_as_locked(rt: HostRuntime) -> Result<(), Fail> {
-    try_all(&rt, rt.alloc(), &[&RECURSIVE, &AS_OFTEN])
-}
+static AGAIN: [(Ask, Reply); 254] = [(
+    Ask::Call(1, Wish::Lock(1)),
+    Reply::Ended(1, Progress::Done(0)),
+); 254];
 
 static REFUSED: [(Ask, Reply); 2] = [
     (
@@ -134,15 +111,6 @@ static REFUSED: [(Ask, Reply); 2] = [
     ),
     (Ask::Word(1), Reply::Bits(1)),
 ];
-
-#[test]
-fn recursive_mutex_is_held_255_times(rt: HostRuntime) -> Result<(), Fail> {
-    let again = [(
-        Ask::Call(1, Wish::Lock(1)),
-        Reply::Ended(1, Progress::Done(0)),
-    ); 254];
-    try_all(&rt, rt.alloc(), &[&RECURSIVE, &again, &REFUSED])
-}
 
 static TRYLOCK: [(Ask, Reply); 5] = [
     (Ask::AddThread(20), Reply::Added(2)),
@@ -161,11 +129,6 @@ static TRYLOCK: [(Ask, Reply); 5] = [
     (Ask::Word(1), Reply::Bits(1)),
 ];
 
-#[test]
-fn trylock_never_waits(rt: HostRuntime) -> Result<(), Fail> {
-    try_all(&rt, rt.alloc(), &[&NORMAL, &TRYLOCK])
-}
-
 static NORMAL_AGAIN: [(Ask, Reply); 5] = [
     (
         Ask::Call(1, Wish::Lock(1)),
@@ -179,11 +142,6 @@ static NORMAL_AGAIN: [(Ask, Reply); 5] = [
     (Ask::Status(1), Reply::Stopped),
     (Ask::Pick, Reply::Nobody),
 ];
-
-#[test]
-fn normal_mutex_stops_who_locks_it_again(rt: HostRuntime) -> Result<(), Fail> {
-    try_all(&rt, rt.alloc(), &[&NORMAL, &NORMAL_AGAIN])
-}
 
 static CHECKED_AGAIN: [(Ask, Reply); 6] = [
     (Ask::AddMutex(Kind::ErrorCheck, false), Reply::Added(1)),
@@ -199,11 +157,6 @@ static CHECKED_AGAIN: [(Ask, Reply); 6] = [
     (Ask::Word(1), Reply::Bits(1)),
     (Ask::Pick, Reply::Thread(1)),
 ];
-
-#[test]
-fn errorcheck_mutex_refuses_who_locks_it_again(rt: HostRuntime) -> Result<(), Fail> {
-    try_all(&rt, rt.alloc(), &[&CHECKED_AGAIN])
-}
 
 static PRIORITY_SET: [(Ask, Reply); 7] = [
     (Ask::AddThread(20), Reply::Added(2)),
@@ -224,11 +177,6 @@ static PRIORITY_SET: [(Ask, Reply); 7] = [
     ),
 ];
 
-#[test]
-fn priority_is_set_in_one_step(rt: HostRuntime) -> Result<(), Fail> {
-    try_all(&rt, rt.alloc(), &[&NORMAL, &PRIORITY_SET])
-}
-
 static HOLDER_ENDS: [(Ask, Reply); 8] = [
     (Ask::AddMutex(Kind::Normal, true), Reply::Added(1)),
     (Ask::AddThread(10), Reply::Added(1)),
@@ -243,11 +191,6 @@ static HOLDER_ENDS: [(Ask, Reply); 8] = [
     (Ask::Status(1), Reply::HasEnded),
 ];
 
-#[test]
-fn end_of_a_holder_leaves_its_robust_mutex(rt: HostRuntime) -> Result<(), Fail> {
-    try_all(&rt, rt.alloc(), &[&HOLDER_ENDS])
-}
-
 /// The next owner repairs what the mutex protects, and says so.
 static OWNER_ENDS: [(Ask, Reply); 7] = [
     (Ask::AddMutex(Kind::Normal, true), Reply::Added(1)),
@@ -261,11 +204,6 @@ static OWNER_ENDS: [(Ask, Reply); 7] = [
     (Ask::Begin(2, Wish::Lock(1)), Reply::Done),
     (Ask::Status(2), Reply::Ready(Woken::Fresh)),
 ];
-
-#[test]
-fn mutex_whose_owner_ended_is_made_consistent(rt: HostRuntime) -> Result<(), Fail> {
-    try_all(&rt, rt.alloc(), &[&OWNER_ENDS, &TAKEN_OVER])
-}
 
 /// The steps of thread 2, which has begun to lock mutex 1: the last one answers EOWNERDEAD.
 static TAKEN_OVER: [(Ask, Reply); 16] = [
@@ -313,11 +251,6 @@ static EXPIRES: [(Ask, Reply); 10] = [
     (Ask::Pick, Reply::Thread(2)),
 ];
 
-#[test]
-fn queued_lock_expires_at_its_deadline(rt: HostRuntime) -> Result<(), Fail> {
-    try_all(&rt, rt.alloc(), &[&NORMAL, &EXPIRES])
-}
-
 static UNUSED: [(Ask, Reply); 4] = [
     (Ask::AddCond(1), Reply::Added(1)),
     (Ask::Uses(1), Reply::Bits(0)),
@@ -326,6 +259,50 @@ static UNUSED: [(Ask, Reply); 4] = [
 ];
 
 #[test]
-fn variable_is_added_unused(rt: HostRuntime) -> Result<(), Fail> {
-    try_all(&rt, rt.alloc(), &[&NORMAL, &UNUSED])
+fn calls_on_mutexes_answer_at_each_step(rt: HostRuntime) -> Result<(), Fail> {
+    let limits = Limits::new(4, 2, 1, 1).ok_or("limits")?;
+    play(
+        &rt,
+        rt.alloc(),
+        limits,
+        &[
+            ("parts_say_what_was_added", [&ADDED, &[], &[]]),
+            (
+                "uncontended_calls_make_no_kernel_call",
+                [&NORMAL, &UNCONTENDED, &[]],
+            ),
+            ("mutex_is_handed_to_who_waits", [&NORMAL, &HANDED, &[]]),
+            (
+                "recursive_mutex_is_unlocked_as_often_as_locked",
+                [&RECURSIVE, &AS_OFTEN, &[]],
+            ),
+            (
+                "recursive_mutex_is_held_255_times",
+                [&RECURSIVE, &AGAIN, &REFUSED],
+            ),
+            ("trylock_never_waits", [&NORMAL, &TRYLOCK, &[]]),
+            (
+                "normal_mutex_stops_who_locks_it_again",
+                [&NORMAL, &NORMAL_AGAIN, &[]],
+            ),
+            (
+                "errorcheck_mutex_refuses_who_locks_it_again",
+                [&CHECKED_AGAIN, &[], &[]],
+            ),
+            ("priority_is_set_in_one_step", [&NORMAL, &PRIORITY_SET, &[]]),
+            (
+                "end_of_a_holder_leaves_its_robust_mutex",
+                [&HOLDER_ENDS, &[], &[]],
+            ),
+            (
+                "mutex_whose_owner_ended_is_made_consistent",
+                [&OWNER_ENDS, &TAKEN_OVER, &[]],
+            ),
+            (
+                "queued_lock_expires_at_its_deadline",
+                [&NORMAL, &EXPIRES, &[]],
+            ),
+            ("variable_is_added_unused", [&NORMAL, &UNUSED, &[]]),
+        ],
+    )
 }

@@ -2,8 +2,7 @@ ghost use Rattle.std.specs.Prelude.{◌≡◌, ◌≤◌, IsSome};
 ghost use Rattle.pif_kernel_model.specs.Owners.{no_owners, owner_at};
 ghost use Rattle.pif_kernel_model.specs.Examples.{queued_two};
 
-use super::seen::{key_of, number, prio, see, who};
-use super::walks::{priority, thread};
+use super::seen::{priority, see, thread};
 use pif_kernel_model::Key;
 use pif_plain::RtMutexes;
 use std::process::Abort;
@@ -20,16 +19,15 @@ fn give_priorities(rt: &impl Abort, mutexes: &mut RtMutexes)
     requires { mutexes.old ≡ no_owners 3 }
 {
     let (t1, t2) = (thread(1), thread(2));
-    see(rt, number(mutexes.threads()), Some(3));
+    see(rt, mutexes.threads(), 3, 0);
     mutexes.admit(t1, priority(10));
     mutexes.set_local(t1, priority(20));
-    see(rt, prio(mutexes.base(t1)), Some(10));
-    see(rt, prio(mutexes.local(t1)), Some(20));
+    let read = (mutexes.base(t1), mutexes.local(t1));
+    see(rt, read, (Some(priority(10)), Some(priority(20))), 1);
     mutexes.set_base(t1, priority(99));
-    see(rt, prio(mutexes.base(t1)), Some(99));
-    see(rt, prio(mutexes.local(t1)), Some(20));
-    see(rt, prio(mutexes.base(t2)), None);
-    see(rt, prio(mutexes.local(t2)), None);
+    let read = (mutexes.base(t1), mutexes.local(t1));
+    see(rt, read, (Some(priority(99)), Some(priority(20))), 2);
+    see(rt, (mutexes.base(t2), mutexes.local(t2)), (None, None), 3);
 }
 
 // Makes a state of thread 1 on which threads 2 and 3 are queued, in this order, with priority 20.
@@ -56,14 +54,18 @@ fn stand_by_priority_and_ticket(rt: &impl Abort, mutexes: &mut RtMutexes)
 {
     let (t2, t3) = (thread(2), thread(3));
     let key = queue_two(mutexes);
-    see(rt, who(mutexes.top(key)), Some(2));
+    see(rt, mutexes.top(key), Some(t2), 0);
     mutexes.rekey(key, t2, priority(30));
     mutexes.rekey(key, t2, priority(20));
-    see(rt, who(mutexes.top(key)), Some(2));
+    see(rt, mutexes.top(key), Some(t2), 1);
     mutexes.set_ticket(t3, 7);
-    see(rt, mutexes.ticket(t2), Some(1));
-    see(rt, mutexes.ticket(t3), Some(7));
-    see(rt, who(mutexes.top(key)), Some(2));
+    see(
+        rt,
+        (mutexes.ticket(t2), mutexes.ticket(t3)),
+        (Some(1), Some(7)),
+        2,
+    );
+    see(rt, mutexes.top(key), Some(t2), 3);
 }
 
 #[test]
@@ -78,11 +80,15 @@ fn pass_to_top_waiter(rt: &impl Abort, mutexes: &mut RtMutexes)
 {
     let (t2, t3) = (thread(2), thread(3));
     let key = queue_two(mutexes);
-    see(rt, number(mutexes.owner(key).get()), Some(1));
-    see(rt, number(mutexes.hand_over(key).get()), Some(2));
-    see(rt, number(mutexes.owner(key).get()), Some(2));
-    see(rt, who(mutexes.top(key)), Some(3));
-    see(rt, key_of(mutexes.waits_on(t2)), None);
+    see(rt, mutexes.owner(key), thread(1), 0);
+    see(rt, mutexes.hand_over(key), t2, 1);
+    see(
+        rt,
+        (mutexes.owner(key), mutexes.top(key)),
+        (t2, Some(t3)),
+        2,
+    );
+    see(rt, mutexes.waits_on(t2), None, 3);
     // The calls below ask for what these two find.
     assert_eq!(rt; mutexes.waits_on(t3), Some(key));
     mutexes.dequeue(key, t3);

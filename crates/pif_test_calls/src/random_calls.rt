@@ -5,7 +5,7 @@ ghost use Rattle.std.specs.Prelude.{◌≤◌};
 
 use super::driver::{Ask, Reply, Wish, answer, new_parts, see};
 use pif_chains_linked::LinkedChains;
-use pif_kernel::KernelOn;
+use pif_kernel::{Chains, KernelOn, PiKernel};
 use pif_mutex::Parts;
 use pif_plain::PlainChains;
 use pif_types::{Kind, Limits};
@@ -24,19 +24,25 @@ const LISTS: u32 = 400;
 
 const EVENTS: u32 = 200;
 
-type Plain = Parts<KernelOn<PlainChains>>;
-
-type Linked = Parts<KernelOn<LinkedChains>>;
-
 /// Asks both parts, and sees that they answer the same. Whether it could be asked.
-fn ask(rt: &impl Abort, plain: &mut Plain, linked: &mut Linked, ask: Ask) -> bool {
+fn ask<A: PiKernel + Drop, B: PiKernel + Drop>(
+    rt: &impl Abort,
+    plain: &mut Parts<A>,
+    linked: &mut Parts<B>,
+    ask: Ask,
+) -> bool {
     let reply = answer(plain, ask);
-    see(rt, answer(linked, ask), reply, 0);
+    see(rt, answer(linked, ask), reply, "random events", 0);
     reply.is_some()
 }
 
 /// Adds mutexes of random kinds, two variables, and threads of random priorities, of which many are equal.
-fn fill(rt: &impl Abort, plain: &mut Plain, linked: &mut Linked, rng: &mut SplitMix64) {
+fn fill<A: PiKernel + Drop, B: PiKernel + Drop>(
+    rt: &impl Abort,
+    plain: &mut Parts<A>,
+    linked: &mut Parts<B>,
+    rng: &mut SplitMix64,
+) {
     for _ in 0..66 {
         let robust = rng.next_u32() % 2 == 0;
         ask(rt, plain, linked, Ask::AddMutex(kind(rng), robust));
@@ -44,22 +50,19 @@ fn fill(rt: &impl Abort, plain: &mut Plain, linked: &mut Linked, rng: &mut Split
     ask(rt, plain, linked, Ask::AddCond(1));
     ask(rt, plain, linked, Ask::AddCond(65));
     for _ in 0..THREADS {
-        ask(rt, plain, linked, Ask::AddThread(level(rng)));
-    }
-}
-
-/// The owner of a mutex by its word, or nobody's number.
-fn owner(plain: &mut Plain, m: u32) -> u32 {
-    match answer(plain, Ask::Word(m)) {
-        Some(Reply::Bits(bits)) => bits & 0x3fff_ffff,
-        _ => 0,
+        let level = 1 + rng.next_u32() % 6 * 15;
+        ask(rt, plain, linked, Ask::AddThread(level));
     }
 }
 
 /// A random event.
-fn event(rng: &mut SplitMix64, plain: &mut Plain, time: &mut u32) -> Ask {
+fn event<K: PiKernel + Drop>(rng: &mut SplitMix64, plain: &mut Parts<K>, time: &mut u32) -> Ask {
     let m = LOCKED[(rng.next_u32() % 5) as usize];
-    let owner = owner(plain, m);
+    // The owner by the word, or nobody's number.
+    let owner = match answer(plain, Ask::Word(m)) {
+        Some(Reply::Bits(bits)) => bits & 0x3fff_ffff,
+        _ => 0,
+    };
     let t = 1 + rng.next_u32() % THREADS;
     match rng.next_u32() % 64 {
         0 => Ask::End(t),
@@ -75,24 +78,28 @@ fn event(rng: &mut SplitMix64, plain: &mut Plain, time: &mut u32) -> Ask {
 }
 
 /// Sees that both have the same words, statuses, priorities and orders.
-fn compare(rt: &impl Abort, plain: &mut Plain, linked: &mut Linked) {
+fn compare<A: PiKernel + Drop, B: PiKernel + Drop>(
+    rt: &impl Abort,
+    plain: &mut Parts<A>,
+    linked: &mut Parts<B>,
+) {
     ask(rt, plain, linked, Ask::Pick);
     for m in LOCKED {
-        ask(rt, plain, linked, Ask::Word(m));
-        ask(rt, plain, linked, Ask::Waiter(m, 0));
-        ask(rt, plain, linked, Ask::Waiter(m, 1));
+        for read in [Ask::Word(m), Ask::Waiter(m, 0), Ask::Waiter(m, 1)] {
+            ask(rt, plain, linked, read);
+        }
     }
-    for number in 0..THREADS {
-        ask(rt, plain, linked, Ask::Status(1 + number));
-        ask(rt, plain, linked, Ask::Effective(1 + number));
-        ask(rt, plain, linked, Ask::Ready(number));
-        ask(rt, plain, linked, Ask::Parked(1, number));
-        ask(rt, plain, linked, Ask::Parked(2, number));
+    for place in 0..THREADS {
+        for read in [
+            Ask::Status(1 + place),
+            Ask::Effective(1 + place),
+            Ask::Ready(place),
+            Ask::Parked(1, place),
+            Ask::Parked(2, place),
+        ] {
+            ask(rt, plain, linked, read);
+        }
     }
-}
-
-fn level(rng: &mut SplitMix64) -> u32 {
-    1 + rng.next_u32() % 6 * 15
 }
 
 fn kind(rng: &mut SplitMix64) -> Kind {
@@ -126,43 +133,39 @@ fn wish(rng: &mut SplitMix64, m: u32, time: u32) -> Wish {
 
 /// Plays a random list of events on new parts, and counts those that could happen. The first ticket is so late that
 /// tickets are renumbered.
-fn play_list(
-    rt: &impl Abort,
+fn play_list<A: Chains + Drop, B: Chains + Drop, R: Abort>(
+    rt: &R,
     alloc: Global,
     rng: &mut SplitMix64,
     events: &mut u32,
 ) -> Result<(), Fail> {
+    let limits = Limits::new(THREADS, 66, 2, 100).ok_or("limits")?;
     let first = u64::MAX - u64::from(rng.next_u32() % 64);
-    let mut plain = new_parts(alloc, limits()?, first)?;
-    play_beside(rt, alloc, rng, &mut plain, first, events)
-}
-
-/// Those of the parts.
-fn limits() -> Result<Limits, Fail> {
-    Ok(Limits::new(THREADS, 66, 2, 100).ok_or("limits")?)
+    let mut plain = new_parts::<A>(alloc, limits, first)?;
+    play_beside::<KernelOn<A>, B, R>(rt, alloc, rng, &mut plain, first, events)
 }
 
 /// The same with the parts on the plain kernel, which has this first ticket.
-fn play_beside(
-    rt: &impl Abort,
+fn play_beside<A: PiKernel + Drop, B: Chains + Drop, R: Abort>(
+    rt: &R,
     alloc: Global,
     rng: &mut SplitMix64,
-    plain: &mut Plain,
+    plain: &mut Parts<A>,
     first: u64,
     events: &mut u32,
 ) -> Result<(), Fail>
     requires { 1 ≤ first }
 {
-    let mut linked = new_parts(alloc, limits()?, first)?;
+    let mut linked = new_parts::<B>(alloc, plain.limits(), first)?;
     play_events(rt, rng, plain, &mut linked, events);
     Ok(())
 }
 
-fn play_events(
+fn play_events<A: PiKernel + Drop, B: PiKernel + Drop>(
     rt: &impl Abort,
     rng: &mut SplitMix64,
-    plain: &mut Plain,
-    linked: &mut Linked,
+    plain: &mut Parts<A>,
+    linked: &mut Parts<B>,
     events: &mut u32,
 ) {
     let mut time = 0;
@@ -181,7 +184,12 @@ fn kernels_agree_on_random_events(rt: HostRuntime) -> Result<(), Fail> {
     let mut rng = SplitMix64::seed_from_u64(1);
     let mut events = 0;
     for _ in 0..LISTS {
-        play_list(&rt, rt.alloc(), &mut rng, &mut events)?;
+        play_list::<PlainChains, LinkedChains, HostRuntime>(
+            &rt,
+            rt.alloc(),
+            &mut rng,
+            &mut events,
+        )?;
     }
     assert!(rt; events >= 30_000, "{events} events");
     Ok(())

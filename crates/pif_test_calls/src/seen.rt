@@ -1,35 +1,25 @@
-//! What the tests of owner states and walks see. What was read is a number, or nothing.
-use pif_kernel_model::Key;
+//! What the tests below calls see, and the threads and priorities that they have.
+ghost use Rattle.std.specs.Prelude.{◌≡◌, ◌≤◌};
+
 use pif_types::{Prio, Tid};
 use std::process::Abort;
 
-/// Stops the test if what was read is not what is wanted.
-pub fn see(rt: &impl Abort, read: Option<u64>, wanted: Option<u64>) {
-    assert_eq!(rt; read, wanted);
+/// Stops the test if what was read at this place is not what is wanted.
+pub fn see<T: PartialEq + Copy>(rt: &impl Abort, read: T, wanted: T, place: u32) {
+    assert!(rt; read == wanted, "at place {place}");
 }
 
-/// Each of these is what was read as a number.
-pub fn number(read: u32) -> Option<u64> {
-    Some(u64::from(read))
+pub fn thread(number: u32) -> Tid
+    requires { 1 ≤ number }
+    ensures { result ≡ number }
+{
+    Tid::new(number).unwrap()
 }
 
-pub fn prio(read: Option<Prio>) -> Option<u64> {
-    number(read?.get())
-}
-
-pub fn who(read: Option<Tid>) -> Option<u64> {
-    number(read?.get())
-}
-
-pub fn key_of(read: Option<Key>) -> Option<u64> {
-    Some(read?.get() as u64)
-}
-
-pub fn number_of(read: Option<u32>) -> Option<u64> {
-    number(read?)
-}
-
-/// 1 if it holds, and else 0.
-pub fn flag(holds: bool) -> Option<u64> {
-    number(u32::from(holds))
+pub fn priority(level: u32) -> Prio
+    requires least { 1 ≤ level }
+    requires most { level ≤ 99 }
+    ensures { result ≡ level }
+{
+    Prio::new(level).unwrap()
 }

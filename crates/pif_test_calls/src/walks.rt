@@ -4,29 +4,14 @@ ghost use Rattle.pif_kernel_model.specs.Owners.{no_owners, owner_at};
 ghost use Rattle.pif_boost.specs.Settled.{IsSettled};
 ghost use Rattle.pif_test_calls.specs.WalkExamples.{three_threads, new_queue, table_of_three};
 
-use super::seen::{flag, number_of, prio, see, who};
+use super::seen::{priority, see, thread};
 use pif_kernel_model::Key;
 use pif_nodes::NodeTable;
 use pif_plain::{RtMutexes, walk, would_close};
 use pif_runq::RunQueue;
-use pif_types::{Prio, Tid};
+use pif_types::Tid;
 use std::process::Abort;
 use std::test::Fail;
-
-pub(super) fn thread(number: u32) -> Tid
-    requires { 1 ≤ number }
-    ensures { result ≡ number }
-{
-    Tid::new(number).unwrap()
-}
-
-pub(super) fn priority(level: u32) -> Prio
-    requires least { 1 ≤ level }
-    requires most { level ≤ 99 }
-    ensures { result ≡ level }
-{
-    Prio::new(level).unwrap()
-}
 
 // Queues a thread on a state with its effective priority and walks from the owner of the state, where both were
 // admitted, the thread waits for nothing and is on no level, and no cycle would close.
@@ -86,15 +71,17 @@ fn expect_priority(
     owners: &RtMutexes,
     queue: &RunQueue,
     table: &NodeTable,
-    level: u64,
+    level: u32,
 )
-    requires { IsSettled owners.now queue.now table.now }
+    requires settled { IsSettled owners.now queue.now table.now }
+    requires least { 1 ≤ level }
+    requires most { level ≤ 99 }
 {
     let (t1, t2) = (thread(1), thread(2));
-    see(rt, prio(owners.local(t1)), Some(level));
-    see(rt, prio(owners.local(t2)), Some(level));
-    see(rt, who(queue.pick(table)), Some(1));
-    see(rt, prio(queue.level(table, t1)), Some(level));
+    for read in [owners.local(t1), owners.local(t2), queue.level(table, t1)] {
+        see(rt, read, Some(priority(level)), level);
+    }
+    see(rt, queue.pick(table), Some(t1), level);
 }
 
 #[test]
@@ -114,19 +101,11 @@ fn boost_through_a_chain(rt: &impl Abort, owners: &mut RtMutexes, table: &mut No
     let (s1, s2) = admit_three(owners);
     let mut queue = RunQueue::new(0, 0, 3);
     queue.add(table, t1, priority(1));
-    see(
-        rt,
-        number_of(wait_on(owners, &mut queue, table, s1, t2)),
-        Some(1),
-    );
-    see(
-        rt,
-        number_of(wait_on(owners, &mut queue, table, s2, t3)),
-        Some(2),
-    );
+    see(rt, wait_on(owners, &mut queue, table, s1, t2), Some(1), 0);
+    see(rt, wait_on(owners, &mut queue, table, s2, t3), Some(2), 1);
     expect_priority(rt, owners, &queue, table, 99);
-    see(rt, flag(would_close(owners, t1, t3)), Some(1));
-    see(rt, flag(would_close(owners, t3, t1)), Some(0));
-    see(rt, number_of(leave(owners, &mut queue, table, t3)), Some(2));
+    let closes = [would_close(owners, t1, t3), would_close(owners, t3, t1)];
+    see(rt, closes, [true, false], 2);
+    see(rt, leave(owners, &mut queue, table, t3), Some(2), 3);
     expect_priority(rt, owners, &queue, table, 2);
 }

@@ -5,12 +5,11 @@ ghost use Rattle.pif_kernel_model.specs.Entries.{found_in};
 ghost use Rattle.pif_kernel_model.specs.Parked.{parked_at};
 ghost use Rattle.pif_queue.specs.Numbered.{HaveTickets};
 
-use super::seen::see_at;
+use crate::seen::{priority, see, thread};
 use pif_kernel_model::Key;
 use pif_nodes::{Node, NodeTable};
 use pif_queue::Buckets;
 use pif_types::{CondId, MutexId, Prio, Tid};
-use std::alloc::Global;
 use std::process::Abort;
 use std::test::Fail;
 
@@ -35,41 +34,6 @@ enum Ask {
 /// What is asked, and what is answered.
 type Steps = &'static [(Ask, Option<u64>)];
 
-/// What is done with new buckets.
-#[derive(Clone, Copy)]
-enum Scene {
-    Steps(Steps),
-    TwoWords,
-    LastTickets,
-}
-
-fn thread(number: u32) -> Tid
-    requires { 1 ≤ number }
-    ensures { result ≡ number }
-{
-    Tid::new(number).unwrap()
-}
-
-fn cond(number: u32) -> CondId
-    requires { 1 ≤ number }
-    ensures { result ≡ number }
-{
-    CondId::new(number).unwrap()
-}
-
-fn mutex(number: u32) -> MutexId
-    requires { 1 ≤ number }
-{
-    MutexId::new(number).unwrap()
-}
-
-fn priority(level: u32) -> Prio
-    requires least { 1 ≤ level }
-    requires most { level ≤ 99 }
-{
-    Prio::new(level).unwrap()
-}
-
 fn park(
     buckets: &mut Buckets,
     table: &mut NodeTable,
@@ -88,48 +52,11 @@ fn park(
     ensures node { buckets.new.parked.first_node ≡ 0 }
 {
     let number = t.get();
-    if number <= 3 && table.list_of(Node::new(number - 1)).is_none() {
-        buckets.park(table, t, cond(1), m, prio, ticket);
-        Some(u64::from(number))
-    } else {
-        None
+    if number > 3 || table.list_of(Node::new(number - 1)).is_some() {
+        return None;
     }
-}
-
-fn unpark(buckets: &mut Buckets, table: &mut NodeTable, t: Tid) -> Option<u64>
-    requires holds { HoldsBuckets buckets.old table.old }
-    requires threads { buckets.old.parked.threads ≡ 3 }
-    requires conds { buckets.old.parked.conds ≡ 2 }
-    requires node { buckets.old.parked.first_node ≡ 0 }
-    ensures holds { HoldsBuckets buckets.new table.new }
-    ensures threads { buckets.new.parked.threads ≡ 3 }
-    ensures conds { buckets.new.parked.conds ≡ 2 }
-    ensures node { buckets.new.parked.first_node ≡ 0 }
-{
-    if buckets.ticket(table, t).is_some() {
-        buckets.unpark(table, t);
-        Some(u64::from(t.get()))
-    } else {
-        None
-    }
-}
-
-fn rekey(buckets: &mut Buckets, table: &mut NodeTable, t: Tid, prio: Prio) -> Option<u64>
-    requires holds { HoldsBuckets buckets.old table.old }
-    requires threads { buckets.old.parked.threads ≡ 3 }
-    requires conds { buckets.old.parked.conds ≡ 2 }
-    requires node { buckets.old.parked.first_node ≡ 0 }
-    ensures holds { HoldsBuckets buckets.new table.new }
-    ensures threads { buckets.new.parked.threads ≡ 3 }
-    ensures conds { buckets.new.parked.conds ≡ 2 }
-    ensures node { buckets.new.parked.first_node ≡ 0 }
-{
-    if buckets.ticket(table, t).is_some() {
-        buckets.rekey(table, t, prio);
-        Some(u64::from(t.get()))
-    } else {
-        None
-    }
+    buckets.park(table, t, CondId::new(1)?, m, prio, ticket);
+    Some(u64::from(number))
 }
 
 /// The answer to what is asked. Numbers that are nobody's are answered as what is not there.
@@ -145,17 +72,21 @@ fn answer(buckets: &mut Buckets, table: &mut NodeTable, ask: Ask) -> Option<u64>
 {
     match ask {
         Ask::Park(t, m, level, ticket) => {
-            park(
-                buckets,
-                table,
-                Tid::new(t)?,
-                MutexId::new(m)?,
-                Prio::new(level)?,
-                ticket,
-            )
+            let (t, m, prio) = (Tid::new(t)?, MutexId::new(m)?, Prio::new(level)?);
+            park(buckets, table, t, m, prio, ticket)
         }
-        Ask::Unpark(t) => unpark(buckets, table, Tid::new(t)?),
-        Ask::Rekey(t, level) => rekey(buckets, table, Tid::new(t)?, Prio::new(level)?),
+        Ask::Unpark(number) => {
+            let t = Tid::new(number)?;
+            let _ticket = buckets.ticket(table, t)?;
+            buckets.unpark(table, t);
+            Some(u64::from(number))
+        }
+        Ask::Rekey(number, level) => {
+            let (t, prio) = (Tid::new(number)?, Prio::new(level)?);
+            let _ticket = buckets.ticket(table, t)?;
+            buckets.rekey(table, t, prio);
+            Some(u64::from(number))
+        }
         _ => read(buckets, table, ask),
     }
 }
@@ -165,23 +96,21 @@ fn read(buckets: &Buckets, table: &NodeTable, ask: Ask) -> Option<u64>
     requires { HoldsBuckets buckets.now table.now }
 {
     match ask {
-        Ask::Top => number(buckets.top_parked(table, cond(1))),
-        Ask::Place(c, place) => number(buckets.nth_parked(table, CondId::new(c)?, place)),
+        Ask::Place(c, place) => {
+            let t = buckets.nth_parked(table, CondId::new(c)?, place)?;
+            Some(u64::from(t.get()))
+        }
         Ask::Ticket(t) => buckets.ticket(table, Tid::new(t)?),
-        Ask::Target(m) if buckets.match_requeue(table, cond(1), MutexId::new(m)?) => {
+        Ask::Key(word) => Some(buckets.find(table, word)?.get() as u64),
+        Ask::Top => {
+            let t = buckets.top_parked(table, CondId::new(1)?)?;
+            Some(u64::from(t.get()))
+        }
+        Ask::Target(m) if buckets.match_requeue(table, CondId::new(1)?, MutexId::new(m)?) => {
             Some(u64::from(m))
         }
-        Ask::Key(word) => key(buckets.find(table, word)),
         _ => None,
     }
-}
-
-fn number(read: Option<Tid>) -> Option<u64> {
-    Some(u64::from(read?.get()))
-}
-
-fn key(read: Option<Key>) -> Option<u64> {
-    Some(read?.get() as u64)
 }
 
 /// Asks all this in turn, and sees that each answer is the one beside it.
@@ -193,7 +122,7 @@ fn check(rt: &impl Abort, buckets: &mut Buckets, table: &mut NodeTable, steps: S
 {
     let mut place = 0_u32;
     for (ask, reply) in steps {
-        see_at(rt, answer(buckets, table, *ask), *reply, place);
+        see(rt, answer(buckets, table, *ask), *reply, place);
         place = place.saturating_add(1);
     }
 }
@@ -204,7 +133,7 @@ fn check_reads(rt: &impl Abort, buckets: &Buckets, table: &NodeTable, steps: Ste
 {
     let mut place = 0_u32;
     for (ask, reply) in steps {
-        see_at(rt, read(buckets, table, *ask), *reply, place);
+        see(rt, read(buckets, table, *ask), *reply, place);
         place = place.saturating_add(1);
     }
 }
@@ -232,6 +161,9 @@ fn two_words(rt: &impl Abort, buckets: &mut Buckets, table: &mut NodeTable)
     requires holds { HoldsBuckets buckets.old table.old }
     requires rows { length buckets.old.entries.items ≡ 3 }
     requires empty { (w : ℕ) → found_in buckets.old.entries table.old w ≡ None }
+    ensures holds { HoldsBuckets buckets.new table.new }
+    ensures place { buckets.new.parked ≡ buckets.old.parked }
+    ensures parked { (u : ℕ) → parked_at buckets.new.parked table.new u ≡ parked_at buckets.old.parked table.old u }
 {
     buckets.put(table, 3, Key::new(7), 0);
     check_reads(rt, buckets, table, &FIRST_WORD);
@@ -272,10 +204,11 @@ fn park_with_last_tickets(buckets: &mut Buckets, table: &mut NodeTable)
     ensures holds { HoldsBuckets buckets.new table.new }
     ensures tickets { HaveTickets (parked_at buckets.new.parked table.new) }
 {
-    let (t1, t2) = (thread(1), thread(2));
+    let (t1, t2, prio) = (thread(1), thread(2), priority(10));
+    let (c, m) = (CondId::new(1).unwrap(), MutexId::new(1).unwrap());
     if table.list_of(Node::new(0)).is_none() && table.list_of(Node::new(1)).is_none() {
-        buckets.park(table, t2, cond(1), mutex(1), priority(10), u64::MAX - 1);
-        buckets.park(table, t1, cond(1), mutex(1), priority(10), u64::MAX);
+        buckets.park(table, t2, c, m, prio, u64::MAX - 1);
+        buckets.park(table, t1, c, m, prio, u64::MAX);
     }
 }
 
@@ -289,35 +222,13 @@ fn number_last_two(rt: &impl Abort, buckets: &mut Buckets, table: &mut NodeTable
 {
     park_with_last_tickets(buckets, table);
     check_reads(rt, buckets, table, &LAST_TICKETS);
-    see_at(rt, Some(buckets.renumber(table)), Some(3), 0);
+    see(rt, buckets.renumber(table), 3, 0);
     check_reads(rt, buckets, table, &NUMBERED);
 }
 
-/// Does all this with new buckets.
-fn play(rt: &impl Abort, alloc: Global, scene: Scene) -> Result<(), Fail> {
-    let mut table = NodeTable::new(alloc, 6, 66)?;
-    let mut buckets = Buckets::new(alloc, 0, 3, 0, 3, 2)?;
-    match scene {
-        Scene::Steps(steps) => check(rt, &mut buckets, &mut table, steps),
-        Scene::TwoWords => two_words(rt, &mut buckets, &mut table),
-        Scene::LastTickets => number_last_two(rt, &mut buckets, &mut table),
-    }
-    Ok(())
-}
-
-#[test]
-fn two_words_of_one_bucket(rt: HostRuntime) -> Result<(), Fail> {
-    play(&rt, rt.alloc(), Scene::TwoWords)
-}
-
-#[test]
-fn parked_threads_are_numbered_anew(rt: HostRuntime) -> Result<(), Fail> {
-    play(&rt, rt.alloc(), Scene::LastTickets)
-}
-
-/// Threads 1 and 2 are parked with 10, and then thread 3 with 20. Each is to get mutex 1, but for thread 3, which is to
-/// get mutex 2. Who is taken first stands behind equals that came earlier, also once its priority rose and fell.
-static TICKETS: [(Ask, Option<u64>); 12] = [
+/// Threads 1 and 2 are parked with 10, and thread 3 with 20. Each is to get mutex 1, but for thread 3, which is to get
+/// mutex 2. Who is taken first stands behind equals that came earlier, also once its priority rose and fell.
+static PARKED: [(Ask, Option<u64>); 53] = [
     (Ask::Top, None),
     (Ask::Park(1, 1, 10, 1), Some(1)),
     (Ask::Park(2, 1, 10, 2), Some(2)),
@@ -330,15 +241,9 @@ static TICKETS: [(Ask, Option<u64>); 12] = [
     (Ask::Unpark(3), Some(3)),
     (Ask::Top, Some(1)),
     (Ask::Ticket(2), Some(2)),
-];
-
-#[test]
-fn parked_thread_keeps_its_ticket(rt: HostRuntime) -> Result<(), Fail> {
-    play(&rt, rt.alloc(), Scene::Steps(&TICKETS))
-}
-
-/// The same threads: targets differ as long as threads with both are parked, whatever their order.
-static TARGETS: [(Ask, Option<u64>); 18] = [
+    // Targets differ as long as threads with both are parked, whatever their order.
+    (Ask::Unpark(1), Some(1)),
+    (Ask::Unpark(2), Some(2)),
     (Ask::Top, None),
     (Ask::Park(1, 1, 10, 1), Some(1)),
     (Ask::Park(2, 1, 10, 2), Some(2)),
@@ -357,15 +262,7 @@ static TARGETS: [(Ask, Option<u64>); 18] = [
     (Ask::Unpark(3), None),
     (Ask::Target(1), Some(1)),
     (Ask::Target(2), Some(2)),
-];
-
-#[test]
-fn targets_of_parked_threads_are_compared(rt: HostRuntime) -> Result<(), Fail> {
-    play(&rt, rt.alloc(), Scene::Steps(&TARGETS))
-}
-
-/// The same threads: places follow the order in which threads are taken, and no variable but the first has any.
-static PLACES: [(Ask, Option<u64>); 21] = [
+    // Places follow the order in which threads are taken, and no variable but the first has any.
     (Ask::Top, None),
     (Ask::Park(1, 1, 10, 1), Some(1)),
     (Ask::Park(2, 1, 10, 2), Some(2)),
@@ -390,6 +287,18 @@ static PLACES: [(Ask, Option<u64>); 21] = [
 ];
 
 #[test]
-fn parked_threads_stand_by_place(rt: HostRuntime) -> Result<(), Fail> {
-    play(&rt, rt.alloc(), Scene::Steps(&PLACES))
+fn words_and_last_tickets_are_found(rt: HostRuntime) -> Result<(), Fail> {
+    let mut table = NodeTable::new(rt.alloc(), 6, 66)?;
+    let mut buckets = Buckets::new(rt.alloc(), 0, 3, 0, 3, 2)?;
+    two_words(&rt, &mut buckets, &mut table);
+    number_last_two(&rt, &mut buckets, &mut table);
+    Ok(())
+}
+
+#[test]
+fn parked_threads_are_found(rt: HostRuntime) -> Result<(), Fail> {
+    let mut table = NodeTable::new(rt.alloc(), 6, 66)?;
+    let mut buckets = Buckets::new(rt.alloc(), 0, 3, 0, 3, 2)?;
+    check(&rt, &mut buckets, &mut table, &PARKED);
+    Ok(())
 }

@@ -1,13 +1,13 @@
 ghost use Rattle.std.specs.Prelude.{◌≡◌, ◌<◌, ◌≤◌, ℕ, length};
 ghost use Rattle.pif_model.specs.RobustList.{robust_at};
 
-use super::seen::{see_flag, see_number, see_word};
+use crate::seen::{see, thread};
 use pif_robust::RobustLists;
 use pif_types::{Limits, MutexId, Tid};
 use std::process::Abort;
 use std::test::Fail;
 
-/// Takes the mutex `number`, which is on no list, as a lock does.
+/// Takes the mutex `number`, which is on no list, as a lock does. Each step of that is seen by the readers.
 fn take(rt: &impl Abort, lists: &mut RobustLists, t: Tid, number: u32) -> Result<(), Fail>
     requires thread { t < length lists.old.threads }
     requires mutex { number ≤ lists.old.mutexes }
@@ -19,22 +19,33 @@ fn take(rt: &impl Abort, lists: &mut RobustLists, t: Tid, number: u32) -> Result
     let m = MutexId::new(number).ok_or("mutex")?;
     assert!(rt; lists.holder(m).is_none());
     lists.set_pending(t, m);
+    see(rt, lists.pending(t), Some(m), number);
     lists.link_next(t, m);
+    see_linked(rt, lists, (t, m), (Some(m), None));
     lists.link_head(t, m);
+    see_linked(rt, lists, (t, m), (None, Some(t)));
     lists.clear_pending(t);
+    see(rt, lists.pending(t), None, number);
     Ok(())
+}
+
+/// What a thread has half-linked, and who holds a mutex.
+fn see_linked(
+    rt: &impl Abort,
+    lists: &RobustLists,
+    of: (Tid, MutexId),
+    wanted: (Option<MutexId>, Option<Tid>),
+) {
+    let (t, m) = of;
+    see(rt, (lists.half_linked(t), lists.holder(m)), wanted, m.get());
 }
 
 /// The walk of a thread gives these mutexes.
 fn walks(rt: &impl Abort, lists: &RobustLists, t: Tid, expected: &[u32]) {
     let found = lists.walk(t);
-    see_walk(rt, found.as_slice(), expected);
-}
-
-fn see_walk(rt: &impl Abort, found: &[MutexId], expected: &[u32]) {
-    see_flag(rt, found.len() == expected.len(), true);
+    see(rt, found.len(), expected.len(), 0);
     for (m, number) in found.iter().zip(expected) {
-        see_word(rt, m.get(), *number);
+        see(rt, m.get(), *number, *number);
     }
 }
 
@@ -52,126 +63,61 @@ fn take_four(rt: &impl Abort, lists: &mut RobustLists, t: Tid) -> Result<(), Fai
     Ok(())
 }
 
-/// Each step of a lock is seen by the readers.
-fn link(rt: &impl Abort, lists: &mut RobustLists, t: Tid, m: MutexId)
-    requires thread { t < length lists.old.threads }
-    requires mutex { m ≤ lists.old.mutexes }
-    requires whole { (u : ℕ) → (robust_at lists.old u).half_linked ≡ 0 }
-{
-    assert!(rt; lists.holder(m).is_none());
-    lists.set_pending(t, m);
-    let pending = lists.pending(t);
-    lists.link_next(t, m);
-    see_link(rt, lists, (t, m), Some(m), None);
-    lists.link_head(t, m);
-    see_link(rt, lists, (t, m), None, Some(t));
-    lists.clear_pending(t);
-    see_mutex(rt, pending, Some(m));
-    see_mutex(rt, lists.pending(t), None);
-}
-
-/// A mutex that was read is this one.
-fn see_mutex(rt: &impl Abort, read: Option<MutexId>, m: Option<MutexId>) {
-    see_number(rt, mutex_number(read), mutex_number(m));
-}
-
-fn mutex_number(m: Option<MutexId>) -> Option<u32> {
-    Some(m?.get())
-}
-
-fn thread_number(t: Option<Tid>) -> Option<u32> {
-    Some(t?.get())
-}
-
-/// How far a thread has linked a mutex.
-fn see_link(
-    rt: &impl Abort,
-    lists: &RobustLists,
-    of: (Tid, MutexId),
-    half_linked: Option<MutexId>,
-    holder: Option<Tid>,
-) {
-    let (t, m) = of;
-    see_mutex(rt, lists.half_linked(t), half_linked);
-    see_number(rt, thread_number(lists.holder(m)), thread_number(holder));
-}
-
-#[test]
-fn each_write_of_a_lock_is_seen(rt: HostRuntime) -> Result<(), Fail> {
-    let t = Tid::new(1).ok_or("thread")?;
-    let m = MutexId::new(3).ok_or("mutex")?;
-    let limits = Limits::new(2, 4, 0, 1).ok_or("limits")?;
-    let mut lists = RobustLists::new(rt.alloc(), limits)?;
-    link(&rt, &mut lists, t, m);
-    Ok(())
-}
-
-/// Mutexes leave the list from its middle, its end and its head.
-fn unlink_each(rt: &impl Abort, lists: &mut RobustLists, t: Tid) -> Result<(), Fail> {
-    let steps: [(u32, &[u32]); 4] = [(3, &[4, 2, 1]), (1, &[4, 2]), (4, &[2]), (2, &[])];
-    for (number, left) in steps {
-        let m = MutexId::new(number).ok_or("mutex")?;
-        let holder = lists.holder(m).ok_or("holder")?;
-        lists.unlink(holder, m);
-        walks(rt, lists, t, left);
-    }
-    Ok(())
-}
-
-#[test]
-fn unlink_keeps_the_others_in_order(rt: HostRuntime) -> Result<(), Fail> {
-    let t = Tid::new(2).ok_or("thread")?;
-    let limits = Limits::new(2, 4, 0, 1).ok_or("limits")?;
-    let mut lists = RobustLists::new(rt.alloc(), limits)?;
-    take_four(&rt, &mut lists, t)?;
-    unlink_each(&rt, &mut lists, t)
-}
-
 /// The pending mutex comes last, whether it is listed or not.
 fn walk_with_each(rt: &impl Abort, lists: &mut RobustLists, t: Tid) -> Result<(), Fail>
     requires thread { t < length lists.old.threads }
-    requires mutex { 5 ≤ lists.old.mutexes }
+    requires mutex { 6 ≤ lists.old.mutexes }
 {
     walks(rt, lists, t, &[4, 3, 2, 1]);
     let steps: [(u32, &[u32]); 3] = [
         (2, &[4, 3, 1, 2]),
         (4, &[3, 2, 1, 4]),
-        (5, &[4, 3, 2, 1, 5]),
+        (6, &[4, 3, 2, 1, 6]),
     ];
     for (number, expected) in steps {
         let m = MutexId::new(number).ok_or("mutex")?;
         lists.set_pending(t, m);
         walks(rt, lists, t, expected);
     }
+    lists.clear_pending(t);
+    Ok(())
+}
+
+/// These mutexes leave the lists on which they are. Beside each is what is left of its list.
+fn unlink_each(
+    rt: &impl Abort,
+    lists: &mut RobustLists,
+    steps: &[(u32, &[u32])],
+) -> Result<(), Fail> {
+    for (number, left) in steps {
+        let m = MutexId::new(*number).ok_or("mutex")?;
+        let holder = lists.holder(m).ok_or("holder")?;
+        lists.unlink(holder, m);
+        walks(rt, lists, holder, left);
+    }
     Ok(())
 }
 
 #[test]
-fn walk_ends_with_the_pending_mutex(rt: HostRuntime) -> Result<(), Fail> {
-    let t = Tid::new(1).ok_or("thread")?;
-    let limits = Limits::new(2, 5, 0, 1).ok_or("limits")?;
+fn walks_go_from_the_last_linked_on(rt: HostRuntime) -> Result<(), Fail> {
+    let limits = Limits::new(2, 6, 0, 1).ok_or("limits")?;
     let mut lists = RobustLists::new(rt.alloc(), limits)?;
-    take_four(&rt, &mut lists, t)?;
-    walk_with_each(&rt, &mut lists, t)
+    link_and_unlink(&rt, &mut lists, thread(1), thread(2))
 }
 
-/// What a thread had is gone, and nothing of the other's.
-fn forget_one(rt: &impl Abort, lists: &mut RobustLists, t: Tid, other: Tid) {
+fn link_and_unlink(rt: &impl Abort, lists: &mut RobustLists, t: Tid, other: Tid) -> Result<(), Fail>
+    requires thread { t < length lists.old.threads }
+    requires other { other < length lists.old.threads }
+    requires mutex { 6 ≤ lists.old.mutexes }
+    requires whole { (u : ℕ) → (robust_at lists.old u).half_linked ≡ 0 }
+{
+    take(rt, lists, other, 5)?;
+    take_four(rt, lists, t)?;
+    walk_with_each(rt, lists, t)?;
+    // From its middle, its end and its head, and from another list the only one.
+    unlink_each(rt, lists, &[(3, &[4, 2, 1]), (1, &[4, 2]), (4, &[2])])?;
     lists.forget(t);
     walks(rt, lists, t, &[]);
     walks(rt, lists, other, &[5]);
-    lists.forget(other);
-    walks(rt, lists, other, &[]);
-}
-
-#[test]
-fn forget_empties_one_list(rt: HostRuntime) -> Result<(), Fail> {
-    let t = Tid::new(1).ok_or("thread")?;
-    let other = Tid::new(2).ok_or("other")?;
-    let limits = Limits::new(2, 5, 0, 1).ok_or("limits")?;
-    let mut lists = RobustLists::new(rt.alloc(), limits)?;
-    take(&rt, &mut lists, other, 5)?;
-    take_four(&rt, &mut lists, t)?;
-    forget_one(&rt, &mut lists, t, other);
-    Ok(())
+    unlink_each(rt, lists, &[(5, &[])])
 }

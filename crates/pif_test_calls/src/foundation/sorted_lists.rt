@@ -1,8 +1,8 @@
 ghost use Rattle.std.specs.Prelude.{◌≡◌, ◌<◌, length, replicate, []};
 ghost use Rattle.pif_nodes_model.specs.Table.{no_key};
 
-use super::seen::{see_at, see_flag};
-use pif_nodes::{Key, List, Node, NodeTable};
+use crate::seen::see;
+use pif_nodes::{List, Node, NodeTable};
 use pif_plist::PList;
 use std::process::Abort;
 use std::test::Fail;
@@ -27,12 +27,10 @@ fn keep_place_among_equals(rt: &impl Abort, table: &mut NodeTable)
     waiters.rekey(table, b, 20);
     expect_order(rt, table, b, c, a);
     waiters.remove(table, b);
-    see_node(rt, waiters.top(table), c);
-}
-
-// Sees that a node that was read is this one.
-fn see_node(rt: &impl Abort, read: Option<Node>, node: Node) {
-    see_flag(rt, read == Some(node), true);
+    see(rt, waiters.top(table), Some(c), 1);
+    waiters.set_ticket(table, c, 7);
+    let key = table.key(c);
+    see(rt, (key.prio, key.ticket), (20, 7), 2);
 }
 
 // Asserts that list 0 has these three nodes first.
@@ -41,30 +39,10 @@ fn expect_order(rt: &impl Abort, table: &NodeTable, first: Node, second: Node, t
     requires one { first < length table.now.keys }
     requires two { second < length table.now.keys }
 {
-    see_node(rt, table.first(List::new(0)), first);
-    see_node(rt, table.next(first), second);
-    see_node(rt, table.next(second), third);
-}
-
-#[test]
-fn set_ticket_changes_the_ticket_alone(rt: HostRuntime) -> Result<(), Fail> {
-    let mut table = NodeTable::new(rt.alloc(), 1, 1)?;
-    change_the_ticket_alone(&rt, &mut table);
-    Ok(())
-}
-
-fn see_key(rt: &impl Abort, key: Key) {
-    see_at(rt, Some(u64::from(key.prio)), Some(10), 0);
-    see_at(rt, Some(key.ticket), Some(7), 0);
-}
-
-fn change_the_ticket_alone(rt: &impl Abort, table: &mut NodeTable)
-    requires { table.old ≡ record { lists = replicate 1 []; keys = replicate 1 no_key } }
-{
-    let waiters = PList::new(List::new(0));
-    let node = Node::new(0);
-    waiters.insert(table, node, 10, 1);
-    waiters.set_ticket(table, node, 7);
-    see_key(rt, table.key(node));
-    see_node(rt, waiters.top(table), node);
+    let read = [
+        table.first(List::new(0)),
+        table.next(first),
+        table.next(second),
+    ];
+    see(rt, read, [Some(first), Some(second), Some(third)], 0);
 }

@@ -1,6 +1,6 @@
 ghost use Rattle.std.specs.Prelude.{◌≤◌};
 
-use super::seen::{see_flag, see_number, see_word};
+use crate::seen::see;
 use pif_types::{CondId, Limits, MutexId};
 use pif_word::{
     Cell, OWNER_DIED, Words, hand_word, has_waiters, mark_word, number, owner_died, release_word,
@@ -9,13 +9,6 @@ use pif_word::{
 use std::process::Abort;
 use std::test::Fail;
 
-#[test]
-fn words_say_number_and_flags(rt: HostRuntime) {
-    see_parts(&rt);
-    see_changes(&rt);
-    see_takes(&rt);
-}
-
 /// Words, and the number and the flags of each.
 static PARTS: [(u32, u32, bool, bool); 3] = [
     (0x8000_0001, 1, true, false),
@@ -23,79 +16,52 @@ static PARTS: [(u32, u32, bool, bool); 3] = [
     (0xc000_0002, 2, true, true),
 ];
 
-fn see_parts(rt: &impl Abort) {
+#[test]
+fn words_say_number_and_flags(rt: HostRuntime) {
     for (word, owner, waiters, died) in PARTS {
-        see_word(rt, number(word), owner);
-        see_flag(rt, has_waiters(word), waiters);
-        see_flag(rt, owner_died(word), died);
+        let read = (number(word), has_waiters(word), owner_died(word));
+        see(&rt, read, (owner, waiters, died), word);
     }
-}
-
-fn see_changes(rt: &impl Abort) {
-    see_word(rt, mark_word(0x4000_0001), 0xc000_0001);
-    see_word(rt, hand_word(2), 0x8000_0002);
-    see_word(rt, taken_word(0x4000_0000, 3), 0x4000_0003);
-}
-
-fn see_takes(rt: &impl Abort) {
-    see_number(rt, take_word(0, 3), Some(3));
-    see_number(rt, take_word(0x4000_0000, 3), None);
-    see_number(rt, release_word(3, 3), Some(0));
-    see_number(rt, release_word(0x8000_0003, 3), None);
+    let changed = [
+        mark_word(0x4000_0001),
+        hand_word(2),
+        taken_word(0x4000_0000, 3),
+    ];
+    see(&rt, changed, [0xc000_0001, 0x8000_0002, 0x4000_0003], 0);
+    let taken = [take_word(0, 3), take_word(0x4000_0000, 3)];
+    see(&rt, taken, [Some(3), None], 1);
+    let released = [release_word(3, 3), release_word(0x8000_0003, 3)];
+    see(&rt, released, [Some(0), None], 2);
 }
 
 #[test]
 fn each_access_touches_one_word(rt: HostRuntime) -> Result<(), Fail> {
-    let limits = Limits::new(1, 2, 0, 1).ok_or("limits")?;
+    let limits = Limits::new(1, 2, 2, 1).ok_or("limits")?;
     let mut words = Words::new(rt.alloc(), limits)?;
-    touch_one_word_each(&rt, &mut words);
+    touch_one_word_each(&rt, &mut words, mutex(1), mutex(2), mutex(3));
+    touch_one_word_each(&rt, &mut words, variable(1), variable(2), variable(3));
     Ok(())
 }
 
-fn cell(mutex: u32) -> Cell
-    requires { 1 ≤ mutex }
+fn mutex(number: u32) -> Cell
+    requires { 1 ≤ number }
 {
-    Cell::Mutex(MutexId::new(mutex).unwrap())
+    Cell::Mutex(MutexId::new(number).unwrap())
 }
 
-// Sees whether a word was exchanged, and what it was before.
-fn see_exchange(rt: &impl Abort, read: Result<u32, u32>, done: bool, bits: u32) {
-    see_flag(rt, read.is_ok(), done);
-    match read {
-        Ok(found) | Err(found) => see_word(rt, found, bits),
-    }
+fn variable(number: u32) -> Cell
+    requires { 1 ≤ number }
+{
+    Cell::Cond(CondId::new(number).unwrap())
 }
 
-fn touch_one_word_each(rt: &impl Abort, words: &mut Words) {
-    let (one, two) = (cell(1), cell(2));
-    assert!(rt; words.has(one) && words.has(two) && !words.has(cell(3)));
-    see_exchange(rt, words.compare_exchange(one, 0, 1), true, 0);
-    see_exchange(rt, words.compare_exchange(one, 0, 2), false, 1);
+/// The third word isn't there.
+fn touch_one_word_each(rt: &impl Abort, words: &mut Words, one: Cell, two: Cell, three: Cell) {
+    assert!(rt; words.has(one) && words.has(two) && !words.has(three));
+    see(rt, words.compare_exchange(one, 0, 1), Ok(0), 0);
+    see(rt, words.compare_exchange(one, 0, 2), Err(1), 1);
     words.store(two, 0xc000_0002);
-    see_word(rt, words.fetch_and(two, !OWNER_DIED), 0xc000_0002);
-    see_word(rt, words.load(one), 1);
-    see_word(rt, words.load(two), 0x8000_0002);
-}
-
-#[test]
-fn a_condition_word_counts(rt: HostRuntime) -> Result<(), Fail> {
-    let limits = Limits::new(1, 1, 2, 1).ok_or("limits")?;
-    let mut words = Words::new(rt.alloc(), limits)?;
-    count_a_use(&rt, &mut words);
-    Ok(())
-}
-
-fn variable(cond: u32) -> Cell
-    requires { 1 ≤ cond }
-{
-    Cell::Cond(CondId::new(cond).unwrap())
-}
-
-fn count_a_use(rt: &impl Abort, words: &mut Words) {
-    let (one, two) = (variable(1), variable(2));
-    assert!(rt; words.has(one) && words.has(two) && !words.has(variable(3)));
-    see_exchange(rt, words.compare_exchange(two, 0, 1), true, 0);
-    see_exchange(rt, words.compare_exchange(two, 0, 1), false, 1);
-    see_word(rt, words.load(two), 1);
-    see_word(rt, words.load(one), 0);
+    let before = words.fetch_and(two, !OWNER_DIED);
+    let read = [before, words.load(one), words.load(two)];
+    see(rt, read, [0xc000_0002, 1, 0x8000_0002], 2);
 }

@@ -1,13 +1,13 @@
 //! Parking on condition variables, and what takes threads from them: requeues, by the word of the mutex as it is then,
 //! and the end of a thread.
 use super::super::driver::Reply;
-use super::{Ask, play};
+use super::{Ask, play, play_all};
 use pif_kernel::Woken;
 use pif_types::Errno;
 use std::test::Fail;
 
 // Nobody has number 9. A priority is tested before the thread.
-static PRIORITIES: [(Ask, Reply); 8] = [
+static REFUSALS: [(Ask, Reply); 17] = [
     (Ask::SetPrio(9, 0), Reply::Refused(Errno::Invalid)),
     (Ask::SetPrio(9, 100), Reply::Refused(Errno::Invalid)),
     (Ask::SetPrio(9, 10), Reply::Refused(Errno::NoSuchThread)),
@@ -16,10 +16,7 @@ static PRIORITIES: [(Ask, Reply); 8] = [
     (Ask::SetPrio(1, 100), Reply::Refused(Errno::Invalid)),
     (Ask::Effective(1), Reply::Prio(10)),
     (Ask::SetPrio(1, 99), Reply::Done),
-];
-
-// Thread 1 parks on variable 1, whose word is 1, for mutex 1. There is no variable 3 and no mutex 3.
-static PARKINGS: [(Ask, Reply); 9] = [
+    // Thread 1 parks on variable 1, whose word is 1, for mutex 1. There is no variable 3 and no mutex 3.
     (Ask::StoreUses(1, 1), Reply::Done),
     (Ask::Park(1, 3, 0, 1), Reply::Refused(Errno::Fault)),
     (Ask::Park(1, 1, 0, 3), Reply::Refused(Errno::Fault)),
@@ -69,7 +66,16 @@ static LAST_USES: [(Ask, Reply); 3] = [
 
 #[test]
 fn uses_of_a_variable_run_out(rt: HostRuntime) -> Result<(), Fail> {
-    play(&rt, rt.alloc(), &[10], 1, &[&LAST_USES])
+    play(
+        &rt,
+        rt.alloc(),
+        &(
+            "uses_of_a_variable_run_out",
+            &[10],
+            1,
+            [&LAST_USES, &[], &[]],
+        ),
+    )
 }
 
 #[test]
@@ -77,9 +83,12 @@ fn set_prio_and_requeue_refusals(rt: HostRuntime) -> Result<(), Fail> {
     play(
         &rt,
         rt.alloc(),
-        &[10, 10, 10],
-        2,
-        &[&PRIORITIES, &PARKINGS, &REQUEUES, &STATES],
+        &(
+            "set_prio_and_requeue_refusals",
+            &[10, 10, 10],
+            2,
+            [&REFUSALS, &REQUEUES, &STATES],
+        ),
     )
 }
 
@@ -122,11 +131,6 @@ static WAKES: [(Ask, Reply); 10] = [
     (Ask::Word(2), Reply::Bits(0x0000_0002)),
 ];
 
-#[test]
-fn the_word_says_what_a_taken_thread_gets(rt: HostRuntime) -> Result<(), Fail> {
-    play(&rt, rt.alloc(), &[10, 20, 10], 2, &[&OWNS, &QUEUES, &WAKES])
-}
-
 // Thread 2 waits for thread 1, which is parked: it can't queue behind thread 2, and is woken.
 static CYCLE: [(Ask, Reply); 9] = [
     (Ask::Lock(1, 2), Reply::Owns),
@@ -139,11 +143,6 @@ static CYCLE: [(Ask, Reply); 9] = [
     (Ask::Word(1), Reply::Bits(0x0000_0002)),
     (Ask::Lock(1, 1), Reply::Refused(Errno::Deadlock)),
 ];
-
-#[test]
-fn requeue_into_a_cycle_wakes(rt: HostRuntime) -> Result<(), Fail> {
-    play(&rt, rt.alloc(), &[10, 20], 2, &[&CYCLE])
-}
 
 // Thread 1 ends as the owner of mutex 2, which isn't on its robust list. Thread 3 is queued on it, so that the owner
 // state of thread 1 stays, and thread 2 is parked for it.
@@ -158,11 +157,6 @@ static LOST: [(Ask, Reply); 9] = [
     (Ask::Lock(2, 2), Reply::Refused(Errno::NoSuchThread)),
     (Ask::Status(3), Reply::QueuedOn(2)),
 ];
-
-#[test]
-fn requeue_to_a_lost_mutex_wakes(rt: HostRuntime) -> Result<(), Fail> {
-    play(&rt, rt.alloc(), &[10, 20, 30], 2, &[&LOST])
-}
 
 // Threads 2 to 5, of priorities 20, 30, 30 and 20, are parked on variable 1 for mutex 1, which has no owner.
 static PARKED: [(Ask, Reply); 4] = [
@@ -187,17 +181,6 @@ static GREATEST_FIRST: [(Ask, Reply); 12] = [
     (Ask::Requeue(1, 0, 1, 1, 4294967295), Reply::Taken(0)),
 ];
 
-#[test]
-fn requeue_takes_greatest_first(rt: HostRuntime) -> Result<(), Fail> {
-    play(
-        &rt,
-        rt.alloc(),
-        &[10, 20, 30, 30, 20],
-        1,
-        &[&PARKED, &GREATEST_FIRST],
-    )
-}
-
 // Thread 2, the owner of mutex 1, waits for thread 1, which is parked as threads 3 and 4 are. The first that is taken
 // is thread 3: it boosts both, and so thread 1 goes before thread 4.
 static EACH_ANEW: [(Ask, Reply); 13] = [
@@ -215,11 +198,6 @@ static EACH_ANEW: [(Ask, Reply); 13] = [
     (Ask::Status(4), Reply::ParkedOn(1)),
     (Ask::Pick, Reply::Thread(1)),
 ];
-
-#[test]
-fn requeue_judges_anew_for_each(rt: HostRuntime) -> Result<(), Fail> {
-    play(&rt, rt.alloc(), &[10, 5, 50, 30], 2, &[&EACH_ANEW])
-}
 
 // Thread 2 is parked as the owner of mutex 2: who locks it boosts thread 2, which goes before thread 3 then.
 static BOOSTED: [(Ask, Reply); 7] = [
@@ -250,9 +228,12 @@ fn parked_thread_is_rekeyed(rt: HostRuntime) -> Result<(), Fail> {
     play(
         &rt,
         rt.alloc(),
-        &[10, 10, 15, 40, 10, 10],
-        3,
-        &[&BOOSTED, &SET],
+        &(
+            "parked_thread_is_rekeyed",
+            &[10, 10, 15, 40, 10, 10],
+            3,
+            [&BOOSTED, &SET, &[]],
+        ),
     )
 }
 
@@ -266,7 +247,70 @@ static BOTH_PARKED: [(Ask, Reply); 6] = [
     (Ask::Word(1), Reply::Bits(0x0000_0002)),
 ];
 
+// Equals are taken in the order in which they were parked, also once one of them went up and down again.
+static EQUALS: [(Ask, Reply); 12] = [
+    (Ask::Park(3, 1, 0, 1), Reply::Done),
+    (Ask::Park(2, 1, 0, 1), Reply::Done),
+    (Ask::SetPrio(2, 30), Reply::Done),
+    (Ask::Parked(1, 0), Reply::Thread(2)),
+    (Ask::SetPrio(2, 10), Reply::Done),
+    (Ask::Parked(1, 0), Reply::Thread(3)),
+    (Ask::Parked(1, 1), Reply::Thread(2)),
+    (Ask::Expire(3), Reply::Done),
+    (Ask::Park(3, 1, 0, 1), Reply::Done),
+    (Ask::Parked(1, 0), Reply::Thread(2)),
+    (Ask::Parked(1, 1), Reply::Thread(3)),
+    (Ask::Parked(2, 0), Reply::Nobody),
+];
+
 #[test]
-fn exit_leaves_the_variable(rt: HostRuntime) -> Result<(), Fail> {
-    play(&rt, rt.alloc(), &[20, 10], 1, &[&BOTH_PARKED])
+fn requeues_answer_by_the_word(rt: HostRuntime) -> Result<(), Fail> {
+    play_all(
+        &rt,
+        rt.alloc(),
+        &[
+            (
+                "the_word_says_what_a_taken_thread_gets",
+                &[10, 20, 10],
+                2,
+                [&OWNS, &QUEUES, &WAKES],
+            ),
+            (
+                "requeue_into_a_cycle_wakes",
+                &[10, 20],
+                2,
+                [&CYCLE, &[], &[]],
+            ),
+            (
+                "requeue_to_a_lost_mutex_wakes",
+                &[10, 20, 30],
+                2,
+                [&LOST, &[], &[]],
+            ),
+            (
+                "requeue_takes_greatest_first",
+                &[10, 20, 30, 30, 20],
+                1,
+                [&PARKED, &GREATEST_FIRST, &[]],
+            ),
+            (
+                "requeue_judges_anew_for_each",
+                &[10, 5, 50, 30],
+                2,
+                [&EACH_ANEW, &[], &[]],
+            ),
+            (
+                "exit_leaves_the_variable",
+                &[20, 10],
+                1,
+                [&BOTH_PARKED, &[], &[]],
+            ),
+            (
+                "equals_are_taken_in_order_of_parking",
+                &[10, 10, 10],
+                1,
+                [&EQUALS, &[], &[]],
+            ),
+        ],
+    )
 }

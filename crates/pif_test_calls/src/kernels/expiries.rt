@@ -1,7 +1,7 @@
 //! Deadlines that are reached while a thread is queued, parked or stopped: what it leaves, the priorities of the chain
 //! above it, and where it stands in the run queue.
 use super::super::driver::Reply;
-use super::{Ask, play};
+use super::{Ask, play_all};
 use pif_kernel::Woken;
 use std::test::Fail;
 
@@ -48,17 +48,6 @@ static STOPPED: [(Ask, Reply); 6] = [
     (Ask::Status(4), Reply::Stopped),
 ];
 
-#[test]
-fn expiry_ends_each_kind_of_waiting(rt: HostRuntime) -> Result<(), Fail> {
-    play(
-        &rt,
-        rt.alloc(),
-        &[10, 50, 20, 30],
-        1,
-        &[&QUEUED, &PARKED, &STOPPED],
-    )
-}
-
 // Thread 1 holds mutex 1, on which thread 2 is queued; thread 3 is parked, and thread 4 has stopped. All are of the
 // priority of thread 5. Who expires joins behind those that are there.
 static ALL_REST: [(Ask, Reply); 4] = [
@@ -79,17 +68,6 @@ static EXPIRE: [(Ask, Reply); 8] = [
     (Ask::Ready(4), Reply::Thread(3)),
 ];
 
-#[test]
-fn who_expires_runs_behind_its_equals(rt: HostRuntime) -> Result<(), Fail> {
-    play(
-        &rt,
-        rt.alloc(),
-        &[20, 20, 20, 20, 20],
-        1,
-        &[&ALL_REST, &EXPIRE],
-    )
-}
-
 // Thread 1 was boosted by thread 2. It falls behind thread 3, which has its priority, and thread 2 runs first.
 static BOOST_LOST: [(Ask, Reply); 7] = [
     (Ask::Lock(1, 1), Reply::Owns),
@@ -100,11 +78,6 @@ static BOOST_LOST: [(Ask, Reply); 7] = [
     (Ask::Ready(1), Reply::Thread(3)),
     (Ask::Ready(2), Reply::Thread(1)),
 ];
-
-#[test]
-fn who_loses_a_boost_by_expiry_runs_behind_its_equals(rt: HostRuntime) -> Result<(), Fail> {
-    play(&rt, rt.alloc(), &[10, 50, 10], 1, &[&BOOST_LOST])
-}
 
 // Thread 1, of priority 10, holds mutex 1. Thread 2, of priority 20, holds mutex 2 and waits for mutex 1. Threads 3 and
 // 4, of priorities 30 and 40, wait for mutex 2.
@@ -131,17 +104,6 @@ static BOOST_FALLS: [(Ask, Reply); 10] = [
     (Ask::Pick, Reply::Thread(4)),
 ];
 
-#[test]
-fn boost_falls_with_each_waiter_that_expires(rt: HostRuntime) -> Result<(), Fail> {
-    play(
-        &rt,
-        rt.alloc(),
-        &[10, 20, 30, 40],
-        2,
-        &[&WAITING, &BOOST_FALLS],
-    )
-}
-
 // Thread 2 leaves the middle of the chain, and those that wait for it boost it still, and thread 1 no longer.
 static BOOST_KEPT: [(Ask, Reply); 6] = [
     (Ask::Expire(2), Reply::Done),
@@ -153,12 +115,41 @@ static BOOST_KEPT: [(Ask, Reply); 6] = [
 ];
 
 #[test]
-fn who_expires_keeps_the_boost_of_its_own_waiters(rt: HostRuntime) -> Result<(), Fail> {
-    play(
+fn deadlines_are_reached_in_each_state(rt: HostRuntime) -> Result<(), Fail> {
+    play_all(
         &rt,
         rt.alloc(),
-        &[10, 20, 30, 40],
-        2,
-        &[&WAITING, &BOOST_KEPT],
+        &[
+            (
+                "expiry_ends_each_kind_of_waiting",
+                &[10, 50, 20, 30],
+                1,
+                [&QUEUED, &PARKED, &STOPPED],
+            ),
+            (
+                "who_expires_runs_behind_its_equals",
+                &[20, 20, 20, 20, 20],
+                1,
+                [&ALL_REST, &EXPIRE, &[]],
+            ),
+            (
+                "who_loses_a_boost_by_expiry_runs_behind_its_equals",
+                &[10, 50, 10],
+                1,
+                [&BOOST_LOST, &[], &[]],
+            ),
+            (
+                "boost_falls_with_each_waiter_that_expires",
+                &[10, 20, 30, 40],
+                2,
+                [&WAITING, &BOOST_FALLS, &[]],
+            ),
+            (
+                "who_expires_keeps_the_boost_of_its_own_waiters",
+                &[10, 20, 30, 40],
+                2,
+                [&WAITING, &BOOST_KEPT, &[]],
+            ),
+        ],
     )
 }

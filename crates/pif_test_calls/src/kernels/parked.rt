@@ -37,7 +37,16 @@ static BROADCAST: [(Ask, Reply); 13] = [
 
 #[test]
 fn broadcast_wakes_by_priority(rt: HostRuntime) -> Result<(), Fail> {
-    play(&rt, rt.alloc(), &[5, 10, 30, 20], 1, &[&WAITS, &BROADCAST])
+    play(
+        &rt,
+        rt.alloc(),
+        &(
+            "broadcast_wakes_by_priority",
+            &[5, 10, 30, 20],
+            1,
+            [&WAITS, &BROADCAST, &[]],
+        ),
+    )
 }
 
 // Thread 3 parks after thread 2, which has a lower priority, and gets the mutex, which is free.
@@ -52,28 +61,16 @@ static GREATEST: [(Ask, Reply); 6] = [
 
 #[test]
 fn signal_takes_greatest_priority(rt: HostRuntime) -> Result<(), Fail> {
-    play(&rt, rt.alloc(), &[10, 10, 30], 1, &[&GREATEST])
-}
-
-// Equals are taken in the order in which they were parked, also once one of them went up and down again.
-static EQUALS: [(Ask, Reply); 12] = [
-    (Ask::Park(3, 1, 0, 1), Reply::Done),
-    (Ask::Park(2, 1, 0, 1), Reply::Done),
-    (Ask::SetPrio(2, 30), Reply::Done),
-    (Ask::Parked(1, 0), Reply::Thread(2)),
-    (Ask::SetPrio(2, 10), Reply::Done),
-    (Ask::Parked(1, 0), Reply::Thread(3)),
-    (Ask::Parked(1, 1), Reply::Thread(2)),
-    (Ask::Expire(3), Reply::Done),
-    (Ask::Park(3, 1, 0, 1), Reply::Done),
-    (Ask::Parked(1, 0), Reply::Thread(2)),
-    (Ask::Parked(1, 1), Reply::Thread(3)),
-    (Ask::Parked(2, 0), Reply::Nobody),
-];
-
-#[test]
-fn equals_are_taken_in_order_of_parking(rt: HostRuntime) -> Result<(), Fail> {
-    play(&rt, rt.alloc(), &[10, 10, 10], 1, &[&EQUALS])
+    play(
+        &rt,
+        rt.alloc(),
+        &(
+            "signal_takes_greatest_priority",
+            &[10, 10, 30],
+            1,
+            [&GREATEST, &[], &[]],
+        ),
+    )
 }
 
 // Mutexes 1 and 65 are both held by a thread for which one of priority 20 waits. What becomes of one leaves the other.
@@ -104,5 +101,14 @@ static AGAIN: [(Ask, Reply); 9] = [
 
 #[test]
 fn two_mutexes_of_one_bucket(rt: HostRuntime) -> Result<(), Fail> {
-    play(&rt, rt.alloc(), &[10, 20, 10, 20], 65, &[&HELD, &AGAIN])
+    play(
+        &rt,
+        rt.alloc(),
+        &(
+            "two_mutexes_of_one_bucket",
+            &[10, 20, 10, 20],
+            65,
+            [&HELD, &AGAIN, &[]],
+        ),
+    )
 }

@@ -1,10 +1,11 @@
 //! Random lists of kernel calls on both kernels, on words that no library wrote too: each call has the same answer on
 //! both, and leaves the same words, statuses, priorities and pick.
-ghost use Rattle.std.specs.Prelude.{◌≤◌, length};
+ghost use Rattle.std.specs.Prelude.{◌≤◌};
 
 use super::super::driver::{Reply, see};
-use super::{Ask, Scene};
+use super::{Ask, Scene, answer, new_scene, read};
 use pif_chains_linked::LinkedChains;
+use pif_kernel::{Chains, KernelOn, PiKernel};
 use pif_plain::PlainChains;
 use rand_core::{Rng, SeedableRng};
 use rand_xoshiro::SplitMix64;
@@ -20,55 +21,47 @@ const LISTS: u32 = 1000;
 
 const ASKED: u32 = 250;
 
-type Plain = Scene<PlainChains>;
-
-type Linked = Scene<LinkedChains>;
-
 // Asks both kernels, and sees that they answer the same. Whether it could be asked: a call may want a ready thread.
-fn ask(rt: &impl Abort, plain: &mut Plain, linked: &mut Linked, ask: Ask) -> bool {
-    let reply = plain.answer(ask);
-    see(rt, linked.answer(ask), reply, 0);
+fn ask<A: PiKernel + Drop, B: PiKernel + Drop>(
+    rt: &impl Abort,
+    plain: &mut Scene<A>,
+    linked: &mut Scene<B>,
+    ask: Ask,
+) -> bool {
+    let reply = answer(plain, ask);
+    see(rt, answer(linked, ask), reply, "random calls", 0);
     reply.is_some()
 }
 
-// The number in the word of a mutex, which may be nobody's.
-fn holder(plain: &Plain, m: u32) -> u32 {
-    match plain.read(Ask::Word(m)) {
-        Some(Reply::Bits(bits)) => bits & 0x3fff_ffff,
-        _ => 0,
-    }
-}
-
 // Sees that both have the same words, statuses, priorities and pick.
-fn compare(rt: &impl Abort, plain: &mut Plain, linked: &mut Linked) {
+fn compare<A: PiKernel + Drop, B: PiKernel + Drop>(
+    rt: &impl Abort,
+    plain: &mut Scene<A>,
+    linked: &mut Scene<B>,
+) {
     ask(rt, plain, linked, Ask::Pick);
     for number in 1..THREADS + 1 {
-        ask(rt, plain, linked, Ask::Status(number));
-        ask(rt, plain, linked, Ask::Effective(number));
-        ask(rt, plain, linked, Ask::Word(number));
+        for read in [
+            Ask::Status(number),
+            Ask::Effective(number),
+            Ask::Word(number),
+        ] {
+            ask(rt, plain, linked, read);
+        }
     }
-}
-
-fn levels(rng: &mut SplitMix64) -> [u32; 9] {
-    let mut levels = [0; 9];
-    for place in 0..9 {
-        levels[place] = level(rng);
-    }
-    levels
-}
-
-fn level(rng: &mut SplitMix64) -> u32 {
-    1 + rng.next_u32() % 6 * 15
 }
 
 // A random call or end, of a random thread and mutex, or by the one whose number is in the word of the mutex.
-fn random(rng: &mut SplitMix64, plain: &Plain) -> Ask {
+fn random<K: PiKernel + Drop>(rng: &mut SplitMix64, plain: &Scene<K>) -> Ask {
     let t = 1 + rng.next_u32() % THREADS;
     let m = 1 + rng.next_u32() % MUTEXES;
     if rng.next_u32() % 64 == 0 {
         return Ask::End(t, m);
     }
-    call(rng, t, m, holder(plain, m))
+    match read(plain, Ask::Word(m)) {
+        Some(Reply::Bits(bits)) => call(rng, t, m, bits & 0x3fff_ffff),
+        _ => call(rng, t, m, 0),
+    }
 }
 
 fn call(rng: &mut SplitMix64, t: u32, m: u32, holder: u32) -> Ask {
@@ -101,41 +94,42 @@ fn word(rng: &mut SplitMix64, t: u32) -> u32 {
 
 // Makes a random list of calls on new kernels, and counts those that could be made. Many threads have equal priorities,
 // and the first ticket is so late that tickets are renumbered.
-fn play_list(
-    rt: &impl Abort,
+fn play_list<A: Chains + Drop, B: Chains + Drop, R: Abort>(
+    rt: &R,
     alloc: Global,
     rng: &mut SplitMix64,
     calls: &mut u32,
 ) -> Result<(), Fail> {
-    let levels = levels(rng);
+    let mut levels = [0; 9];
+    for place in 0..9 {
+        levels[place] = 1 + rng.next_u32() % 6 * 15;
+    }
     let first = u64::MAX - u64::from(rng.next_u32() % 64);
-    let mut plain = Scene::new(alloc, &levels, MUTEXES, first)?;
-    play_beside(rt, alloc, rng, &mut plain, &levels, first, calls)
+    let mut plain: Scene<KernelOn<A>> = new_scene(alloc, &levels, MUTEXES, first)?;
+    play_beside::<KernelOn<A>, B, R>(rt, rng, &mut plain, &levels, first, calls)
 }
 
 // The same with the scene on the plain kernel, which has these priorities and this first ticket.
-fn play_beside(
-    rt: &impl Abort,
-    alloc: Global,
+fn play_beside<A: PiKernel + Drop, B: Chains + Drop, R: Abort>(
+    rt: &R,
     rng: &mut SplitMix64,
-    plain: &mut Plain,
+    plain: &mut Scene<A>,
     levels: &[u32],
     first: u64,
     calls: &mut u32,
 ) -> Result<(), Fail>
-    requires threads { length levels.now ≤ 1024 }
-    requires ticket { 1 ≤ first }
+    requires { 1 ≤ first }
 {
-    let mut linked = Scene::new(alloc, levels, MUTEXES, first)?;
+    let mut linked: Scene<KernelOn<B>> = new_scene(plain.alloc, levels, MUTEXES, first)?;
     play_calls(rt, rng, plain, &mut linked, calls);
     Ok(())
 }
 
-fn play_calls(
+fn play_calls<A: PiKernel + Drop, B: PiKernel + Drop>(
     rt: &impl Abort,
     rng: &mut SplitMix64,
-    plain: &mut Plain,
-    linked: &mut Linked,
+    plain: &mut Scene<A>,
+    linked: &mut Scene<B>,
     calls: &mut u32,
 ) {
     for _ in 0..ASKED {
@@ -152,7 +146,7 @@ fn kernels_agree_on_random_calls(rt: HostRuntime) -> Result<(), Fail> {
     let mut rng = SplitMix64::seed_from_u64(1);
     let mut calls = 0;
     for _ in 0..LISTS {
-        play_list(&rt, rt.alloc(), &mut rng, &mut calls)?;
+        play_list::<PlainChains, LinkedChains, HostRuntime>(&rt, rt.alloc(), &mut rng, &mut calls)?;
     }
     assert!(rt; calls >= 100_000, "{calls} calls");
     Ok(())

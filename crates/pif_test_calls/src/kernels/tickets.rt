@@ -1,8 +1,9 @@
 //! Tickets that come to their last number: those of waiters, and those of parked threads.
-ghost use Rattle.std.specs.Prelude.{◌≤◌};
-
-use super::super::driver::Reply;
-use super::{Ask, play_from};
+use super::super::driver::{Reply, see};
+use super::{Ask, Story, play_on};
+use pif_chains_linked::LinkedChains;
+use pif_kernel::Chains;
+use pif_plain::PlainChains;
 use std::alloc::Global;
 use std::process::Abort;
 use std::test::Fail;
@@ -22,11 +23,6 @@ static HAND_OVERS: [(Ask, Reply); 12] = [
     (Ask::Unlock(4, 1), Reply::Done),
     (Ask::Word(1), Reply::Bits(0)),
 ];
-
-#[test]
-fn tickets_are_renumbered(rt: HostRuntime) -> Result<(), Fail> {
-    play_late(&rt, rt.alloc(), &HAND_OVERS)
-}
 
 // Threads 3, 1, 4 and 2 of priority 10 park on variable 1 in that order. Each gets a greater priority and its own
 // again, which puts it where its ticket says, and they stand as before. Then all are taken for mutex 1.
@@ -57,37 +53,42 @@ static PARKED_IN_TURN: [(Ask, Reply); 23] = [
 ];
 
 #[test]
-fn tickets_of_parked_threads_are_renumbered(rt: HostRuntime) -> Result<(), Fail> {
-    play_late(&rt, rt.alloc(), &PARKED_IN_TURN)
+fn tickets_are_renumbered(rt: HostRuntime) -> Result<(), Fail> {
+    let stories: [Story; 2] = [
+        (
+            "tickets of waiters",
+            &[10, 10, 10, 10],
+            1,
+            [&HAND_OVERS, &[], &[]],
+        ),
+        (
+            "tickets of parked threads",
+            &[10, 10, 10, 10],
+            1,
+            [&PARKED_IN_TURN, &[], &[]],
+        ),
+    ];
+    play_late::<PlainChains, HostRuntime>(&rt, rt.alloc(), &stories)?;
+    play_late::<LinkedChains, HostRuntime>(&rt, rt.alloc(), &stories)
 }
 
-// Plays a table in which three threads wait for a mutex, with tickets that begin at the last four. Those of waiters and
-// those of parked threads both begin there, and the next one of a waiter is seen.
-fn play_late<R: Abort>(rt: &R, alloc: Global, asked: &[(Ask, Reply)]) -> Result<(), Fail> {
-    for (first, next) in [
-        (18446744073709551612, 18446744073709551615),
-        (18446744073709551613, 4),
-        (18446744073709551614, 4),
-        (18446744073709551615, 4),
-    ] {
-        play_between(rt, alloc, first, next, asked)?;
-    }
-    Ok(())
-}
-
-// The same, between these two next tickets.
-fn play_between<R: Abort>(
+// Plays stories in which three threads wait for a mutex, with tickets that begin at the last four. Those of waiters and
+// those of parked threads both begin there, and the next one of a waiter is seen then.
+fn play_late<C: Chains + Drop, R: Abort>(
     rt: &R,
     alloc: Global,
-    first: u64,
-    next: u64,
-    asked: &[(Ask, Reply)],
-) -> Result<(), Fail>
-    requires { 1 ≤ first }
-{
-    let levels = [10, 10, 10, 10];
-    let before = [(Ask::NextTicket, Reply::Ticket(first))];
-    let after = [(Ask::NextTicket, Reply::Ticket(next))];
-    let tables: [&[(Ask, Reply)]; 3] = [&before, asked, &after];
-    play_from(rt, alloc, &levels, 1, first, &tables)
+    stories: &[Story],
+) -> Result<(), Fail> {
+    for story in stories {
+        for (first, next) in [
+            (18446744073709551612, 18446744073709551615),
+            (18446744073709551613, 4),
+            (18446744073709551614, 4),
+            (18446744073709551615, 4),
+        ] {
+            let ticket = Reply::Ticket(play_on::<C, R>(rt, alloc, story, first)?);
+            see(rt, Some(ticket), Some(Reply::Ticket(next)), story.0, 0);
+        }
+    }
+    Ok(())
 }
