@@ -164,7 +164,8 @@ def rows_of(program, words):
     if words:
         return
     if TESTS.is_file():
-        yield Row("desk_keeps_receipts", [TESTS, "traces::desk_keeps_receipts"], b"", 0, lambda ended, whole: False)
+        yield Row("desk_keeps_receipts", [TESTS, "desk::receipts::desk_keeps_receipts"], b"", 0,
+                  lambda ended, whole: False)
     if BENCH.is_file():
         yield Row("pif_bench new_core", [BENCH, "new_core"], b"", 0,
                   lambda ended, whole: ended[:2] == (1, b"") and ended[2].count(b"\n") == 1)

@@ -1,6 +1,6 @@
 //! A client that meets a fault ends, or is given up if it is refused memory for that.
 use crate::drives::is_out_of_memory;
-use pif_desk::{Client, Desk, DeskFault, NoPause};
+use pif_desk::{Desk, DeskFault, NoPause};
 use pif_job_drive::{DriveFault, Ending, drive_book, end_of};
 use pif_types::{AddFault, Limits, MutexId, Refusal};
 use std::alloc::Global;
@@ -24,29 +24,19 @@ fn refuse_growth(rt: &impl Wait, desk: &Desk<NoPause>) -> Result<(), DeskFault> 
     Ok(())
 }
 
-/// A client of a desk whose journal is full and can't grow.
-fn enter_full(rt: &impl Wait, desk: &Desk<NoPause>) -> Result<Client, DeskFault> {
-    desk.set_growth(rt, 1);
-    let client = desk.enter(rt, 1)?;
-    refuse_growth(rt, desk)?;
-    Ok(client)
-}
-
-/// How a client ends that was answered so.
-fn end_after(rt: &impl Wait, desk: &Desk<NoPause>, client: Client, fault: DeskFault) -> Ending {
-    end_of(rt, desk, MutexId::default(), client, Err(fault))
-}
-
 /// This is so.
 fn holds(rt: &impl Abort, is_so: Result<bool, DeskFault>) {
     assert_eq!(rt; is_so, Ok(true));
 }
 
-/// Whether a client that is refused memory for good is given up, with no entry made.
+/// Whether a client that is refused memory for good, since the journal is full, is given up, with no entry made.
 fn is_given_up<R: Wait + Abort>(rt: &R, desk: &Desk<NoPause>) -> Result<bool, DeskFault> {
-    let client = enter_full(rt, desk)?;
+    desk.set_growth(rt, 1);
+    let client = desk.enter(rt, 1)?;
+    refuse_growth(rt, desk)?;
     let before = desk.entries(rt);
-    is_out_of_memory(rt, &end_after(rt, desk, client, DeskFault::NoMemory));
+    let fault = Err(DeskFault::NoMemory);
+    is_out_of_memory(rt, &end_of(rt, desk, MutexId::default(), client, fault));
     Ok(desk.entries(rt) == before)
 }
 
@@ -59,14 +49,10 @@ fn a_client_that_cannot_end_is_given_up(rt: HostRuntime) -> Result<(), Fail> {
 }
 
 /// A refused client ends by one event, and is told as unsettled.
-fn is_told<R: Wait + Abort>(
-    rt: &R,
-    desk: &Desk<NoPause>,
-    fault: DeskFault,
-) -> Result<bool, DeskFault> {
+fn is_told(rt: &impl Wait, desk: &Desk<NoPause>, fault: DeskFault) -> Result<bool, DeskFault> {
     let client = desk.enter(rt, 1)?;
     let before = desk.entries(rt);
-    let ended = end_after(rt, desk, client, fault);
+    let ended = end_of(rt, desk, MutexId::default(), client, Err(fault));
     let is_unsettled = matches!(ended, Ending::Fault(DriveFault::Unsettled));
     Ok(is_unsettled && desk.entries(rt).wrapping_sub(before) == 1)
 }

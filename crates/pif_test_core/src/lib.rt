@@ -5,20 +5,16 @@
 //! |---|---|
 //! | `cores` | `pif_core`: its readers |
 //! | `uses` | `pif_core_callers`: the callers to copy from; below it each of their ways out |
-//! | `driver` | none: the words of the tables of `cores` and `uses` |
-//! | `desk` | `pif_desk`: calls of real threads at a desk, sleep and time, refused memory, receipts and settling |
-//! | `traces` | `pif_desk` and `pif_job_run`: the journal of a desk as a trace that replays the same |
+//! | `driver` | none: what the tables of `cores` and `uses` are made of, and the core on which each is played |
+//! | `desk` | `pif_desk`: calls of real threads, sleep and time, refused memory, receipts, journals as traces |
 //! | `drives` | `pif_job_drive`: what the clients of a drive do, and that one without memory ends |
 //! | `leaving` | `pif_job_drive`: how a client ends at a fault, and which drives are refused |
 //! | `quick` | `pif_quick`: words from a try to a meeting, passes that wait, sums over many turns |
-//! | `checks` | none: it has what asserts |
 //!
-//! A test of `cores` or `uses` is a table of what is asked, and of the answers. What scripts can say of a core is tested
-//! by transcripts: crates/pif_test_transcripts/data/cores.txt and expiries.txt.
+//! A test of `cores`, `uses` or `desk` is a table of what is asked, and of the answers. What scripts can say of a core is
+//! tested by transcripts: crates/pif_test_transcripts/data/cores.txt and expiries.txt.
 #![tactic(auto)]
 
-#[cfg(test)]
-mod checks;
 #[cfg(test)]
 mod cores;
 #[cfg(test)]
@@ -31,7 +27,5 @@ mod drives;
 mod leaving;
 #[cfg(test)]
 mod quick;
-#[cfg(test)]
-mod traces;
 #[cfg(test)]
 mod uses;

@@ -1,129 +1,193 @@
-//! Desks and clients for tests. A scene that holds a desk or clients lends them to what may fail.
-ghost use Rattle.std.specs.Prelude.{◌≤◌};
-
-use super::counts::Counted;
-use super::memory::Course;
-use super::receipts::Before;
-use super::sleepers::Owner;
+//! Scenes at a desk, each a table of what is done there.
+use super::deeds::{Row, serve, take};
 use super::watch::Watch;
-use super::{bells, counts, memory, receipts, sleepers, ticks};
-use crate::checks::holds;
-use pif_desk::{Book, Client, Desk, DeskFault, Room, Why};
-use pif_types::{CondId, Kind, Limits, MutexId, Request, Tid};
-use std::alloc::Global;
+use crate::driver::{Wish, request};
+use arrayvec::ArrayVec;
+use pif_desk::{Act, Book, Client, Desk, Event, Room, Seen, Why};
+use pif_job_replay::replay;
+use pif_job_run::write_trace;
+use pif_script::CliFault;
+use pif_types::{Limits, NoMemory, with_room};
+use std::alloc::{AllocError, Global};
 use std::process::Abort;
 use std::rt::Clock;
 use std::sync::Wait;
 use std::test::Fail;
+use std::thread;
 use std::thread::Threads;
 
-/// What happens at a desk.
+/// Keeps what is written, and allocates nothing; past its room it takes no byte.
+type Kept = ArrayVec<u8, 4096>;
+
+/// What each client does in the room, once the desk is gone.
 #[derive(Clone, Copy)]
-pub(crate) enum Scene {
-    /// A tick is refused memory.
-    Tick,
-    /// A call is refused memory.
-    Call(Course),
-    /// Two clients lock, of which the first quits.
-    Receipts,
-    /// What is added, and what is refused.
-    Adds,
-    /// Two clients wait for an owner.
-    Waits(Owner),
-    /// A client waits up to a tick.
-    Deadline,
-    /// Two clients wait up to two ticks.
-    Deadlines,
-    /// A client enters, and something happens in the room.
-    Before(Before),
-    /// Entries or pauses are counted from none.
-    Counts(Counted),
-    /// A new journal grows.
-    Growth,
-    /// The last of 65 clients waits for the first.
-    Crowd,
+pub(super) enum Turn {
+    /// The client begins this call.
+    Begins(Wish),
+    /// It goes on with its call.
+    Goes,
+    /// The client's thread begins this call, of which the client doesn't know.
+    Turns(Wish),
 }
 
-/// Does what happens at the desk, where clients enter.
-fn act<R: Threads + Wait + Clock + Abort + Sync>(
-    rt: &R,
-    desk: &Desk<Watch>,
-    clients: &mut Vec<Client>,
-    scene: Scene,
-) -> Result<(), DeskFault> {
-    match scene {
-        Scene::Tick => memory::refuse_tick(rt, desk),
-        Scene::Call(course) => memory::enter_and_call(rt, desk, clients, course),
-        Scene::Receipts => receipts::two_that_lock(rt, desk, clients),
-        Scene::Adds => receipts::add_all(rt, desk, clients),
-        Scene::Waits(owner) => sleepers::wait_for_first(rt, desk, owner, clients),
-        Scene::Deadline => ticks::tick_for_two(rt, desk, clients),
-        Scene::Deadlines => ticks::tick_for_three(rt, desk, clients),
-        Scene::Before(_) => receipts::enter_alone(rt, desk, clients),
-        Scene::Counts(counted) => counts::count_all(rt, desk, clients, counted),
-        Scene::Growth => counts::grow(rt, desk),
-        Scene::Crowd => bells::last_waits_for_first(rt, desk, clients),
-    }
+/// What happens at a desk.
+pub(super) struct Scene {
+    /// How many threads, mutexes and variables there may be, and how often a variable may be signalled.
+    pub(super) limits: [u32; 4],
+    /// Thread 1 is held after the first of its events that is answered so. None is answered `Ticked`.
+    pub(super) held_after: Seen,
+    /// Who is refused memory asks again.
+    pub(super) asks_again: bool,
+    /// What is done first, in this order.
+    pub(super) before: &'static [Row],
+    /// What the clients do then, each in a thread of its own.
+    pub(super) beside: &'static [Row],
+    /// What is done last.
+    pub(super) after: &'static [Row],
+    /// What each client does in the room, and what that is answered.
+    pub(super) inside: &'static [(Turn, Seen)],
+    /// The trace of the book has this part so often.
+    pub(super) told: (&'static str, usize),
+    /// What a replay of the trace prints; it is not replayed if that is nothing.
+    pub(super) verdict: &'static str,
 }
 
-/// Does what happens in the room.
-fn act_inside<R: Wait + Abort>(
-    rt: &R,
-    alloc: Global,
-    room: &mut Room,
-    clients: &mut Vec<Client>,
-    scene: Scene,
-) {
-    if let Scene::Before(before) = scene {
-        receipts::prepare(rt, alloc, room, clients, before);
-    }
-}
-
-/// The book is as it has to be.
-fn check_book(rt: &impl Abort, book: &Book, scene: Scene) {
-    match scene {
-        Scene::Adds => receipts::check_entries(rt, book),
-        Scene::Waits(_) => sleepers::has_two_waits(rt, book),
-        Scene::Deadline => ticks::has_both_ticks(rt, book),
-        _ => {}
-    }
-}
-
-/// The limits of a desk: room for 64 threads and mutexes, and for a condition variable, where additions are not at the
-/// limits.
-fn limits_of(scene: Scene) -> Option<Limits> {
-    match scene {
-        Scene::Adds => Limits::new(2, 3, 1, 9),
-        Scene::Counts(_) => Limits::new(2, 2, 2, 9),
-        Scene::Crowd => Limits::new(65, 1, 0, 1),
-        _ => Limits::new(64, 64, 1, 9),
-    }
-}
+/// Nothing happens, at a desk with room for much.
+pub(super) const EMPTY: Scene = Scene {
+    limits: [64, 64, 1, 9],
+    held_after: Seen::Ticked,
+    asks_again: false,
+    before: &[],
+    beside: &[],
+    after: &[],
+    inside: &[],
+    told: ("pif-trace 2\n", 1),
+    verdict: "",
+};
 
 /// All of this at a desk. In the end its room settles so: so many calls were answered, or this is why it doesn't.
-pub(crate) fn play<R: Threads + Wait + Clock + Abort + Sync>(
+pub(super) fn play<R: Threads + Wait + Clock + Abort + AllocGlobal + Sync>(
     rt: &R,
-    alloc: Global,
-    watch: Watch,
-    scene: Scene,
+    scene: &Scene,
     expected: Result<u64, Why>,
 ) -> Result<(), Fail> {
-    let limits = limits_of(scene).ok_or("limits")?;
-    let desk = Desk::new(alloc, limits, watch)?;
-    let mut clients = Vec::new(alloc);
-    went_well(rt, act(rt, &desk, &mut clients, scene));
+    let desk = desk_of(rt.alloc(), scene)?;
+    let mut clients = act(rt, &desk, scene)?;
     let mut room = desk.into_room();
-    act_inside(rt, alloc, &mut room, &mut clients, scene);
+    for (turn, seen) in scene.inside {
+        turn_all(rt, &mut room, &mut clients, *turn, *seen);
+    }
     end(rt, room, clients, scene, expected);
     Ok(())
 }
 
-/// The room settles so with these clients.
-fn end(
+/// The desk of a scene.
+pub(super) fn desk_of(alloc: Global, scene: &Scene) -> Result<Desk<Watch>, Fail> {
+    let [threads, mutexes, conds, signals] = scene.limits;
+    let limits = Limits::new(threads, mutexes, conds, signals).ok_or("limits")?;
+    let watch = Watch::new(scene.held_after, scene.asks_again);
+    match Desk::new(alloc, limits, watch) {
+        Err(NoMemory) if scene.asks_again => {
+            let watch = Watch::new(scene.held_after, true);
+            Ok(Desk::new(alloc, limits, watch)?)
+        }
+        made => Ok(made?),
+    }
+}
+
+/// Does what happens at the desk: the clients that are there then.
+pub(super) fn act<R: Threads + Wait + Clock + Abort + AllocGlobal + Sync>(
+    rt: &R,
+    desk: &Desk<Watch>,
+    scene: &Scene,
+) -> Result<Vec<Client>, Fail> {
+    let mut clients = match with_room(rt.alloc(), 2) {
+        Err(NoMemory) if scene.asks_again => with_room(rt.alloc(), 2)?,
+        made => made?,
+    };
+    take_all(rt, desk, &mut clients, scene.before);
+    if !scene.beside.is_empty() {
+        clients = serve_beside(rt, desk, clients, scene.beside)?;
+    }
+    take_all(rt, desk, &mut clients, scene.after);
+    Ok(clients)
+}
+
+/// These rows come to what they say.
+fn take_all<R: Wait + Clock + Abort + AllocGlobal>(
+    rt: &R,
+    desk: &Desk<Watch>,
+    clients: &mut Vec<Client>,
+    rows: &[Row],
+) {
+    for (place, (number, deed, expected)) in rows.iter().enumerate() {
+        let come = take(rt, desk, clients, *number, *deed);
+        assert_eq!(rt; come, *expected, "at row {place}");
+    }
+}
+
+/// Each client does its rows, in a thread of its own.
+fn serve_beside<R: Threads + Wait + Clock + Abort + Sync>(
+    rt: &R,
+    desk: &Desk<Watch>,
+    clients: Vec<Client>,
+    rows: &'static [Row],
+) -> Result<Vec<Client>, AllocError> {
+    thread::map_vec(
+        rt,
+        clients,
+        &|client| {
+            let mut client = client;
+            serve_all(rt, desk, &mut client, rows);
+            client
+        },
+    )
+}
+
+/// The rows of this client come to what they say.
+fn serve_all<R: Wait + Clock + Abort>(
+    rt: &R,
+    desk: &Desk<Watch>,
+    client: &mut Client,
+    rows: &[Row],
+) {
+    for (place, (number, deed, expected)) in rows.iter().enumerate() {
+        if client.thread().get() == *number {
+            let come = serve(rt, desk, client, *deed);
+            assert_eq!(rt; come, *expected, "at row {place} of thread {number}");
+        }
+    }
+}
+
+/// Each client does this in the room, and is answered so.
+fn turn_all(
     rt: &impl Abort,
+    room: &mut Room,
+    clients: &mut Vec<Client>,
+    turn: Turn,
+    expected: Seen,
+) {
+    for client in clients.iter_mut() {
+        let seen = match turn {
+            Turn::Begins(wish) => {
+                room.play(client, Act::Begin(request(wish).expect(rt, "no request")))
+            }
+            Turn::Goes => room.play(client, Act::Go),
+            Turn::Turns(wish) => {
+                let request = request(wish).expect(rt, "no request");
+                room.turn(Event::Begin(client.thread(), request))
+            }
+        };
+        assert_eq!(rt; seen, Ok(expected));
+    }
+}
+
+/// The room settles so with these clients.
+fn end<R: Abort + AllocGlobal>(
+    rt: &R,
     room: Room,
     clients: Vec<Client>,
-    scene: Scene,
+    scene: &Scene,
     expected: Result<u64, Why>,
 ) {
     match room.settle(clients) {
@@ -135,95 +199,41 @@ fn end(
     }
 }
 
-/// The room settles with these clients, of which so many calls were answered.
-pub(crate) fn settles(rt: &impl Abort, room: Room, clients: Vec<Client>, answered: u64) {
-    match room.settle(clients) {
-        Ok(book) => is_end(rt, Ok(book.answered), Ok(answered)),
-        Err(unsettled) => is_end(rt, Err(unsettled.why), Ok(answered)),
-    }
-}
-
 /// How a room settles is as expected.
 fn is_end(rt: &impl Abort, end: Result<u64, Why>, expected: Result<u64, Why>) {
     assert_eq!(rt; end, expected);
 }
 
-/// A mutex more, of the kind NORMAL, which the desk has to add.
-pub(crate) fn add_mutex<R: Wait + Abort>(rt: &R, desk: &Desk<Watch>, robust: bool) {
-    let added = desk.make_mutex(rt, Kind::Normal, robust).is_ok();
-    holds(rt, added, "no mutex is added");
-}
-
-/// A client more, of this priority.
-pub(crate) fn enter_one(
-    rt: &impl Wait,
-    desk: &Desk<Watch>,
-    prio: u32,
-    clients: &mut Vec<Client>,
-) -> Result<(), DeskFault> {
-    match clients.push(desk.enter(rt, prio)?) {
-        Ok(()) => Ok(()),
-        Err(_) => Err(DeskFault::NoMemory),
+/// The trace of a book has what the scene tells, and is replayed if that is asked.
+fn check_book<R: Abort + AllocGlobal>(rt: &R, book: &Book, scene: &Scene) {
+    let mut trace = Kept::new();
+    let mut output = Kept::new();
+    let written = write_trace(book.limits, book.entries.as_slice(), &mut trace);
+    let told = times_in(trace.as_slice(), scene.told.0.as_bytes());
+    assert_eq!(rt; (written, told), (Ok(()), scene.told.1));
+    if !scene.verdict.is_empty() {
+        let replayed = replay_again(rt.alloc(), &trace, &mut output);
+        assert!(rt; replayed.is_ok() && output.as_slice() == scene.verdict.as_bytes());
     }
 }
 
-/// So many clients more, of priority 10.
-pub(crate) fn enter(
-    rt: &impl Wait,
-    desk: &Desk<Watch>,
-    count: u32,
-    clients: &mut Vec<Client>,
-) -> Result<(), DeskFault> {
-    for _ in 0..count {
-        enter_one(rt, desk, 10, clients)?;
+/// How often a text has a part.
+fn times_in(text: &[u8], part: &[u8]) -> usize {
+    let mut times = 0usize;
+    for at in 0..text.len() {
+        if let Some(rest) = text.get(at..)
+            && rest.starts_with(part)
+        {
+            times = times.wrapping_add(1);
+        }
     }
-    Ok(())
+    times
 }
 
-/// A count is as expected.
-pub(crate) fn is_count(rt: &impl Abort, count: usize, expected: usize) {
-    assert_eq!(rt; count, expected);
-}
-
-/// A fault, or none, is as expected.
-pub(crate) fn is_fault(rt: &impl Abort, fault: Option<DeskFault>, expected: Option<DeskFault>) {
-    assert_eq!(rt; fault, expected);
-}
-
-/// What a call is answered is as expected.
-pub(crate) fn is_answer(
-    rt: &impl Abort,
-    answer: Result<u32, DeskFault>,
-    expected: Result<u32, DeskFault>,
-) {
-    assert_eq!(rt; answer, expected);
-}
-
-/// What was done ended without a fault.
-pub(crate) fn went_well(rt: &impl Abort, done: Result<(), DeskFault>) {
-    is_fault(rt, done.err(), None);
-}
-
-/// The thread of this number.
-pub(crate) fn thread(number: u32) -> Tid
-    requires { 1 ≤ number }
-{
-    Tid::new(number).unwrap()
-}
-
-/// The mutex of this number.
-pub(crate) fn mutex(number: u32) -> MutexId
-    requires { 1 ≤ number }
-{
-    MutexId::new(number).unwrap()
-}
-
-/// The condition variable.
-pub(crate) fn cond() -> CondId {
-    CondId::new(1).unwrap()
-}
-
-/// The request to lock mutex 1.
-pub(crate) fn lock() -> Request {
-    Request::Lock(MutexId::default())
+/// Replays a trace, at the second time if memory was refused.
+fn replay_again(alloc: Global, trace: &Kept, output: &mut Kept) -> Result<(), CliFault> {
+    match replay(alloc, &mut trace.as_slice(), output) {
+        Err(CliFault::NoMemory) => replay(alloc, &mut trace.as_slice(), output),
+        ended => ended,
+    }
 }

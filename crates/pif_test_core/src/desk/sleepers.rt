@@ -1,158 +1,139 @@
-//! Clients sleep while their threads rest, and are woken.
-use super::scenes::{Scene, add_mutex, enter, enter_one, is_answer, is_count, mutex, play};
-use super::watch::Watch;
-use crate::checks::fails;
-use pif_desk::{Book, Client, Desk, DeskFault, Entry, Seen};
-use pif_types::{MutexId, Request};
-use std::process::Abort;
-use std::sync::Wait;
+//! Clients sleep while their threads rest, and are woken. Each thread that the limits allow has a bell.
+use super::deeds::{Deed, LOCK, ROBUST, Row, STALLED, UNLOCK};
+use super::scenes::{EMPTY, Scene, play};
+use crate::driver::Wish;
 use std::test::Fail;
-use std::thread::{Threads, join};
 
-/// Locks a mutex, and unlocks it again: what the lock is answered.
-fn lock_once(
-    rt: &impl Wait,
-    desk: &Desk<Watch>,
-    client: &mut Client,
-    mutex: MutexId,
-) -> Result<u32, DeskFault> {
-    let receipt = client.call(rt, desk, Request::Lock(mutex))?;
-    client.call(rt, desk, Request::Unlock(mutex))?;
-    Ok(receipt.answer)
-}
+/// Three clients, of which the first holds both mutexes.
+const OWNED: &[Row] = &[
+    (0, ROBUST, Ok(1)),
+    (0, ROBUST, Ok(2)),
+    (0, Deed::Enter(2, 10), Ok(2)),
+    (0, Deed::Enter(1, 20), Ok(3)),
+    (1, LOCK, Ok(0)),
+    (1, Deed::Call(Wish::Lock(2)), Ok(0)),
+];
 
-/// What an owner does once two threads wait for it.
-#[derive(Clone, Copy)]
-pub(crate) enum Owner {
-    /// It unlocks the one mutex that it has.
-    Unlocks,
-    /// It ends, with both mutexes.
-    Ends,
-}
-
-/// What a lock of each of two threads is answered.
-type Answers = (Result<u32, DeskFault>, Result<u32, DeskFault>);
-
-impl Owner {
-    /// The mutexes for which the two threads wait.
-    fn mutexes(self) -> (MutexId, MutexId) {
-        match self {
-            Owner::Unlocks => (mutex(1), mutex(1)),
-            Owner::Ends => (mutex(1), mutex(2)),
-        }
-    }
-
-    /// What the two locks are answered.
-    fn answers(self) -> Answers {
-        match self {
-            Owner::Unlocks => (Ok(0), Ok(0)),
-            Owner::Ends => (Ok(130), Ok(130)),
-        }
-    }
-
-    /// What the owner does.
-    fn gives(
-        self,
-        rt: &impl Wait,
-        desk: &Desk<Watch>,
-        client: &mut Client,
-    ) -> Result<(), DeskFault> {
-        desk.pause().come_to_waits(2);
-        match self {
-            Owner::Unlocks => {
-                client.call(rt, desk, Request::Unlock(MutexId::default()))?;
-                Ok(())
-            }
-            Owner::Ends => client.quit(rt, desk),
-        }
-    }
-}
-
-/// The owner locks both mutexes.
-fn lock_both(rt: &impl Wait, desk: &Desk<Watch>, client: &mut Client) -> Result<(), DeskFault> {
-    client.call(rt, desk, Request::Lock(mutex(1)))?;
-    client.call(rt, desk, Request::Lock(mutex(2)))?;
-    Ok(())
-}
-
-/// Two clients, each in a thread of its own, lock one mutex each, of those of the owner.
-fn lock_each<R: Threads + Wait + Sync>(
-    rt: &R,
-    desk: &Desk<Watch>,
-    owner: Owner,
-    two: &mut Client,
-    three: &mut Client,
-) -> Answers {
-    let (second, third) = owner.mutexes();
-    join(
-        rt,
-        || lock_once(rt, desk, two, second),
-        || lock_once(rt, desk, three, third),
-    )
-}
-
-/// The owner locks both mutexes; the two others wait for one each, until the owner gives them up.
-fn wait_for_owner<R: Threads + Wait + Abort + Sync>(
-    rt: &R,
-    desk: &Desk<Watch>,
-    owner: Owner,
-    one: &mut Client,
-    two: &mut Client,
-    three: &mut Client,
-) -> Result<(), DeskFault> {
-    lock_both(rt, desk, one)?;
-    let (given, answers) = join(
-        rt,
-        || owner.gives(rt, desk, one),
-        || lock_each(rt, desk, owner, two, three),
-    );
-    let (second, third) = owner.answers();
-    is_answer(rt, answers.0, second);
-    is_answer(rt, answers.1, third);
-    given
-}
-
-/// Three clients, of which two wait for the first.
-pub(crate) fn wait_for_first<R: Threads + Wait + Abort + Sync>(
-    rt: &R,
-    desk: &Desk<Watch>,
-    owner: Owner,
-    clients: &mut Vec<Client>,
-) -> Result<(), DeskFault> {
-    add_mutex(rt, desk, true);
-    add_mutex(rt, desk, true);
-    enter(rt, desk, 2, clients)?;
-    enter_one(rt, desk, 20, clients)?;
-    match clients.as_mut_slice() {
-        [one, two, three] => wait_for_owner(rt, desk, owner, one, two, three),
-        _ => fails(rt, "there are not three clients"),
-    }
-}
-
-/// How many entries say that a thread waits.
-pub(crate) fn waits_in(entries: &[Entry]) -> usize {
-    let mut count = 0usize;
-    for entry in entries {
-        if let Entry::Step(_, Seen::Waits) = entry {
-            count = count.wrapping_add(1);
-        }
-    }
-    count
-}
-
-/// Two entries of a book say that a thread waits.
-pub(crate) fn has_two_waits(rt: &impl Abort, book: &Book) {
-    is_count(rt, waits_in(book.entries.as_slice()), 2);
-}
+/// The first client holds both mutexes, and unlocks the one for which both others wait.
+static UNLOCKED: Scene = Scene {
+    before: OWNED,
+    beside: &[
+        (1, Deed::SeeWaits(2), Ok(1)),
+        (1, UNLOCK, Ok(0)),
+        (2, LOCK, Ok(0)),
+        (2, UNLOCK, Ok(0)),
+        (3, LOCK, Ok(0)),
+        (3, UNLOCK, Ok(0)),
+    ],
+    told: (" = waits\n", 2),
+    ..EMPTY
+};
 
 #[test]
 fn an_unlock_wakes_the_waiter_that_gets_the_mutex(rt: HostRuntime) -> Result<(), Fail> {
-    let scene = Scene::Waits(Owner::Unlocks);
-    play(&rt, rt.alloc(), Watch::new(rt), scene, Ok(7))
+    play(&rt, &UNLOCKED, Ok(7))
 }
+
+/// The first client ends with both mutexes, of which each of the others waits for one.
+static ENDED: Scene = Scene {
+    before: OWNED,
+    beside: &[
+        (1, Deed::SeeWaits(2), Ok(1)),
+        (1, Deed::Quit, Ok(0)),
+        (2, LOCK, Ok(130)),
+        (2, UNLOCK, Ok(0)),
+        (3, Deed::Call(Wish::Lock(2)), Ok(130)),
+        (3, Deed::Call(Wish::Unlock(2)), Ok(0)),
+    ],
+    told: (" = waits\n", 2),
+    ..EMPTY
+};
 
 #[test]
 fn an_end_wakes_all_waiters_that_get_a_mutex(rt: HostRuntime) -> Result<(), Fail> {
-    let scene = Scene::Waits(Owner::Ends);
-    play(&rt, rt.alloc(), Watch::new(rt), scene, Ok(6))
+    play(&rt, &ENDED, Ok(6))
+}
+
+/// The first client unlocks the mutex once the last sleeps, whose bell rings by that, and locks it again. Then it does
+/// so a second time. The last unlocks the mutex once the first sleeps.
+static CROWD: Scene = Scene {
+    limits: [65, 1, 0, 1],
+    before: &[
+        (0, STALLED, Ok(1)),
+        (0, Deed::Enter(65, 10), Ok(65)),
+        (1, LOCK, Ok(0)),
+    ],
+    beside: &[
+        (1, Deed::SeeSleep(65), Ok(1)),
+        (1, Deed::Bell(65, 0), Ok(1)),
+        (1, UNLOCK, Ok(0)),
+        (1, Deed::Bell(65, 1), Ok(1)),
+        (1, LOCK, Ok(0)),
+        (1, Deed::SeeSleep(65), Ok(1)),
+        (1, UNLOCK, Ok(0)),
+        (1, Deed::Rings(65, Some(2)), Ok(1)),
+        (1, Deed::Rings(1, Some(1)), Ok(1)),
+        (65, LOCK, Ok(0)),
+        (65, Deed::SeeSleep(1), Ok(1)),
+        (65, UNLOCK, Ok(0)),
+        (65, LOCK, Ok(0)),
+    ],
+    ..EMPTY
+};
+
+#[test]
+fn the_last_thread_sleeps_and_is_woken(rt: HostRuntime) -> Result<(), Fail> {
+    play(&rt, &CROWD, Ok(7))
+}
+
+/// New desks, each with a bell for its last thread, which has not rung, and with none for the next.
+static BELLS: [Scene; 5] = [
+    Scene {
+        limits: [1, 0, 0, 1],
+        before: &[
+            (0, Deed::Rings(1, Some(0)), Ok(1)),
+            (0, Deed::Rings(2, None), Ok(1)),
+        ],
+        ..EMPTY
+    },
+    Scene {
+        limits: [2, 0, 0, 1],
+        before: &[
+            (0, Deed::Rings(2, Some(0)), Ok(1)),
+            (0, Deed::Rings(3, None), Ok(1)),
+        ],
+        ..EMPTY
+    },
+    Scene {
+        limits: [64, 0, 0, 1],
+        before: &[
+            (0, Deed::Rings(64, Some(0)), Ok(1)),
+            (0, Deed::Rings(65, None), Ok(1)),
+        ],
+        ..EMPTY
+    },
+    Scene {
+        limits: [65, 0, 0, 1],
+        before: &[
+            (0, Deed::Rings(65, Some(0)), Ok(1)),
+            (0, Deed::Rings(66, None), Ok(1)),
+        ],
+        ..EMPTY
+    },
+    Scene {
+        limits: [1024, 0, 0, 1],
+        before: &[
+            (0, Deed::Rings(1024, Some(0)), Ok(1)),
+            (0, Deed::Rings(1025, None), Ok(1)),
+        ],
+        ..EMPTY
+    },
+];
+
+#[test]
+fn there_is_a_bell_for_each_thread_and_no_other(rt: HostRuntime) -> Result<(), Fail> {
+    for scene in &BELLS {
+        play(&rt, scene, Ok(0))?;
+    }
+    Ok(())
 }

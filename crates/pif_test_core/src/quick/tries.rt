@@ -1,50 +1,32 @@
-//! A word that becomes free while a pass comes for it: the pass takes it, though nobody hands it over.
+//! A word that becomes free while a pass comes for it: the pass takes it, though nobody hands it over. And a word that
+//! is unlocked as soon as it is marked: a pass marks it and joins the order of those that wait at once, so the word is
+//! handed over, and no pass is left asleep.
 ghost use Rattle.std.specs.Prelude.{◌≡◌, ◌<◌, All};
-ghost use Rattle.pif_quick.specs.Quick.{word_count, IsPassOf, IsIdle};
+ghost use Rattle.pif_quick.specs.Quick.{word_count, IsPassOf};
 
+use super::passes::{Course, Part, run, wait_for_round};
+use super::turns::hand_over;
 use pif_quick::{Pass, Quick};
 use std::hint::spin_loop;
 use std::process::Abort;
+use std::rt::Clock;
 use std::sync::Wait;
-use std::sync::atomic::{AtomicU32, Ordering};
+use std::sync::atomic::Ordering;
 use std::test::Fail;
-use std::thread::{Threads, join, yield_now};
+use std::thread;
+use std::time::Duration;
 
 /// How often one pass gives the word up while the other comes for it.
-const ROUNDS: u32 = 2_000;
+pub(super) const FREED: u32 = 2_000;
+
+/// How often one pass hands the word over as soon as it is marked.
+pub(super) const HANDED: u32 = 40;
 
 /// By how many pauses of the processor the rounds differ in how long the word is held.
 const PAUSES: u32 = 64;
 
-/// The rounds of two passes.
-#[derive(Drop)]
-pub(super) struct Course {
-    /// The last round in which the first has locked the word.
-    pub(super) begun: AtomicU32,
-    /// The last round in which the second has unlocked it.
-    pub(super) ended: AtomicU32,
-}
-
-impl Course {
-    /// No round has come.
-    pub(super) fn new() -> Course {
-        Course {
-            begun: AtomicU32::new(0),
-            ended: AtomicU32::new(0),
-        }
-    }
-}
-
-/// Waits until a round has come.
-fn wait_for_round<R: Wait>(rt: &R, last: &AtomicU32, round: u32) {
-    for _ in rt.forever() {
-        if last.load(Ordering::SeqCst) >= round {
-            return;
-        }
-        yield_now();
-    }
-    unreachable!()
-}
+/// How often the holder looks whether the other pass has gone on, a millisecond each time.
+const LOOKS: u32 = 5_000;
 
 /// Lets some time pass.
 fn linger(pauses: u32) {
@@ -53,31 +35,70 @@ fn linger(pauses: u32) {
     }
 }
 
-/// Locks the word 0 and writes the round's number, lets the other pass come, and unlocks the word a little later.
-/// Nobody locks it then but the other pass.
-fn give_up<R: Wait>(rt: &R, quick: &Quick<u64>, pass: &mut Pass<u64>, course: &Course, round: u32)
-    requires { IsPassOf quick.now pass.old × IsIdle pass.old × (0 < word_count quick.now) }
-    ensures { IsPassOf quick.now pass.new × IsIdle pass.new }
+/// Locks the word 0 and writes the round's number, lets the other pass come, and unlocks the word: as soon as it is
+/// marked, or a little later. Nobody locks it then but the other pass.
+fn give_up<R: Wait + Clock + Abort>(
+    rt: &R,
+    quick: &Quick<u64>,
+    pass: &mut Pass<u64>,
+    course: &Course,
+    round: u32,
+    hands: bool,
+)
+    requires { IsPassOf quick.now pass.old × (1 < word_count quick.now) }
+    ensures { IsPassOf quick.now pass.new }
 {
     let mut held = quick.lock(rt, pass, 0);
     let value = held.value_mut();
     *value = u64::from(round);
     course.begun.store(round, Ordering::SeqCst);
-    linger(round % PAUSES);
-    quick.unlock(rt, pass, held);
-    wait_for_round(rt, &course.ended, round);
+    if hands {
+        hand_over(rt, quick, pass, held);
+        wait_for_other(rt, course, round);
+    } else {
+        linger(round % PAUSES);
+        quick.unlock(rt, pass, held);
+        wait_for_round(rt, &course.ended, round);
+    }
+}
+
+/// Waits until the second pass has unlocked the word, which has to come: the word was handed to it.
+fn wait_for_other<R: Clock + Abort>(rt: &R, course: &Course, round: u32) {
+    for _ in 0..LOOKS {
+        if course.ended.load(Ordering::SeqCst) >= round {
+            return;
+        }
+        let _ = thread::sleep(rt, Duration::from_millis(1));
+    }
+    panic!(rt; "a pass was left asleep");
+}
+
+/// So many rounds of the first pass.
+pub(super) fn give_up_always<R: Wait + Clock + Abort>(
+    rt: &R,
+    quick: &Quick<u64>,
+    pass: &mut Pass<u64>,
+    course: &Course,
+    rounds: u32,
+    hands: bool,
+)
+    requires { IsPassOf quick.now pass.old × (1 < word_count quick.now) }
+{
+    for round in 1..=rounds {
+        give_up(rt, quick, pass, course, round, hands);
+    }
 }
 
 /// Comes for the word 0 while the other pass has it. Answers its value.
-pub(super) fn come<R: Wait>(
+fn come<R: Wait>(
     rt: &R,
     quick: &Quick<u64>,
     pass: &mut Pass<u64>,
     course: &Course,
     round: u32,
 ) -> u64
-    requires { IsPassOf quick.now pass.old × IsIdle pass.old × (0 < word_count quick.now) }
-    ensures { IsPassOf quick.now pass.new × IsIdle pass.new }
+    requires { IsPassOf quick.now pass.old × (1 < word_count quick.now) }
+    ensures { IsPassOf quick.now pass.new }
 {
     wait_for_round(rt, &course.begun, round);
     let held = quick.lock(rt, pass, 0);
@@ -87,72 +108,41 @@ pub(super) fn come<R: Wait>(
     value
 }
 
-/// All rounds of the first pass.
-fn give_up_always<R: Wait>(rt: &R, quick: &Quick<u64>, pass: &mut Pass<u64>, course: &Course)
-    requires { IsPassOf quick.now pass.old × IsIdle pass.old × (0 < word_count quick.now) }
+/// So many rounds of the second pass, which reads in each what the first has written.
+pub(super) fn come_always<R: Wait + Abort>(
+    rt: &R,
+    quick: &Quick<u64>,
+    pass: &mut Pass<u64>,
+    course: &Course,
+    rounds: u32,
+)
+    requires { IsPassOf quick.now pass.old × (1 < word_count quick.now) }
 {
-    for round in 1..=ROUNDS {
-        give_up(rt, quick, pass, course, round);
-    }
-}
-
-/// All rounds of the second pass, which reads in each what the first has written.
-fn come_always<R: Wait + Abort>(rt: &R, quick: &Quick<u64>, pass: &mut Pass<u64>, course: &Course)
-    requires { IsPassOf quick.now pass.old × IsIdle pass.old × (0 < word_count quick.now) }
-{
-    for round in 1..=ROUNDS {
+    for round in 1..=rounds {
         assert_eq!(rt; come(rt, quick, pass, course, round), u64::from(round));
     }
 }
 
-/// Both passes, each in a thread of its own.
-fn run_both<R: Threads + Wait + Abort + Sync>(
-    rt: &R,
-    quick: &Quick<u64>,
-    one: Pass<u64>,
-    two: Pass<u64>,
-    course: &Course,
-)
-    requires own { IsPassOf quick.now one × IsPassOf quick.now two × (0 < word_count quick.now) }
-    requires idle { IsIdle one × IsIdle two }
-{
-    join(
-        rt,
-        move ||
-            requires { IsPassOf quick.now one × IsIdle one × (0 < word_count quick.now) }
-        {
-            let mut one = one;
-            give_up_always(rt, quick, &mut one, course);
-        },
-        move ||
-            requires { IsPassOf quick.now two × IsIdle two × (0 < word_count quick.now) }
-        {
-            let mut two = two;
-            come_always(rt, quick, &mut two, course);
-        },
-    );
-}
-
-/// The same by the last two of these passes.
-fn run_last_two<R: Threads + Wait + Abort + Sync>(
-    rt: &R,
-    quick: &Quick<u64>,
-    mut passes: Vec<Pass<u64>>,
-)
-    requires own { All (IsPassOf quick.now) passes.items × (0 < word_count quick.now) }
-    requires idle { All IsIdle passes.items }
-{
-    let course = Course::new();
-    match (passes.pop(), passes.pop()) {
-        (Some(two), Some(one)) => run_both(rt, quick, one, two, &course),
-        _ => panic!(rt; "there are not two passes"),
+/// Takes the lock of the order over and over until the word was handed over each time, so that a pass that marks its
+/// word has to wait for that lock, or did before.
+pub(super) fn hold_order<R: Wait>(rt: &R, quick: &Quick<u64>, course: &Course) {
+    for _ in rt.forever() {
+        if course.ended.load(Ordering::SeqCst) >= HANDED {
+            return;
+        }
+        for _ in 0..100u32 {
+            let _is_parked = quick.is_parked(rt, 4);
+        }
     }
+    unreachable!()
 }
 
 #[test]
 fn a_word_that_becomes_free_is_taken(rt: HostRuntime) -> Result<(), Fail> {
-    let values = [0].to_vec(rt.alloc())?;
-    let (quick, passes) = Quick::open(rt.alloc(), values, 2)?;
-    run_last_two(&rt, &quick, passes);
-    Ok(())
+    run(&rt, Part::Frees)
+}
+
+#[test]
+fn a_word_that_is_unlocked_at_its_mark_is_handed_over(rt: HostRuntime) -> Result<(), Fail> {
+    run(&rt, Part::Hands)
 }

@@ -3,20 +3,21 @@ ghost use Rattle.std.specs.Prelude.{◌≡◌, ◌<◌, All};
 ghost use Rattle.pif_quick.specs.Quick.{word_count, held_word, IsPassOf, IsIdle, IsUnchanged, IsTurnOf};
 
 use pif_quick::{Held, Pass, Quick};
+use std::hint::spin_loop;
 use std::process::Abort;
-use std::rt::Clock;
 use std::sync::Wait;
 use std::test::Fail;
-use std::thread;
-use std::thread::{Threads, join};
-use std::time::Duration;
+use std::thread::{Threads, join, yield_now};
 
-/// How often the holder looks whether its word is marked, a millisecond each time.
-const LOOKS: u32 = 10_000;
+/// How often the holder looks whether its word is marked, for seconds in all.
+const LOOKS: u32 = 200_000_000;
+
+/// After how many looks the holder lets other threads run.
+const IN_A_ROW: u32 = 1_000;
 
 /// Tries to lock the word 0, which has to succeed.
 pub(super) fn try_it(rt: &impl Abort, quick: &Quick<u64>, pass: &mut Pass<u64>) -> Held<u64>
-    requires own { IsPassOf quick.now pass.old × IsIdle pass.old × (1 < word_count quick.now) }
+    requires own { IsPassOf quick.now pass.old × (1 < word_count quick.now) }
     ensures own { IsPassOf quick.now pass.new }
     ensures turn { IsTurnOf quick.now pass.new result × (held_word result ≡ 0) }
 {
@@ -27,22 +28,25 @@ pub(super) fn try_it(rt: &impl Abort, quick: &Quick<u64>, pass: &mut Pass<u64>) 
 }
 
 /// Waits until the word 0 is marked, and answers whether it was in time and the word 1 isn't marked.
-fn wait_for_mark(rt: &impl Clock, quick: &Quick<u64>, pass: &mut Pass<u64>) -> bool
+fn wait_for_mark(quick: &Quick<u64>, pass: &mut Pass<u64>) -> bool
     requires { IsPassOf quick.now pass.old × (1 < word_count quick.now) }
     ensures own { IsPassOf quick.now pass.new }
     ensures kept { IsUnchanged pass.old pass.new }
 {
-    for _ in 0..LOOKS {
+    for look in 0..LOOKS {
         if quick.marked(pass, 0) {
             return !quick.marked(pass, 1);
         }
-        let _ = thread::sleep(rt, Duration::from_millis(1));
+        if look % IN_A_ROW == 0 {
+            yield_now();
+        }
+        spin_loop();
     }
     false
 }
 
 /// Waits until the word is marked, which has to come, and unlocks it: a quiet unlock gives it back.
-pub(super) fn hand_over<R: Wait + Clock + Abort>(
+pub(super) fn hand_over<R: Wait + Abort>(
     rt: &R,
     quick: &Quick<u64>,
     pass: &mut Pass<u64>,
@@ -52,7 +56,7 @@ pub(super) fn hand_over<R: Wait + Clock + Abort>(
     requires turn { IsTurnOf quick.now pass.old held }
     ensures own { IsPassOf quick.now pass.new }
 {
-    let marked = wait_for_mark(rt, quick, pass);
+    let marked = wait_for_mark(quick, pass);
     assert!(rt;
         marked,
         "a pass waits for the word 0 alone, and the marks are others"
@@ -75,7 +79,7 @@ fn wait_and_read<R: Wait>(rt: &R, quick: &Quick<u64>, pass: &mut Pass<u64>) -> u
 }
 
 /// A pass holds the word 0 until another waits for it, and hands it over. Answers what the other read.
-fn contend<R: Threads + Wait + Clock + Abort + Sync>(
+fn contend<R: Threads + Wait + Abort + Sync>(
     rt: &R,
     quick: &Quick<u64>,
     one: Pass<u64>,
@@ -109,7 +113,7 @@ fn contend<R: Threads + Wait + Clock + Abort + Sync>(
 }
 
 /// From a try to a meeting: each step as it has to go.
-fn try_to_meet<R: Threads + Wait + Clock + Abort + Sync>(
+fn try_to_meet<R: Threads + Wait + Abort + Sync>(
     rt: &R,
     quick: &Quick<u64>,
     one: Pass<u64>,
@@ -146,7 +150,7 @@ fn find_seven(rt: &impl Abort, quick: &Quick<u64>, pass: &mut Pass<u64>)
 }
 
 /// The same by the last two of these passes.
-fn last_two<R: Threads + Wait + Clock + Abort + Sync>(
+fn last_two<R: Threads + Wait + Abort + Sync>(
     rt: &R,
     quick: &Quick<u64>,
     mut passes: Vec<Pass<u64>>,

@@ -1,8 +1,5 @@
-use Rattle.pif_quick.specs.Quick.{IsPassOf, IsIdle}
+use Rattle.pif_quick.specs.Quick.{IsPassOf}
 use Rattle.pif_test_core.proofs.quick.tries.come_always.Given as goal
 
 abbrev pub invariant-loop-round : goal.invariant-loop-round
-invariant-loop-round g l = record {
-  own : IsPassOf l.quick l.pass;
-  idle : IsIdle l.pass;
-}
+invariant-loop-round g l = IsPassOf l.quick l.pass
