@@ -1,5 +1,6 @@
-//! Tests of all that reads and writes texts, and of the jobs between two streams, in a crate of their own: a crate with
-//! tests is proved twice by the gate, and these are proved once, all together. Beside tests there is nothing in it.
+//! Tests of all that reads and writes texts, of the jobs between two streams, and of what `pif judge` stands on: of
+//! searches, of the POSIX machine as a program, and of the searches of histories. They are in a crate of their own. A
+//! crate with tests is proved twice by the gate, and these are proved once, all together.
 //!
 //! | Module | Tests of |
 //! |---|---|
@@ -12,10 +13,20 @@
 //! | `random` | `pif_job_random`: scripts by a seed |
 //! | `progress` | `pif_job_draw`: what is told while a picture is made |
 //! | `streams` | none: the stream, which moves few bytes a call or fails once where it is told to |
+//! | `searches` | `pif_search`: verdicts and numbers of states that were worked out by hand |
+//! | `counters` | none: the machine of `searches`, a counter with a lamp |
+//! | `beside` | `pif_posix`: the machine beside a core, on random events |
+//! | `cloud` | none: all states in which the POSIX machine may be, after what was seen |
+//! | `plays` | `pif_history`: how often a player plays lines until it finds a run, and which open calls make few states |
 //!
 //! What words, an input and a stream that fails can ask is a transcript of `pif_test_transcripts`.
 #![tactic(auto)]
 
+#[cfg(test)]
+mod beside;
+#[cfg(test)]
+mod cloud;
+pub mod counters;
 #[cfg(test)]
 mod lines;
 #[cfg(test)]
@@ -23,11 +34,15 @@ mod notices;
 #[cfg(test)]
 mod places;
 #[cfg(test)]
+mod plays;
+#[cfg(test)]
 mod progress;
 #[cfg(test)]
 mod random;
 #[cfg(test)]
 mod reading;
+#[cfg(test)]
+mod searches;
 #[cfg(test)]
 mod sizes;
 #[cfg(test)]

@@ -1,6 +1,6 @@
 use Rattle.std.proofs.Common.{refl}
-use Rattle.pif_test_posix.proofs.Searching.{whole_both, whole_switch}
-use Rattle.pif_test_posix.proofs.counters.WholeMachine.moves.Goals as goal
+use Rattle.pif_test_jobs.proofs.Searching.{whole_both, whole_switch}
+use Rattle.pif_test_jobs.proofs.counters.WholeMachine.moves.Goals as goal
 
 pub returns-in_ok-steps-in-Some-clause-complete : goal.returns-in_ok-steps-in-Some-clause-complete
 returns-in_ok-steps-in-Some-clause-complete c = λ l t h s.

@@ -1,5 +1,5 @@
 ghost use Rattle.std.specs.Prelude.{◌≡◌, false, IfOk, All};
-ghost use Rattle.pif_test_posix.specs.Counting.{is_hidden};
+ghost use Rattle.pif_test_jobs.specs.Counting.{is_hidden};
 
 use crate::counters::{Counter, Label, Whole};
 use pif_search::{Stop, Unwatched, Verdict, Watch, judge, possible, searches_all_steps};

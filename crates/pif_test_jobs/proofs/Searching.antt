@@ -2,11 +2,11 @@
 use Rattle.std.proofs.Common.{ℕ, ◌≡◌, ◌<◌, ◌+◌, ◌∙◌, Bool, true, false, List, [], ◌∷◌, Some, None, Option, Result, Ok, Err, IfOk, Vec, Global, not, refl, sym, ap, arith}
 use Rattle.pif_search.specs.Steps.{HasCover}
 use Rattle.pif_search.specs.declared.machine.Stop.{Stop}
-use Rattle.pif_test_posix.specs.Counting.{Counts, is_hidden}
-use Rattle.pif_test_posix.specs.Counting.Counts.{rises, switches, says}
-use Rattle.pif_test_posix.specs.declared.counters.Counter.{Counter}
-use Rattle.pif_test_posix.specs.declared.counters.Label.{Label}
-use Rattle.pif_test_posix.specs.declared.counters.Label.TheVariants.{Rise, Switch, Say}
+use Rattle.pif_test_jobs.specs.Counting.{Counts, is_hidden}
+use Rattle.pif_test_jobs.specs.Counting.Counts.{rises, switches, says}
+use Rattle.pif_test_jobs.specs.declared.counters.Counter.{Counter}
+use Rattle.pif_test_jobs.specs.declared.counters.Label.{Label}
+use Rattle.pif_test_jobs.specs.declared.counters.Label.TheVariants.{Rise, Switch, Say}
 
 -- the counter with this count and this lamp
 abbrev counter : ℕ → Bool → Counter

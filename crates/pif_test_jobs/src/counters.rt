@@ -1,6 +1,6 @@
 ghost use Rattle.std.specs.Prelude.{◌≡◌, ◌<◌, ◌+◌, ◌∷◌, [], IfOk, IfSome, None};
-ghost use Rattle.pif_test_posix.specs.Counting.{Counts, is_hidden};
-ghost use Rattle.pif_test_posix.specs.declared.counters.Label.TheVariants.{Say};
+ghost use Rattle.pif_test_jobs.specs.Counting.{Counts, is_hidden};
+ghost use Rattle.pif_test_jobs.specs.declared.counters.Label.TheVariants.{Say};
 
 use pif_search::{Machine, Stop, one};
 use std::alloc::Global;

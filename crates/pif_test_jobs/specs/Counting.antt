@@ -1,8 +1,8 @@
 -- A counter that rises by 1 up to a top, beside a lamp that is switched at any time. What it says is its count.
 use Rattle.std.specs.Prelude.{ℕ, ◌≡◌, ◌<◌, ◌+◌, Bool, true, false, not}
-use Rattle.pif_test_posix.specs.declared.counters.Counter.{Counter}
-use Rattle.pif_test_posix.specs.declared.counters.Label.{Label}
-use Rattle.pif_test_posix.specs.declared.counters.Label.TheVariants.{Rise, Switch, Say}
+use Rattle.pif_test_jobs.specs.declared.counters.Counter.{Counter}
+use Rattle.pif_test_jobs.specs.declared.counters.Label.{Label}
+use Rattle.pif_test_jobs.specs.declared.counters.Label.TheVariants.{Rise, Switch, Say}
 
 -- only what it says is shown
 abbrev pub is_hidden : Label → Bool
