@@ -1,7 +1,7 @@
 use pif_types::{Answer, CondId, MutexId, Request};
 
 /// A step of taking over a robust mutex that the caller was found to own.
-#[derive(Clone, Copy, Debug, PartialEq, Eq)]
+#[derive(Clone, Copy)]
 pub enum TakeStep {
     /// Load the word, and see whether its last owner ended.
     LoadWord,
@@ -14,7 +14,7 @@ pub enum TakeStep {
 }
 
 /// A step of putting a robust mutex on the caller's list.
-#[derive(Clone, Copy, Debug, PartialEq, Eq)]
+#[derive(Clone, Copy)]
 pub enum LinkStep {
     /// Write the mutex's link to the head of the list.
     WriteNext,
@@ -23,7 +23,7 @@ pub enum LinkStep {
 }
 
 /// A step of giving up a mutex that the caller holds once. Those before the exchange are for robust mutexes alone.
-#[derive(Clone, Copy, Debug, PartialEq, Eq)]
+#[derive(Clone, Copy)]
 pub enum GiveStep {
     /// Name the mutex in the pending field.
     SetPending,
@@ -40,7 +40,7 @@ pub enum GiveStep {
 }
 
 /// Why a mutex is given up, which says what comes after.
-#[derive(Clone, Copy, Debug, PartialEq, Eq)]
+#[derive(Clone, Copy)]
 pub enum Purpose {
     /// An unlock, which is answered 0.
     ToUnlock,
@@ -52,7 +52,7 @@ pub enum Purpose {
 }
 
 /// What a caller rests on that clears its pending field.
-#[derive(Clone, Copy, Debug, PartialEq, Eq)]
+#[derive(Clone, Copy)]
 pub enum Footing {
     /// It has taken the mutex, which is on its list.
     Linked,
@@ -63,7 +63,7 @@ pub enum Footing {
 }
 
 /// A step of consistent, after the load of the word.
-#[derive(Clone, Copy, Debug, PartialEq, Eq)]
+#[derive(Clone, Copy)]
 pub enum RepairStep {
     /// Load the health word.
     CheckHealth,
@@ -72,7 +72,7 @@ pub enum RepairStep {
 }
 
 /// A step of signal and broadcast.
-#[derive(Clone, Copy, Debug, PartialEq, Eq)]
+#[derive(Clone, Copy)]
 pub enum WakeStep {
     /// Load the condition word.
     ReadUses,
@@ -87,7 +87,7 @@ pub enum WakeStep {
 /// Where in its call a thread stands: the step that its next Go takes. It is named by what that step does; the open
 /// call's request says the rest. Steps on robust lists and on the pending field are for robust mutexes alone. A wait
 /// that was unblocked goes on with the steps of lock, from the exchange on.
-#[derive(Clone, Copy, Debug, PartialEq, Eq)]
+#[derive(Clone, Copy)]
 pub enum Place {
     /// Every call that names a mutex: load the word, and see whether the caller owns the mutex.
     Load,
@@ -127,7 +127,7 @@ pub enum Place {
 }
 
 /// What a lock by the owner of a mutex does.
-#[derive(Clone, Copy, Debug, PartialEq, Eq)]
+#[derive(Clone, Copy)]
 pub enum Relock {
     /// The owner stops for good.
     Deadlocks,
@@ -138,7 +138,7 @@ pub enum Relock {
 }
 
 /// A thread's line: no call is open, or the open call's request and the place in it.
-#[derive(Clone, Copy, Debug, PartialEq, Eq)]
+#[derive(Clone, Copy)]
 pub enum Line {
     /// No call is open.
     Idle,
@@ -147,7 +147,7 @@ pub enum Line {
 }
 
 /// What an open call has of its deadline. It is set again at each begin.
-#[derive(Clone, Copy, Debug, PartialEq, Eq)]
+#[derive(Clone, Copy)]
 pub struct Timer {
     /// The time from which on the call waits no longer; `None` for a call that was begun without a deadline.
     pub deadline: Option<u32>,

@@ -1,5 +1,5 @@
 /// How much `show` tells of the core behind each line.
-#[derive(Clone, Copy, Debug, PartialEq, Eq)]
+#[derive(Clone, Copy, PartialEq, Eq)]
 pub enum Detail {
     /// What has changed by the line.
     Changes,

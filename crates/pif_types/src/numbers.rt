@@ -4,7 +4,7 @@ use std::marker::Model;
 
 /// The number of a thread. Threads are numbered from 1 in the order in which they are added, and a number is never used
 /// again; it is the number that futex(2) keeps in a word (a thread identifier).
-#[derive(Clone, Copy, Debug, PartialEq, Eq, PartialOrd, Ord)]
+#[derive(Clone, Copy, Debug, PartialEq, Eq)]
 pub struct Tid {
     thread: u32,
 }
@@ -51,7 +51,7 @@ impl Default for Tid {
 }
 
 /// The number of a mutex, from 1 in the order in which mutexes are added.
-#[derive(Clone, Copy, Debug, PartialEq, Eq, PartialOrd, Ord)]
+#[derive(Clone, Copy, Debug, PartialEq, Eq)]
 pub struct MutexId {
     mutex: u32,
 }
@@ -98,7 +98,7 @@ impl Default for MutexId {
 }
 
 /// The number of a condition variable, from 1 in the order in which variables are added.
-#[derive(Clone, Copy, Debug, PartialEq, Eq, PartialOrd, Ord)]
+#[derive(Clone, Copy, Debug, PartialEq, Eq)]
 pub struct CondId {
     cond: u32,
 }
