@@ -73,7 +73,7 @@ fn run_whole(alloc: Global, script: &[u8]) -> (Vec<u8>, Result<(), CliFault>)
 {
     let mut reader = script;
     let mut text = Vec::new(alloc);
-    let done = pif_script::run(alloc, &mut reader, &mut text);
+    let done = pif_script_core::run(alloc, &mut reader, &mut text);
     (text, done)
 }
 

@@ -31,7 +31,8 @@ pub use pif_cli_words::{Job, Recipe, random_lines_have_a_bound, words_of_the_pro
 pub use pif_job_drive::{DriveFault, Ending, Served, drive_book, end_of};
 pub use pif_job_replay::{migrate, migrated_trace_has_its_verdict, replay};
 pub use pif_job_run::{script_trace_is_the_same, trace, write_trace, written_trace_is_the_same};
-pub use pif_script::{CliFault, run};
+pub use pif_script::CliFault;
+pub use pif_script_core::run;
 pub use pif_script_model::Picture;
 pub use pif_text::Cause;
 pub use process::command_of_process;

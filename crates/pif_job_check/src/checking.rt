@@ -7,9 +7,10 @@ ghost use Rattle.pif_story.specs.Notes.{TellsNoting, story_notes};
 ghost use Rattle.pif_text_model.specs.declared.replies.Cause.TheVariants.{Size};
 
 use pif_script::{CliFault, Notice, read_all, write_whole};
+use pif_script_core::run_story;
 use pif_story::{
-    MOST, compare, count_commands, filled_text, line_at_end, notes_text, plain_story, run_story,
-    script_of, titled_story, verdict_text,
+    MOST, compare, count_commands, filled_text, line_at_end, notes_text, plain_story, script_of,
+    titled_story, verdict_text,
 };
 use pif_story_model::Flaw;
 use pif_text::Cause;

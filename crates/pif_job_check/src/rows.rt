@@ -6,7 +6,8 @@ ghost use Rattle.pif_story_model.specs.Stories.{rows_from, rows_of};
 ghost use Rattle.pif_job_check.specs.Rows.{EndsSo, FillsRows, IsHeard, IsRun};
 
 use pif_core::Core;
-use pif_script::{CliFault, Ending, MOST_LINE, Notice, OpenFault, do_command};
+use pif_script::{CliFault, Ending, MOST_LINE, Notice, OpenFault};
+use pif_script_core::do_command;
 use pif_story::{MOST, line_at_end, row_of, split_line};
 use pif_story_model::AnsweredRow;
 use pif_text::{Cause, Command, Reply, command_of};

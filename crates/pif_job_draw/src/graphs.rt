@@ -5,7 +5,8 @@ ghost use Rattle.pif_job_draw.specs.Stories.{core_after, core_behind, graph_from
 
 use crate::cores::append_parts;
 use pif_core::Core;
-use pif_script::{OpenFault, do_command};
+use pif_script::OpenFault;
+use pif_script_core::do_command;
 use pif_story_model::AnsweredRow;
 use pif_text::{Added, Command, Fact};
 use pif_types::{AddFault, CondId, Health, MutexId, Prio, Tid};

@@ -5,7 +5,8 @@ ghost use Rattle.pif_job_draw.specs.States.{states_from, IsTold};
 
 use crate::lines::append_line;
 use pif_core::Core;
-use pif_script::{OpenFault, do_command};
+use pif_script::OpenFault;
+use pif_script_core::do_command;
 use pif_story_model::AnsweredRow;
 use pif_text::{Added, Fact};
 use pif_types::{AddFault, CondId, Health, MutexId, Prio, Tid};

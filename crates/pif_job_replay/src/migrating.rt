@@ -5,8 +5,9 @@ ghost use Rattle.pif_script_model.specs.Migrating.{IsFaultOfForm, MigratesTo, Ve
 use crate::replaying::{open_header, traced_of};
 use pif_script::{
     CliFault, End, Ending, Listener, Notice, OpenFault, Output, Scanner, Stop, append_end,
-    first_limits, read_all, stop, write_whole,
+    read_all, stop, write_whole,
 };
+use pif_script_core::first_limits;
 use pif_text::{Cause, Command, Version};
 use pif_types::NoMemory;
 use std::alloc::Global;

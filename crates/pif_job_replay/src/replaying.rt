@@ -5,9 +5,9 @@ ghost use Rattle.pif_script_model.specs.Traces.{Replay, ReplaysTo, traced_in, tr
 
 use pif_core::Core;
 use pif_script::{
-    CliFault, End, Ending, Listener, Notice, OpenFault, Output, append, append_end, obey,
-    open_core, read_script,
+    CliFault, End, Ending, Listener, Notice, OpenFault, Output, append, append_end, read_script,
 };
+use pif_script_core::{obey, open_core};
 use pif_text::{
     Cause, Command, Reply, Text, Version, command_of, if_traced, reply_text, same_text,
     split_answer, version_of,

@@ -4,16 +4,15 @@ ghost use Rattle.pif_script.specs.Scanners.{scan_of};
 ghost use Rattle.pif_job_run.specs.Noting.{AreKept, AreNotesOn, KeepsPart, RunsKeeping, RunsNoting};
 
 use crate::kept::Kept;
-use pif_core::Core;
 use pif_script::{CHUNK, CliFault, Notice, Output, Scanner, close, feed};
-use pif_story::story_notes;
+use pif_script_core::{Running, story_notes};
 use std::alloc::Global;
 use std::io::{Read, Write};
 
 /// Reads a chunk, keeps it, and writes what its lines are answered. Answers whether the input goes on.
 fn turn<R: Read, W: Write>(
     alloc: Global,
-    scanner: &mut Scanner<Core>,
+    scanner: &mut Scanner<Running>,
     output: &mut Output,
     reader: &mut R,
     writer: &mut W,
@@ -39,7 +38,7 @@ fn turn<R: Read, W: Write>(
     Ok(true)
 }
 
-/// Runs a script as `run_noting` of `pif_script` does, and keeps what is read.
+/// Runs a script as `run_noting` of `pif_script_core` does, and keeps what is read.
 fn run_keeping<R: Read, W: Write>(
     alloc: Global,
     reader: &mut R,
@@ -50,7 +49,7 @@ fn run_keeping<R: Read, W: Write>(
     requires { AreKept [] kept.old }
     ensures { RunsKeeping (R.remaining reader.old) (R.remaining reader.new) (W.contents writer.old) (W.contents writer.new) kept.new result }
 {
-    let mut scanner = Scanner::<Core>::new();
+    let mut scanner = Scanner::<Running>::new();
     let mut output = Output::new();
     loop {
         if !turn(
@@ -89,7 +88,7 @@ fn notes_on(alloc: Global, name: &[u8], kept: &Kept) -> Option<Vec<u8>>
 ///
 /// # Errors
 ///
-/// Those of `run` of `pif_script`.
+/// Those of `run` of `pif_script_core`.
 pub fn run_noted<R: Read, W: Write>(
     alloc: Global,
     name: &[u8],

@@ -7,8 +7,9 @@ ghost use Rattle.pif_job_run.specs.Shows.{error_in, error_of, error_text, later_
 use pif_core::{Core, Seen};
 use pif_script::{
     ANSWER_ROOM, End, Ending, Listener, OUTPUT_ROOM, OpenFault, Output, REPLY_ROOM, append,
-    append_end, obey, open_core,
+    append_end,
 };
+use pif_script_core::{obey, open_core};
 use pif_text::{Cause, Command, Reply, Version, command_of, errno_name, errno_of, reply_text};
 use pif_types::{Answer, Errno};
 use std::alloc::Global;

@@ -7,8 +7,9 @@ ghost use Rattle.pif_job_run.specs.Shows.{WritesStory, person_name, person_names
 
 use crate::showing::{Look, show_script};
 use pif_script::{CliFault, Notice, read_all};
+use pif_script_core::story_notes;
 use pif_script_model::Detail;
-use pif_story::{name_of, names_in, read_script_of_story, story_notes};
+use pif_story::{name_of, names_in, read_script_of_story};
 use pif_types::Tid;
 use std::alloc::{AllocError, Global};
 use std::io::{Read, Write};

@@ -11,9 +11,8 @@ ghost use Rattle.pif_script_model.specs.Transcripts.{Transcribed, call_entries, 
 
 use crate::tracing::front_lines;
 use pif_core::{Core, Event, MORE_STEPS, Seen};
-use pif_script::{
-    End, Ending, LINE_ROOM, Listener, OUTPUT_ROOM, OpenFault, Output, append, first_limits, obey,
-};
+use pif_script::{End, Ending, LINE_ROOM, Listener, OUTPUT_ROOM, OpenFault, Output, append};
+use pif_script_core::{first_limits, obey};
 use pif_text::{
     Added, Cause, Command, Reply, Text, Version, command_of, command_text, if_traced, recorded_text,
 };

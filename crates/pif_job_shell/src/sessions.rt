@@ -5,7 +5,8 @@ ghost use Rattle.pif_script_model.specs.CommandLines.{command_line, script_lines
 ghost use Rattle.pif_job_shell.specs.Sessions.{AnswersCommand, AnswersAsRuns, HasNoRoom, KeepsRuns, Leaves, PlaysAgain, PlaysBehind, TakesAll, nothing_kept};
 
 use pif_core::{Core, Event};
-use pif_script::{Ending, OpenFault, obey, open_core};
+use pif_script::{Ending, OpenFault};
+use pif_script_core::{obey, open_core};
 use pif_text::{
     Addition, Cause, Command, Question, Reply, Text, command_text, commands_of_lines_are_written,
 };

@@ -4,7 +4,6 @@ ghost use Rattle.pif_script_model.specs.Scripts.{Hearing, Opens, Hears, Tells};
 ghost use Rattle.pif_script_model.specs.Runs.{end_line};
 
 use arrayvec::ArrayVec;
-use pif_core::MORE_STEPS;
 use pif_script_model::{End, Ending, OpenFault};
 use pif_text::{
     COMMAND_ROOM, Cause, HEADER_ROOM, RECORDED_ROOM, Text, VERDICT_ROOM, Version, differs_text,
@@ -24,10 +23,13 @@ pub const FRONT_ROOM: usize = HEADER_ROOM + 1 + LINE_ROOM;
 /// The most bytes that a reply has, its LF included.
 pub const REPLY_ROOM: usize = pif_text::REPLY_ROOM + 1;
 
+/// The most events that one line of a script makes: a `call` begins, and is answered or waits within 24 steps. That
+/// there are no more is proved where they are written.
+pub const MOST_EVENTS: usize = 25;
+
 /// The most bytes that the answer to a line has. The longest is what the first line of a script makes of a trace: the
-/// two lines in front, and those of the events of a `call`: its beginning, its first step, and `MORE_STEPS` behind
-/// that, within which it is answered or waits.
-pub const ANSWER_ROOM: usize = FRONT_ROOM + (MORE_STEPS as usize + 2) * LINE_ROOM;
+/// two lines in front, and those of the events of a `call`.
+pub const ANSWER_ROOM: usize = FRONT_ROOM + MOST_EVENTS * LINE_ROOM;
 
 /// The most bytes that are said at an end, its LF included. The longest is the verdict on a trace.
 pub const END_ROOM: usize = VERDICT_ROOM + 1;

@@ -21,7 +21,6 @@
 //! | `missing` | what was added, and the first name in a command that nobody has |
 //! | `notes` | the notes on the commands of a story, each name once |
 //! | `texts` | the lines in which notes are told |
-//! | `runs` | the script of a story, run in memory, and the notes on a story |
 //!
 //! Commands name threads as ever; a name is for those who look on. A note says what a command names that nobody has, or
 //! that a priority is out of range: a test that does so by mistake tests nothing, and is ok. A command with an answer
@@ -38,7 +37,6 @@ mod namings;
 mod notes;
 mod plain;
 mod reading;
-mod runs;
 mod scripts;
 mod texts;
 mod titles;
@@ -51,7 +49,6 @@ pub use missing::{Known, Missing, Note, noted};
 pub use names::{name_of, names_in};
 pub use plain::{append_plain, plain_story};
 pub use reading::{MOST, read_script_of_story};
-pub use runs::{Ran, run_story, story_notes};
 pub use scripts::script_of;
 pub use texts::{append_missing, notes_text};
 pub use titles::titled_story;

@@ -6,7 +6,8 @@ use pif_job_check::{check_noting, check_strictly, fill_as_one_of_several, fill_n
 use pif_job_draw::{Drawn, write_drawn, write_picture};
 use pif_job_replay::{migrate_noting, replay_noting};
 use pif_job_run::{show_story, trace_noting, trace_story};
-use pif_script::{CliFault, Notice, run_noting};
+use pif_script::{CliFault, Notice};
+use pif_script_core::run_noting;
 use pif_script_model::{Detail, Picture};
 use pif_watch::Unwatched;
 use std::alloc::Global;

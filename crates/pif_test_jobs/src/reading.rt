@@ -1,7 +1,8 @@
 //! When scripts are read and answered.
 
 use pif_job_run::run_noted;
-use pif_script::{CliFault, Notice, run};
+use pif_script::{CliFault, Notice};
+use pif_script_core::run;
 use std::alloc::Global;
 use std::cell::Cell;
 use std::io;

@@ -3,7 +3,8 @@
 
 use crate::streams::{Part, Stream};
 use pif_job_replay::migrate;
-use pif_script::{CliFault, run};
+use pif_script::CliFault;
+use pif_script_core::run;
 use pif_text::Cause;
 use std::alloc::{AllocError, Global};
 use std::process::Abort;

@@ -4,9 +4,9 @@ ghost use Rattle.pif_story_model.specs.Lines.{lines};
 ghost use Rattle.pif_story_model.specs.Stories.{rows_from, script_by};
 ghost use Rattle.pif_story.specs.Notes.{story_notes};
 
-use crate::texts::notes_text;
-use crate::{plain_story, script_of};
-use pif_script::{CliFault, run};
+use crate::runs::run;
+use pif_script::CliFault;
+use pif_story::{notes_text, plain_story, script_of};
 use pif_text::Cause;
 use std::alloc::Global;
 

@@ -1,7 +1,7 @@
 use Rattle.std.proofs.Common.{sym, ap, ◌∙◌}
 use Rattle.pif_model.specs.Table.{new_table}
 use Rattle.pif_script_model.specs.Running.{command_answer, answer_or_fault}
-use Rattle.pif_script.proofs.running.open_default.Goals as goal
+use Rattle.pif_script_core.proofs.running.open_default.Goals as goal
 
 pub returns-in-Some : goal.returns-in-Some
 returns-in-Some c =

@@ -7,14 +7,15 @@ ghost use Rattle.pif_text_model.specs.Replies.{text_of};
 ghost use Rattle.pif_script_model.specs.Running.{added_thread, added_mutex, added_cond, addition_answer, addition_after, fact_or_none, was_added, priority_fact, question_answer, run_outcome, command_answer, default_limits, script, first_answer, limited_answer, answer_or_fault, IsAnswer, Makes};
 ghost use Rattle.pif_script_model.specs.Transcripts.{first_limits};
 
-use crate::listener::{ANSWER_ROOM, Listener, OUTPUT_ROOM, Output, REPLY_ROOM, append_end};
 use pif_core::{Core, Seen};
+use pif_script::{ANSWER_ROOM, Listener, OUTPUT_ROOM, Output, REPLY_ROOM, append_end};
 use pif_script_model::{End, Ending, OpenFault};
 use pif_text::{
     Added, Addition, Cause, Command, Fact, Question, Reply, Version, command_of, reply_text,
 };
 use pif_types::{AddFault, CondId, Health, Limits, MutexId, Prio, Request, Tid};
 use std::alloc::Global;
+use std::marker::Model;
 
 fn added_thread(added: Result<Tid, AddFault>) -> Added
     ensures { result ≡ added_thread added }
@@ -214,7 +215,21 @@ pub fn open_core(alloc: Global, command: Command) -> Result<(Core, Reply), OpenF
     }
 }
 
-impl Listener for Core {
+/// A core that answers the lines of a script. In contracts it is the core.
+#[derive(Drop)]
+pub struct Running {
+    core: Core,
+}
+
+impl Model for Running {
+    ghost use Rattle.pif_model.specs.Table.{Table};
+
+    ghost Value = { Table };
+
+    ghost view = { λ s. s.core };
+}
+
+impl Listener for Running {
     ghost hearing = { script };
 
     #[tactic(auto, unfolding(pif_script_model::specs::Running::first_line_meaning))]
@@ -223,12 +238,12 @@ impl Listener for Core {
         _version: Option<Version>,
         line: &[u8],
         output: &mut Output,
-    ) -> Result<Option<Core>, OpenFault> {
+    ) -> Result<Option<Running>, OpenFault> {
         match command_of(line) {
             Some(command) => {
                 let (core, reply) = open_core(alloc, command)?;
                 tell(reply, output);
-                Ok(Some(core))
+                Ok(Some(Running { core }))
             }
             None => Err(OpenFault::Ended(Ending::Fault(Cause::Command))),
         }
@@ -239,7 +254,7 @@ impl Listener for Core {
         let Some(command) = command_of(line) else {
             return Err(Ending::Fault(Cause::Command));
         };
-        match obey(self, command) {
+        match obey(&mut self.core, command) {
             Some(reply) => {
                 tell(reply, output);
                 Ok(())

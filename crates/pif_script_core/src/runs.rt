@@ -1,9 +1,7 @@
 ghost use Rattle.pif_script_model.specs.Running.{RunsTo};
 
-use crate::notices::Notice;
-use crate::script::read_script;
-use pif_core::Core;
-use pif_script_model::CliFault;
+use crate::running::Running;
+use pif_script::{CliFault, Notice, read_script};
 use std::alloc::Global;
 use std::io::{Read, Write};
 
@@ -35,5 +33,5 @@ pub fn run_noting<R: Read, W: Write>(
 ) -> Result<(), CliFault>
     ensures { RunsTo (R.remaining reader.old) (R.remaining reader.new) (W.contents writer.old) (W.contents writer.new) result }
 {
-    read_script::<Core, R, W>(alloc, reader, writer, notice)
+    read_script::<Running, R, W>(alloc, reader, writer, notice)
 }
