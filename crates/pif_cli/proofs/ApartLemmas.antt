@@ -22,12 +22,12 @@ use Rattle.pif_cli_words.specs.declared.jobs.Judging.{Judging}
 use Rattle.pif_cli.specs.declared.apart.Apart.{Apart}
 use Rattle.pif_cli.specs.declared.apart.Apart.TheVariants as apart
 use Rattle.pif_cli.specs.declared.apart.Judged.{Judged}
-use Rattle.pif_cli.specs.declared.statuses.JobFault.{JobFault}
-use Rattle.pif_cli.specs.declared.statuses.JobFault.TheVariants.{Cli}
+use Rattle.pif_cli_messages.specs.declared.statuses.JobFault.{JobFault}
+use Rattle.pif_cli_messages.specs.declared.statuses.JobFault.TheVariants.{Cli}
 use Rattle.pif_cli.specs.Apart.{AreApart, IsApart, IsJudged, WritesJudged}
 use Rattle.pif_cli.specs.Words.{Did, DidFile, JudgesAs, JudgesNamed, as_judged, form_of}
-use Rattle.pif_cli.specs.Messages.{TellsOf}
-use Rattle.pif_cli.specs.Statuses.{job_status}
+use Rattle.pif_cli_messages.specs.Messages.{TellsOf}
+use Rattle.pif_cli_messages.specs.Statuses.{job_status}
 use Rattle.pif_cli.proofs.AgainLemmas.{Again, again-fault, again-refused, again-text}
 
 abbrev Done : Type 0

@@ -1,7 +1,7 @@
 -- The lines of a drive.
 use Rattle.std.proofs.Common.{◌≡◌, ◌*◌, inl, inr, ℕ, List, [], ◌∷◌, ◌++◌, Option, Result, Ok, Err, codes, decimal, refl, sym, subst}
-use Rattle.pif_cli.specs.declared.statuses.JobFault.{JobFault}
-use Rattle.pif_cli.specs.declared.statuses.JobFault.TheVariants.{Threads, Unsettled}
+use Rattle.pif_cli_messages.specs.declared.statuses.JobFault.{JobFault}
+use Rattle.pif_cli_messages.specs.declared.statuses.JobFault.TheVariants.{Threads, Unsettled}
 use Rattle.pif_cli.specs.Driving.{Drives, SaysSo, WritesLine, answered_text, threads_text, unsettled_text}
 
 -- the line of all answered calls, or a part of it

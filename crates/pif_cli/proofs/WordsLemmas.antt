@@ -5,7 +5,7 @@ use Rattle.std.proofs.KnownBytes.{Keeps-refl}
 use Rattle.clap.specs.Words.{IsAmong, Kinds}
 use Rattle.clap.specs.declared.error.kind.ErrorKind.{ErrorKind}
 use Rattle.clap.specs.declared.error.kind.ErrorKind.TheVariants.{DisplayHelp, DisplayVersion, OutOfMemory}
-use Rattle.pif_cli.specs.Messages.{TellsAt, TellsNotes}
+use Rattle.pif_cli_messages.specs.Messages.{TellsAt, TellsNotes}
 use Rattle.pif_cli.specs.Words.{EndsIf, HadNoMemory, Refused, RefusedFor, ShowedHelp}
 
 pub EndsIf-refused : (kinds : Kinds) (done : Type 0) (k : ErrorKind)

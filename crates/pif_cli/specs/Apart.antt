@@ -10,8 +10,8 @@ use Rattle.pif_cli_words.specs.declared.jobs.Job.TheVariants.{Judge}
 use Rattle.pif_cli.specs.declared.apart.Apart.{Apart}
 use Rattle.pif_cli.specs.declared.apart.Apart.TheVariants as apart
 use Rattle.pif_cli.specs.declared.apart.Judged.{Judged}
-use Rattle.pif_cli.specs.declared.statuses.JobFault.{JobFault}
-use Rattle.pif_cli.specs.declared.statuses.JobFault.TheVariants.{Cli}
+use Rattle.pif_cli_messages.specs.declared.statuses.JobFault.{JobFault}
+use Rattle.pif_cli_messages.specs.declared.statuses.JobFault.TheVariants.{Cli}
 use Rattle.pif_cli.specs.Words.{JudgesNamed}
 
 -- a history of this name was judged into an empty text, of whose bytes nothing is known

@@ -4,8 +4,8 @@ use Rattle.std.specs.Io.KnownBytes.{Appends, Keeps}
 use Rattle.pif_script_model.specs.CommandLines.{HasNoFault, IsOfCommands}
 use Rattle.pif_script_model.specs.Runs.{WritesPart}
 use Rattle.pif_script_model.specs.declared.faults.CliFault.TheVariants.{Read, Write, NoMemory, Script, Differs}
-use Rattle.pif_cli.specs.declared.statuses.JobFault.{JobFault}
-use Rattle.pif_cli.specs.declared.statuses.JobFault.TheVariants.{Cli, Threads, Unsettled, Undecided}
+use Rattle.pif_cli_messages.specs.declared.statuses.JobFault.{JobFault}
+use Rattle.pif_cli_messages.specs.declared.statuses.JobFault.TheVariants.{Cli, Threads, Unsettled, Undecided}
 
 -- a script of so many lines, each a command; if they are as many as `random` takes, a run of it has no fault
 abbrev pub IsRandom : ℕ → List ℕ → Type 0

@@ -31,11 +31,11 @@ use Rattle.pif_cli_words.specs.declared.jobs.Judging.{Judging}
 use Rattle.pif_cli_words.specs.declared.jobs.Job.{Job}
 use Rattle.pif_cli_words.specs.declared.jobs.Job.TheVariants.{Run, Replay, Trace, Migrate, Show, Picture, Draw, Shell, Check, Strict, Fill, FillSeveral, Judge, Explore, Random, Drive}
 use Rattle.pif_cli_words.specs.Words.{files_of, inputs_of, job_of, refusals_of, rewrites, standard_name}
-use Rattle.pif_cli.specs.declared.statuses.JobFault.{JobFault}
-use Rattle.pif_cli.specs.declared.statuses.JobFault.TheVariants.{Cli, Undecided}
-use Rattle.pif_cli.specs.Messages.{TellsLine, TellsOf, notes_text}
+use Rattle.pif_cli_messages.specs.declared.statuses.JobFault.{JobFault}
+use Rattle.pif_cli_messages.specs.declared.statuses.JobFault.TheVariants.{Cli, Undecided}
+use Rattle.pif_cli_messages.specs.Messages.{TellsLine, TellsOf, notes_text}
 use Rattle.pif_cli.specs.Random.{WritesRandom}
-use Rattle.pif_cli.specs.Statuses.{job_status}
+use Rattle.pif_cli_messages.specs.Statuses.{job_status}
 use Rattle.pif_cli.specs.Driving.{Drives}
 
 -- a text was shown, which has this status where all of it was written, or else a write failed after a proper part of it

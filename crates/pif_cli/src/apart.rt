@@ -6,8 +6,7 @@ ghost use Rattle.pif_cli.specs.Apart.{AreApart, IsApart, IsJudged, WritesJudged}
 
 use crate::hosts::Runtime;
 use crate::judging::judge_input;
-use crate::progress::Unwatched;
-use crate::statuses::JobFault;
+use pif_cli_messages::{JobFault, Unwatched};
 use pif_cli_words::{Job, Judging, STANDARD_NAME};
 use pif_history_text::MOST_BYTES;
 use pif_script::{CliFault, write_whole};

@@ -2,9 +2,9 @@
 ghost use Rattle.std.specs.Prelude.{◌≡◌, ◌++◌, ◌∷◌, [], codes, decimal};
 ghost use Rattle.pif_cli.specs.Driving.{Drives, SaysSo, WritesLine};
 
-use crate::statuses::JobFault;
 use arrayvec::ArrayVec;
 use itoa::Buffer;
+use pif_cli_messages::JobFault;
 use pif_desk::NoPause;
 use pif_job_drive::{DriveFault, drive_book};
 use pif_script::{CliFault, write_whole};

@@ -1,17 +1,15 @@
 ghost use Rattle.std.specs.Prelude.{◌≡◌, IfSome, map};
 ghost use Rattle.pif_cli.specs.Apart.{IsApart};
 ghost use Rattle.pif_cli_words.specs.Words.{files_of, inputs_of, job_of, refusals_of, rewrites};
-ghost use Rattle.pif_cli.specs.Messages.{TellsLine};
+ghost use Rattle.pif_cli_messages.specs.Messages.{TellsLine};
 ghost use Rattle.pif_cli.specs.Words.{DidAll, DidFile, DidOver, EndsIf, first_status};
 
 use crate::apart::{Ahead, Apart, Judged, write_judged};
-use crate::causes::{Given, unread};
 use crate::hosts::{Host, Runtime};
-use crate::progress::{WatchFiles, WatchJob};
 use crate::rewriting::rewrite_file;
-use crate::streams::{Input, words_of};
 use crate::told::Told;
 use crate::words::{do_and_tell, refuse, refuse_input, tell_end};
+use pif_cli_messages::{Given, Input, WatchFiles, WatchJob, unread_message, words_of};
 use pif_cli_words::{Asked, Job, STANDARD_NAME, near_command, read_words};
 use pif_job_shell::Shelf;
 use std::convert::AsStr;
@@ -27,7 +25,7 @@ fn fail_to_open<E: Write>(name: &str, why: ErrorKind, errors: &mut E) -> u8
     ensures status { result ≡ 3 }
     ensures told { TellsLine (E.contents errors.old) (E.contents errors.new) }
 {
-    unread(name, words_of(why)).tell(errors);
+    unread_message(name, words_of(why)).tell(errors);
     3
 }
 

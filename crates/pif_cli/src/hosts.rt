@@ -1,4 +1,4 @@
-use crate::streams::Output;
+use pif_cli_messages::Output;
 use std::alloc::Global;
 use std::sync::Wait;
 use std::thread::Threads;

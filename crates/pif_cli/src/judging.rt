@@ -2,8 +2,8 @@
 ghost use Rattle.std.specs.Prelude.{◌≡◌, Some, None, if◌then◌else◌, option_copied};
 ghost use Rattle.pif_cli.specs.Words.{JudgesAs, JudgesNamed, as_judged, form_of};
 
-use crate::statuses::JobFault;
 use crate::times::Timed;
+use pif_cli_messages::JobFault;
 use pif_job_judge::{Form, JudgeFault, Judging, Watch, judge, judge_least};
 use std::alloc::Global;
 use std::io::{Read, Write};

@@ -4,12 +4,10 @@ ghost use Rattle.pif_cli.specs.Words.{EndsOver, HadNoWords};
 
 use crate::files::command_over_files;
 use crate::hosts::{Host, Runtime};
-use crate::messages::Message;
-use crate::progress::{WatchFiles, WatchJob};
 use crate::shelves::FileShelf;
 use crate::statuses::Status;
-use crate::streams::{Input, Output};
 use crate::words::{fail, show};
+use pif_cli_messages::{Input, Message, Output, WatchFiles, WatchJob};
 use pif_script::CliFault;
 use std::io::{ErrorKind, Read, Write};
 use std::rt::{Env, Files};

@@ -1,7 +1,7 @@
 //! `random`: the writing of a random script.
 ghost use Rattle.pif_cli.specs.Random.{WritesRandom};
 
-use crate::statuses::JobFault;
+use pif_cli_messages::JobFault;
 use pif_cli_words::Recipe;
 use pif_job_random::random_script;
 use pif_script::{CliFault, write_whole};

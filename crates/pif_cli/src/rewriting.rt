@@ -1,14 +1,12 @@
 //! `check --write`: the answers of a story, written into its file.
 ghost use Rattle.std.specs.Prelude.{◌≡◌, ◌⊎◌};
 ghost use Rattle.std.specs.Io.KnownBytes.{Keeps};
-ghost use Rattle.pif_cli.specs.Messages.{TellsLine};
+ghost use Rattle.pif_cli_messages.specs.Messages.{TellsLine};
 ghost use Rattle.pif_cli.specs.Words.{RewroteFile};
 
-use crate::causes::unwritten;
 use crate::hosts::{Host, Runtime};
-use crate::progress::WatchJob;
-use crate::streams::{Input, words_of};
 use crate::words::do_and_tell;
+use pif_cli_messages::{Input, Unwritten, WatchJob, unwritten_message, words_of};
 use pif_cli_words::Job;
 use pif_job_check::fill;
 use pif_job_shell::Shelf;
@@ -18,21 +16,6 @@ use std::fs::{File, OpenFile, Permissions};
 use std::io::{ErrorKind, Write};
 use std::rt::Files;
 use std::{fs, io};
-
-/// Why the answers of a story are not written into its file.
-#[derive(Clone, Copy)]
-pub enum Unwritten {
-    /// It is no plain file, but a folder, a link or a device.
-    NoPlainFile,
-    /// It can't be read, for this reason in the system's words, if there are such.
-    Unread(Option<&'static str>),
-    /// The new file beside it is there already.
-    Taken,
-    /// The new file can't be made or written, or can't take its place.
-    Refused,
-    /// Out of memory.
-    NoMemory,
-}
 
 /// A story as it stands in its file, and the mode of the file.
 type Stored = (Vec<u8>, Permissions);
@@ -128,7 +111,7 @@ fn tell_unwritten<E: Write>(name: &str, why: Unwritten, errors: &mut E) -> u8
     ensures status { (result ≡ 3) ⊎ (result ≡ 4) }
     ensures told { TellsLine (E.contents errors.old) (E.contents errors.new) }
 {
-    unwritten(name, why).tell(errors);
+    unwritten_message(name, why).tell(errors);
     match why {
         Unwritten::NoMemory => 4,
         _ => 3,

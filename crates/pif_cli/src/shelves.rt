@@ -1,4 +1,4 @@
-use crate::streams::{Input, words_of};
+use pif_cli_messages::{Input, words_of};
 use pif_job_shell::{LoadFault, SaveFault, Shelf};
 use pif_script::{CliFault, read_all};
 use std::alloc::Global;

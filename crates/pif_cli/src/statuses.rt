@@ -1,59 +1,8 @@
 ghost use Rattle.std.specs.Prelude.{◌≡◌, ℕ};
 ghost use Rattle.std.specs.Process.{exit_status};
-ghost use Rattle.pif_cli.specs.Statuses.{fault_status, is_output, job_fault_status};
 
-use pif_script::CliFault;
 use std::marker::Model;
 use std::process::{ExitCode, Termination};
-
-/// Why a job was not done.
-#[derive(Clone, Copy)]
-pub enum JobFault {
-    /// A fault of the script or trace, a read or a write that failed, or out of memory.
-    Cli(CliFault),
-    /// A thread could not be started.
-    Threads,
-    /// The desk didn't settle with its clients.
-    Unsettled,
-    /// At the line of this number, from 1, the search for a run of a history was given up; or a program has more states
-    /// than may be kept, and then it is line 1.
-    Undecided(u64),
-}
-
-/// The status of the program after this fault of a job: 6 if a thread could not be started, or the desk didn't settle,
-/// and 7 if a history was not decided, or not all states of a program were found.
-pub fn job_fault_status(fault: JobFault) -> u8
-    ensures { result ≡ job_fault_status fault }
-{
-    match fault {
-        JobFault::Cli(fault) => fault_status(fault),
-        JobFault::Threads | JobFault::Unsettled => 6,
-        JobFault::Undecided(_) => 7,
-    }
-}
-
-/// The status of the program after this fault: 2 for a fault of the script, trace, history or program, 3 for a read or a
-/// write that failed, and 4 for out of memory. It is 5 for a difference, an illegal history or a broken claim.
-pub fn fault_status(fault: CliFault) -> u8
-    ensures { result ≡ fault_status fault }
-{
-    match fault {
-        CliFault::Script(..) => 2,
-        CliFault::Read | CliFault::Write => 3,
-        CliFault::NoMemory => 4,
-        CliFault::Differs(_) => 5,
-    }
-}
-
-/// Whether this fault is that a write to the output has failed.
-pub fn is_output(fault: JobFault) -> bool
-    ensures { result ≡ is_output fault }
-{
-    match fault {
-        JobFault::Cli(CliFault::Write) => true,
-        _ => false,
-    }
-}
 
 /// The status with which the program ends, which `main` may return. There is no other way to it than
 /// `command_of_process`.

@@ -6,8 +6,7 @@ ghost use Rattle.pif_story_model.specs.Showing.{ShowsStoryTo};
 ghost use Rattle.pif_story.specs.Notes.{ShowsNoting, TellsNoting};
 ghost use Rattle.pif_cli.specs.Words.{EndsAsCli, RunsTold};
 
-use crate::notes::Notes;
-use crate::statuses::JobFault;
+use pif_cli_messages::{JobFault, Notes};
 use pif_job_check::check_noting;
 use pif_job_run::{run_noted, show_noting};
 use pif_script::Notice;

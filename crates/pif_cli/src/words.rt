@@ -2,21 +2,20 @@ ghost use Rattle.std.specs.Prelude.{◌≡◌, ◌⊎◌, [], OnOk, map};
 ghost use Rattle.clap.specs.Words.{kind_of};
 ghost use Rattle.pif_cli_words.specs.Words.{refusals_of, rewrites, job_of, name_of};
 ghost use Rattle.pif_job_draw.specs.Pictures.{DrawsTo};
-ghost use Rattle.pif_cli.specs.Messages.{TellsAt, TellsFault, TellsLine, TellsNotes, TellsOf};
-ghost use Rattle.pif_cli.specs.Statuses.{fault_status, job_status};
+ghost use Rattle.pif_cli_messages.specs.Messages.{TellsAt, TellsFault, TellsLine, TellsNotes, TellsOf};
+ghost use Rattle.pif_cli_messages.specs.Statuses.{fault_status, job_status};
 ghost use Rattle.pif_cli.specs.Words.{Did, Does, EndsAsCli, HasNotes, as_job, EndsBy, HadNoMemory, RefusedFor, RefusesInput, Shows, ShowsHelp, ExploresAsked, as_explored};
 
-use crate::causes::{Given, plain_message};
 use crate::drive::drive;
 use crate::hosts::{Host, Runtime};
 use crate::judging::judge_input;
-use crate::messages::Message;
-use crate::progress::{Unwatched, WatchJob};
 use crate::random::write_random;
-use crate::statuses::{JobFault, fault_status, is_output, job_fault_status};
-use crate::streams::{Input, Output};
 use crate::told::Told;
 use clap::error::ErrorKind;
+use pif_cli_messages::{
+    Given, Input, JobFault, Message, Output, Unwatched, WatchJob, fault_status, is_output,
+    job_fault_status, plain_message,
+};
 use pif_cli_words::{Job, first_name, near_command, read_words};
 use pif_job_check::{check_strictly, fill_as_one_of_several, fill_noting};
 use pif_job_draw::{Drawn, write_drawn, write_picture};

@@ -41,7 +41,7 @@ pub fn run_story(alloc: Global, plain: &[u8]) -> Result<Ran, CliFault>
 /// # Errors
 ///
 /// `NoMemory`.
-#[tactic(auto, unfolding(crate::specs::Notes::story_notes, pif_story_model::specs::Stories::script_of))]
+#[tactic(auto, unfolding(pif_story::specs::Notes::story_notes, pif_story_model::specs::Stories::script_of))]
 pub fn story_notes(alloc: Global, name: &[u8], story: &[u8]) -> Result<Vec<u8>, CliFault>
     ensures notes { IfOk result (λ notes. notes.items ≡ story_notes name.now story.now) }
     ensures failed { IfErr result IsUntold }

@@ -2,10 +2,10 @@ use Rattle.std.proofs.Common.{◌≡◌, inl, inr, ℕ, ◌≤◌, List, Option,
 use Rattle.clap.specs.Words.{kind_of}
 use Rattle.pif_script_model.specs.declared.faults.CliFault.{CliFault}
 use Rattle.pif_script_model.specs.declared.faults.CliFault.TheVariants.{Read, Write, NoMemory, Script, Differs}
-use Rattle.pif_cli.specs.declared.statuses.JobFault.{JobFault}
-use Rattle.pif_cli.specs.declared.statuses.JobFault.TheVariants.{Cli, Threads, Unsettled, Undecided}
-use Rattle.pif_cli.specs.Messages.{TellsAt, TellsFault, TellsLine, TellsOf}
-use Rattle.pif_cli.specs.Statuses.{fault_status, job_fault_status, job_status}
+use Rattle.pif_cli_messages.specs.declared.statuses.JobFault.{JobFault}
+use Rattle.pif_cli_messages.specs.declared.statuses.JobFault.TheVariants.{Cli, Threads, Unsettled, Undecided}
+use Rattle.pif_cli_messages.specs.Messages.{TellsAt, TellsFault, TellsLine, TellsOf}
+use Rattle.pif_cli_messages.specs.Statuses.{fault_status, job_fault_status, job_status}
 use Rattle.pif_cli.specs.Words.{RefusesInput, no_file_text}
 use Rattle.pif_cli.proofs.WordsLemmas.{EndsIf-refused, refusal_tells}
 use Rattle.pif_cli.proofs.words.command.Goals as goal

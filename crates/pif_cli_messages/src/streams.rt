@@ -36,7 +36,7 @@ impl<R> Input<R> {
 
     /// Forgets what one job has read, and why a read of it has failed. If `keeps`, the text that is read from here on
     /// is kept. Nothing is read.
-    pub(crate) fn begin(&mut self, alloc: Global, keeps: bool)
+    pub fn begin(&mut self, alloc: Global, keeps: bool)
         ensures { self.new ≡ self.old }
     {
         self.text = if keeps { Some(Vec::new(alloc)) } else { None };
@@ -44,7 +44,7 @@ impl<R> Input<R> {
     }
 
     /// The text that was read, if it was kept, and memory was not refused for it.
-    pub(crate) fn text(&self) -> Option<&[u8]> {
+    pub fn text(&self) -> Option<&[u8]> {
         match &self.text {
             Some(text) => Some(text.as_slice()),
             None => None,
@@ -52,7 +52,7 @@ impl<R> Input<R> {
     }
 
     /// Why the last read has failed, in the system's words, if there are such.
-    pub(crate) fn why(&self) -> Option<&'static str> {
+    pub fn why(&self) -> Option<&'static str> {
         self.why
     }
 
@@ -114,7 +114,7 @@ impl<W> Output<W> {
     }
 
     /// Whether the last write that has failed did so since nobody reads any more what is written.
-    pub(crate) fn is_closed(&self) -> bool {
+    pub fn is_closed(&self) -> bool {
         self.is_closed
     }
 }

@@ -2,8 +2,8 @@
 use Rattle.std.specs.Prelude.{ℕ, ◌≡◌, ◌≤◌, ◌⊎◌, ◌&&◌, nat_le, Bool, true, MatchBool, List, [], ◌∷◌, ◌++◌, Option, Some, None, Result, Ok, Err, codes}
 use Rattle.std.specs.List.{list_all}
 use Rattle.std.specs.Io.KnownBytes.{Appends, Keeps}
-use Rattle.pif_cli.specs.declared.statuses.JobFault.{JobFault}
-use Rattle.pif_cli.specs.Statuses.{is_output}
+use Rattle.pif_cli_messages.specs.declared.statuses.JobFault.{JobFault}
+use Rattle.pif_cli_messages.specs.Statuses.{is_output}
 use Rattle.pif_script_model.specs.Runs.{WritesPart}
 
 -- a byte of ASCII that shows: from a space to a tilde

@@ -12,7 +12,7 @@ pub struct Notes {
 
 impl Model for Notes {
     ghost use Rattle.std.specs.Prelude.{List, ℕ, option_map};
-    ghost use Rattle.pif_cli.specs.Messages.{notes_text};
+    ghost use Rattle.pif_cli_messages.specs.Messages.{notes_text};
 
     ghost Value = { List ℕ };
 
@@ -21,7 +21,7 @@ impl Model for Notes {
 
 impl Notes {
     ghost use Rattle.std.specs.Prelude.{◌≡◌, [], option_map};
-    ghost use Rattle.pif_cli.specs.Messages.{notes_text};
+    ghost use Rattle.pif_cli_messages.specs.Messages.{notes_text};
 
     /// No notes.
     pub fn none(alloc: Global) -> Notes

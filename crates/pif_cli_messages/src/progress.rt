@@ -1,6 +1,6 @@
 use crate::messages::Message;
-use pif_job_explore::Watch as WatchStates;
-use pif_job_judge::Watch;
+use pif_reach::Watch as WatchStates;
+use pif_search::Watch;
 use pif_watch::WatchSteps;
 use std::fmt::Write as _;
 use std::io::Write;

@@ -1,6 +1,6 @@
 ghost use Rattle.std.specs.Prelude.{◌≡◌, ◌<◌, true};
 ghost use Rattle.arrayvec.specs.ArrayVec.{array_vec_len};
-ghost use Rattle.pif_cli.specs.Messages.{is_shown};
+ghost use Rattle.pif_cli_messages.specs.Messages.{is_shown};
 
 use arrayvec::ArrayVec;
 use pif_script::{MOST_LINE, write_whole};
@@ -20,17 +20,17 @@ pub struct Message {
 }
 
 impl Message {
-    ghost use Rattle.pif_cli.specs.Messages.{TellsLine};
+    ghost use Rattle.pif_cli_messages.specs.Messages.{TellsLine};
 
     /// A message of the program, which begins with its name.
-    pub(crate) fn new() -> Message {
+    pub fn new() -> Message {
         let mut message = Message::empty();
         message.say("pif: ");
         message
     }
 
     /// A message that is to begin with a place.
-    pub(crate) fn empty() -> Message {
+    pub fn empty() -> Message {
         Message {
             bytes: ArrayVec::new(),
         }
@@ -44,7 +44,7 @@ impl Message {
     }
 
     /// Appends a text.
-    pub(crate) fn say(&mut self, text: &str) {
+    pub fn say(&mut self, text: &str) {
         for byte in text.as_bytes() {
             self.put(*byte);
         }
@@ -63,7 +63,7 @@ impl Message {
     }
 
     /// Appends the bytes of a line so that each can be seen, cut where what is shown is as long as a line may be.
-    pub(crate) fn show(&mut self, line: &[u8]) {
+    pub fn show(&mut self, line: &[u8]) {
         let end = self.bytes.len() + MOST_LINE;
         for byte in line {
             if self.bytes.len() + shown_length(*byte) > end {

@@ -1,6 +1,5 @@
 use crate::messages::Message;
 use crate::places::Place;
-use crate::rewriting::Unwritten;
 use crate::statuses::JobFault;
 use pif_cli_words::{Job, STANDARD_NAME};
 use pif_script::{CliFault, MOST_BYTES, MOST_LINE, Notice};
@@ -9,6 +8,21 @@ use pif_text_errors::{Form, SyntaxError, Wrong, call_form, read_command};
 use pif_types::Errno;
 use std::fmt::Write;
 use std::str::from_utf8;
+
+/// Why the answers of a story are not written into its file.
+#[derive(Clone, Copy)]
+pub enum Unwritten {
+    /// It is no plain file, but a folder, a link or a device.
+    NoPlainFile,
+    /// It can't be read, for this reason in the system's words, if there are such.
+    Unread(Option<&'static str>),
+    /// The new file beside it is there already.
+    Taken,
+    /// The new file can't be made or written, or can't take its place.
+    Refused,
+    /// Out of memory.
+    NoMemory,
+}
 
 /// What a job was asked for, and what is known of its input.
 #[derive(Clone, Copy)]
@@ -50,7 +64,7 @@ impl<'n, 's> Given<'n, 's> {
     /// What a person is told of a fault of the job. `notice` keeps the line that ended it, if there is one.
     pub fn message(&self, fault: JobFault, notice: &Notice) -> Message {
         match fault {
-            JobFault::Cli(CliFault::Read) => unread(self.name, self.why),
+            JobFault::Cli(CliFault::Read) => unread_message(self.name, self.why),
             JobFault::Cli(CliFault::Script(number, cause)) => {
                 self.fault_message(number, cause, notice)
             }
@@ -144,7 +158,7 @@ impl<'n, 's> Given<'n, 's> {
 
 /// What a person is told of an input of this name that cannot be read, with the reason in the system's words, if there
 /// are such.
-pub fn unread(name: &str, why: Option<&'static str>) -> Message {
+pub fn unread_message(name: &str, why: Option<&'static str>) -> Message {
     let mut message = Message::new();
     if name == STANDARD_NAME {
         message.say("the input cannot be read");
@@ -161,9 +175,9 @@ pub fn unread(name: &str, why: Option<&'static str>) -> Message {
 }
 
 /// What a person is told of a file of this name into which the answers of its story are not written.
-pub fn unwritten(name: &str, why: Unwritten) -> Message {
+pub fn unwritten_message(name: &str, why: Unwritten) -> Message {
     match why {
-        Unwritten::Unread(why) => unread(name, why),
+        Unwritten::Unread(why) => unread_message(name, why),
         Unwritten::NoMemory => plain_message(CliFault::NoMemory),
         Unwritten::NoPlainFile => file_message(name, "is no plain file"),
         Unwritten::Taken => {
