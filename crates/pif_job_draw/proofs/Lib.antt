@@ -1,8 +1,1 @@
 pub mod PictureLemmas
-pub mod AnswerLemmas
-pub mod ChainLemmas
-pub mod FilterLemmas
-pub mod PieceLemmas
-pub mod StateLemmas
-pub mod CoreLemmas
-pub mod ListLemmas

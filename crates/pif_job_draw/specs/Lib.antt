@@ -1,5 +1,1 @@
 pub mod Pictures
-pub mod States
-pub mod Objects
-pub mod Graphs
-pub mod Stories

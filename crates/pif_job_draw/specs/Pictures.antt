@@ -9,8 +9,8 @@ use Rattle.pif_script_model.specs.declared.pictures.Picture.TheVariants.{Drawing
 use Rattle.pif_script_model.specs.Migrating.{IsAllRead}
 use Rattle.pif_script_model.specs.Runs.{WritesPart}
 use Rattle.pif_story_model.specs.Checks.{fill_telling}
-use Rattle.pif_job_draw.specs.Stories.{graph_text}
-use Rattle.pif_job_draw.specs.States.{states_text}
+use Rattle.pif_story_states.specs.Stories.{graph_text}
+use Rattle.pif_story_states.specs.States.{states_text}
 
 -- how filling in a story ends, if memory and reads allow: with no fault, or with its first
 abbrev pub end_of_filling : List ℕ → Result (Unit {0}) CliFault

@@ -4,11 +4,11 @@ ghost use Rattle.pif_story_model.specs.Stories.{rows_of};
 ghost use Rattle.pif_job_draw.specs.Pictures.{DrawsTo, FillsOrLarge, IsDrawn};
 
 use crate::pages::page_of;
-use crate::spans::Span;
 use crate::texts::{drawing_text, states_text};
 use pif_job_check::fill_rows;
 use pif_script::{CliFault, Notice, read_all, write_whole};
 use pif_story::plain_story;
+use pif_story_drawing::Span;
 use pif_story_model::AnsweredRow;
 use pif_text::Cause;
 use pif_types::NoMemory;

@@ -4,17 +4,15 @@ ghost use Rattle.pif_job_check.specs.Rows.{FillsRows};
 ghost use Rattle.pif_story_model.specs.Rows.{AreRowsOf};
 ghost use Rattle.pif_story_model.specs.Stories.{rows_of};
 ghost use Rattle.pif_job_draw.specs.Pictures.{IsPictureOf};
-ghost use Rattle.pif_job_draw.specs.States.{states_text};
+ghost use Rattle.pif_story_states.specs.States.{states_text};
 
-use crate::graphs::graph_of;
-use crate::spans::Span;
-use crate::states::states_of;
-use crate::story_drawing::drawing_of;
 use pif_job_check::fill_rows;
 use pif_script::{CliFault, Notice};
 use pif_script_model::Picture;
 use pif_story::{names_in, plain_story};
+use pif_story_drawing::{Span, drawing_of};
 use pif_story_model::AnsweredRow;
+use pif_story_states::{graph_of, states_of};
 use pif_types::NoMemory;
 use pif_watch::WatchSteps;
 use std::alloc::Global;
@@ -25,7 +23,7 @@ use std::alloc::Global;
 /// # Errors
 ///
 /// `NoMemory`.
-#[tactic(auto, unfolding(crate::specs::States::states_text))]
+#[tactic(auto, unfolding(pif_story_states::specs::States::states_text))]
 pub fn states_text<V: WatchSteps>(
     alloc: Global,
     story: &[u8],

@@ -1,0 +1,7 @@
+pub mod AnswerLemmas
+pub mod ChainLemmas
+pub mod FilterLemmas
+pub mod PieceLemmas
+pub mod StateLemmas
+pub mod CoreLemmas
+pub mod ListLemmas

@@ -1,0 +1,4 @@
+pub mod States
+pub mod Objects
+pub mod Graphs
+pub mod Stories
