@@ -51,7 +51,7 @@ RENAMED = {
     "pif_job_random": ["pif_random"],
     "pif_job_shell": ["pif_sessions", "pif_shell"],
     "pif_job_judge": ["pif_job_judge", "pif_job_least", "pif_history_run"],
-    "pif_job_explore": ["pif_job_explore", "pif_explore_core", "pif_explore_told"],
+    "pif_job_explore": ["pif_job_explore", "pif_explore_core"],
     "pif_job_drive": ["pif_drive"],
     "pif_cli_words": ["pif_arguments"],
     "pif_test_calls": ["pif_test_calls", "pif_test_foundation", "pif_call_tests", "pif_foundation_tests"],

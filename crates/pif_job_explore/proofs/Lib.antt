@@ -1,3 +1,2 @@
 mod ExploringLemmas
 mod Parts
-mod TellingLemmas

@@ -22,37 +22,20 @@
 //! | `standing`, `meeting` | the outcome to which the programs have come, and which claims are broken |
 //! | `schedules` | what is drawn |
 //! | `playing`, `telling` | `play`, and what is told of it |
-//!
-//! | Module | What it has of the text |
-//! |---|---|
-//! | `pieces` | bytes, numbers and names |
-//! | `lines` | the line of an outcome |
-//! | `found_schedules` | the steps by which a state was found |
-//! | `verdicts` | what is found of a claim |
-//! | `reports` | outcomes, claims and counts |
-//! | `dangers` | races, deadlocks, lost wake-ups and livelocks |
-//! | `laws` | a law, which its function states |
 #![tactic(auto)]
 
-mod dangers;
 mod exploring;
 mod faults;
-mod found_schedules;
-mod laws;
-mod lines;
 mod meeting;
-mod pieces;
 mod player;
 mod playing;
-mod reports;
 mod rulings;
 mod schedules;
 mod standing;
 mod starts;
 mod telling;
-mod verdicts;
 
 pub use exploring::{Exploring, explore_text};
 pub use faults::ExploreFault;
-pub use laws::schedules_are_runs;
+pub use pif_explore_told::schedules_are_runs;
 pub use pif_reach::{Unwatched, Watch};

@@ -8,9 +8,9 @@ ghost use Rattle.pif_explore_text.specs.Views.{claim_view};
 ghost use Rattle.pif_reach.specs.Spaces.{IsWhole};
 ghost use Rattle.pif_job_explore.specs.Exploring.{AreRuled, IsRuled, first_broken};
 
-use crate::verdicts::{Ruling, Verdict, verdict_of};
 use pif_explore::{Explored, Plan};
 use pif_explore_text::Claim;
+use pif_explore_told::{Ruling, Verdict, verdict_of};
 use pif_search::{Stop, push};
 use std::alloc::Global;
 

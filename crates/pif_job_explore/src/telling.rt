@@ -2,8 +2,8 @@
 ghost use Rattle.std.specs.Prelude.{◌≡◌, ◌++◌, OnOk, codes, decimal, flat_map};
 ghost use Rattle.pif_job_explore.specs.Lines.{claim_told, ending_told, others_told, outcome_told, played_told, unfinished_told};
 
-use crate::pieces::{push_all, push_number};
 use crate::playing::{Mark, Played};
+use pif_explore_told::{push_all, push_number};
 use pif_search::Stop;
 
 /// Appends a number between two words.
