@@ -22,3 +22,6 @@ returns-clause-exact c = λ exact.
     exact_on c.client.inside.t c.args.self.now.journal c.turn.new.self.journal c.args.act c.in_ok-seen.seen log
     (log_of c.note.new.calls.items c.note.new.ended) more after
     (subst (λ (x : ClientState). IsExact x c.args.self.now.journal) (sym c.client.view_is) exact)
+
+pub returns-clause-turned : goal.returns-clause-turned
+returns-clause-turned c = search rules
