@@ -113,6 +113,7 @@ fn run_rows<'a>(
     requires { length plain.now ≤ 16777216 }
     ensures filled { EndsSo (filling_end (lines plain.now)) result }
     ensures rows { IfOk result (λ rows. AreRowsOf (rows_from 1 (lines plain.now)) rows.items) }
+    ensures unnoted { OnOk result (notice.new ≡ notice.old) }
 {
     let mut core = None;
     let mut rows = Vec::new(alloc);
@@ -163,6 +164,7 @@ pub fn fill_rows<'a>(
     requires shorter { length plain.now ≤ length story.now }
     ensures filled { FillsRows story.now result }
     ensures rows { IfOk result (λ rows. AreRowsOf (rows_of story.now) rows.items) }
+    ensures unnoted { OnOk result (notice.new ≡ notice.old) }
 {
     if story.len() > MOST {
         notice.keep_command(b"");

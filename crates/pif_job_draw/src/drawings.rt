@@ -1,4 +1,4 @@
-ghost use Rattle.std.specs.Prelude.{◌≡◌, IfOk, true};
+ghost use Rattle.std.specs.Prelude.{◌≡◌, IfOk, OnOk, true};
 ghost use Rattle.pif_story_model.specs.Rows.{AreRowsOf};
 ghost use Rattle.pif_story_model.specs.Stories.{rows_of};
 ghost use Rattle.pif_job_draw.specs.Pictures.{DrawsTo, FillsOrLarge, IsDrawn};
@@ -119,6 +119,7 @@ fn drawn_text<V: WatchSteps>(
 ) -> Result<Vec<u8>, CliFault>
     ensures filled { FillsOrLarge story.now result }
     ensures shown { IfOk result (λ text. IsDrawn drawn.page story.now text.items) }
+    ensures unnoted { OnOk result (notice.new ≡ notice.old) }
 {
     let span = Span::new(drawn.from, drawn.to);
     let Ok(plain) = plain_story(alloc, story) else {
@@ -153,7 +154,8 @@ pub fn write_drawn<R: Read, W: Write, V: WatchSteps>(
     notice: &mut Notice,
     watch: &mut V,
 ) -> Result<(), CliFault>
-    ensures { DrawsTo drawn.page (R.remaining reader.old) (R.remaining reader.new) (W.contents writer.old) (W.contents writer.new) result }
+    ensures draws { DrawsTo drawn.page (R.remaining reader.old) (R.remaining reader.new) (W.contents writer.old) (W.contents writer.new) result }
+    ensures unnoted { OnOk result (notice.new ≡ notice.old) }
 {
     let story = read_all(alloc, reader)?;
     let text = drawn_text(drawn, alloc, story.as_slice(), notice, watch)?;

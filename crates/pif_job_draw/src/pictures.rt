@@ -1,3 +1,4 @@
+ghost use Rattle.std.specs.Prelude.{◌≡◌, OnOk};
 ghost use Rattle.pif_script_model.specs.declared.pictures.Picture.{Picture};
 ghost use Rattle.pif_job_draw.specs.Pictures.{PicturesTo};
 
@@ -100,7 +101,8 @@ pub fn write_picture<R: Read, W: Write, V: WatchSteps>(
     notice: &mut Notice,
     watch: &mut V,
 ) -> Result<(), CliFault>
-    ensures { PicturesTo picture (R.remaining reader.old) (R.remaining reader.new) (W.contents writer.old) (W.contents writer.new) result }
+    ensures pictures { PicturesTo picture (R.remaining reader.old) (R.remaining reader.new) (W.contents writer.old) (W.contents writer.new) result }
+    ensures unnoted { OnOk result (notice.new ≡ notice.old) }
 {
     let story = read_all(alloc, reader)?;
     let text = picture_text(picture, alloc, story.as_slice(), notice, watch)?;

@@ -1,4 +1,4 @@
-ghost use Rattle.std.specs.Prelude.{◌≡◌, IfOk, string_bytes};
+ghost use Rattle.std.specs.Prelude.{◌≡◌, IfOk, OnOk, string_bytes};
 ghost use Rattle.pif_script_model.specs.declared.pictures.Picture.{Picture};
 ghost use Rattle.pif_job_check.specs.Rows.{FillsRows};
 ghost use Rattle.pif_story_model.specs.Rows.{AreRowsOf};
@@ -103,6 +103,7 @@ pub fn picture_text<V: WatchSteps>(
 ) -> Result<Vec<u8>, CliFault>
     ensures filled { FillsRows story.now result }
     ensures shown { IfOk result (λ text. IsPictureOf picture story.now text.items) }
+    ensures unnoted { OnOk result (notice.new ≡ notice.old) }
 {
     let Ok(plain) = plain_story(alloc, story) else {
         return Err(CliFault::NoMemory);

@@ -11,7 +11,6 @@
 //! | `traces` | `pif_job_run`: traces of scripts and of histories |
 //! | `notices` | what a notice keeps of a script, a trace or a story, by each job |
 //! | `random` | `pif_job_random`: scripts by a seed |
-//! | `progress` | `pif_job_draw`: what is told while a picture is made |
 //! | `streams` | none: the stream, which moves few bytes a call or fails once where it is told to |
 //! | `searches` | `pif_search`: verdicts and numbers of states that were worked out by hand |
 //! | `counters` | none: the machine of `searches`, a counter with a lamp |
@@ -35,8 +34,6 @@ mod notices;
 mod places;
 #[cfg(test)]
 mod plays;
-#[cfg(test)]
-mod progress;
 #[cfg(test)]
 mod random;
 #[cfg(test)]

@@ -1,15 +1,13 @@
 //! What a notice keeps of a script that is run, a trace that is replayed or migrated, and a story that is checked, filled
-//! in, traced, shown or drawn.
+//! in, traced or shown.
 
 use crate::streams::Stream;
 use pif_job_check::{check_noting, check_strictly, fill_as_one_of_several, fill_noting};
-use pif_job_draw::{Drawn, write_drawn, write_picture};
 use pif_job_replay::{migrate_noting, replay_noting};
 use pif_job_run::{show_story, trace_noting, trace_story};
 use pif_script::{CliFault, Notice};
 use pif_script_core::run_noting;
-use pif_script_model::{Detail, Picture};
-use pif_watch::Unwatched;
+use pif_script_model::Detail;
 use std::alloc::Global;
 use std::io::ErrorKind;
 use std::process::Abort;
@@ -29,16 +27,7 @@ enum Noting {
     Trace,
     TraceScript,
     Show,
-    Page,
-    States,
 }
-
-/// A page of a whole story.
-const PAGE: Drawn = Drawn {
-    page: true,
-    from: 1,
-    to: 0,
-};
 
 /// Does it with a story.
 fn note_story(
@@ -54,15 +43,6 @@ fn note_story(
         Noting::FillSeveral => fill_as_one_of_several(alloc, b"story", reader, writer, notice),
         Noting::Trace => trace_story(alloc, reader, writer, notice),
         Noting::Show => show_story(Detail::Changes, alloc, reader, writer, notice),
-        Noting::Page => write_drawn(PAGE, alloc, reader, writer, notice, &mut Unwatched),
-        Noting::States => write_picture(
-            Picture::States,
-            alloc,
-            reader,
-            writer,
-            notice,
-            &mut Unwatched,
-        ),
         _ => {
             check_noting(alloc, b"story", reader, writer, notice)?;
             Ok(())
@@ -124,7 +104,7 @@ type Row = (
     &'static str,
 );
 
-static ROWS: [Row; 36] = [
+static ROWS: [Row; 32] = [
     (None, Noting::Run, "pick\n", "", ""),
     (None, Noting::Run, LONG, "", ""),
     (Some(DIFFERENCE), Noting::Keep, "xx", "xx", ""),
@@ -150,8 +130,6 @@ static ROWS: [Row; 36] = [
     (Some(BEFORE), Noting::Trace, FAULTY, "pik", ""),
     (Some(BEFORE), Noting::TraceScript, FAULTY, "pik", ""),
     (Some(BEFORE), Noting::Show, FAULTY, "pik", ""),
-    (Some(BEFORE), Noting::Page, FAULTY, "pik", ""),
-    (Some(BEFORE), Noting::States, FAULTY, "pik", ""),
     (Some(BEFORE), Noting::Check, OTHER_ANSWER, "before", ""),
     (Some(BEFORE), Noting::Strict, OTHER_ANSWER, "before", ""),
     (Some(BEFORE), Noting::Fill, OTHER_ANSWER, "before", ""),
@@ -164,8 +142,6 @@ static ROWS: [Row; 36] = [
     ),
     (Some(BEFORE), Noting::Trace, OTHER_ANSWER, "before", ""),
     (Some(BEFORE), Noting::Show, OTHER_ANSWER, "before", ""),
-    (Some(BEFORE), Noting::Page, OTHER_ANSWER, "before", ""),
-    (Some(BEFORE), Noting::States, OTHER_ANSWER, "before", ""),
     (Some(BEFORE), Noting::TraceScript, REFUSED, "before", ""),
     (Some(BEFORE), Noting::Check, REFUSED, "before", ""),
     (Some(BEFORE), Noting::Strict, REFUSED, "thread 0", ""),

@@ -4,7 +4,7 @@
 use crate::deeds::{Giving, List, Source};
 use crate::marks::{Words, escaped, keep_escaped, keep_line, keep_words, kind_of, mark_of};
 use crate::streams::{Kept, Sink, Taking};
-use crate::told::{Files, pair_of};
+use crate::told::{Counts, pair_of};
 use arrayvec::ArrayVec;
 use std::alloc::Global;
 use std::io::ErrorKind;
@@ -45,8 +45,10 @@ pub struct Done {
     pub left: usize,
     /// Whether files were asked what is known of them, and nothing else.
     pub has_deeds: bool,
-    /// The files that were begun, if that is known.
-    pub begun: Files,
+    /// The files that were begun.
+    pub begun: Counts,
+    /// The steps that were told.
+    pub steps: Counts,
 }
 
 /// The streams to which a job writes.
@@ -92,7 +94,8 @@ pub struct Block<'a> {
     has_other_mark: bool,
     taking: Taking,
     errors_room: usize,
-    begun: Files,
+    begun: Counts,
+    steps: Counts,
     is_cut: bool,
     first: Kept,
     output: Kept,
@@ -127,6 +130,7 @@ impl<'a> Block<'a> {
             taking: Taking::all(),
             errors_room: usize::MAX,
             begun: ArrayVec::new(),
+            steps: ArrayVec::new(),
             is_cut: false,
             first: Kept::new(alloc),
             output: Kept::new(alloc),
@@ -187,9 +191,10 @@ impl<'a> Block<'a> {
             && holds_counts(self.alloc, self.lines, output)
     }
 
-    /// Whether files were asked what is known of them, and those were begun of which that is known.
+    /// Whether files were asked what is known of them, and those files were begun, and those steps were told, of which
+    /// that is known.
     fn has_done(&self, done: &Done) -> bool {
-        done.has_deeds && (self.begun.is_empty() || self.begun.as_slice() == done.begun.as_slice())
+        done.has_deeds && has_told(&self.begun, &done.begun) && has_told(&self.steps, &done.steps)
     }
 
     /// Whether this is the output, or begins and ends it, or only parts of it are known.
@@ -213,6 +218,11 @@ impl<'a> Block<'a> {
             errors.is_empty() == (self.status == 0)
         }
     }
+}
+
+/// Whether just this was told, if anything is known of it.
+fn has_told(known: &Counts, told: &Counts) -> bool {
+    known.is_empty() || known.as_slice() == told.as_slice()
 }
 
 /// Whether each text that stands behind this mark is a part of what was written.
@@ -399,6 +409,9 @@ fn hear_stream(block: &mut Block<'_>, mark: &str, text: &str) {
         "once" => block.taking.is_once = true,
         "begins" => {
             let _ = block.begun.try_push(pair_of(text));
+        }
+        "steps" => {
+            let _ = block.steps.try_push(pair_of(text));
         }
         "..." => cut(block),
         "" | "#" | "~" | "!~" | "has" | "$\\" | "ticks" | "file" | "fails" => {}

@@ -98,6 +98,7 @@ pub fn do_block<P: Env + AllocGlobal + Files + Runtime + Sync>(
 ) -> Done {
     let mut begun = Begun {
         files: ArrayVec::new(),
+        steps: ArrayVec::new(),
     };
     let status = match block.asked {
         Asked::Nothing => 0,
@@ -117,5 +118,6 @@ pub fn do_block<P: Env + AllocGlobal + Files + Runtime + Sync>(
         left: list.left(),
         has_deeds: list.is_met(),
         begun: begun.files,
+        steps: begun.steps,
     }
 }

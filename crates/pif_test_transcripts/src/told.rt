@@ -12,13 +12,14 @@ use std::io;
 use std::io::{ErrorKind, Write};
 use std::time::{Clock, Duration};
 
-/// A number of files that are done, and of how many.
-pub type Files = ArrayVec<(usize, usize), 8>;
+/// How many are done, and of how many, each time that this is told.
+pub type Counts = ArrayVec<(usize, usize), 8>;
 
-/// Keeps how many files were done at each that is begun, and of how many.
+/// Keeps how many files were done at each that is begun, and how many steps at each step.
 #[derive(Drop)]
 pub struct Begun {
-    pub files: Files,
+    pub files: Counts,
+    pub steps: Counts,
 }
 
 impl Watch for Begun {
@@ -34,7 +35,9 @@ impl WatchStates for Begun {
 }
 
 impl WatchSteps for Begun {
-    fn step(&mut self, _done: usize, _count: usize) {}
+    fn step(&mut self, done: usize, count: usize) {
+        let _ = self.steps.try_push((done, count));
+    }
 }
 
 impl WatchFiles for Begun {

@@ -12,6 +12,7 @@ lines-init c = record {
   rows = rw c.new-rows.ensures.items refl;
   fits = omega arith;
   within = omega (arith, c.requires);
+  unnoted = refl;
 }
 
 pub lines-preserved-in-Ok-None : goal.lines-preserved-in-Ok-None
@@ -32,6 +33,7 @@ lines-preserved-in-Ok-None c =
           (sym c.in-Some-row_of.ensures) done.4;
       fits = line_fits c.lines.core c.lines.taken c.in-Some-row_of.words.now (done.0, done.1) done.2;
       within = omega (arith, within, c.split_line.ensures.parts);
+      unnoted = c.lines.invariant.unnoted;
     }
 
 pub returns-in-Ok-Some-clause-filled : goal.returns-in-Ok-Some-clause-filled

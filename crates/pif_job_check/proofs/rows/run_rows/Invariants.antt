@@ -15,6 +15,7 @@ invariant-lines l = record {
       ≡ map asked_in l.rows.items ++ map asked_by (rows_from (l.line + 1) (lines_behind (option_copied l.rest)));
   fits : l.taken ≤ 16777216;
   within : l.line + option_map_or (λ text. length text.now + 1) l.rest 0 ≤ 16777217;
+  unnoted : l.notice ≡ l.fn.notice;
 }
 
 abbrev pub decreases-lines : goal.decreases-lines
