@@ -1,3 +1,4 @@
+pub mod BucketTestLemmas
 pub mod StateTestLemmas
 pub mod LinkedStateLemmas
 pub mod TogetherLemmas
