@@ -76,7 +76,7 @@ fn new_scene<C: Chains + Drop>(
 ) -> Result<Scene<KernelOn<C>>, Fail>
     requires { 1 ≤ first_ticket }
 {
-    let threads = u32::try_from(levels.len()).map_err(|_| "threads")?;
+    let threads = u32::try_from(levels.len()).ok().ok_or("threads")?;
     let limits = Limits::new(threads.saturating_add(1), mutexes, 2, 1).ok_or("limits")?;
     let words = Words::new(alloc, limits)?;
     let mut kernel: KernelOn<C> = KernelOn::new(alloc, limits, first_ticket)?;

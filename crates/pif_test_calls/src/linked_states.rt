@@ -11,6 +11,7 @@ use super::seen::{priority, see, thread};
 use pif_kernel_model::Key;
 use pif_nodes::NodeTable;
 use pif_rtmutex::RtMutexes;
+use std::alloc::Global;
 use std::process::Abort;
 use std::test::Fail;
 
@@ -22,13 +23,30 @@ fn stand_at_first(mutexes: &RtMutexes, table: &NodeTable)
     ensures { IsAtFirst mutexes.now table.now }
 {}
 
+// What is asked of new owner states.
+#[derive(Clone, Copy)]
+enum Asked {
+    Priorities,
+    Order,
+    Passing,
+}
+
+// Asks this of new owner states of three threads.
+fn ask(rt: &impl Abort, alloc: Global, asked: Asked) -> Result<(), Fail> {
+    let mut table = NodeTable::new(alloc, 6, 6)?;
+    let mut mutexes = RtMutexes::new(alloc, 0, 0, 3)?;
+    stand_at_first(&mutexes, &table);
+    match asked {
+        Asked::Priorities => give_priorities(rt, &mut mutexes, &table),
+        Asked::Order => stand_by_priority_and_ticket(rt, &mut mutexes, &mut table),
+        Asked::Passing => pass_to_top_waiter(rt, &mut mutexes, &mut table),
+    }
+    Ok(())
+}
+
 #[test]
 fn threads_have_the_priorities_they_were_given(rt: HostRuntime) -> Result<(), Fail> {
-    let table = NodeTable::new(rt.alloc(), 6, 6)?;
-    let mut mutexes = RtMutexes::new(rt.alloc(), 0, 0, 3)?;
-    stand_at_first(&mutexes, &table);
-    give_priorities(&rt, &mut mutexes, &table);
-    Ok(())
+    ask(&rt, rt.alloc(), Asked::Priorities)
 }
 
 fn give_priorities(rt: &impl Abort, mutexes: &mut RtMutexes, table: &NodeTable)
@@ -62,11 +80,7 @@ fn queue_two(mutexes: &mut RtMutexes, table: &mut NodeTable) -> Key
 
 #[test]
 fn waiters_stand_by_priority_and_ticket(rt: HostRuntime) -> Result<(), Fail> {
-    let mut table = NodeTable::new(rt.alloc(), 6, 6)?;
-    let mut mutexes = RtMutexes::new(rt.alloc(), 0, 0, 3)?;
-    stand_at_first(&mutexes, &table);
-    stand_by_priority_and_ticket(&rt, &mut mutexes, &mut table);
-    Ok(())
+    ask(&rt, rt.alloc(), Asked::Order)
 }
 
 fn stand_by_priority_and_ticket(rt: &impl Abort, mutexes: &mut RtMutexes, table: &mut NodeTable)
@@ -87,11 +101,7 @@ fn stand_by_priority_and_ticket(rt: &impl Abort, mutexes: &mut RtMutexes, table:
 
 #[test]
 fn state_passes_to_its_top_waiter(rt: HostRuntime) -> Result<(), Fail> {
-    let mut table = NodeTable::new(rt.alloc(), 6, 6)?;
-    let mut mutexes = RtMutexes::new(rt.alloc(), 0, 0, 3)?;
-    stand_at_first(&mutexes, &table);
-    pass_to_top_waiter(&rt, &mut mutexes, &mut table);
-    Ok(())
+    ask(&rt, rt.alloc(), Asked::Passing)
 }
 
 fn pass_to_top_waiter(rt: &impl Abort, mutexes: &mut RtMutexes, table: &mut NodeTable)

@@ -5,14 +5,32 @@ ghost use Rattle.pif_kernel_model.specs.Examples.{queued_two};
 use super::seen::{priority, see, thread};
 use pif_kernel_model::Key;
 use pif_plain::RtMutexes;
+use std::alloc::Global;
 use std::process::Abort;
 use std::test::Fail;
 
+// What is asked of new owner states.
+#[derive(Clone, Copy)]
+enum Asked {
+    Priorities,
+    Order,
+    Passing,
+}
+
+// Asks this of new owner states of three threads.
+fn ask(rt: &impl Abort, alloc: Global, asked: Asked) -> Result<(), Fail> {
+    let mut mutexes = RtMutexes::new(alloc, 3)?;
+    match asked {
+        Asked::Priorities => give_priorities(rt, &mut mutexes),
+        Asked::Order => stand_by_priority_and_ticket(rt, &mut mutexes),
+        Asked::Passing => pass_to_top_waiter(rt, &mut mutexes),
+    }
+    Ok(())
+}
+
 #[test]
 fn threads_have_the_priorities_they_were_given(rt: HostRuntime) -> Result<(), Fail> {
-    let mut mutexes = RtMutexes::new(rt.alloc(), 3)?;
-    give_priorities(&rt, &mut mutexes);
-    Ok(())
+    ask(&rt, rt.alloc(), Asked::Priorities)
 }
 
 fn give_priorities(rt: &impl Abort, mutexes: &mut RtMutexes)
@@ -44,9 +62,7 @@ fn queue_two(mutexes: &mut RtMutexes) -> Key
 
 #[test]
 fn waiters_stand_by_priority_and_ticket(rt: HostRuntime) -> Result<(), Fail> {
-    let mut mutexes = RtMutexes::new(rt.alloc(), 3)?;
-    stand_by_priority_and_ticket(&rt, &mut mutexes);
-    Ok(())
+    ask(&rt, rt.alloc(), Asked::Order)
 }
 
 fn stand_by_priority_and_ticket(rt: &impl Abort, mutexes: &mut RtMutexes)
@@ -70,9 +86,7 @@ fn stand_by_priority_and_ticket(rt: &impl Abort, mutexes: &mut RtMutexes)
 
 #[test]
 fn state_passes_to_its_top_waiter(rt: HostRuntime) -> Result<(), Fail> {
-    let mut mutexes = RtMutexes::new(rt.alloc(), 3)?;
-    pass_to_top_waiter(&rt, &mut mutexes);
-    Ok(())
+    ask(&rt, rt.alloc(), Asked::Passing)
 }
 
 fn pass_to_top_waiter(rt: &impl Abort, mutexes: &mut RtMutexes)
