@@ -22,9 +22,9 @@ use Rattle.pif_history_model.specs.Searched.{hides}
 use Rattle.pif_history_model.specs.Verdicts.{answers, is_answer, AreJust, ArePossibleAnswers, ArePossiblePriorities, IsLegalBy, IsIllegalAt}
 use Rattle.pif_history_model.proofs.Fitting.{answer-from_shown, priority-from_shown}
 use Rattle.pif_history_model.proofs.Judging.{labels_of, labels-first}
-use Rattle.pif_history.specs.declared.verdicts.Verdict.{Verdict}
-use Rattle.pif_history.specs.declared.verdicts.Verdict.TheVariants.{Legal, Illegal, Undecided}
-use Rattle.pif_history.specs.Verdicts.{IsVerdictOf, verdict_from}
+use Rattle.pif_history_lines.specs.declared.verdicts.Verdict.{Verdict}
+use Rattle.pif_history_lines.specs.declared.verdicts.Verdict.TheVariants.{Legal, Illegal, Undecided}
+use Rattle.pif_history_lines.specs.Verdicts.{IsVerdictOf, verdict_from}
 use Rattle.pif_history_model.specs.Numbers.{numbers_in, up_to}
 use Rattle.pif_history_model.proofs.Numbers.{kept, just_kept, answers_rise, in_up_to, up_to-rises}
 use Rattle.pif_allow_model.specs.Allowed.{WideConfiguration, WideAdvances, wide_start_of, IsShownWith}

@@ -3,8 +3,8 @@ use Rattle.std.specs.Prelude.{◌≤◌, List, length}
 use Rattle.pif_types.specs.Bounds.{Bounds}
 use Rattle.pif_rules_model.specs.declared.rules.Rules.{Rules}
 use Rattle.pif_history_model.specs.declared.lines.Line.{Line}
-use Rattle.pif_history.specs.declared.verdicts.Verdict.{Verdict}
-use Rattle.pif_history.specs.declared.verdicts.Verdict.TheVariants.{Legal, Illegal, Undecided}
+use Rattle.pif_history_lines.specs.declared.verdicts.Verdict.{Verdict}
+use Rattle.pif_history_lines.specs.declared.verdicts.Verdict.TheVariants.{Legal, Illegal, Undecided}
 use Rattle.pif_allow_model.specs.Verdicts.{IsLegalWith, IsIllegalWith}
 
 -- a verdict on these lines: a witness; how many of them no run shows; or nothing but that it is one of them

@@ -1,6 +1,6 @@
 //! What rules add to the hidden steps that are worth trying before a line.
-use pif_history::{Need, Scene, Trial};
 use pif_history_model::Line;
+use pif_history_scene::{Need, Scene, Trial};
 use pif_posix::named_by;
 use pif_rules_model::Rules;
 use pif_search::{Stop, push};

@@ -10,12 +10,9 @@ ghost use Rattle.pif_allow_model.specs.Verdicts.{ArePossibleAnswersWith, ArePoss
 ghost use Rattle.pif_allow.specs.Verdicts.{IsVerdictWith};
 
 use crate::guide::AllowingGuide;
-use crate::machine::AllowingMachine;
-use crate::position::WidePosition;
-use pif_history::{
-    Verdict, answers_of, efforts, find_run, judge_lines, labels_of, numbers_of, possible_answers,
-    possible_priorities, priorities_of, settled,
-};
+use pif_allow_machine::{AllowingMachine, WidePosition};
+use pif_history::{efforts, find_run, judge_lines, possible_answers, possible_priorities, settled};
+use pif_history_lines::{Verdict, answers_of, labels_of, numbers_of, priorities_of};
 use pif_history_model::{HistoryLimits, Label, Line};
 use pif_rules_model::Rules;
 use pif_search::{

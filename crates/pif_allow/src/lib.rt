@@ -13,12 +13,8 @@
 mod extras;
 mod guide;
 mod judge;
-mod machine;
-mod position;
 
 pub use judge::{
     are_none, find_run_allowing, judge_allowing, possible_answers_allowing,
     possible_priorities_allowing,
 };
-pub use machine::AllowingMachine;
-pub use position::WidePosition;

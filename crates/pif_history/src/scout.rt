@@ -1,13 +1,12 @@
 //! A scout plays all lines once and leaves open whom each use of a variable wakes, until a later line tells. So it finds
 //! which waits a player has to leave blocked. Its steps are none of the POSIX machine: nothing is said of what it finds.
-use crate::later::Later;
-use crate::leaving::Leaving;
-use crate::machine::{HistoryMachine, thread_numbered};
-use crate::needs::Need;
-use crate::plans::Trial;
-use crate::player::{Next, next_of, scene_of};
-use crate::position::Position;
+use crate::player::{Next, next_of};
+use crate::stepping;
+use crate::stepping::scene_of;
+use pif_history_lines::{Later, Leaving};
+use pif_history_machine::{HistoryMachine, Position, thread_numbered};
 use pif_history_model::{HistoryLimits, Label, Line};
+use pif_history_scene::{Need, Trial};
 use pif_posix::Progress;
 use pif_search::{Stop, Watch, push};
 use std::alloc::Global;
@@ -158,7 +157,7 @@ impl Scout {
         if !self.come(thread, Progress::Used) {
             return Ok(false);
         }
-        if !self.position.switch(alloc, machine, later, &label, line)? {
+        if !stepping::switch(&mut self.position, alloc, machine, later, &label, line)? {
             return Ok(false);
         }
         let woken = self.told(alloc, later, wakeable.as_slice(), variable, line)?;
@@ -190,7 +189,7 @@ impl Scout {
                 self.use_variable(alloc, machine, later, thread, line)
             }
             _ => {
-                let went = self.position.go(alloc, thread_numbered(thread)?)?;
+                let went = stepping::go(&mut self.position, alloc, thread_numbered(thread)?)?;
                 Ok(went)
             }
         }
@@ -209,7 +208,7 @@ impl Scout {
             Trial::Moves(thread) => self.go(alloc, machine, later, thread, line),
             Trial::Ends(thread) => {
                 let label = Label::Ends(thread_numbered(thread)?);
-                self.position.switch(alloc, machine, later, &label, line)
+                stepping::switch(&mut self.position, alloc, machine, later, &label, line)
             }
         }
     }
@@ -227,7 +226,14 @@ impl Scout {
         for _ in 0..moves {
             let next = next_of(alloc, &scene_of(&self.position, later, place), line)?;
             match next {
-                Next::Line => return self.position.show(alloc, machine, later, line, place),
+                Next::Line => return stepping::show(
+                    &mut self.position,
+                    alloc,
+                    machine,
+                    later,
+                    line,
+                    place,
+                ),
                 Next::Step(trial) => {
                     if !self.step(alloc, machine, later, &trial, place)? {
                         return Ok(false);

@@ -1,7 +1,6 @@
 -- What is told of a history, put together.
-use Rattle.std.proofs.Common.{◌≡◌, ℕ, ◌-◌, ◌+◌, ◌<◌, ◌≤◌, ◌⊎◌, inl, inr, arith, List, [], ◌∷◌, ◌++◌, Vec, Global, Option, None, Some, IfSome, length, get_or, reverse, take, sym, Result, Ok, Err, IfOk, refl, ap, ◌∙◌, subst, append_assoc}
+use Rattle.std.proofs.Common.{◌≡◌, ℕ, ◌-◌, ◌⊎◌, inl, inr, List, [], ◌++◌, Vec, Global, Option, None, Some, IfSome, take, sym, Result, Ok, Err, IfOk, refl, ap, ◌∙◌, subst, append_assoc}
 use Rattle.std.specs.Prelude.{slice_get}
-use Rattle.std.proofs.lemmas.List.{reverse-append, take_more}
 use Rattle.pif_script_model.specs.declared.faults.CliFault.{CliFault}
 use Rattle.pif_script_model.specs.declared.faults.CliFault.TheVariants.{Differs}
 use Rattle.pif_types.specs.Bounds.{Bounds}
@@ -10,27 +9,27 @@ use Rattle.pif_history_model.specs.declared.lines.Line.TheVariants.{Answer, Prio
 use Rattle.pif_history_model.specs.declared.refusals.LineRefusal.{LineRefusal}
 use Rattle.pif_history_model.specs.Lines.{thread_of}
 use Rattle.pif_allow_model.specs.Verdicts.{ArePossibleAnswersWith, ArePossiblePrioritiesWith}
-use Rattle.pif_history.specs.declared.verdicts.Verdict.{Verdict}
-use Rattle.pif_history.specs.declared.verdicts.Verdict.TheVariants.{Illegal, Undecided}
+use Rattle.pif_history_lines.specs.declared.verdicts.Verdict.{Verdict}
+use Rattle.pif_history_lines.specs.declared.verdicts.Verdict.TheVariants.{Illegal, Undecided}
 use Rattle.pif_allow.specs.Verdicts.{IsVerdictWith}
-use Rattle.pif_history.specs.Verdicts.{IsRefusalThere}
+use Rattle.pif_history_lines.specs.Verdicts.{IsRefusalThere}
 use Rattle.pif_history_text.specs.Histories.{Heard, limits_of}
 use Rattle.pif_history_text.specs.Verdicts.{illegal_line, legal_line, undecided_line}
-use Rattle.pif_job_judge.specs.Pages.{IsPageOf}
-use Rattle.pif_job_judge.specs.declared.verdicts.Began.{Began}
-use Rattle.pif_job_judge.specs.declared.verdicts.Known.{Known}
-use Rattle.pif_job_judge.specs.declared.verdicts.Known.TheVariants.{Numbers}
-use Rattle.pif_job_judge.specs.declared.verdicts.Unfound.{Unfound}
-use Rattle.pif_job_judge.specs.declared.telling.Says.{Says}
+use Rattle.pif_history_told.specs.Pages.{IsPageOf}
+use Rattle.pif_history_told.specs.declared.verdicts.Began.{Began}
+use Rattle.pif_history_told.specs.declared.verdicts.Known.{Known}
+use Rattle.pif_history_told.specs.declared.verdicts.Known.TheVariants.{Numbers}
+use Rattle.pif_history_told.specs.declared.verdicts.Unfound.{Unfound}
 use Rattle.pif_job_judge.specs.declared.faults.JudgeFault.{JudgeFault}
 use Rattle.pif_job_judge.specs.declared.faults.JudgeFault.TheVariants as fault
 use Rattle.pif_job_judge.specs.declared.forms.Form.{Form}
 use Rattle.pif_job_judge.specs.declared.forms.Form.TheVariants.{Text, Witness, Json, Page}
 use Rattle.pif_job_judge.specs.Judging.{AppendsTold, Judges, WritesText}
-use Rattle.pif_job_judge.specs.Lines.{AppendsLines, TellsIllegal, TellsUndecided, TellsVerdict, unfound_text, why_text}
+use Rattle.pif_history_told.specs.WhyTexts.{unfound_text, why_text}
+use Rattle.pif_job_judge.specs.Lines.{AppendsLines, TellsIllegal, TellsUndecided, TellsVerdict}
 use Rattle.pif_job_judge.specs.Lines.IsTold.{legal, illegal, undecided}
 use Rattle.pif_job_judge.specs.Objects.{AppendsObjects, AreObjects}
-use Rattle.pif_job_judge.specs.Why.{ArePossible, IsKnown, IsNumbered, IsUnfound, has_number, open_behind, open_call, open_of, said_of}
+use Rattle.pif_history_told.specs.Why.{ArePossible, IsKnown, IsNumbered, IsUnfound, has_number, open_of}
 
 -- the lines of an illegal history
 pub tells_illegal : (h : Heard) (n : ℕ) (old mid new : List ℕ) (number : ℕ) (line : Line) (known : Known)
@@ -147,32 +146,3 @@ refused_there k l ls lines line o p b s e x =
     let x1 = subst (λ (j : Bounds). IsRefusalThere j ls line o) b x in
     let x2 = subst (λ (zs : List Line). IsRefusalThere l zs line o) s x1 in
     subst (λ (r : Option LineRefusal). IsRefusalThere l lines line r) e x2
-
--- WHICH CALL IS OPEN
-
--- one item more
-more : {X : Type 0} (xs : List X) (i : ℕ) (x : X) → i < length xs → reverse (take (i + 1) xs) ≡ get_or xs i x ∷ reverse (take i xs)
-more {X} xs i x within =
-    ap (λ (ys : List X). reverse ys) (take_more xs i x within) ∙ reverse-append (take i xs) (get_or xs i x ∷ [])
-
-open-more : (h : Heard) (t i : ℕ) (line : Line) (says : Says) → i < length h.shown → i < length h.numbers
-    → line ≡ get_or h.shown i line → says ≡ said_of t line
-    → open_of (Some t) h (i + 1) ≡ open_behind t (get_or h.numbers i 0) says (open_of (Some t) h i)
-open-more h t i line says a b is e =
-    let ns = reverse (take i h.numbers) in
-    let n = get_or h.numbers i 0 in
-    ap (λ (lines : List Line). open_call t lines (reverse (take (i + 1) h.numbers))) (more h.shown i line a)
-    ∙ (ap (λ (z : Line). open_call t (z ∷ reverse (take i h.shown)) (reverse (take (i + 1) h.numbers))) (sym is)
-    ∙ (ap (λ (numbers : List ℕ). open_call t (line ∷ reverse (take i h.shown)) numbers) (more h.numbers i 0 b)
-    ∙ ap (λ (z : Says). open_behind t n z (open_call t (reverse (take i h.shown)) ns)) (sym e)))
-
--- one line back
-pub open-back : (h : Heard) (t before left : ℕ) (line : Line) (says : Says) → 0 < left → left ≤ before → before ≤ length h.shown
-    → length h.numbers ≡ length h.shown → line ≡ get_or h.shown (left - 1) line → says ≡ said_of t line
-    → open_of (Some t) h before ≡ open_of (Some t) h left
-    → open_of (Some t) h before ≡ open_behind t (get_or h.numbers (left - 1) 0) says (open_of (Some t) h (left - 1))
-open-back h t before left line says some within all paired is e so_far =
-    let one : left ≡ left - 1 + 1 = omega (arith, some) in
-    so_far
-    ∙ (ap (λ (n : ℕ). open_of (Some t) h n) one
-    ∙ open-more h t (left - 1) line says (omega (arith, some, within, all)) (omega (arith, some, within, all, paired)) is e)

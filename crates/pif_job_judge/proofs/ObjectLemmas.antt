@@ -8,19 +8,19 @@ use Rattle.pif_history_model.specs.declared.labels.Label.{Label}
 use Rattle.pif_history_model.specs.declared.lines.Line.{Line}
 use Rattle.pif_history_model.specs.Lines.{thread_of}
 use Rattle.pif_allow_model.specs.Verdicts.{IsLegalWith}
-use Rattle.pif_history.specs.declared.verdicts.Verdict.{Verdict}
-use Rattle.pif_history.specs.declared.verdicts.Verdict.TheVariants.{Illegal, Undecided}
+use Rattle.pif_history_lines.specs.declared.verdicts.Verdict.{Verdict}
+use Rattle.pif_history_lines.specs.declared.verdicts.Verdict.TheVariants.{Illegal, Undecided}
 use Rattle.pif_allow.specs.Verdicts.{IsVerdictWith}
 use Rattle.pif_history_text.specs.Histories.{Heard, limits_of}
-use Rattle.pif_job_judge.specs.declared.verdicts.Began.{Began}
-use Rattle.pif_job_judge.specs.declared.verdicts.Known.{Known}
-use Rattle.pif_job_judge.specs.declared.verdicts.Unfound.{Unfound}
-use Rattle.pif_job_judge.specs.Verdicts.{illegal_object, legal_object, undecided_object}
+use Rattle.pif_history_told.specs.declared.verdicts.Began.{Began}
+use Rattle.pif_history_told.specs.declared.verdicts.Known.{Known}
+use Rattle.pif_history_told.specs.declared.verdicts.Unfound.{Unfound}
+use Rattle.pif_history_told.specs.Verdicts.{illegal_object, legal_object, undecided_object}
 use Rattle.pif_job_judge.specs.declared.forms.Form.{Form}
 use Rattle.pif_job_judge.specs.declared.faults.JudgeFault.TheVariants as fault
 use Rattle.pif_job_judge.specs.Objects.{AppendsBefore, AppendsObjects, AppendsSteps, HasNoWitness, began_with, left_out_of}
 use Rattle.pif_job_judge.specs.Objects.AreObjects.{legal, illegal, undecided}
-use Rattle.pif_job_judge.specs.Why.{IsKnown, IsNumbered, IsUnfound, open_of}
+use Rattle.pif_history_told.specs.Why.{IsKnown, IsNumbered, IsUnfound, open_of}
 
 -- what follows from what holds behind a call that ended well
 pub on_ok : {T E : Type 0} (r : Result T E) (P Q : Type 0) → (P → Q) → OnOk r P → OnOk r Q

@@ -10,7 +10,7 @@ use Rattle.pif_rules.specs.Sets.{both}
 use Rattle.pif_history_text.specs.Histories.{Heard}
 use Rattle.pif_history_text.specs.Reading.{ReadsHistory}
 use Rattle.pif_history_text.specs.Verdicts.{fault_line}
-use Rattle.pif_job_judge.specs.Pages.{IsPageOf}
+use Rattle.pif_history_told.specs.Pages.{IsPageOf}
 use Rattle.pif_job_judge.specs.declared.forms.Form.{Form}
 use Rattle.pif_job_judge.specs.declared.forms.Form.TheVariants.{Text, Witness, Json, Page}
 use Rattle.pif_job_judge.specs.declared.faults.JudgeFault.{JudgeFault}

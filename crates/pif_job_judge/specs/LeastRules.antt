@@ -7,7 +7,7 @@ use Rattle.pif_history_model.specs.declared.lines.Line.{Line}
 use Rattle.pif_allow_model.specs.Verdicts.{IsLegalWith, IsIllegalWith}
 use Rattle.pif_job_judge.specs.declared.search.Needed.{Needed}
 use Rattle.pif_job_judge.specs.declared.search.Needed.TheVariants.{Legal, Undecided}
-use Rattle.pif_job_judge.specs.Sets.{sets_in_order}
+use Rattle.pif_history_told.specs.Sets.{sets_in_order}
 
 -- Lines are legal with these rules.
 abbrev pub IsLegalSomehow : Bounds → List Line → Rules → Type 0

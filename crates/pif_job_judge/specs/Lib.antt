@@ -3,14 +3,4 @@ pub mod Least
 pub mod Lines
 pub mod Needed
 pub mod Objects
-pub mod Why
 pub mod LeastRules
-pub mod Sets
-pub mod Texts
-pub mod Steps
-pub mod Ways
-pub mod Tellings
-pub mod StateObjects
-pub mod Pages
-pub mod Runs
-pub mod Verdicts

@@ -5,10 +5,10 @@ use Rattle.pif_history_text.specs.Histories.{Heard, limits_of}
 use Rattle.pif_job_judge.specs.declared.search.Needed.{Needed}
 use Rattle.pif_job_judge.specs.declared.search.Needed.TheVariants.{Legal, Undecided}
 use Rattle.pif_job_judge.specs.LeastRules.{IsLeast}
-use Rattle.pif_job_judge.specs.Texts.{legal_with, undecided_with}
+use Rattle.pif_history_told.specs.Texts.{legal_with, undecided_with}
 use Rattle.pif_job_judge.specs.declared.faults.JudgeFault.{JudgeFault}
 use Rattle.pif_job_judge.specs.declared.faults.JudgeFault.TheVariants as fault
-use Rattle.pif_job_judge.specs.Why.{IsNumbered}
+use Rattle.pif_history_told.specs.Why.{IsNumbered}
 
 -- The line that tells what was found, and how that ends.
 abbrev pub TellsFound : Heard → Needed → (text : List ℕ) → (end : Result (Unit {0}) JudgeFault) → Type 0

@@ -6,22 +6,22 @@ use Rattle.pif_history_model.specs.declared.lines.Line.{Line}
 use Rattle.pif_history_model.specs.Lines.{thread_of}
 use Rattle.pif_allow_model.specs.Allowed.{WideConfiguration}
 use Rattle.pif_allow_model.specs.Verdicts.{IsLegalWith}
-use Rattle.pif_history.specs.declared.verdicts.Verdict.{Verdict}
-use Rattle.pif_history.specs.declared.verdicts.Verdict.TheVariants.{Legal, Illegal, Undecided}
+use Rattle.pif_history_lines.specs.declared.verdicts.Verdict.{Verdict}
+use Rattle.pif_history_lines.specs.declared.verdicts.Verdict.TheVariants.{Legal, Illegal, Undecided}
 use Rattle.pif_allow.specs.Verdicts.{IsVerdictWith}
 use Rattle.pif_history_text.specs.Histories.{Heard, limits_of}
-use Rattle.pif_job_judge.specs.declared.verdicts.Began.{Began}
-use Rattle.pif_job_judge.specs.declared.verdicts.Known.{Known}
-use Rattle.pif_job_judge.specs.declared.verdicts.Known.TheVariants.{Refused, Numbers, Nothing}
-use Rattle.pif_job_judge.specs.declared.verdicts.Unfound.{Unfound}
-use Rattle.pif_job_judge.specs.Runs.{Telling}
-use Rattle.pif_job_judge.specs.Runs.{IsTold as IsRunTold}
-use Rattle.pif_job_judge.specs.Verdicts.{illegal_object, legal_object, undecided_object}
+use Rattle.pif_history_told.specs.declared.verdicts.Began.{Began}
+use Rattle.pif_history_told.specs.declared.verdicts.Known.{Known}
+use Rattle.pif_history_told.specs.declared.verdicts.Known.TheVariants.{Refused, Numbers, Nothing}
+use Rattle.pif_history_told.specs.declared.verdicts.Unfound.{Unfound}
+use Rattle.pif_history_told.specs.Runs.{Telling}
+use Rattle.pif_history_told.specs.Runs.{IsTold as IsRunTold}
+use Rattle.pif_history_told.specs.Verdicts.{illegal_object, legal_object, undecided_object}
 use Rattle.pif_job_judge.specs.declared.forms.Form.{Form}
 use Rattle.pif_job_judge.specs.declared.forms.Form.TheVariants.{Page}
 use Rattle.pif_job_judge.specs.declared.faults.JudgeFault.{JudgeFault}
 use Rattle.pif_job_judge.specs.declared.faults.JudgeFault.TheVariants as fault
-use Rattle.pif_job_judge.specs.Why.{IsKnown, IsNumbered, IsUnfound, open_of}
+use Rattle.pif_history_told.specs.Why.{IsKnown, IsNumbered, IsUnfound, open_of}
 
 -- How many lines of a history a page shows at most.
 abbrev pub page_lines : ℕ

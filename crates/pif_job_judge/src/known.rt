@@ -1,14 +1,14 @@
 ghost use Rattle.std.specs.Prelude.{◌≡◌, ◌≤◌, IfErr, IfOk, None, take, vec_len};
-ghost use Rattle.pif_history.specs.Verdicts.{IsRefusalThere};
+ghost use Rattle.pif_history_lines.specs.Verdicts.{IsRefusalThere};
 ghost use Rattle.pif_history_text.specs.Histories.{limits_of};
 ghost use Rattle.pif_history_text.specs.Reading.{heard_of};
-ghost use Rattle.pif_job_judge.specs.Why.{IsKnown};
+ghost use Rattle.pif_history_told.specs.Why.{IsKnown};
 
-use crate::verdicts::Known;
 use pif_allow::{possible_answers_allowing, possible_priorities_allowing};
-use pif_history::refusal;
+use pif_history_lines::refusal;
 use pif_history_model::Line;
 use pif_history_text::History;
+use pif_history_told::Known;
 use pif_script_model::CliFault;
 use std::alloc::Global;
 

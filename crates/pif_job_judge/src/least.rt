@@ -12,10 +12,10 @@ use crate::forms::{Form, Judging};
 use crate::judging::{Numbered, allowing, front, judge_fault, tell_history, write_told};
 use crate::needed::tell_needed;
 use crate::search::{Needed, least};
-use pif_history::Watch;
 use pif_history_text::{History, read_history};
 use pif_rules_model::Rules;
 use pif_script_model::CliFault;
+use pif_search::Watch;
 use std::alloc::Global;
 use std::io::{Read, Write};
 

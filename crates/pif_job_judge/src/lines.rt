@@ -1,20 +1,20 @@
 ghost use Rattle.std.specs.Prelude.{◌≡◌, ◌≤◌, IfErr, IfOk, OnOk, vec_len};
 ghost use Rattle.pif_allow.specs.Verdicts.{IsVerdictWith};
-ghost use Rattle.pif_job_judge.specs.Ways.{IsRun};
+ghost use Rattle.pif_history_told.specs.Ways.{IsRun};
 ghost use Rattle.pif_history_text.specs.Histories.{limits_of};
 ghost use Rattle.pif_history_text.specs.Reading.{IsPaired, heard_of};
 ghost use Rattle.pif_job_judge.specs.Lines.{AppendsLines, TellsIllegal, TellsLegal, TellsRun, TellsUndecided};
 
 use crate::faults::JudgeFault;
-use crate::following::witness_text;
 use crate::forms::{Form, Judging, Reach};
 use crate::known::known_of;
-use crate::places::{line_at, number_at};
-use crate::telling::{began_before, tell_legal, tell_unfound, tell_why};
 use crate::unfound::unfound_at;
-use pif_history::Verdict;
+use pif_history_lines::Verdict;
 use pif_history_model::{HistoryLimits, Label};
 use pif_history_text::{History, push_illegal, push_undecided};
+use pif_history_told::{
+    began_before, line_at, number_at, tell_legal, tell_unfound, tell_why, witness_text,
+};
 use pif_rules_model::Rules;
 use pif_script_model::CliFault;
 use std::alloc::Global;

@@ -3,13 +3,12 @@ ghost use Rattle.pif_history_text.specs.Histories.{limits_of};
 ghost use Rattle.pif_history_text.specs.Reading.{IsPaired, heard_of};
 ghost use Rattle.pif_job_judge.specs.LeastRules.{IsLeast};
 ghost use Rattle.pif_job_judge.specs.Needed.{AppendsNeeded};
-ghost use Rattle.pif_job_judge.specs.Texts.{legal_with, undecided_with};
+ghost use Rattle.pif_history_told.specs.Texts.{legal_with, undecided_with};
 
 use crate::faults::JudgeFault;
-use crate::places::number_at;
 use crate::search::Needed;
-use crate::texts::{push_legal_with, push_undecided_with};
 use pif_history_text::History;
+use pif_history_told::{number_at, push_legal_with, push_undecided_with};
 use pif_rules_model::Rules;
 use pif_script_model::CliFault;
 use std::alloc::Global;

@@ -1,8 +1,8 @@
 ghost use Rattle.std.specs.Prelude.{◌≡◌, ◌≤◌, ◌-◌, Err, IfErr, IfOk, Ok, OnOk, vec_len};
-ghost use Rattle.pif_history.specs.declared.verdicts.Verdict.TheVariants.{Illegal, Undecided};
+ghost use Rattle.pif_history_lines.specs.declared.verdicts.Verdict.TheVariants.{Illegal, Undecided};
 ghost use Rattle.pif_allow.specs.Verdicts.{IsVerdictWith};
 ghost use Rattle.pif_allow_model.specs.Verdicts.{IsLegalWith};
-ghost use Rattle.pif_job_judge.specs.Ways.{IsRun};
+ghost use Rattle.pif_history_told.specs.Ways.{IsRun};
 ghost use Rattle.pif_history_text.specs.Histories.{limits_of};
 ghost use Rattle.pif_history_text.specs.Reading.{IsPaired, heard_of};
 ghost use Rattle.pif_job_judge.specs.Objects.{AppendsBefore, AppendsObjects, AppendsSteps, began_with, left_out_of};
@@ -10,17 +10,17 @@ ghost use Rattle.pif_job_judge.specs.Objects.{AppendsBefore, AppendsObjects, App
 use crate::faults::JudgeFault;
 use crate::forms::{Form, Judging, Reach};
 use crate::known::known_of;
-use crate::pages::first_shown;
-use crate::places::{line_at, number_at};
-use crate::runs::run_text;
-use crate::telling::began_before;
 use crate::unfound::unfound_at;
-use crate::verdicts::{Began, Known, append_illegal, append_legal, append_undecided};
 use pif_allow::judge_allowing;
-use pif_history::{Unwatched, Verdict};
+use pif_history_lines::Verdict;
 use pif_history_model::Label;
 use pif_history_text::History;
+use pif_history_told::{
+    Began, Known, append_illegal, append_legal, append_undecided, began_before, first_shown,
+    line_at, number_at, run_text,
+};
 use pif_script_model::CliFault;
+use pif_search::Unwatched;
 use std::alloc::Global;
 
 /// How many lines are left out of a run that shows so many, in this form.

@@ -3,13 +3,13 @@ ghost use Rattle.pif_job_judge.specs.LeastRules.{IsLeast, IsLegalSomehow};
 ghost use Rattle.pif_allow.specs.Verdicts.{IsVerdictWith};
 ghost use Rattle.pif_rules.specs.Sets.{both};
 
-use crate::sets::sets_but_all;
 use pif_allow::judge_allowing;
-use pif_history::{Verdict, Watch};
+use pif_history_lines::Verdict;
 use pif_history_model::{HistoryLimits, Line};
+use pif_history_told::sets_but_all;
 use pif_rules::both;
 use pif_rules_model::Rules;
-use pif_search::Stop;
+use pif_search::{Stop, Watch};
 use std::alloc::Global;
 
 /// What is found of the least set of rules.

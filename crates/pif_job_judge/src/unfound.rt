@@ -1,17 +1,16 @@
 ghost use Rattle.std.specs.Prelude.{◌≡◌, ◌≤◌, IfErr, IfOk, vec_len};
 ghost use Rattle.pif_history_text.specs.Reading.{heard_of};
-ghost use Rattle.pif_job_judge.specs.Why.{IsUnfound};
+ghost use Rattle.pif_history_told.specs.Why.{IsUnfound};
 
 use crate::forms::Reach;
 use crate::judging::Numbered;
-use crate::places::{number_at, unfound_of};
-use crate::verdicts::Unfound;
 use pif_allow::find_run_allowing;
-use pif_history::{Unwatched, Watch, answers_of, numbers_of, priorities_of};
+use pif_history_lines::{answers_of, numbers_of, priorities_of};
 use pif_history_model::{Label, Line};
 use pif_history_text::History;
+use pif_history_told::{Unfound, number_at, unfound_of};
 use pif_script_model::CliFault;
-use pif_search::{Stop, push};
+use pif_search::{Stop, Unwatched, Watch, push};
 use std::alloc::Global;
 
 /// Looks for the first line up to which a guided search finds no run, by halving: `watch` has for how many lines searches

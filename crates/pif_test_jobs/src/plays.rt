@@ -1,6 +1,7 @@
 //! Histories of six threads that lock, try and unlock a mutex, wait and signal: how often a player plays their lines
 //! until it finds a run, and how few states an exact search makes of calls that are open at once.
-use pif_history::{Verdict, Watch, find_run, judge_lines};
+use pif_history::{Watch, find_run, judge_lines};
+use pif_history_lines::Verdict;
 use pif_history_model::{HistoryLimits, Line};
 use pif_search::{Stop, push};
 use pif_types::{Answer, CondId, Kind, MutexId, Request, Tid};

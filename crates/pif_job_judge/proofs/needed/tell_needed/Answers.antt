@@ -5,7 +5,7 @@ use Rattle.pif_job_judge.specs.declared.faults.JudgeFault.{JudgeFault}
 use Rattle.pif_job_judge.specs.declared.search.Needed.{Needed}
 use Rattle.pif_job_judge.specs.declared.search.Needed.TheVariants.{Legal, Undecided}
 use Rattle.pif_job_judge.specs.LeastRules.{IsLeast}
-use Rattle.pif_job_judge.specs.Texts.{legal_with, undecided_with}
+use Rattle.pif_history_told.specs.Texts.{legal_with, undecided_with}
 use Rattle.pif_job_judge.proofs.needed.tell_needed.Goals as goal
 
 pub number_at-number-requires : goal.number_at-number-requires

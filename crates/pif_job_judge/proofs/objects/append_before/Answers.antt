@@ -2,9 +2,9 @@ use Rattle.std.proofs.Common.{List, ap, refl, subst, sym, take}
 use Rattle.pif_types.specs.Bounds.{Bounds}
 use Rattle.pif_history_model.specs.declared.labels.Label.{Label}
 use Rattle.pif_history_model.specs.declared.lines.Line.{Line}
-use Rattle.pif_history.specs.declared.verdicts.Verdict.{Verdict}
+use Rattle.pif_history_lines.specs.declared.verdicts.Verdict.{Verdict}
 use Rattle.pif_allow.specs.Verdicts.{IsVerdictWith}
-use Rattle.pif_job_judge.specs.Ways.{IsRun}
+use Rattle.pif_history_told.specs.Ways.{IsRun}
 use Rattle.pif_history_text.specs.Histories.{limits_of}
 use Rattle.pif_history_text.specs.Reading.{heard_of}
 use Rattle.pif_job_judge.proofs.ObjectLemmas.{before_told, before_untold, none_illegal, none_undecided, on_ok}

@@ -1,6 +1,6 @@
 use Rattle.std.proofs.Common.{Option, ap, ◌∙◌}
 use Rattle.pif_history_text.specs.Reading.{heard_of}
-use Rattle.pif_job_judge.specs.declared.verdicts.Began.{Began}
+use Rattle.pif_history_told.specs.declared.verdicts.Began.{Began}
 use Rattle.pif_job_judge.specs.Objects.{began_with}
 use Rattle.pif_job_judge.proofs.ObjectLemmas.{illegal_told}
 use Rattle.pif_job_judge.proofs.objects.append_illegal_history.Goals as goal

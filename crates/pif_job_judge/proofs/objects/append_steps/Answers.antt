@@ -1,6 +1,6 @@
 use Rattle.std.proofs.Common.{subst, sym}
 use Rattle.pif_types.specs.Bounds.{Bounds}
-use Rattle.pif_job_judge.specs.Ways.{IsRun}
+use Rattle.pif_history_told.specs.Ways.{IsRun}
 use Rattle.pif_job_judge.proofs.objects.append_steps.Goals as goal
 
 pub run_text-requires : goal.run_text-requires

@@ -1,5 +1,5 @@
 use Rattle.std.proofs.Common.{arith, subst, sym}
-use Rattle.pif_history.specs.declared.verdicts.Verdict.{Verdict}
+use Rattle.pif_history_lines.specs.declared.verdicts.Verdict.{Verdict}
 use Rattle.pif_allow.specs.Verdicts.{IsVerdictWith}
 use Rattle.pif_rules_model.specs.declared.rules.Rules.{Rules}
 use Rattle.pif_job_judge.specs.LeastRules.{IsLegalSomehow}

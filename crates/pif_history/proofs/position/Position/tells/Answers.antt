@@ -1,8 +1,0 @@
-use Rattle.std.proofs.Common.{◌∙◌, sym}
-use Rattle.pif_history.proofs.Playing.{tells}
-use Rattle.pif_history.proofs.position.Position.tells.Goals as goal
-
-pub returns : goal.returns
-returns c = λ h.
-    tells c.args.limits.now c.args.self.now c.args.line.now c.requires.among c.requires.kept c.requires.entry
-    (sym (rw c.world.ensures at c.is_seen.ensures) ∙ h)

@@ -1,0 +1,154 @@
+//! Steps of a position, which is changed in place.
+ghost use Rattle.std.specs.Prelude.{◌≡◌, true, false, Some, None, List, ℕ, IfOk};
+ghost use Rattle.pif_types.specs.Bounds.{Bounds};
+ghost use Rattle.pif_history_model.specs.declared.labels.Label.TheVariants.{Shown, Moves};
+ghost use Rattle.pif_history_model.specs.Lines.{is_line_among, dying_after};
+ghost use Rattle.pif_history_model.specs.Listed.{entry_for};
+ghost use Rattle.pif_history_model.specs.Searched.{Advances};
+
+use pif_history_lines::{Later, is_line_among};
+use pif_history_machine::{HistoryMachine, Position, entry_of, is_seen};
+use pif_history_model::{HistoryLimits, Label, Line};
+use pif_history_scene::Scene;
+use pif_model::{Entry, Event};
+use pif_search::Stop;
+use pif_types::{Request, Tid};
+use std::alloc::Global;
+
+/// The scene of a position in front of a line.
+pub(crate) fn scene_of<'a>(position: &'a Position, later: &'a Later, line: usize) -> Scene<'a> {
+    Scene::new(&position.world, position.dying(), later, line)
+}
+
+/// The place of the position that is best kept, the first of several: a hopeful one, of best rank for the variable that
+/// is used. If there is none it is the number of positions.
+fn best_of(later: &Later, positions: &[Position], line: usize, variable: u32) -> usize {
+    let mut best = positions.len();
+    let mut greatest = (0, 0, 0);
+    for place in 0..positions.len() {
+        let scene = scene_of(&positions[place], later, line);
+        let rank = scene.rank(variable);
+        if scene.is_hopeful() && (best == positions.len() || rank > greatest) {
+            best = place;
+            greatest = rank;
+        }
+    }
+    best
+}
+
+/// The variable that a step uses; 0 if it uses none.
+fn used_by(scene: &Scene<'_>, label: &Label) -> u32 {
+    match label {
+        Label::Moves(thread) => scene.used(thread.get() as usize),
+        _ => 0,
+    }
+}
+
+/// Whether a line leaves it as it is who is dying.
+fn keeps_dying(line: &Line) -> bool
+    ensures { result ≡ true → (us : List ℕ) → dying_after line.now us ≡ us }
+{
+    match *line {
+        Line::Dying(_) => false,
+        Line::End(_) => false,
+        _ => true,
+    }
+}
+
+/// The open call of a thread makes the only move that it can make; false if it has none, or a choice.
+pub(crate) fn go(position: &mut Position, alloc: Global, thread: Tid) -> Result<bool, Stop>
+    ensures { IfOk result (λ b. b ≡ true → (l : Bounds) → Advances l position.old (Moves thread) position.new) }
+{
+    let went = position.world.go(alloc, thread.get())?;
+    Ok(went)
+}
+
+/// What the line shows happens, which is this entry; false if it can't.
+fn come(
+    position: &mut Position,
+    alloc: Global,
+    limits: &HistoryLimits,
+    line: &Line,
+    entry: &Entry,
+) -> Result<bool, Stop>
+    requires among { is_line_among position.old.dying line.now ≡ false }
+    requires kept { dying_after line.now position.old.dying ≡ position.old.dying }
+    requires entry { Some entry.now ≡ entry_for position.old.world line.now }
+    ensures { IfOk result (λ b. b ≡ true → Advances limits.now position.old (Shown line.now) position.new) }
+{
+    let _line = line;
+    let came = position.world.come(alloc, limits, entry)?;
+    Ok(came)
+}
+
+/// Whether the line tells of the state, and what it tells is so.
+fn tells(position: &Position, limits: &HistoryLimits, line: &Line) -> bool
+    requires among { is_line_among position.now.dying line.now ≡ false }
+    requires kept { dying_after line.now position.now.dying ≡ position.now.dying }
+    requires entry { None ≡ entry_for position.now.world line.now }
+    ensures { result ≡ true → Advances limits.now position.now (Shown line.now) position.now }
+{
+    let _limits = limits;
+    is_seen(position.world(), line)
+}
+
+/// The best position to which a step of this label leads, in place of this one; false if there is none.
+pub(crate) fn switch(
+    position: &mut Position,
+    alloc: Global,
+    machine: &HistoryMachine,
+    later: &Later,
+    label: &Label,
+    line: usize,
+) -> Result<bool, Stop>
+    ensures { IfOk result (λ b. b ≡ true → Advances machine.now.limits position.old label.now position.new) }
+{
+    let variable = used_by(&scene_of(position, later, line), label);
+    let mut positions = machine.behind(alloc, position, label)?;
+    let place = best_of(later, positions.as_slice(), line, variable);
+    if place >= positions.len() {
+        return Ok(false);
+    }
+    *position = positions.remove(place);
+    Ok(true)
+}
+
+/// A line comes that doesn't change who is dying, of a thread that isn't dying, if it may.
+fn show_kept(
+    position: &mut Position,
+    alloc: Global,
+    limits: &HistoryLimits,
+    line: &Line,
+) -> Result<bool, Stop>
+    requires among { is_line_among position.old.dying line.now ≡ false }
+    requires kept { dying_after line.now position.old.dying ≡ position.old.dying }
+    ensures { IfOk result (λ b. b ≡ true → Advances limits.now position.old (Shown line.now) position.new) }
+{
+    // The check has to be told of the types of requests and events, which entries hold.
+    let _no_request: Option<Request> = None;
+    let _no_event: Option<Event> = None;
+    match entry_of(position.world(), line)? {
+        Some(entry) => come(position, alloc, limits, line, &entry),
+        None => Ok(tells(position, limits, line)),
+    }
+}
+
+/// The line comes, if it may.
+pub(crate) fn show(
+    position: &mut Position,
+    alloc: Global,
+    machine: &HistoryMachine,
+    later: &Later,
+    line: &Line,
+    place: usize,
+) -> Result<bool, Stop>
+    ensures { IfOk result (λ b. b ≡ true → Advances machine.now.limits position.old (Shown line.now) position.new) }
+{
+    if !keeps_dying(line) {
+        return switch(position, alloc, machine, later, &Label::Shown(*line), place);
+    }
+    if is_line_among(position.dying(), line) {
+        return Ok(false);
+    }
+    show_kept(position, alloc, &machine.limits, line)
+}

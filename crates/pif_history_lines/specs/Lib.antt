@@ -1,0 +1,4 @@
+pub mod Told
+pub mod Verdicts
+pub mod Overs
+pub mod Wakeups

@@ -1,0 +1,181 @@
+//! The lines of a history that all stand, and where they say that calls are over. What an open call is answered is asked
+//! of each state of a search, so it is found fast.
+ghost use Rattle.std.specs.Prelude.{◌≡◌, ◌≤◌, ◌↔◌, ◌∷◌, ◌+◌, [], ℕ, true, false, List, Some, None, drop, nat_lt, All, IfOk};
+ghost use Rattle.pif_history_model.specs.declared.lines.Line.{Line};
+ghost use Rattle.pif_known_model.specs.Known.{is_over, answer_of, known_answer};
+ghost use Rattle.pif_history_lines.specs.Overs.{places_over, IsTable};
+
+use pif_history_model::Line;
+use pif_search::{Stop, push};
+use pif_types::Answer;
+use std::alloc::Global;
+use std::marker::Model;
+
+/// Whether a line says that a call of the thread of this number is over: it was answered, or the thread is dying or has
+/// ended.
+fn is_over(thread: usize, line: &Line) -> bool
+    ensures { result ≡ is_over thread line.now }
+{
+    match *line {
+        Line::Answer(other, _) | Line::Dying(other) | Line::End(other) => {
+            other.get() as usize == thread
+        }
+        _ => false,
+    }
+}
+
+/// What a line says that a call was answered, if it says so.
+fn answer_of(line: &Line) -> Option<Answer>
+    ensures { result ≡ answer_of line.now }
+{
+    match *line {
+        Line::Answer(_, answer) => Some(answer),
+        _ => None,
+    }
+}
+
+/// A line that says that a call is over.
+#[derive(Clone, Copy)]
+struct Over {
+    place: usize,
+    /// What it says that the call was answered, if it says so.
+    answer: Option<Answer>,
+}
+
+/// Where these lines say that calls of the thread of this number are over, in their order.
+fn places_over(alloc: Global, lines: &[Line], thread: usize) -> Result<Vec<Over>, Stop>
+    ensures { IfOk result (λ v. v.items ≡ places_over thread 0 lines.now) }
+{
+    let mut overs = Vec::new(alloc);
+    for place in 0..lines.len() {
+        let line = &lines[place];
+        if is_over(thread, line) {
+            let answer = answer_of(line);
+            push(&mut overs, Over { place, answer })?;
+        }
+    }
+    Ok(overs)
+}
+
+/// What is said at the first of these that is at a place from this one on.
+fn answer_from(overs: &[Over], from: usize) -> Option<Answer>
+    ensures { (t : ℕ) (lines : List Line) → overs.now ≡ places_over t 0 lines → result ≡ known_answer t (drop from lines) }
+{
+    let at = overs.partition_point(
+        |over: &Over| -> bool
+            ensures { result ≡ nat_lt over.now.place from }
+        { over.place < from },
+    );
+    match overs.get(at) {
+        Some(over) => over.answer,
+        None => None,
+    }
+}
+
+/// A number that is greater than that of the thread of which a line says that its call is over.
+fn beyond(line: &Line) -> usize
+    ensures { (t : ℕ) → result ≤ t → is_over t line.now ≡ false }
+{
+    match *line {
+        Line::Answer(thread, _) | Line::Dying(thread) | Line::End(thread) => {
+            thread.get() as usize + 1
+        }
+        _ => 0,
+    }
+}
+
+/// A number that is greater than that of each thread of which a line says that its call is over.
+fn beyond_all(lines: &[Line]) -> usize
+    ensures { All (λ line. (t : ℕ) → result ≤ t → is_over t line ≡ false) lines.now }
+{
+    let mut end = 0_usize;
+    for line in lines {
+        end = usize::max(end, beyond(line));
+    }
+    end
+}
+
+/// Where these lines say that calls are over, by the number of the thread.
+fn table(alloc: Global, lines: &[Line]) -> Result<Vec<Vec<Over>>, Stop>
+    ensures { IfOk result (λ v. IsTable lines.now v.items) }
+{
+    let mut rows = Vec::new(alloc);
+    for thread in 0..beyond_all(lines) {
+        let row = places_over(alloc, lines, thread)?;
+        push(&mut rows, row)?;
+    }
+    Ok(rows)
+}
+
+/// These lines.
+fn copied(alloc: Global, lines: &[Line]) -> Result<Vec<Line>, Stop>
+    ensures { IfOk result (λ v. v.items ≡ lines.now) }
+{
+    let copy = Vec::from_slice(alloc, lines)?;
+    Ok(copy)
+}
+
+/// The lines of a history, and where they say that calls are over.
+#[derive(Drop)]
+pub struct KnownLines {
+    lines: Vec<Line>,
+    overs: Vec<Vec<Over>>,
+}
+
+impl Model for KnownLines {
+    ghost use Rattle.std.specs.Prelude.{List};
+    ghost use Rattle.pif_history_model.specs.declared.lines.Line.{Line};
+    ghost use Rattle.pif_history_lines.specs.Overs.{IsTable};
+
+    ghost Value = { List Line };
+
+    ghost view = { λ k. k.lines.items };
+
+    ghost invariant = { λ k. IsTable k.lines.items k.overs.items };
+}
+
+impl KnownLines {
+    /// These lines, oldest first.
+    ///
+    /// # Errors
+    ///
+    /// Out of memory.
+    pub fn new(alloc: Global, lines: &[Line]) -> Result<KnownLines, Stop>
+        ensures { IfOk result (λ k. k ≡ lines.now) }
+    {
+        let own = copied(alloc, lines)?;
+        let overs = table(alloc, own.as_slice())?;
+        Ok(KnownLines { lines: own, overs })
+    }
+
+    /// What the open call of a thread is answered by the lines from a place on, if they say so.
+    pub fn answer(&self, from: usize, thread: usize) -> Option<Answer>
+        ensures { result ≡ known_answer thread (drop from self.now) }
+    {
+        match self.overs.as_slice().get(thread) {
+            Some(row) => answer_from(row.as_slice(), from),
+            None => None,
+        }
+    }
+
+    /// The line at a place, if one stands there.
+    pub fn line(&self, place: usize) -> Option<Line>
+        ensures some { (line : _) → result ≡ Some line → drop place self.now ≡ line ∷ drop (place + 1) self.now }
+        ensures none { result ≡ None → drop place self.now ≡ [] }
+    {
+        match self.lines.as_slice().get(place) {
+            Some(line) => Some(*line),
+            None => None,
+        }
+    }
+
+    /// Whether this line stands at a place.
+    pub fn has(&self, place: usize, line: &Line) -> bool
+        ensures { result ≡ true ↔ drop place self.now ≡ line.now ∷ drop (place + 1) self.now }
+    {
+        match self.lines.as_slice().get(place) {
+            Some(other) => *other == *line,
+            None => false,
+        }
+    }
+}

@@ -1,0 +1,9 @@
+mod Splitting
+mod StepLemmas
+mod WayLemmas
+pub mod Chosen
+mod TellingLemmas
+mod Appending
+mod RunLemmas
+mod OpenCalls
+mod SetLemmas

@@ -1,0 +1,12 @@
+use Rattle.std.proofs.Common.{◌≤◌, drop, length}
+use Rattle.pif_history_told.specs.Ways.{HasCome}
+use Rattle.pif_history_told.specs.Runs.{IsTold}
+use Rattle.pif_history_told.proofs.runs.run_text.Given as goal
+
+abbrev pub invariant-loop-left : goal.invariant-loop-left
+invariant-loop-left c =
+    HasCome c.fn.rules c.fn.limits c.fn.witness c.chosen.items c.left c.position × (c.left ≤ length c.witness)
+    × IsTold c.fn.rules c.fn.limits c.fn.numbers c.fn.from (drop c.left c.witness) c.position c.told
+
+abbrev pub decreases-loop-left : goal.decreases-loop-left
+decreases-loop-left c = c.left

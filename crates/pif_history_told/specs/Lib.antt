@@ -1,0 +1,11 @@
+pub mod Why
+pub mod Sets
+pub mod Texts
+pub mod Steps
+pub mod Ways
+pub mod Tellings
+pub mod StateObjects
+pub mod Pages
+pub mod Runs
+pub mod Verdicts
+pub mod WhyTexts

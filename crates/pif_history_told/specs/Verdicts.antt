@@ -1,0 +1,75 @@
+-- Verdicts on histories, as lines of JSON.
+use Rattle.std.specs.Prelude.{ℕ, List, [], ◌∷◌, ◌++◌, Option, Some, None, flat_map, codes, decimal}
+use Rattle.std.specs.Global.{Vec}
+use Rattle.pif_history_model.specs.declared.lines.Line.{Line}
+use Rattle.pif_history_model.specs.declared.lines.Line.TheVariants.{Begin}
+use Rattle.pif_history_text.specs.Texts.{line_text}
+use Rattle.pif_history_text.specs.Verdicts.{line_refusal_word}
+use Rattle.pif_text_json.specs.Json.{quoted}
+use Rattle.pif_history_told.specs.declared.verdicts.Began.{Began}
+use Rattle.pif_history_told.specs.declared.verdicts.Known.{Known}
+use Rattle.pif_history_told.specs.declared.verdicts.Unfound.{Unfound}
+use Rattle.pif_history_told.specs.declared.verdicts.Known.TheVariants.{Refused, Numbers, Nothing}
+
+-- How many lines of the history, from its first one, are left out behind the verdict.
+abbrev pub left_out_member : ℕ → List ℕ
+left_out_member lines = codes ",\"left_out\":" ++ decimal lines
+
+-- A number behind what it counts or numbers, and how many lines are left out.
+abbrev pub at_number : (head : List ℕ) → (number left_out : ℕ) → List ℕ
+at_number head number left_out = head ++ decimal number ++ left_out_member left_out
+
+-- A history of so many lines is legal.
+abbrev pub legal_object : (lines left_out : ℕ) → List ℕ
+legal_object lines left_out = at_number (codes "{\"verdict\":\"legal\",\"lines\":") lines left_out ++ codes "}\n"
+
+-- A line of the history, behind its number.
+abbrev pub at_line : (number : ℕ) → Line → List ℕ
+at_line number line = codes "\"line\":" ++ decimal number ++ codes ",\"text\":" ++ quoted (line_text line)
+
+-- Numbers, with a comma between them.
+abbrev pub numbers_text : List ℕ → List ℕ
+numbers_text [] = []
+numbers_text (n ∷ ns) = decimal n ++ flat_map (λ k. codes "," ++ decimal k) ns
+
+-- What is known of an illegal line, as a member: why it is refused whatever was answered, or the numbers that may stand
+-- there; null if the search for them was given up.
+unfoldable pub known_member : Known → List ℕ
+known_member (Refused why) = codes ",\"refused\":" ++ quoted (line_refusal_word why)
+known_member (Numbers (Some ns)) = codes ",\"possible\":[" ++ numbers_text ns.items ++ codes "]"
+known_member (Numbers None) = codes ",\"possible\":null"
+known_member Nothing = []
+
+-- Where the open call of its thread began, if there is one.
+unfoldable pub began_member : Option Began → List ℕ
+began_member None = []
+began_member (Some b) = codes ",\"began\":{" ++ at_line b.number (Begin b.thread b.request) ++ codes "}"
+
+-- An illegal line, behind its verdict.
+unfoldable pub illegal_front : (number : ℕ) → Line → (left_out : ℕ) → List ℕ
+illegal_front number line left_out =
+    codes "{\"verdict\":\"illegal\"," ++ at_line number line ++ left_out_member left_out
+
+-- What is known of it.
+unfoldable pub illegal_end : Known → Option Began → List ℕ
+illegal_end known began = known_member known ++ began_member began ++ codes "}\n"
+
+-- The line of this number is the first up to which there is no run.
+abbrev pub illegal_object : (number : ℕ) → Line → Known → Option Began → (left_out : ℕ) → List ℕ
+illegal_object number line known began left_out =
+    illegal_front number line left_out ++ illegal_end known began
+
+-- With these numbers, in place of an answer or a priority, a search found a run, if it looked. It claims nothing of others.
+unfoldable pub found_member : Option (Vec ℕ) → List ℕ
+found_member None = []
+found_member (Some ns) = codes ",\"found\":[" ++ numbers_text ns.items ++ codes "]"
+
+-- The number of a line behind what it numbers, and what a search found in its place.
+abbrev pub found_at : (head : List ℕ) → (number : ℕ) → Option (Vec ℕ) → List ℕ
+found_at head number found = head ++ decimal number ++ found_member found
+
+-- At the line of this number the search was given up, and that is the first one for which no run was found.
+abbrev pub undecided_object : (number : ℕ) → Unfound → (left_out : ℕ) → List ℕ
+undecided_object number unfound left_out =
+    at_number (codes "{\"verdict\":\"undecided\",\"line\":") number left_out
+    ++ found_at (codes ",\"no_witness_from\":") unfound.number unfound.found ++ codes "}\n"

@@ -1,0 +1,40 @@
+-- What is told in lines for a person of a line up to which there is no run, or none was found.
+use Rattle.std.specs.Prelude.{ℕ, List, [], ◌++◌, Option, Some, None, codes, decimal}
+use Rattle.std.specs.Global.{Vec}
+use Rattle.pif_history_text.specs.Verdicts.{began_line, found_line, possible_line, refused_line}
+use Rattle.pif_history_told.specs.declared.verdicts.Began.{Began}
+use Rattle.pif_history_told.specs.declared.verdicts.Known.{Known}
+use Rattle.pif_history_told.specs.declared.verdicts.Known.TheVariants.{Refused, Numbers, Nothing}
+use Rattle.pif_history_told.specs.declared.verdicts.Unfound.{Unfound}
+
+-- The line that says what is known of a line.
+abbrev pub known_text : Known → List ℕ
+known_text (Refused why) = refused_line why
+known_text (Numbers (Some numbers)) = possible_line (Some numbers.items)
+known_text (Numbers None) = possible_line None
+known_text Nothing = []
+
+-- The line that says where an open call began, if there is one.
+abbrev pub began_text : Option Began → List ℕ
+began_text (Some b) = began_line b.number b.thread b.request
+began_text None = []
+
+-- What is told of a line by what is known of it, and by the open call of its thread, which is left out where the line
+-- is refused.
+abbrev pub why_text : Known → Option Began → List ℕ
+why_text (Refused why) began = refused_line why
+why_text (Numbers numbers) began = known_text (Numbers numbers) ++ began_text began
+why_text Nothing began = began_text began
+
+-- From the line of this number on no search found a witness. It claims nothing: there may be one.
+abbrev pub unfound_line : (number : ℕ) → List ℕ
+unfound_line number = codes "no witness found from " ++ decimal number ++ codes " on\n"
+
+-- With these numbers in place of the answer or the priority a search found a run, if it looked.
+abbrev pub found_text : Option (Vec ℕ) → List ℕ
+found_text None = []
+found_text (Some numbers) = found_line numbers.items
+
+-- The first line for which no run was found.
+abbrev pub unfound_text : Unfound → List ℕ
+unfound_text unfound = unfound_line unfound.number ++ found_text unfound.found

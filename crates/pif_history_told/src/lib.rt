@@ -1,0 +1,54 @@
+//! What is told of a history: a run that shows it, and the verdict on it.
+//!
+//! A search names the steps of a run alone, by labels. One label may lead to several states, as that of a signal that
+//! chooses. A step may need a rule that the history allows. So the states of a run are found here. It is told to a
+//! person. And it and a verdict are told as lines of JSON, and as a page that shows them.
+//!
+//! | Module | What it has of a run |
+//! |---|---|
+//! | `leading` | where the steps of a label lead, and by which rule |
+//! | `ways` | which of these a whole run takes |
+//! | `following` | a run as a text: its lines, and between them what each move changes |
+//! | `calls` | an open call, and how far it has come |
+//! | `state_objects` | threads, mutexes and condition variables |
+//! | `changes` | what a step changes of them |
+//! | `run_lines` | a run step by step, as lines of JSON |
+//! | `runs` | a whole run, by the labels of its steps |
+//!
+//! | Module | What it has of a verdict |
+//! |---|---|
+//! | `places` | the lines of a history, and their numbers |
+//! | `telling` | what is told in lines of an illegal line |
+//! | `sets` | the sets of rules, in the order in which they are tried |
+//! | `texts` | lines that name a set |
+//! | `verdicts` | a verdict, as a line of JSON |
+//! | `pages` | a page around such lines |
+//! | `page_style` | how the page looks |
+//! | `page_script` | what the page does |
+#![tactic(auto)]
+
+mod calls;
+mod changes;
+mod following;
+mod leading;
+mod page_script;
+mod page_style;
+mod pages;
+mod places;
+mod run_lines;
+mod runs;
+mod sets;
+mod state_objects;
+mod telling;
+mod texts;
+mod verdicts;
+mod ways;
+
+pub use following::witness_text;
+pub use pages::{PAGE_LINES, append_page, first_shown};
+pub use places::{line_at, number_at, unfound_of};
+pub use runs::run_text;
+pub use sets::sets_but_all;
+pub use telling::{began_before, tell_legal, tell_unfound, tell_why};
+pub use texts::{push_legal_with, push_undecided_with};
+pub use verdicts::{Began, Known, Unfound, append_illegal, append_legal, append_undecided};

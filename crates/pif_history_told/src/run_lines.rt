@@ -1,0 +1,242 @@
+ghost use Rattle.std.specs.Prelude.{◌≡◌, ◌+◌, ◌++◌, get_or, IfOk, OnOk};
+ghost use Rattle.pif_history_told.specs.Runs.{comma_behind, line_object, move_object, rule_members, told_line, untold, with_line, with_move, with_step};
+
+use crate::changes::{Change, append_changes};
+use pif_history_model::{Label, Line};
+use pif_history_text::line_text;
+use pif_posix::State;
+use pif_rules::{Rule, name_of};
+use pif_search::Stop;
+use pif_text::Text;
+use pif_text_json::{append_bool, append_decimal, append_name, append_quoted};
+use pif_types::Tid;
+use std::alloc::Global;
+use std::marker::Model;
+
+/// The state stands whole at one in so many lines that are told.
+const WHOLE_LINES: usize = 256;
+
+/// How a run is told so far.
+#[derive(Drop)]
+pub struct Telling {
+    place: usize,
+    done: Vec<u8>,
+    pending: Vec<u8>,
+}
+
+impl Model for Telling {
+    ghost use Rattle.pif_history_told.specs.Runs.{Telling};
+
+    ghost Value = { Telling };
+
+    ghost view = { λ t. record { place = t.place; done = t.done.items; pending = t.pending.items } };
+}
+
+/// Which lines of a history are told, and their numbers.
+#[derive(Clone, Copy)]
+pub struct Frame<'a> {
+    /// The number of each line in the file.
+    pub numbers: &'a [u32],
+    /// How many lines are left out, from the first one.
+    pub from: usize,
+}
+
+/// A step of a run, from a state to a state.
+#[derive(Clone, Copy)]
+pub struct Leap<'a> {
+    /// The rule that it needs, if it does.
+    pub rule: Option<Rule>,
+    /// The state before it.
+    pub from: &'a State,
+    /// The state behind it.
+    pub to: &'a State,
+}
+
+/// The number of the line at a place; 0 if there is none.
+fn number_at(numbers: &[u32], place: usize) -> u32
+    ensures { result ≡ get_or numbers.now place 0 }
+{
+    if place < numbers.len() {
+        numbers[place]
+    } else {
+        0
+    }
+}
+
+/// Appends a comma, unless there is nothing yet.
+fn append_comma(out: &mut Vec<u8>) -> Result<(), Stop>
+    ensures { OnOk result (out.new.items ≡ out.old.items ++ comma_behind out.old.items) }
+{
+    if out.is_empty() {
+        return Ok(());
+    }
+    out.extend_from_slice(b",")?;
+    Ok(())
+}
+
+/// Appends the rule that a step needs, if it does, as a member.
+fn append_rule(rule: Option<Rule>, out: &mut Vec<u8>) -> Result<(), Stop>
+    ensures { OnOk result (out.new.items ≡ out.old.items ++ rule_members rule) }
+{
+    match rule {
+        Some(rule) => {
+            out.extend_from_slice(b",\"rule\":")?;
+            append_quoted(out, name_of(rule))?;
+            Ok(())
+        }
+        None => Ok(()),
+    }
+}
+
+/// Appends a move of a thread that no line shows, as an object.
+#[tactic(auto, unfolding(crate::specs::Runs::move_object))]
+fn append_move(name: &[u8], thread: Tid, step: &Leap<'_>, out: &mut Vec<u8>) -> Result<(), Stop>
+    ensures { OnOk result (out.new.items ≡ out.old.items ++ move_object name.now thread step.now.rule step.now.from.now step.now.to.now) }
+{
+    out.extend_from_slice(b"{\"")?;
+    out.extend_from_slice(name)?;
+    out.extend_from_slice(b"\":")?;
+    append_name(out, b't', thread.get())?;
+    append_rule(step.rule, out)?;
+    let change = Change {
+        from: step.from,
+        to: step.to,
+        is_whole: false,
+    };
+    append_changes(&change, out)?;
+    out.extend_from_slice(b"}")?;
+    Ok(())
+}
+
+/// Appends a line of the history with this number, the moves before it, the rule that it needs, and what it changes.
+#[tactic(auto, unfolding(crate::specs::Runs::line_object))]
+fn append_line(
+    number: u32,
+    line: &Line,
+    moves: &[u8],
+    rule: Option<Rule>,
+    change: &Change<'_>,
+    out: &mut Vec<u8>,
+) -> Result<(), Stop>
+    ensures { OnOk result (out.new.items ≡ out.old.items ++ line_object change.now.is_whole number line.now moves.now rule change.now.from.now change.now.to.now) }
+{
+    let mut text = Text::new();
+    line_text(*line, &mut text);
+    out.extend_from_slice(b"{\"line\":")?;
+    append_decimal(out, u64::from(number))?;
+    out.extend_from_slice(b",\"text\":")?;
+    append_quoted(out, text.as_slice())?;
+    out.extend_from_slice(b",\"moves\":[")?;
+    out.extend_from_slice(moves)?;
+    out.extend_from_slice(b"],\"whole\":")?;
+    append_bool(out, change.is_whole)?;
+    append_rule(rule, out)?;
+    append_changes(change, out)?;
+    out.extend_from_slice(b"}\n")?;
+    Ok(())
+}
+
+/// Appends the line at a place of the history, with the moves before it, unless it is left out.
+fn append_told(
+    frame: &Frame<'_>,
+    place: usize,
+    line: &Line,
+    moves: &[u8],
+    step: &Leap<'_>,
+    out: &mut Vec<u8>,
+) -> Result<(), Stop>
+    ensures { OnOk result (out.new.items ≡ out.old.items ++ told_line frame.now.from frame.now.numbers.now place line.now moves.now step.now.rule step.now.from.now step.now.to.now) }
+{
+    if place < frame.from {
+        return Ok(());
+    }
+    let change = Change {
+        from: step.from,
+        to: step.to,
+        is_whole: (place - frame.from) % WHOLE_LINES == 0,
+    };
+    append_line(
+        number_at(frame.numbers, place),
+        line,
+        moves,
+        step.rule,
+        &change,
+        out,
+    )
+}
+
+/// The place behind a place.
+fn next(place: usize) -> Result<usize, Stop>
+    ensures { IfOk result (λ n. n ≡ place + 1) }
+{
+    match place.checked_add(1) {
+        Some(next) => Ok(next),
+        None => Err(Stop::Range),
+    }
+}
+
+impl Telling {
+    /// Nothing is told.
+    pub fn new(alloc: Global) -> Telling
+        ensures { result ≡ untold }
+    {
+        Telling {
+            place: 0,
+            done: Vec::new(alloc),
+            pending: Vec::new(alloc),
+        }
+    }
+
+    /// The lines of JSON.
+    pub fn into_lines(self) -> Vec<u8>
+        ensures { result.items ≡ self.done }
+    {
+        self.done
+    }
+
+    /// Adds a line of the history.
+    fn add_line(&mut self, frame: &Frame<'_>, line: &Line, step: &Leap<'_>) -> Result<(), Stop>
+        ensures { OnOk result (self.new ≡ with_line frame.now.from frame.now.numbers.now line.now step.now.rule step.now.from.now step.now.to.now self.old) }
+    {
+        append_told(
+            frame,
+            self.place,
+            line,
+            self.pending.as_slice(),
+            step,
+            &mut self.done,
+        )?;
+        self.pending.clear();
+        self.place = next(self.place)?;
+        Ok(())
+    }
+
+    /// Adds a move of a thread that no line shows.
+    fn add_move(
+        &mut self,
+        frame: &Frame<'_>,
+        name: &[u8],
+        thread: Tid,
+        step: &Leap<'_>,
+    ) -> Result<(), Stop>
+        ensures { OnOk result (self.new ≡ with_move frame.now.from name.now thread step.now.rule step.now.from.now step.now.to.now self.old) }
+    {
+        if frame.from >= self.place {
+            return Ok(());
+        }
+        append_comma(&mut self.pending)?;
+        append_move(name, thread, step, &mut self.pending)
+    }
+
+    /// Adds a step of a run.
+    #[tactic(auto, unfolding(crate::specs::Runs::with_step))]
+    pub fn add(&mut self, frame: &Frame<'_>, label: &Label, step: &Leap<'_>) -> Result<(), Stop>
+        ensures { OnOk result (self.new ≡ with_step frame.now.from frame.now.numbers.now label.now step.now.rule step.now.from.now step.now.to.now self.old) }
+    {
+        match *label {
+            Label::Shown(line) => self.add_line(frame, &line, step),
+            Label::Moves(thread) => self.add_move(frame, b"move", thread, step),
+            Label::Ends(thread) => self.add_move(frame, b"end", thread, step),
+        }
+    }
+}

@@ -1,0 +1,85 @@
+ghost use Rattle.std.specs.Prelude.{◌≡◌, ◌≤◌, ◌-◌, ◌∷◌, Option, drop, length, IfOk};
+ghost use Rattle.pif_allow_model.specs.Allowed.{WideConfiguration};
+ghost use Rattle.pif_rules.specs.declared.rules.Rule.{Rule};
+ghost use Rattle.pif_history_told.specs.Runs.{IsTold, Telling, with_step};
+ghost use Rattle.pif_history_told.specs.Steps.{IsStepBy};
+ghost use Rattle.pif_history_told.specs.Ways.{HasCome, IsRun};
+
+use crate::run_lines::{Frame, Leap, Telling};
+use crate::ways::{choices, next_step};
+use pif_allow_machine::WidePosition;
+use pif_history_model::{HistoryLimits, Label};
+use pif_rules_model::Rules;
+use pif_search::Stop;
+use std::alloc::Global;
+
+/// Tells the next step of a run with these labels and choices, and answers to which position it leads.
+fn take_step(
+    alloc: Global,
+    rules: &Rules,
+    limits: HistoryLimits,
+    frame: &Frame<'_>,
+    labels: &[Label],
+    choices: &[usize],
+    left: usize,
+    from: &WidePosition,
+    told: &mut Telling,
+) -> Result<WidePosition, Stop>
+    requires some { 1 ≤ left }
+    requires within { left ≤ length labels.now }
+    requires come { HasCome rules.now limits labels.now choices.now left from.now }
+    ensures come { IfOk result (λ to. HasCome rules.now limits labels.now choices.now (left - 1) to) }
+    ensures told { IfOk result (λ to. (x : Label) × (rule : Option Rule) × (drop (left - 1) labels.now ≡ x ∷ drop left labels.now)
+        × IsStepBy rules.now limits from.now x rule to
+        × (told.new ≡ with_step frame.now.from frame.now.numbers.now x rule from.now.wide.world to.wide.world told.old)) }
+{
+    let step = next_step(alloc, rules, limits, labels, choices, left, from)?;
+    let leap = Leap {
+        rule: step.rule,
+        from: from.world(),
+        to: step.position.world(),
+    };
+    told.add(frame, &labels[left - 1], &leap)?;
+    Ok(step.position)
+}
+
+/// A run whose steps have these labels, newest first, as lines of JSON: one for each line of the history but the first
+/// `from`, which has the number of its place among `numbers`, the moves before it, and what each changes. A step that
+/// needs one of these rules names it. There has to be such a run.
+///
+/// # Errors
+///
+/// Memory ran out, or a number of a state got too great for it.
+pub fn run_text(
+    alloc: Global,
+    rules: &Rules,
+    limits: HistoryLimits,
+    numbers: &[u32],
+    from: usize,
+    witness: &[Label],
+) -> Result<Vec<u8>, Stop>
+    requires run { IsRun rules.now limits witness.now }
+    ensures { IfOk result (λ text. (last : WideConfiguration) × (told : Telling)
+        × IsTold rules.now limits numbers.now from witness.now last told × (text.items ≡ told.done)) }
+{
+    let chosen = choices(alloc, rules, limits, witness)?;
+    let frame = Frame { numbers, from };
+    let mut position = WidePosition::start(alloc, limits)?;
+    let mut told = Telling::new(alloc);
+    let mut left = witness.len();
+    while left > 0 {
+        position = take_step(
+            alloc,
+            rules,
+            limits,
+            &frame,
+            witness,
+            chosen.as_slice(),
+            left,
+            &position,
+            &mut told,
+        )?;
+        left -= 1;
+    }
+    Ok(told.into_lines())
+}

@@ -1,0 +1,127 @@
+ghost use Rattle.std.specs.Prelude.{◌≡◌, ◌++◌, OnOk};
+ghost use Rattle.pif_model.specs.World.{mutex_at, variable_at};
+ghost use Rattle.pif_history_told.specs.StateObjects.{cond_object, health_word, is_mutex_changed, is_thread_changed, mutex_object, owner_of, same_bool, thread_object};
+
+use crate::calls::{call_members, health_word, is_same_call};
+use pif_posix::State;
+use pif_text_json::{append_bool, append_decimal, append_name, append_name_or_null, append_quoted};
+use pif_types::{Health, Tid};
+use std::alloc::AllocError;
+
+/// Appends a thread, as an object.
+#[tactic(auto, unfolding(crate::specs::StateObjects::thread_object))]
+pub fn append_thread(state: &State, thread: Tid, out: &mut Vec<u8>) -> Result<(), AllocError>
+    ensures { OnOk result (out.new.items ≡ out.old.items ++ thread_object state.now thread) }
+{
+    let at = thread.get() as usize;
+    out.extend_from_slice(b"{\"name\":")?;
+    append_name(out, b't', thread.get())?;
+    out.extend_from_slice(b",\"living\":")?;
+    append_bool(out, state.is_living(at))?;
+    out.extend_from_slice(b",\"priority\":")?;
+    append_decimal(out, u64::from(state.effective(at)))?;
+    out.extend_from_slice(b",\"rests\":")?;
+    append_bool(out, state.rests(at))?;
+    out.extend_from_slice(call_members(thread, state.call(at)).as_slice())?;
+    out.extend_from_slice(b"}")
+}
+
+/// Whether two are the same.
+fn is_same_bool(one: bool, other: bool) -> bool
+    ensures { result ≡ same_bool one other }
+{
+    if one { other } else { !other }
+}
+
+/// Whether a thread is another one than before.
+#[tactic(auto, unfolding(crate::specs::StateObjects::is_thread_changed))]
+pub fn is_thread_changed(from: &State, to: &State, thread: Tid) -> bool
+    ensures { result ≡ is_thread_changed from.now to.now thread }
+{
+    let at = thread.get() as usize;
+    !(is_same_call(thread, from.call(at), to.call(at))
+        && is_same_bool(from.is_living(at), to.is_living(at))
+        && is_same_bool(from.rests(at), to.rests(at))
+        && from.effective(at) == to.effective(at))
+}
+
+/// How often the owner of a mutex holds it; 1 if it has none or was not added.
+fn count(state: &State, mutex: usize) -> u32
+    ensures { result ≡ (mutex_at state.now mutex).count }
+{
+    if mutex < state.mutex_count() {
+        state.count(mutex)
+    } else {
+        1
+    }
+}
+
+/// The health of a mutex, in one word; that of one that was not added is fine.
+fn health(state: &State, mutex: usize) -> &'static [u8]
+    ensures { result.now ≡ health_word (mutex_at state.now mutex).health }
+{
+    if mutex < state.mutex_count() {
+        health_word(state.health(mutex))
+    } else {
+        health_word(Health::Fine)
+    }
+}
+
+/// The owner of a mutex, if it has one.
+fn owner(state: &State, mutex: usize) -> Option<u32>
+    ensures { result ≡ owner_of (mutex_at state.now mutex).owner }
+{
+    let owner = state.owner_or_none(mutex);
+    if owner == 0 { None } else { Some(owner) }
+}
+
+/// Appends a mutex, as an object.
+#[tactic(auto, unfolding(crate::specs::StateObjects::mutex_object))]
+pub fn append_mutex(state: &State, mutex: u32, out: &mut Vec<u8>) -> Result<(), AllocError>
+    ensures { OnOk result (out.new.items ≡ out.old.items ++ mutex_object state.now mutex) }
+{
+    let at = mutex as usize;
+    out.extend_from_slice(b"{\"name\":")?;
+    append_name(out, b'm', mutex)?;
+    out.extend_from_slice(b",\"owner\":")?;
+    append_name_or_null(out, b't', owner(state, at))?;
+    out.extend_from_slice(b",\"count\":")?;
+    append_decimal(out, u64::from(count(state, at)))?;
+    out.extend_from_slice(b",\"health\":")?;
+    append_quoted(out, health(state, at))?;
+    out.extend_from_slice(b"}")
+}
+
+/// Whether a mutex was not there, or is another one than before.
+#[tactic(auto, unfolding(crate::specs::StateObjects::is_mutex_changed))]
+pub fn is_mutex_changed(from: &State, to: &State, mutex: usize) -> bool
+    ensures { result ≡ is_mutex_changed from.now to.now mutex }
+{
+    !(mutex < from.mutex_count()
+        && from.owner_or_none(mutex) == to.owner_or_none(mutex)
+        && count(from, mutex) == count(to, mutex)
+        && health(from, mutex) == health(to, mutex))
+}
+
+/// The mutex to which a condition variable is bound; 0 if it was not added.
+fn bound(state: &State, cond: usize) -> u32
+    ensures { result ≡ (variable_at state.now cond).mutex }
+{
+    if cond < state.variable_count() {
+        state.bound(cond)
+    } else {
+        0
+    }
+}
+
+/// Appends a condition variable, as an object.
+#[tactic(auto, unfolding(crate::specs::StateObjects::cond_object))]
+pub fn append_cond(state: &State, cond: u32, out: &mut Vec<u8>) -> Result<(), AllocError>
+    ensures { OnOk result (out.new.items ≡ out.old.items ++ cond_object state.now cond) }
+{
+    out.extend_from_slice(b"{\"name\":")?;
+    append_name(out, b'c', cond)?;
+    out.extend_from_slice(b",\"mutex\":")?;
+    append_name(out, b'm', bound(state, cond as usize))?;
+    out.extend_from_slice(b"}")
+}

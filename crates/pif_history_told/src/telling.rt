@@ -1,0 +1,166 @@
+//! What is told of a verdict.
+ghost use Rattle.std.specs.Prelude.{◌≡◌, ◌≤◌, ◌++◌, OnOk, Some, vec_len};
+ghost use Rattle.pif_history_model.specs.Lines.{thread_of};
+ghost use Rattle.pif_history_text.specs.Reading.{IsPaired, heard_of};
+ghost use Rattle.pif_history_text.specs.Verdicts.{legal_line};
+ghost use Rattle.pif_history_told.specs.Why.{open_of, said_of};
+ghost use Rattle.pif_history_told.specs.WhyTexts.{began_text, known_text, unfound_line, unfound_text, why_text};
+
+use crate::verdicts::{Began, Known, Unfound};
+use pif_history_model::Line;
+use pif_history_text::{
+    History, push_began, push_found, push_legal, push_possible, push_possible_undecided,
+    push_refused,
+};
+use pif_text::{Text, append_number};
+use pif_types::{Request, Tid};
+use std::alloc::AllocError;
+
+/// The thread whose line it is, if it is one of a thread.
+fn thread_of(line: &Line) -> Option<Tid>
+    ensures { result ≡ thread_of line.now }
+{
+    match line {
+        Line::Begin(thread, _)
+        | Line::Answer(thread, _)
+        | Line::Dying(thread)
+        | Line::End(thread)
+        | Line::Rests(thread)
+        | Line::Prio(thread, _) => Some(*thread),
+        Line::Thread(_) | Line::Mutex(..) | Line::Cond(_) | Line::Tick(_) => None,
+    }
+}
+
+/// What a line says of the call of a thread.
+enum Says {
+    /// It began.
+    Begins(Request),
+    /// It was answered.
+    Answers,
+    /// Nothing.
+    Nothing,
+}
+
+/// What a line says of the call of a thread.
+fn said_of(line: &Line, thread: Tid) -> Says
+    ensures { result ≡ said_of thread line.now }
+{
+    match *line {
+        Line::Begin(other, request) if other == thread => Says::Begins(request),
+        Line::Answer(other, _) if other == thread => Says::Answers,
+        _ => Says::Nothing,
+    }
+}
+
+/// The call that a thread has open behind the first `before` lines of a history.
+fn open_call(history: &History, thread: Tid, before: usize) -> Option<Began>
+    requires paired { IsPaired history.now }
+    requires within { before ≤ vec_len history.now.shown }
+    ensures { result ≡ open_of (Some thread) (heard_of history.now) before }
+{
+    let mut left = before;
+    while left > 0 {
+        left -= 1;
+        match said_of(&history.shown[left], thread) {
+            Says::Begins(request) => {
+                return Some(Began {
+                    number: history.numbers[left],
+                    thread,
+                    request,
+                });
+            }
+            Says::Answers => return None,
+            Says::Nothing => {}
+        }
+    }
+    None
+}
+
+/// The call that the thread of a line behind the first `before` lines has open there; none if it is no line of a
+/// thread.
+pub fn began_before(history: &History, before: usize, line: &Line) -> Option<Began>
+    requires paired { IsPaired history.now }
+    requires within { before ≤ vec_len history.now.shown }
+    ensures { result ≡ open_of (thread_of line.now) (heard_of history.now) before }
+{
+    open_call(history, thread_of(line)?, before)
+}
+
+/// Appends the line that says where an open call began, if there is one.
+fn tell_began(began: Option<Began>, out: &mut Vec<u8>) -> Result<(), AllocError>
+    ensures { OnOk result (out.new.items ≡ out.old.items ++ began_text began) }
+{
+    match began {
+        Some(call) => push_began(out, call.number, call.thread, call.request),
+        None => Ok(()),
+    }
+}
+
+/// Appends the line that says what is known of a line.
+fn tell_known(known: &Known, out: &mut Vec<u8>) -> Result<(), AllocError>
+    ensures { OnOk result (out.new.items ≡ out.old.items ++ known_text known.now) }
+{
+    match known {
+        Known::Refused(why) => push_refused(out, *why),
+        Known::Numbers(Some(numbers)) => push_possible(out, numbers.as_slice()),
+        Known::Numbers(None) => push_possible_undecided(out),
+        Known::Nothing => Ok(()),
+    }
+}
+
+/// Appends what is known of a line up to which there is no run, and where its thread's open call began, unless the line
+/// is refused whatever was answered.
+///
+/// # Errors
+///
+/// A growth of memory was refused.
+pub fn tell_why(known: &Known, began: Option<Began>, out: &mut Vec<u8>) -> Result<(), AllocError>
+    ensures { OnOk result (out.new.items ≡ out.old.items ++ why_text known.now began) }
+{
+    match known {
+        Known::Refused(why) => push_refused(out, *why),
+        Known::Numbers(_) => {
+            tell_known(known, out)?;
+            tell_began(began, out)
+        }
+        Known::Nothing => tell_began(began, out),
+    }
+}
+
+/// Appends the line of a legal history, and what stands behind it.
+///
+/// # Errors
+///
+/// A growth of memory was refused.
+pub fn tell_legal(lines: u32, witness: &[u8], out: &mut Vec<u8>) -> Result<(), AllocError>
+    ensures { OnOk result (out.new.items ≡ out.old.items ++ (legal_line lines ++ witness.now)) }
+{
+    push_legal(out, lines)?;
+    out.extend_from_slice(witness)
+}
+
+/// Appends the line that says from the line of which number on no run was found.
+fn tell_unfound_line(number: u32, out: &mut Vec<u8>) -> Result<(), AllocError>
+    ensures { OnOk result (out.new.items ≡ out.old.items ++ unfound_line number) }
+{
+    let mut text = Text::new();
+    append_number(&mut text, number);
+    out.extend_from_slice(b"no witness found from ")?;
+    out.extend_from_slice(text.as_slice())?;
+    out.extend_from_slice(b" on\n")
+}
+
+/// Appends what is told of the first line for which no run was found.
+///
+/// # Errors
+///
+/// A growth of memory was refused.
+pub fn tell_unfound(unfound: &Unfound, out: &mut Vec<u8>) -> Result<(), AllocError>
+    ensures { OnOk result (out.new.items ≡ out.old.items ++ unfound_text unfound.now) }
+{
+    tell_unfound_line(unfound.number, out)?;
+    match &unfound.found {
+        Some(numbers) => push_found(out, numbers.as_slice()),
+        None => Ok(()),
+    }
+}

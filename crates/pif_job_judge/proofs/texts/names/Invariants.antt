@@ -1,7 +1,0 @@
-use Rattle.std.proofs.Common.{◌≡◌, take}
-use Rattle.std.specs.List.{flat_map}
-use Rattle.pif_job_judge.specs.Texts.{rule_text}
-use Rattle.pif_job_judge.proofs.texts.names.Given as goal
-
-abbrev pub invariant-loop-rule : goal.invariant-loop-rule
-invariant-loop-rule l = l.text.items ≡ flat_map (rule_text l.rules) (take l.rule-index l.rule-items)
