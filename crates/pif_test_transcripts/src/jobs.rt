@@ -1,11 +1,10 @@
 //! What a block asks is done.
 
-use crate::block::{Asked, Block, Done, Streams};
-use crate::deeds::{List, Source};
-use crate::streams::Sink;
-use crate::told::{Begun, come_on, tell_fault};
 use arrayvec::ArrayVec;
 use pif_cli::{Input, Output, Runtime, Status, WatchFiles, WatchJob, command, command_of_process};
+use pif_test_player::{
+    Asked, Begun, Block, Done, List, Sink, Source, Streams, come_on, tell_fault,
+};
 use std::alloc::Global;
 use std::io::{Read, Write};
 use std::process::{ExitCode, Termination};

@@ -2,19 +2,11 @@
 //! names a file of transcripts. Printed are the names that stand in it, what differs, and how many jobs were done.
 #![tactic(auto)]
 
-mod block;
-mod deeds;
 mod jobs;
-mod marks;
-mod process;
-mod streams;
-mod told;
 
-use block::{Asked, Block};
-use deeds::List;
 use jobs::do_block;
 use pif_cli::Runtime;
-use process::Process;
+use pif_test_player::{Asked, Block, List, Process};
 use std::alloc::Global;
 use std::rt::{Env, Files};
 use std::str::from_utf8;

@@ -54,7 +54,9 @@ pub struct Done {
 /// The streams to which a job writes.
 #[derive(Drop)]
 pub struct Streams {
+    /// The output.
     pub output: Sink,
+    /// Standard error.
     pub errors: Sink,
 }
 

@@ -2,10 +2,12 @@
 
 use crate::marks::mark_of;
 use arrayvec::ArrayVec;
-use pif_cli::{Cause, CliFault, Job, JobFault, Progress, WatchFiles, message_of};
-use pif_job_explore::Watch as WatchStates;
-use pif_job_judge::Watch;
-use pif_script::Notice;
+use pif_cli_messages::{JobFault, Progress, WatchFiles, message_of};
+use pif_cli_words::Job;
+use pif_reach::Watch as WatchStates;
+use pif_script::{CliFault, Notice};
+use pif_search::Watch;
+use pif_text::Cause;
 use pif_watch::WatchSteps;
 use std::cell::Cell;
 use std::io;
@@ -18,7 +20,9 @@ pub type Counts = ArrayVec<(usize, usize), 8>;
 /// Keeps how many files were done at each that is begun, and how many steps at each step.
 #[derive(Drop)]
 pub struct Begun {
+    /// The files.
     pub files: Counts,
+    /// The steps.
     pub steps: Counts,
 }
 
