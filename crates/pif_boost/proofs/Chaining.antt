@@ -26,7 +26,7 @@ owned-below m table holds u = by_state (waits_on (owners_in m table) u)
     by_state None = omega (arith, holds.waiters.sound.least)
     by_state (Some k) = by_owner k (owner_at (owners_in m table) k) refl
 
--- so many threads of the chain from `owner` are not `t`, and `at` is next: it reaches `t` just where `owner` does
+-- so many threads of the chain from `owner` are not `t`, and `at` is next: it reaches `t` just if `owner` does
 pub record IsChaining (v : Owners) (owner t hops at : ℕ) : Type 0 where
   pub back : Reaches (WaitsFor v) at t → Reaches (WaitsFor v) owner t
   pub on : Reaches (WaitsFor v) owner t → Reaches (WaitsFor v) at t

@@ -76,7 +76,7 @@ module _ (v : Owners) (q : Queue) (t : NodeLists) (holds : Holds q t) where
           by_same l is at (inr d) =
               let far : (greatest_base v x == p) ≡ false = ne_eqb (greatest_base v x) p (λ s. d (sym at ∙ s)) in rw far refl
 
-  -- where all of them have it, a walk leaves every level
+  -- if all of them have it, a walk leaves every level
   pub stop_levels : AllBut 0 → (p : ℕ) → IsLevel p → level_after_walk v q t p ≡ level_of q t p
   stop_levels all p lp =
       let kept : filter (λ u. greatest_base v u == p) (level_of q t p) ≡ level_of q t p =
@@ -88,7 +88,7 @@ module _ (v : Owners) (q : Queue) (t : NodeLists) (holds : Holds q t) where
       (λ x h. joins_none 0 p x all (λ z. (let r = has-range 1 (length v.seats - 1) x h in absurd (omega (arith, r.0, z))))) in
       (λ i. kept i ++ none i) ∙ append-nil (level_of q t p)
 
-  -- where all but one have it, that one is moved, if it is on a level
+  -- if all but one have it, that one is moved, if it is on a level
   module _ (e to : ℕ) (th : IsThread v e) (is : greatest_base v e ≡ to) (all : AllBut e) where
     -- it is on this level
     module _ (l : ℕ) (at : level_with q t e ≡ Some l) where

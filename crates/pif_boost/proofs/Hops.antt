@@ -16,7 +16,7 @@ use Rattle.pif_kernel_model.proofs.Repairs.{ranked-state}
 use Rattle.pif_kernel_model.proofs.Settled.{ranked-prio}
 use Rattle.pif_kernel_model.proofs.Greatest.{greatest_base-same, greatest_base-nobody, local_is_greatest, nobody_waits}
 
--- the greatest value is the same where two functions agree on those that pass
+-- the greatest value is the same if two functions agree on those that pass
 pub greatest_where_on : (test : ℕ → Bool) (f g : ℕ → ℕ) (n : ℕ) → ((u : ℕ) → u < n → test u ≡ true → f u ≡ g u)
     → greatest_where test f n ≡ greatest_where test g n
 greatest_where_on test f g n same =
@@ -84,7 +84,7 @@ module _ (v now : Owners) (at : ℕ) (w : IsWalked v now at) where
   pub walked-greatest : (t : ℕ) → greatest_base now t ≡ greatest_base v t
   walked-greatest t = greatest_base-same v now w.threads walked-waits walked-base t
 
-  -- where the thread at which it stands has what it is to have by those that wait for it, nothing is left
+  -- if the thread at which it stands has what it is to have by those that wait for it, nothing is left
   pub walked-stop : local_of now at ≡ max (base_of now at) (greatest_waiting now at) → IsWalked v now 0
   walked-stop own =
       record {

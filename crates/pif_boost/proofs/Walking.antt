@@ -31,7 +31,7 @@ use Rattle.pif_kernel_model.proofs.Walks.{admitted_row, repaired-greatest}
 use Rattle.pif_kernel_model.proofs.Settled.{top_is_next, walked-level}
 use Rattle.pif_kernel_model.proofs.Joining.{one_joins}
 
--- what a thread has by those that wait for it, where these stand with their effective priorities
+-- what a thread has by those that wait for it, if these stand with their effective priorities
 pub maximum_is : (v : Owners) (start t : ℕ) → IsRepairedBut start v → 1 ≤ t
     → maximum_of v t ≡ max (base_of v t) (greatest_waiting v t)
 maximum_is v start t repaired one =

@@ -23,7 +23,7 @@ pub record IsDone (m0 : States) (t0 : NodeLists) (q0 : Queue) (hops : ℕ) (m : 
   pub settled : (other : ℕ) → IsRepairedBut other (owners_in m t)
   -- the top waiter of a state is its next one
   pub next : (k u : ℕ) → IsTop (owners_in m t) k u → IsNext (owners_in m t) k u
-  -- each thread of the run queue is at the level of the priority that it is to have, in its place where it keeps its
+  -- each thread of the run queue is at the level of the priority that it is to have, in its place if it keeps its
   -- level, and at most one joins another level
   pub levels : (p : ℕ) → IsLevel p → level_of q t p ≡ level_after_walk (owners_in m0 t0) q0 t0 p
   pub level : (u p : ℕ) → IsLevel p → has u (level_of q t p) ≡ true → p ≡ local_of (owners_in m t) u

@@ -9,7 +9,7 @@ after_hops waits_for t zero = t
 after_hops waits_for t (suc hops) = waits_for (after_hops waits_for t hops)
 
 -- A walk from `start` makes so many hops. A hop is one thread whose maximum is compared with the effective priority
--- that it has. The owner states determine the number: only where the thread compared differs and waits does a walk go
+-- that it has. The owner states determine the number: only if the thread compared differs and waits does a walk go
 -- on.
 pub record IsHopCount (v : Owners) (start hops : ℕ) : Type 0 where
   -- the first thread that was compared is `start`

@@ -10,8 +10,8 @@ use pif_rtmutex::RtMutexes;
 use pif_types::Tid;
 
 /// The threads from `start` on along whom each waits for, in order: `start`, the owner of the state on which it is
-/// queued, and so on, up to the one that waits for nobody. So the first is `start`, also where it has no row, and it is
-/// alone where it has none or waits for nobody. No thread waits for itself through any chain: each comes once, and
+/// queued, and so on, up to the one that waits for nobody. So the first is `start`, also if it has no row, and it is
+/// alone if it has none or waits for nobody. No thread waits for itself through any chain: each comes once, and
 /// there are at most 1,024. (RT-mutex design, the priority chain.)
 pub fn path(owners: &RtMutexes, table: &NodeTable, start: Tid) -> ArrayVec<Tid, 1024>
     requires { HoldsStates owners.now table.now }

@@ -25,7 +25,7 @@ module _ (e : Entries) (t : NodeLists) where
   keys_at w l =
       get_or-map-range_with_len (λ v. key_of (found_in e t v)) 0 key_count w w None l (omega arith)
 
-  -- also beyond all mutexes, where no word is found
+  -- also beyond all mutexes, if no word is found
   pub keys_found : (w : ℕ) → ((f : Found) → found_in e t w ≡ Some f → w < key_count)
       → get_or (keys_in e t) w None ≡ key_of (found_in e t w)
   keys_found w few = by_place (cases_lt w key_count)

@@ -90,7 +90,7 @@ module _ (m : States) (q : Queue) (b : Buckets) (was now : NodeLists) (l : IsLai
       free = λ n own none. k.holders n (inr (omega (arith, l.ready_nodes, l.parked_nodes, l.parked, own.0))) ∙ none;
     }
 
--- words and parked threads are what they were where their lists and nodes were left
+-- words and parked threads are what they were if their lists and nodes were left
 module _ (b : Buckets) (was now : NodeLists) (keeps : KeepsBuckets b was now) (h : HoldsBuckets b was) where
   pub found_there : (w : ℕ) → found_in b.entries now w ≡ found_in b.entries was w
   found_there = found-framed b.entries was now keeps.words

@@ -25,7 +25,7 @@ use Rattle.pif_chains_linked.proofs.ParkingLemmas.{are_parked-park, are_parked-u
 use Rattle.pif_chains_linked.proofs.ParkingKeys.{are_parked-rekey}
 use Rattle.pif_chains_linked.proofs.Standing.{linked, owners_same, queue_same, levels_same, stand_same, laid_parked}
 
--- where a call left the places of the threads, or all
+-- if a call left the places of the threads, or all
 pub placed_rekeyed : (b b' : Buckets) → b' ≡ record b { parked = record b.parked { differing = b'.parked.differing } }
     → b' ≡ record b { parked = record b.parked { places = b'.parked.places; differing = b'.parked.differing } }
 placed_rekeyed b b' e =

@@ -205,7 +205,7 @@ module _ (m : States) (q : Queue) (b : Buckets) (t : NodeLists) (next : ℕ) (h 
       parked = fits_there b t t' keeps_buckets h.stand.buckets (owners_in m' t') b.parked.threads next fits;
     }
 
-  -- where the seat of one thread that is not parked was changed
+  -- if the seat of one thread that is not parked was changed
   module _ (m' : States) (t' : NodeLists) (place : SamePlace m m') (rows : m'.places ≡ m.places)
       (outside : SameOutsideStates m t t') (holds : HoldsStates m' t') (u : ℕ) (x : Task)
       (off : parked_at b.parked t u ≡ None) (seated : owners_in m' t' ≡ with_task u x (owners_in m t)) where

@@ -1,4 +1,4 @@
--- What the tests of lock_pi, trylock_pi and unlock_pi find in words and owner states where they refuse nothing.
+-- What the tests of lock_pi, trylock_pi and unlock_pi find in words and owner states if they refuse nothing.
 use Rattle.std.specs.Prelude.{◌≡◌, ◌≢◌, ℕ, ◌<◌, true, false, length, Option, Result, Ok, Err}
 use Rattle.pif_types.specs.declared.errors.Errno.{Errno}
 use Rattle.pif_model.specs.declared.lines.Took.{Took}

@@ -45,7 +45,7 @@ impl<C: Chains + Drop> Model for KernelOn<C> {
 
 impl<C: Chains + Drop> KernelOn<C> {
     /// A kernel under these limits to which nothing was added, and whose first ticket is `first_ticket`, at least 1. It
-    /// takes all the memory that it will ever need, and fails if that is refused.
+    /// takes all the memory that it will ever need, and answers `NoMemory` if that is refused.
     pub fn new(alloc: Global, limits: Limits, first_ticket: u64) -> Result<KernelOn<C>, NoMemory>
         requires { 1 ≤ first_ticket }
         ensures made { IfOk result (λ k. kernel_of k ≡ new_kernel limits) }
@@ -56,7 +56,7 @@ impl<C: Chains + Drop> KernelOn<C> {
         Ok(KernelOn { parts })
     }
 
-    /// The next ticket, from 1 on: a number that rises with each waiter. Where it is 2^64 - 1, the next waiter has the
+    /// The next ticket, from 1 on: a number that rises with each waiter. If it is 2^64 - 1, the next waiter has the
     /// tickets that are held renumbered from 1 first, in their order, and gets the one behind them.
     pub fn next_ticket(&self) -> u64
         ensures { result ≡ next_ticket self.now }

@@ -22,7 +22,7 @@ impl<C: Chains + Drop> Parts<C> {
         self.wake(t, Woken::Expired);
     }
 
-    /// A living thread leaves the mutex on which it is queued, whose owner state goes where nobody else waits, or the
+    /// A living thread leaves the mutex on which it is queued, whose owner state goes if nobody else waits, or the
     /// variable on which it is parked, and the run queue, and all for whom it waited get their new priorities. It has
     /// this status then, in which it waits for nothing and may not run. What it owns is not touched.
     pub fn leave_as(&mut self, t: Tid, status: Status)
@@ -38,7 +38,7 @@ impl<C: Chains + Drop> Parts<C> {
     }
 
     /// Takes a living thread off the mutex on which it is queued or the variable on which it is parked, or out of the
-    /// run queue. Answers for whom it waited, and itself where it waited for nobody.
+    /// run queue. Answers for whom it waited, and itself if it waited for nobody.
     fn take_off(&mut self, t: Tid) -> Tid
         requires sound { IsSoundInside self.old }
         requires living { is_living (kernel_of self.old) t ≡ true }
@@ -58,7 +58,7 @@ impl<C: Chains + Drop> Parts<C> {
         }
     }
 
-    /// Takes a thread off the mutex on which it is queued. The owner state ends where nobody else is queued on it.
+    /// Takes a thread off the mutex on which it is queued. The owner state ends if nobody else is queued on it.
     /// Answers the owner in it.
     fn dequeue(&mut self, t: Tid, m: MutexId) -> Tid
         requires sound { IsSoundInside self.old }

@@ -18,7 +18,7 @@ impl<C: Chains + Drop> Parts<C> {
         self.chains.base(t).unwrap()
     }
 
-    /// The waiter of a mutex before which this many others get it. `None` where so few wait for it.
+    /// The waiter of a mutex before which this many others get it. `None` if so few wait for it.
     pub fn waiter(&self, m: MutexId, place: u32) -> Option<Tid>
         requires { IsSoundInside self.now }
         ensures { result ≡ slice_get (waiters_in (kernel_of self.now) m) place }
@@ -31,7 +31,7 @@ impl<C: Chains + Drop> Parts<C> {
         Some(at)
     }
 
-    /// The thread that is parked on a variable and before which this many others are taken. `None` where so few are
+    /// The thread that is parked on a variable and before which this many others are taken. `None` if so few are
     /// parked on it.
     pub fn parked_at(&self, c: CondId, place: u32) -> Option<Tid>
         requires { IsSoundInside self.now }
@@ -40,7 +40,7 @@ impl<C: Chains + Drop> Parts<C> {
         self.chains.nth_parked(c, place)
     }
 
-    /// The ready thread before which this many others run. `None` where so few are ready.
+    /// The ready thread before which this many others run. `None` if so few are ready.
     pub fn ready(&self, place: u32) -> Option<Tid>
         requires { IsSoundInside self.now }
         ensures { result ≡ slice_get (ready_in (kernel_of self.now)) place }
@@ -48,7 +48,7 @@ impl<C: Chains + Drop> Parts<C> {
         self.chains.nth(place)
     }
 
-    /// The threads from `t` on along whom each waits for, in order, up to the one that waits for nobody. None where `t`
+    /// The threads from `t` on along whom each waits for, in order, up to the one that waits for nobody. None if `t`
     /// doesn't live.
     pub fn path(&self, t: Tid) -> ArrayVec<Tid, 1024>
         requires { IsSoundInside self.now }

@@ -39,7 +39,7 @@ impl<C: Chains + Drop> Parts<C> {
     }
 
     /// The thread that is taken next from a variable: of those of greatest effective priority that are parked on it the
-    /// first in order of tickets. `None` where none is.
+    /// first in order of tickets. `None` if none is.
     pub fn next_parked(&self, c: CondId) -> Option<Tid>
         requires sound { IsSoundInside self.now }
         ensures next { result ≡ (if has_parked (kernel_of self.now) c then Some (top_parked (kernel_of self.now) c) else None) }

@@ -76,7 +76,7 @@ impl<C: Chains + Drop> Parts<C> {
         }
     }
 
-    /// The effective priority of a thread. `None` where it doesn't live.
+    /// The effective priority of a thread. `None` if it doesn't live.
     pub fn effective(&self, t: Tid) -> Option<Prio>
         requires { IsSoundInside self.now }
         ensures { result ≡ (if is_living (kernel_of self.now) t then Some (effective_in (kernel_of self.now) t) else None) }
@@ -88,7 +88,7 @@ impl<C: Chains + Drop> Parts<C> {
         }
     }
 
-    /// The first thread of the greatest level that has one. `None` where no level has a thread.
+    /// The first thread of the greatest level that has one. `None` if no level has a thread.
     pub fn pick(&self) -> Option<Tid>
         requires { IsSoundInside self.now }
         ensures { result ≡ (if pick_in (kernel_of self.now) == 0 then None else Some (pick_in (kernel_of self.now))) }
@@ -96,7 +96,7 @@ impl<C: Chains + Drop> Parts<C> {
         self.chains.pick()
     }
 
-    /// The key of the owner state of a mutex. `None` where it has none.
+    /// The key of the owner state of a mutex. `None` if it has none.
     pub fn key(&self, m: MutexId) -> Option<Key>
         ensures { result ≡ state_key_at self.now m }
     {

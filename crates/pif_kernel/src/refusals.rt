@@ -18,7 +18,7 @@ use pif_kernel_model::Key;
 use pif_types::{CondId, Errno, MutexId, Prio, Tid};
 use pif_word::{Cell, Words, number};
 
-/// What lock_pi finds where nothing refuses it.
+/// What lock_pi finds if nothing refuses it.
 #[derive(Clone, Copy)]
 pub enum Found {
     /// The mutex has this word and no owner.
@@ -85,7 +85,7 @@ pub fn test_try_lock<C: Chains + Drop>(
     Ok(word)
 }
 
-/// The tests of unlock_pi: EFAULT, EPERM or EINVAL, or else the key of the mutex's owner state. `None` where it has
+/// The tests of unlock_pi: EFAULT, EPERM or EINVAL, or else the key of the mutex's owner state. `None` if it has
 /// none.
 pub fn test_unlock<C: Chains + Drop>(
     parts: &Parts<C>,
@@ -123,7 +123,7 @@ pub fn test_set_prio<C: Chains + Drop>(parts: &Parts<C>, t: Tid, p: u32) -> Resu
     }
 }
 
-/// The tests of wait_requeue_pi: EFAULT or EAGAIN. Where none refuses the variable has a word, as 256 have at most.
+/// The tests of wait_requeue_pi: EFAULT or EAGAIN. If none refuses, the variable has a word, as 256 have at most.
 pub fn test_parking(words: &Words, c: CondId, expected: u32, m: MutexId) -> Result<(), Errno>
     ensures answer { unit_answer result ≡ wait_requeue_answer c expected m (words_of words.now) }
     ensures cond { OnOk result (c ≤ 256) }

@@ -14,7 +14,7 @@
 //! set_prio                                           p not 1 to 99      t lives not
 //! ```
 //!
-//! Those of condition variables, where `w` is the condition word:
+//! Those of condition variables; `w` is the condition word:
 //!
 //! ```text
 //! call             EFAULT   EINVAL     EAGAIN            EINVAL          EINVAL
@@ -22,9 +22,9 @@
 //! cmp_requeue_pi   no word  val not 1  w not `expected`  another target  n = 0, there is s; n lives, s not n
 //! ```
 //!
-//! The last one is tested only where a thread is parked on the variable.
+//! The last one is tested only if a thread is parked on the variable.
 //!
-//! Where nothing refuses, a call touches:
+//! If nothing refuses, a call touches:
 //!
 //! ```text
 //! call                     the word          owner state      who is queued   statuses     run queue
@@ -59,11 +59,11 @@
 //!
 //! expire refuses nothing, and writes no word. `t`, which lives and may not run, leaves the mutex on which it is
 //! queued, or the variable on which it is parked, and the chain above it has its priorities before it joins its level.
-//! The word of the mutex keeps WAITERS, also where nobody is queued on it any more.
+//! The word of the mutex keeps WAITERS, also if nobody is queued on it any more.
 //!
 //! exit refuses nothing. `t` itself leaves the mutex on which it is queued, or the variable on which it is parked. Then
 //! it goes through the mutexes that its robust list and its pending field name, and touches each whose word has n = t,
-//! and where s, if there is one, is t too. A word without s loses its number, gets OWNER_DIED, and keeps WAITERS.
+//! and whose s, if there is one, is t too. A word without s loses its number, gets OWNER_DIED, and keeps WAITERS.
 //!
 //! The calls that read touch nothing. `waiter`, `parked` and `ready` answer the thread at a place of an order, 0 for
 //! the next: the waiters of a mutex and the threads that are parked on a variable stand by their effective priorities

@@ -34,7 +34,7 @@ pub trait PiKernel {
         ensures value { result ≡ (seat_at (meaning self.now) t).status };
 
     /// The effective priority of the thread `t`: the greatest base priority of it and of all that wait for it through
-    /// any chain. `None` where no living thread has that number.
+    /// any chain. `None` if no living thread has that number.
     fn effective(&self, t: Tid) -> Option<Prio>
         ensures value { result ≡ (if is_living (meaning self.now) t then Some (effective_in (meaning self.now) t) else None) };
 
@@ -44,38 +44,38 @@ pub trait PiKernel {
         ensures value { result ≡ (seat_at (meaning self.now) t).base };
 
     /// The waiter of the mutex `m` before which `place` others get it, as long as no priority changes and nobody comes
-    /// or goes: those of greatest effective priority first, and of equals the first in arrival. `None` where so few
+    /// or goes: those of greatest effective priority first, and of equals the first in arrival. `None` if so few
     /// wait for it.
     fn waiter(&self, m: MutexId, place: u32) -> Option<Tid>
         ensures value { result ≡ slice_get (waiters_in (meaning self.now) m) place };
 
     /// The thread that is parked on the variable `c` and before which `place` others are taken from it, as long as no
-    /// priority changes and nobody comes or goes. `None` where so few are parked on it.
+    /// priority changes and nobody comes or goes. `None` if so few are parked on it.
     fn parked(&self, c: CondId, place: u32) -> Option<Tid>
         ensures value { result ≡ slice_get (parked_in (meaning self.now) c) place };
 
     /// The ready thread before which `place` others run, as long as none comes or goes: those of the greatest level
-    /// first, and of each level in order of joining (sched(7), SCHED_FIFO). `None` where so few are ready.
+    /// first, and of each level in order of joining (sched(7), SCHED_FIFO). `None` if so few are ready.
     fn ready(&self, place: u32) -> Option<Tid>
         ensures value { result ≡ slice_get (ready_in (meaning self.now)) place };
 
     /// The threads from `t` on along whom each waits for, in order: `t`, the owner of the mutex on which it is queued,
-    /// and so on, up to the one that waits for nobody. Each comes once. None where no living thread has the number `t`.
+    /// and so on, up to the one that waits for nobody. Each comes once. None if no living thread has the number `t`.
     fn path(&self, t: Tid) -> ArrayVec<Tid, 1024>
         ensures path { IsPathIn (meaning self.now) t result.items };
 
-    /// The thread that runs next: the first that joined the greatest level (sched(7), SCHED_FIFO). `None` where none is
+    /// The thread that runs next: the first that joined the greatest level (sched(7), SCHED_FIFO). `None` if none is
     /// ready.
     fn pick(&self) -> Option<Tid>
         ensures value { result ≡ (if pick_in (meaning self.now) == 0 then None else Some (pick_in (meaning self.now))) };
 
-    /// The kernel call lock_pi, FUTEX_LOCK_PI of futex(2), by the ready thread `t`. Where the mutex has no owner, `t`
+    /// The kernel call lock_pi, FUTEX_LOCK_PI of futex(2), by the ready thread `t`. If the mutex has no owner, `t`
     /// takes it: the word gets its number and keeps its flag OWNER_DIED alone. Else `t` is queued on it: the word gets
     /// its flag WAITERS, and the owner and all for whom that one waits are boosted.
     ///
-    /// Refused, in this order, by EFAULT where the mutex has no word; EDEADLK where `t` owns it; EINVAL where the word
-    /// has no number and the mutex an owner state; ESRCH where no living thread has the number in the word; EINVAL
-    /// where the owner state has another one; EDEADLK where waiting would close a cycle.
+    /// Refused, in this order, by EFAULT if the mutex has no word; EDEADLK if `t` owns it; EINVAL if the word
+    /// has no number and the mutex an owner state; ESRCH if no living thread has the number in the word; EINVAL
+    /// if the owner state has another one; EDEADLK if waiting would close a cycle.
     fn lock_pi(&mut self, words: &mut Words, t: Tid, m: MutexId) -> Result<Took, Errno>
         requires added { has_seat (meaning self.old) t ≡ true }
         requires ready { is_ready (seat_at (meaning self.old) t).status ≡ true }
@@ -88,8 +88,8 @@ pub trait PiKernel {
     /// owner: the word gets its number and keeps its flag OWNER_DIED alone. It never waits, and the kernel stays as it
     /// was.
     ///
-    /// Refused, in this order, by EFAULT where the mutex has no word; EDEADLK where `t` owns it; EAGAIN where the word
-    /// has another number; EINVAL where it has none and the mutex has an owner state.
+    /// Refused, in this order, by EFAULT if the mutex has no word; EDEADLK if `t` owns it; EAGAIN if the word
+    /// has another number; EINVAL if it has none and the mutex has an owner state.
     fn trylock_pi(&self, words: &mut Words, t: Tid, m: MutexId) -> Result<(), Errno>
         requires added { has_seat (meaning self.now) t ≡ true }
         requires ready { is_ready (seat_at (meaning self.now) t).status ≡ true }
@@ -101,8 +101,8 @@ pub trait PiKernel {
     /// priority the first in arrival: the word gets that number with WAITERS, that thread is ready and joins its level,
     /// and the boost of `t` by the waiters ends.
     ///
-    /// Refused, in this order, by EFAULT where the mutex has no word; EPERM where `t` isn't its owner by the word;
-    /// EINVAL where the owner state has another one.
+    /// Refused, in this order, by EFAULT if the mutex has no word; EPERM if `t` isn't its owner by the word;
+    /// EINVAL if the owner state has another one.
     fn unlock_pi(&mut self, words: &mut Words, t: Tid, m: MutexId) -> Result<(), Errno>
         requires added { has_seat (meaning self.old) t ≡ true }
         requires ready { is_ready (seat_at (meaning self.old) t).status ≡ true }
@@ -115,7 +115,7 @@ pub trait PiKernel {
     /// variable, behind all that are, and leaves the run queue; it is to get the mutex once it is taken from the
     /// variable. It isn't asked who owns the mutex. No word is written, and all other threads stay as they were.
     ///
-    /// Refused, in this order, by EFAULT where the variable or the mutex has no word; EAGAIN where the condition word
+    /// Refused, in this order, by EFAULT if the variable or the mutex has no word; EAGAIN if the condition word
     /// isn't `expected`.
     fn wait_requeue_pi(
         &mut self,
@@ -134,15 +134,15 @@ pub trait PiKernel {
     /// The kernel call cmp_requeue_pi, FUTEX_CMP_REQUEUE_PI of futex(2). It takes `val`, which is to be 1, and at most
     /// `more` threads more from the variable, for the mutex: one after another, each time the one of greatest effective
     /// priority then, and of several the first that was parked. By the word as it is then, a thread that is taken owns
-    /// the mutex where it has no owner: the word gets its number and keeps its flag OWNER_DIED alone. Where the number
+    /// the mutex if it has no owner: the word gets its number and keeps its flag OWNER_DIED alone. If the number
     /// is of a living thread, for which it can wait without closing a cycle, it is queued on the mutex as by lock_pi.
     /// Else it is woken to lock the mutex itself. Each is done whole, with all that it boosts, before the next is
-    /// taken. Answers how many were taken: 0 where nobody is parked on the variable, and then nothing has changed. The
+    /// taken. Answers how many were taken: 0 if nobody is parked on the variable, and then nothing has changed. The
     /// condition word is never written.
     ///
-    /// Refused, in this order, by EFAULT where the variable or the mutex has no word; EINVAL where `val` isn't 1;
-    /// EAGAIN where the condition word isn't `expected`; EINVAL where a thread that is parked on the variable is to get
-    /// another mutex; and, if a thread is parked on it, EINVAL where the word has no number and the mutex an owner
+    /// Refused, in this order, by EFAULT if the variable or the mutex has no word; EINVAL if `val` isn't 1;
+    /// EAGAIN if the condition word isn't `expected`; EINVAL if a thread that is parked on the variable is to get
+    /// another mutex; and, if a thread is parked on it, EINVAL if the word has no number and the mutex an owner
     /// state, or the number of a living thread and the owner state another.
     fn cmp_requeue_pi(
         &mut self,
@@ -160,7 +160,7 @@ pub trait PiKernel {
 
     /// Gives the thread `t` another base priority, 1 to 99 (pthread_setschedprio of POSIX). Its effective priority and
     /// those of all for whom it waits follow, and among equals it keeps its place. A ready thread whose level changes
-    /// joins the end of the new one. EINVAL where the priority is outside its range, else ESRCH where no living thread
+    /// joins the end of the new one. EINVAL if the priority is outside its range, else ESRCH if no living thread
     /// has that number; nothing has changed then.
     fn set_prio(&mut self, t: Tid, p: u32) -> Result<(), Errno>
         ensures answer { unit_answer result ≡ set_prio_answer t p (meaning self.old) }
@@ -176,7 +176,7 @@ pub trait PiKernel {
 
     /// The deadline of the living thread `t`, which is queued, parked or stopped, is reached (the timeout of futex(2),
     /// FUTEX_LOCK_PI and FUTEX_WAIT_REQUEUE_PI). It leaves the mutex on which it is queued, whose owner state goes
-    /// where nobody else waits, or the variable on which it is parked, and all for whom it waited get their new
+    /// if nobody else waits, or the variable on which it is parked, and all for whom it waited get their new
     /// priorities. Then it is ready, and joins the end of its level. No word is written: that of a mutex on which
     /// nobody is queued any more may keep WAITERS.
     fn expire(&mut self, t: Tid)
@@ -186,10 +186,10 @@ pub trait PiKernel {
         ensures kept { IsKernel (meaning self.new) };
 
     /// The living thread `t` ends, in whatever it does, and on any words and robust lists (robust futexes of Linux;
-    /// get_robust_list(2)). First it leaves the mutex on which it is queued, whose owner state goes where nobody else
+    /// get_robust_list(2)). First it leaves the mutex on which it is queued, whose owner state goes if nobody else
     /// waits, or the variable on which it is parked, and the run queue, and all for whom it waited get their new
     /// priorities. Then each mutex that its robust list and its pending field name passes on, in the order of the list
-    /// and the pending one last, where its word has the number of `t`: with an owner state of `t` the next waiter owns
+    /// and the pending one last, if its word has the number of `t`: with an owner state of `t` the next waiter owns
     /// it, is ready and joins its level, and the word gets that number with WAITERS and OWNER_DIED; with no owner state
     /// the word gets OWNER_DIED, keeps WAITERS as it was, and loses the number; with one of another owner nothing
     /// changes. No health word is written. Owner states that `t` owns still keep their waiters, and boost nobody. At

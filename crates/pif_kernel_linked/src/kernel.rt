@@ -33,7 +33,7 @@ impl Model for LinkedKernel {
 
 impl LinkedKernel {
     /// A kernel under these limits to which nothing was added, and whose first ticket is `first_ticket`, at least 1. It
-    /// takes all the memory that it will ever need, and fails if that is refused.
+    /// takes all the memory that it will ever need, and answers `NoMemory` if that is refused.
     pub fn new(alloc: Global, limits: Limits, first_ticket: u64) -> Result<LinkedKernel, NoMemory>
         requires { 1 ≤ first_ticket }
         ensures made { IfOk result (λ k. kernel_of k ≡ new_kernel limits) }

@@ -55,7 +55,7 @@ rise_push f g least (w ∷ ws) ticket t m next r off same new lt =
         let at : f w.0 ≡ g w.0 = sym (same w.0 ne) in
         (omega (arith, r.0), subst (λ (n : ℕ). Rise g (n + 1) (ws ++ (t, m) ∷ []) next) at (ih (rw there at off)))
 
--- a mutex more has a waiter, where it had none
+-- a mutex more has a waiter, if it had none
 pub mutexes_push : (ws : List (ℕ × ℕ)) (t m : ℕ)
     → mutexes_of (ws ++ (t, m) ∷ []) ≡ (if has_waiter ws m then mutexes_of ws else mutexes_of ws + 1)
 mutexes_push [] t m = refl

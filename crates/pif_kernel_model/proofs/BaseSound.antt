@@ -1,4 +1,4 @@
--- What is kept stays sound where a thread gets another base priority.
+-- What is kept stays sound if a thread gets another base priority.
 use Rattle.std.proofs.Common.{◌≡◌, ◌≢◌, ◌⊎◌, ℕ, ◌<◌, ◌≤◌, ◌==◌, true, List, length, Option, option_map, option_and_then, unwrap_or, Ok, refl, sym, ap, subst, ◌∙◌, inl, inr, arith, length-set}
 use Rattle.std.proofs.Math.Path.{fun_ext}
 use Rattle.std.proofs.lemmas.Bool.{cases_eq}

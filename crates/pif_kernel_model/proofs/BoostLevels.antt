@@ -138,7 +138,7 @@ not_joined k u joining e =
     false_from_ne_true (has u (filter joining (range_with_len 1 k))) (λ h.
     let r = has-range 1 k u (has-filter joining u (range_with_len 1 k) h).0 in let l : u < 1 + k = r.1 in absurd (omega arith))
 
--- so it is on a level where it was
+-- so it is on a level if it was
 pub stage-has : (k u : ℕ) (f : ℕ → ℕ) (p : ℕ) (joining : ℕ → Bool) (xs : List ℕ) → u ≡ k + 1 → has u (stage k f p joining xs) ≡ has u xs
 stage-has k u f p joining xs e =
     has-append u (filter (stays k f p) xs) (filter joining (range_with_len 1 k)) ∙ by_test (cases_Bool (has u xs))

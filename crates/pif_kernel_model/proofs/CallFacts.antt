@@ -87,7 +87,7 @@ pub kernel_handed : (m : ℕ) (k : Kernel) → kernel_state_at k m ≢ 0
 unfolding kernel_after_unlock
 kernel_handed m k s = let some : (kernel_state_at k m == 0) ≡ false = grind (arith, nat_tests) in rw some refl
 
--- where a mutex has a key, it has an owner state, and else it has none
+-- if a mutex has a key, it has an owner state, and else it has none
 pub state_keyed : (p : Inside) → IsSoundInside p → (m : ℕ) (key : Option ℕ) → key ≡ state_key_at p m → is_some key ≡ true
     → kernel_state_at (kernel_of p) m ≢ 0
 state_keyed p h m None at some = absurd (false≢true some)

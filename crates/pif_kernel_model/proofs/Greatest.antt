@@ -256,7 +256,7 @@ module _ (v : Owners) (start : ℕ) (sound : AreSoundOwners v) (repaired : IsRep
       let least : local_of v best.0 ≤ local_of v t = local_along best.2 th free in
       omega (arith, r.3, most, own, least, best.3)
 
-  -- and it stays as it is where it is given none
+  -- and it stays as it is if it is given none
   pub idle : start < length v.seats → 1 ≤ base_of v start → (t : ℕ) → IsThread v t → greatest_base v t ≡ 0
       → task_at v t ≡ with_effective 0 (task_at v t)
   idle row admitted t th e = unranked (task_at v t) (local_none t th free e) (λ w is. rank w is ∙ local_none t th free e)

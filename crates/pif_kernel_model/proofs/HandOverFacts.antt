@@ -6,7 +6,7 @@ use Rattle.pif_model.specs.PiKernel.{seat_at as kernel_seat_at}
 use Rattle.pif_kernel_model.specs.Owners.{Owners, task_at, owner_at, count, IsTop}
 use Rattle.pif_kernel_model.specs.Inside.{Inside, IsSoundInside, kernel_of, state_key_at, state_at}
 
--- the keys and owner states in which m was handed to u, its next waiter: where others still wait for m, u is the owner
+-- the keys and owner states in which m was handed to u, its next waiter: if others still wait for m, u is the owner
 -- in its owner state, and else it has none
 pub record IsHanded (p : Inside) (keys : List (Option ℕ)) (owners : Owners) (u m key : ℕ) : Type 0 where
   pub seats : owners.seats ≡ set p.owners.seats u (record (task_at p.owners u) { wait = None })
@@ -37,7 +37,7 @@ pub record IsHanding (old p x : Inside) (t m key u : ℕ) : Type 0 where
   pub rest : x.arrivals ≡ without p.arrivals u
   pub same : kernel_of p ≡ kernel_of old
 
--- the same, where what was kept is written by what is kept now
+-- the same, if what was kept is written by what is kept now
 abbrev pub IsHandedOn : (old p x : Inside) (t m key u : ℕ) → Type 0
 IsHandedOn old p x t m key u =
     IsHanding old (record x { keys = p.keys; owners = p.owners; arrivals = p.arrivals }) x t m key u

@@ -1,4 +1,4 @@
--- What is kept stays sound where a mutex is handed to its next waiter.
+-- What is kept stays sound if a mutex is handed to its next waiter.
 use Rattle.std.proofs.Common.{◌≡◌, ◌≢◌, ◌⊎◌, ℕ, ◌+◌, ◌<◌, ◌≤◌, ◌==◌, cond, Bool, true, false, if◌then◌else◌, List, length, get_or, set, Option, Some, None, IsSome, is_some, option_map, option_and_then, unwrap_or, refl, sym, ap, subst, ◌∙◌, inl, inr, arith, length-set}
 use Rattle.std.specs.Cmp.{nat_cmp_total}
 use Rattle.std.specs.FinMap.{len-insert}
@@ -145,7 +145,7 @@ module _ (p : Inside) (t m key u : ℕ) (d : IsHandable p t m key) (top : IsTop 
   pub given_state : IsSome (owner_at given key)
   given_state = ap is_some (get-insert_same p.owners.owners key u key refl)
 
-  -- where no other waits for the mutex, nobody is queued on its state
+  -- if no other waits for the mutex, nobody is queued on its state
   pub given_idle : has_waiter rest m ≡ false → HasNoWaiter given key
   given_idle none x e = by_place (cases_eq x u)
     where
@@ -276,7 +276,7 @@ module _ (p : Inside) (t m key u : ℕ) (d : IsHandable p t m key) (top : IsTop 
     status_here x e =
         ap (λ (v : ℕ). status_at mid v) e ∙ get_or-set_same p.statuses u (Ready Owns) (Ready Fresh) next_added
 
-    -- the owner state of m, where others wait for it or not
+    -- the owner state of m, by whether others wait for it
     here_some : has_waiter rest m ≡ true → state_key_at mid m ≡ Some key
     here_some e = o.here ∙ rw e refl
 

@@ -1,4 +1,4 @@
--- Where nothing is left to repair but at one thread, and each thread of the run queue waits for nobody and is on the
+-- If nothing is left to repair but at one thread, and each thread of the run queue waits for nobody and is on the
 -- level of its effective priority, at most one thread joins another level.
 use Rattle.std.proofs.Common.{◌≡◌, ◌≢◌, ◌⊎◌, ◌≤◌, ℕ, suc, true, false, ◌==◌, not, Option, Some, None, length, refl, sym, ap, ◌∙◌, subst, inl, inr}
 use Rattle.std.proofs.lemmas.Bool.{cases_Bool, and_parts, eqb-true, eq-eqb, true≢false}

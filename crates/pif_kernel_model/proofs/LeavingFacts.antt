@@ -36,7 +36,7 @@ no_wait s e = by_wait s.wait refl e
     by_wait None is e = λ i. record s { wait = is i }
     by_wait (Some w) is e = let none : Some w.state ≡ None = sym (ap (option_map (λ (w : Wait). w.state)) is) ∙ e in cc
 
--- a mutex has a key only where it has a waiter
+-- a mutex has a key only if it has a waiter
 keyed : (p : Inside) → IsSoundInside p → (m : ℕ) → state_key_at p m ≡ (if has_waiter p.arrivals m then state_key_at p m else None)
 keyed p h m = by_test (has_waiter p.arrivals m) refl (state_key_at p m) refl
   where
@@ -167,7 +167,7 @@ module _ (p : Inside) (t m : ℕ) (h : IsSoundInside p) (queued : (kernel_seat_a
     row_other : (u : ℕ) → u ≢ t → task_at freed u ≡ task_at p.owners u
     row_other u n = get_or-set_other p.owners.seats t u row no_task n
 
-    -- where no other waits for the mutex, nobody is queued on its state
+    -- if no other waits for the mutex, nobody is queued on its state
     pub freed_idle : has_waiter rest m ≡ false → HasNoWaiter freed key
     freed_idle none u e = by_place (cases_eq u t)
       where

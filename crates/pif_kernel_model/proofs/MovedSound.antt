@@ -1,4 +1,4 @@
--- What is kept stays sound where a thread that waits for nothing gets another status, by which it waits for nothing
+-- What is kept stays sound if a thread that waits for nothing gets another status, by which it waits for nothing
 -- either, whatever becomes of its place in the run queue and among the parked threads.
 use Rattle.std.proofs.Common.{◌≡◌, ℕ, List, length, set, sym, ap, ◌∙◌, arith, length-set}
 use Rattle.pif_nodes_model.specs.Table.{NodeLists}

@@ -15,7 +15,7 @@ use Rattle.pif_kernel_model.specs.Inside.{Inside, IsSoundInside, kernel_of}
 use Rattle.pif_kernel_model.specs.Takings.{first_parked, goes_before, have_target}
 use Rattle.pif_kernel_model.proofs.Seats.{parked_seen}
 
--- one more at the end of some is the first greatest where it is above all before it
+-- one more at the end of some is the first greatest if it is above all before it
 pub greatest_push : (ps : List (ℕ × ℕ)) (q : ℕ × ℕ) → (ps ≡ [] → ⊥)
     → first_greatest (ps ++ q ∷ []) ≡ (if nat_lt (first_greatest ps).1 q.1 then q else first_greatest ps)
 unfolding first_greatest
@@ -47,12 +47,12 @@ unfolding first_greatest
 greatest_alone q = let last : nat_lt q.1 0 ≡ false = grind (arith, nat_tests) in rw last refl
 
 module _ (f : ℕ → ℕ) where
-  -- where nobody waits for c, its waiters are none
+  -- if nobody waits for c, its waiters are none
   waiters_none : (ws : List (ℕ × ℕ)) (c : ℕ) → has_waiter ws c ≡ false → waiters_with f ws c ≡ []
   waiters_none [] c h = refl
   waiters_none (w ∷ ws) c h = grind (arith, nat_tests, waiters_none ws c)
 
-  -- and where somebody does, they are some
+  -- and if somebody does, they are some
   waiters_some : (ws : List (ℕ × ℕ)) (c : ℕ) → has_waiter ws c ≡ true → waiters_with f ws c ≡ [] → ⊥
   waiters_some [] c h e = true≢false (sym h)
   waiters_some (w ∷ ws) c h e =
@@ -176,7 +176,7 @@ pub next_seen : (p : Inside) → IsSoundInside p → (c : ℕ) → first_parked 
     ≡ (if has_parked (kernel_of p) c then Some (top_parked (kernel_of p) c) else None)
 next_seen p h c = λ i. first_parked (fun_ext h.local i) (parked_pairs (sym (parked_seen p) i)) c
 
--- some thread has another target where not each has this one
+-- some thread has another target if not each has this one
 another_target : (ps : List Parking) (c m : ℕ) → not (have_target ps c m)
     ≡ list_any (λ (x : Parking). if x.cond == c then (if x.target == m then false else true) else false) ps
 another_target [] c m = refl

@@ -174,7 +174,7 @@ owner_at-with_owner_other k owner v j n = get-insert_other v.owners k owner j n
 pub owner_at-without_state_other : (k : ℕ) (v : Owners) (j : ℕ) → j ≢ k → owner_at (without_state k v) j ≡ owner_at v j
 owner_at-without_state_other k v j n = get-remove_other v.owners k j n
 
--- states with other owners keep all but that there is no cycle, where each waited state is still there
+-- states with other owners keep all but that there is no cycle, if each waited state is still there
 sound-owners : (owners : FinMap nat_cmp ℕ) (v : Owners)
     → ((t : ℕ) (w : Wait) → (task_at v t).wait ≡ Some w → IsSome (owner_at v w.state) → IsSome (get owners w.state))
     → IsAcyclic (record v { owners = owners }) → AreSoundOwners v → AreSoundOwners (record v { owners = owners })
@@ -261,7 +261,7 @@ sound-ended k v free s = sound-owners (remove v.owners k) v kept (NoCycle-fewer 
         let p : (w : Wait) × ((task_at v a).wait ≡ Some w) × (owner_at (without_state k v) w.state ≡ Some b) = WaitsFor-some (without_state k v) a b h in
         WaitsFor-from v a b p.0 p.1 (sym (owner_at-without_state_other k v p.0.state (apart a p.0 p.1)) ∙ p.2) h.1
 
--- who isn't the owner of a state can be queued on it where the owner waits for nothing
+-- who isn't the owner of a state can be queued on it if the owner waits for nothing
 pub no_cycle-idle_owner : (v : Owners) (k owner t : ℕ) → owner_at v k ≡ Some owner → waits_on v owner ≡ None → owner ≢ t
     → (n : ℕ) → owner_at v k ≡ Some n → Reaches (WaitsFor v) n t → ⊥
 no_cycle-idle_owner v k owner t e idle other n is r =

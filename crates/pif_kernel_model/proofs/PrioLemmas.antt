@@ -1,4 +1,4 @@
--- What `base` and `local` say where they answer a priority, and where they answer none.
+-- What `base` and `local` say if they answer a priority, and if they answer none.
 use Rattle.std.proofs.Common.{◌≡◌, ◌⊎◌, ◌↔◌, ℕ, ◌<◌, ◌≤◌, Option, None, IsSome, inl, inr, sym, ◌∙◌, ap, arith}
 use Rattle.std.specs.Option.{is_some}
 use Rattle.std.proofs.lemmas.Bool.{cases_lt, true≢false}

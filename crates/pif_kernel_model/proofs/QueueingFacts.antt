@@ -1,4 +1,4 @@
--- What is known where a thread is queued on a mutex: a ticket was taken, and there is an owner state.
+-- What is known if a thread is queued on a mutex: a ticket was taken, and there is an owner state.
 use Rattle.std.proofs.Common.{◌≡◌, ◌≢◌, ◌⊎◌, ℕ, ◌+◌, ◌<◌, ◌≤◌, true, false, List, [], ◌∷◌, ◌++◌, length, set, Option, Some, None, get_or, option_map, option_and_then, unwrap_or, refl, sym, ap, subst, ◌∙◌, inl, inr, arith}
 use Rattle.std.proofs.Math.Path.{fun_ext}
 use Rattle.std.proofs.lemmas.Bool.{cases_eq, true≢false}
@@ -48,7 +48,7 @@ pub record IsQueueing (p : Inside) (t m owner : ℕ) : Type 0 where
   pub state : state_at p m ≢ 0 → state_at p m ≡ owner
   pub unreached : reaches_within (length (kernel_of p).seats) (waits_for (kernel_of p)) owner t ≡ false
 
--- the keys and owner states are open too where only the table became another one
+-- the keys and owner states are open too if only the table became another one
 open_moved : (p x : Inside) (m owner key : ℕ) → IsOpen p x.keys x.owners m owner key
     → IsOpen (record p { queue = x.queue; table = x.table }) x.keys x.owners m owner key
 open_moved p x m owner key o = record {
@@ -93,7 +93,7 @@ entry now p x t m owner key ticket named w next rises before h o =
       later = omega (arith, next);
     }
 
--- the same, where what is kept is written by the one with the owner state
+-- the same, if what is kept is written by the one with the owner state
 abbrev pub IsEntered : (now p x : Inside) (t m owner key ticket : ℕ) → Type 0
 IsEntered now p x t m owner key ticket =
     IsEntry now (record x { keys = p.keys; owners = p.owners }) x t m owner key ticket
@@ -104,7 +104,7 @@ folded now p x t m owner key ticket i =
     subst (λ (y : Inside). IsEntry now y x t m owner key ticket)
     (sym (ap (λ (z : Inside). record z { keys = p.keys; owners = p.owners }) i.shape)) i
 
--- for whom a thread waits, where there is an owner state
+-- for whom a thread waits, if there is an owner state
 waits_open : (now p x : Inside) (t m owner key ticket : ℕ) → IsEntry now p x t m owner key ticket → (u : ℕ)
     → owners_wait_for x.owners u ≡ waits_for (kernel_of p) u
 waits_open now p x t m owner key ticket i u =

@@ -1,4 +1,4 @@
--- What is kept stays sound where a thread is queued on a mutex.
+-- What is kept stays sound if a thread is queued on a mutex.
 use Rattle.std.proofs.Common.{◌≡◌, ◌≢◌, ◌⊎◌, ℕ, ◌+◌, ◌<◌, ◌==◌, true, false, if◌then◌else◌, List, [], ◌∷◌, ◌++◌, length, get_or, set, Option, Some, None, IsSome, is_some, option_map, option_and_then, unwrap_or, refl, sym, ap, subst, ◌∙◌, inl, inr, arith, length-set}
 use Rattle.std.specs.List.{filter}
 use Rattle.std.proofs.lemmas.Bool.{cases_eq, true≢false, false≢true}
@@ -238,7 +238,7 @@ module _ (p : Inside) (keys : List (Option ℕ)) (owners : Owners) (t m owner ke
       states_seen mid n ∙ state_other n ne ∙ sym (states_seen p n)
       ∙ sym (get_or-set_other (kernel_of p).states m n owner 0 ne)
 
-  -- where a thread is queued on m, there was an owner state
+  -- if a thread is queued on m, there was an owner state
   waited : (u : ℕ) → queued_on (status_at p u) ≡ m → state_at p m ≢ 0
   waited u e z =
       let status : (kernel_seat_at (kernel_of p) u).status ≡ Queued m

@@ -85,7 +85,7 @@ module _ (c m expected : ℕ) (ws : Words) where
           unfolding requeue_answer
           requeue_goes p f = rw (e, is_one, is_same, o, p, f) refl
 
--- where nobody is parked on the variable, none are
+-- if nobody is parked on the variable, none are
 pub count_none : (ps : List Parking) (c : ℕ) → has_waiter (parked_pairs ps) c ≡ false
     → length (filter (λ (x : Parking). x.cond == c) ps) ≡ 0
 count_none [] c e = refl
@@ -98,7 +98,7 @@ count_none (x ∷ ps) c e =
 min_none : (n k : ℕ) → n ≡ 0 → 0 ≡ min n k
 min_none n k e = grind (arith, nat_tests)
 
--- where nobody is parked, that many are taken
+-- if nobody is parked, that many are taken
 pub none_counted : (k : Kernel) (c more : ℕ) → has_parked k c ≡ false → 0 ≡ min (parked_count k c) (more + 1)
 none_counted k c more e = min_none (parked_count k c) (more + 1) (count_none k.parked c e)
 
@@ -115,7 +115,7 @@ module _ (n s : ℕ) (k : Kernel) where
       let some : (s == 0) ≡ false = grind (arith, nat_tests) in
       let none : (n == 0) ≡ true = grind (arith, nat_tests) in rw (some, none) refl
 
-  -- and one with the number of a living thread where the state has that number
+  -- and one with the number of a living thread if the state has that number
   pub fits_owner : s ≢ 0 → n ≢ 0 → is_living k n ≡ true → (s == n) ≡ fits_state n s k
   fits_owner d e l =
       λ i. if sym (ne_eqb s 0 d) i then true else

@@ -1,4 +1,4 @@
--- What is kept stays sound where a ready thread rests: it leaves its level for another status, and waits for nothing.
+-- What is kept stays sound if a ready thread rests: it leaves its level for another status, and waits for nothing.
 use Rattle.std.proofs.Common.{◌≡◌, ℕ, true, ◌++◌, List, [], ◌∷◌, set, refl, sym, ap, ◌∙◌, subst}
 use Rattle.pif_nodes_model.specs.Lists.{list_without}
 use Rattle.pif_nodes_model.specs.Table.{NodeLists}
@@ -44,7 +44,7 @@ module _ (p : Inside) (x : Status) (ps : List Parking) (q : Queue) (tb : NodeLis
       (seats_of-set_status p.statuses p.owners.seats t x (fits p h).few) refl (λ m. refl) refl refl
       (length-left p after t) (levels_left p after t levels)
 
-  -- what is kept is sound where that one is a kernel
+  -- what is kept is sound if that one is a kernel
   pub sound_rested : IsKernel rested → IsSoundInside after
   sound_rested kept =
       sound_moved p x ps q tb t h idle nothing place holds (subst IsKernel (sym kernel_rested) kept)

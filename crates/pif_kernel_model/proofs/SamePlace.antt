@@ -15,7 +15,7 @@ unmoved m now e = record {
   threads = ap (λ (x : States). x.threads) e;
 }
 
--- where a call gave threads other rows
+-- if a call gave threads other rows
 pub same_place : (m now : States) → now ≡ record m { rows = now.rows } → SamePlace m now
 same_place m now e = record {
   list = ap (λ (x : States). x.first_list) e;
@@ -23,7 +23,7 @@ same_place m now e = record {
   threads = ap (λ (x : States). x.threads) e;
 }
 
--- where it made a state, or ended one
+-- if it made a state, or ended one
 pub same_place_made : (m now : States) → now ≡ record m { free = now.free; owners = now.owners; places = now.places }
     → SamePlace m now
 same_place_made m now e = record {
@@ -32,7 +32,7 @@ same_place_made m now e = record {
   threads = ap (λ (x : States). x.threads) e;
 }
 
--- and where it handed one over
+-- and if it handed one over
 pub same_place_handed : (m now : States) → now ≡ record m { rows = now.rows; owners = now.owners } → SamePlace m now
 same_place_handed m now e = record {
   list = ap (λ (x : States). x.first_list) e;

@@ -25,7 +25,7 @@ use Rattle.pif_kernel_model.proofs.Walks.{admitted_row, repaired-local}
 use Rattle.pif_kernel_model.proofs.Repairs.{IsRepairedTo, greatest-kept}
 use Rattle.pif_nodes_model.proofs.LevelWithLemmas.{queued_found}
 
--- where each thread has the effective priority that it is to have, that is the greatest of its base priority and of
+-- if each thread has the effective priority that it is to have, that is the greatest of its base priority and of
 -- those of the threads that wait for it
 settled_local : (v : Owners) → ((x : ℕ) → x < length v.seats → local_of v x ≡ greatest_base v x) → (t : ℕ) → IsThread v t
     → local_of v t ≡ max (base_of v t) (greatest_waiting v t)
@@ -85,7 +85,7 @@ off : (a start u : ℕ) → (a ≡ 0) ⊎ (a ≡ start) → 1 ≤ u → u ≢ st
 off a start u (inl z) one ne e = absurd (omega arith)
 off a start u (inr s) one ne e = ne (sym e ∙ s)
 
--- where a thread waits otherwise than before, and waited and waits for nobody or for `start`, that one alone is left
+-- if a thread waits otherwise than before, and waited and waits for nobody or for `start`, that one alone is left
 pub rewaited : (v : Owners) (t start : ℕ) (w : Option Wait) → ((s : ℕ) → IsRepairedBut s v)
     → (waits_for v t ≡ 0) ⊎ (waits_for v t ≡ start) → (waits_for (with_wait t w v) t ≡ 0) ⊎ (waits_for (with_wait t w v) t ≡ start)
     → ((rank : Key) → option_map (λ (x : Wait). x.rank) w ≡ Some rank → rank.prio ≡ local_of v t) → IsRepairedBut start (with_wait t w v)

@@ -98,7 +98,7 @@ unadded_off p h t le r =
     by_zero true past = refl
     by_zero false past = rw past refl
 
--- where threads stand with their effective priorities, who is on a level stands on its own
+-- if threads stand with their effective priorities, who is on a level stands on its own
 pub listed_kept : (p : Inside) → IsFitted p → IsKernel (kernel_of p)
     → ((t : ℕ) → (task_at p.owners t).local ≡ effective_in (kernel_of p) t)
     → (t r : ℕ) → is_among (level_at (kernel_of p).levels r) t ≡ true → IsListed p t r

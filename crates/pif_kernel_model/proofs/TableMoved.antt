@@ -1,4 +1,4 @@
--- What is kept is as sound, and stands for the same, where its table became another one with the same levels.
+-- What is kept is as sound, and stands for the same, if its table became another one with the same levels.
 use Rattle.std.proofs.Common.{◌≡◌, ℕ, Bool, true, false, List, Option, refl, sym, ap, subst, ◌∙◌}
 use Rattle.pif_nodes_model.specs.Lists.{list_without}
 use Rattle.pif_nodes_model.specs.Levels.{Queue}
@@ -89,7 +89,7 @@ module _ (p : Inside) (now : Chained) (kept : KeepsLevels (chains_of p) now) whe
     added = l.added;
   }
 
-  -- where a mutex may be handed over, it may be then
+  -- if a mutex may be handed over, it may be then
   pub handable_moved : (t m key : ℕ) → IsHandable p t m key → IsHandable moved t m key
   handable_moved t m key d = record {
     sound = sound_in_table d.sound;

@@ -205,27 +205,27 @@ count_few p h c =
 
 -- ALL OF THEM
 
--- the lesser of two is the first where it is
+-- the lesser of two is the first if that is at most the second
 pub min_first : (a b : ℕ) → a ≤ b → a ≡ min a b
 min_first a b l = grind (arith, nat_tests, l)
 
--- none are taken where none may be
+-- none are taken if none may be
 pub takings_zero : (c m : ℕ) (x : System) → after_takings 0 c m x ≡ x
 unfolding after_takings
 takings_zero c m x = refl
 
--- who is next, where there is one
+-- who is next, if there is one
 pub next_some : (b : Bool) (u v : ℕ) (r : Option ℕ) → r ≡ Some v → r ≡ (if b then Some u else None)
     → (b ≡ true) × (v ≡ u)
 next_some true u v r e f = (refl, let both : Some v ≡ Some u = sym e ∙ f in cc)
 next_some false u v r e f = let both : Some v ≡ None = sym e ∙ f in cc
 
--- and whether somebody is parked, where there is none
+-- and whether somebody is parked, if there is none
 pub next_none : (b : Bool) (u : ℕ) (r : Option ℕ) → r ≡ None → r ≡ (if b then Some u else None) → b ≡ false
 next_none true u r e f = let both : None ≡ Some u = sym e ∙ f in cc
 next_none false u r e f = refl
 
--- what the call leaves where nothing refuses it
+-- what the call leaves if nothing refuses it
 pub requeued_is : (c m more n : ℕ) (ws : Words) (k : Kernel)
     → after_takings (more + 1) c m (record { words = ws; kernel = k }) ≡ after_requeue c m more (Ok n) ws k
 unfolding after_requeue

@@ -59,7 +59,7 @@ at_least f zero least (w ∷ ws) next t d r l e = let at : f w.0 ≡ f t = ap f 
 at_least f (suc i) least (w ∷ ws) next t d r l e =
     omega (arith, at_least f i (f w.0 + 1) ws next t d r.1 (omega arith) e, r.0)
 
--- where the next stands among the others: with its new ticket as with its old one
+-- if the next stands among the others: with its new ticket as with its old one
 pub order : (f : ℕ → ℕ) (n i least : ℕ) (ws : List (ℕ × ℕ)) (next t u : ℕ) (d : ℕ × ℕ) → n ≤ least
     → Rise f least ws next → i < length ws → (get_or ws i d).0 ≡ t → u ≢ t → names u ws ≡ true
     → (n + i ≤ f t) × (((renumbered_ticket f n i ws u < n + i) × (renumbered_ticket f n i ws u < f t)) ⊎

@@ -17,7 +17,7 @@ use Rattle.pif_kernel_model.proofs.Seats.{added_seen, status_seen, waiters_seen,
 use Rattle.pif_kernel_model.proofs.Standing.{fits}
 use Rattle.pif_kernel_model.proofs.ArrivalLaws.{rise_once, few_waiters, few_named, mutexes_few}
 
--- a mutex has a key exactly where it has a waiter
+-- a mutex has a key exactly if it has a waiter
 pub has_waiter-key : (p : Inside) → IsSoundInside p → (m : ℕ) → state_at p m ≢ 0 → has_waiter p.arrivals m ≡ true
 has_waiter-key p h m some = by_test (has_waiter p.arrivals m) refl
   where

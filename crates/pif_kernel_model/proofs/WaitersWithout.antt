@@ -50,7 +50,7 @@ waiter_kept (w ∷ ws) u x m ne e = by_head (cases_eq w.0 u) (is_among_cons w ws
         let there : (w.0 == u) ≡ false = grind (arith, nat_tests) in
         rw there (is_among_there w (without ws u) x m (ih r))
 
--- a mutex fewer has a waiter, where no other waits for that of the one
+-- a mutex fewer has a waiter, if no other waits for that of the one
 pub mutexes_without : (ws : List (ℕ × ℕ)) (u m : ℕ) → Once ws → is_waiter ws u m ≡ true
     → mutexes_of (without ws u) + (if has_waiter (without ws u) m then 0 else 1) ≡ mutexes_of ws
 mutexes_without [] u m once e = absurd (false≢true e)

@@ -1,4 +1,4 @@
--- What is kept stays sound where a thread that is parked or stopped is woken.
+-- What is kept stays sound if a thread that is parked or stopped is woken.
 use Rattle.std.proofs.Common.{◌≡◌, ◌≢◌, ℕ, ◌<◌, ◌≤◌, Bool, true, false, if◌then◌else◌, length, set, refl, sym, ap, ◌∙◌, subst, arith}
 use Rattle.std.proofs.lemmas.Bool.{true≢false}
 use Rattle.pif_nodes_model.specs.Table.{NodeLists}

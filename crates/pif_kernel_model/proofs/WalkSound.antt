@@ -201,7 +201,7 @@ module _ (p : Inside) (h : IsPlaced p) (now : Owners) (q : Queue) (tb : NodeList
       kept : IsKernel (kernel_of after)
       kept = subst IsKernel (sym kernel_after) settles
 
--- what is kept before a walk from this thread, where the kernel by itself settles to this one
+-- what is kept before a walk from this thread, if the kernel by itself settles to this one
 pub record IsWalkable (p : Inside) (start : ℕ) (k : Kernel) : Type 0 where
   pub placed : IsPlaced p
   pub admitted : 1 ≤ base_of p.owners start

@@ -77,7 +77,7 @@ next_ready k u p v new q now t table e row priority w ready queued =
     let one : 1 ≤ base_of v u = ready u (was_queued k u v new q now t table e w queued) in
     omega (arith, greatest_base-least v u row, priority)
 
--- and where it is to have none, it stays as it is
+-- and if it is to have none, it stays as it is
 pub next_idle : (k u p start : ℕ) (v new : Owners) (q now : Queue) (t table : NodeLists) → u ≡ k + 1 → u < length v.seats → p ≡ greatest_base v u
     → IsWalkedTo k v q t new now table → AreSoundOwners v → IsRepairedBut start v → 1 ≤ base_of v start → p ≡ 0
     → task_at new u ≡ with_effective 0 (task_at new u)

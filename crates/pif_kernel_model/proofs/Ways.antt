@@ -86,7 +86,7 @@ module _ (v : Owners) (sound : AreSoundOwners v) (passed : List ℕ) (at : ℕ) 
 
 -- THE PATH
 
--- what was passed on the way from a thread, and the one at which it stands, 0 where it has come to its end
+-- what was passed on the way from a thread, and the one at which it stands, 0 if it has come to its end
 pub record IsPathing (v : Owners) (start : ℕ) (passed : List ℕ) (at : ℕ) : Type 0 where
   -- with the path from there it is the path from the start
   pub whole : (us : List ℕ) → IsPath (waits_for v) at us → IsPath (waits_for v) start (passed ++ us)

@@ -16,11 +16,11 @@ IsThread v t = (1 ≤ t) × (t < length v.seats)
 abbrev pub threads_of : Owners → List ℕ
 threads_of v = range_with_len 1 (length v.seats - 1)
 
--- the base priority of a thread; 0 where it was not admitted
+-- the base priority of a thread; 0 if it was not admitted
 abbrev pub base_of : Owners → ℕ → ℕ
 base_of v t = (task_at v t).base
 
--- the effective priority of a thread, as last handed in; 0 where it was not admitted
+-- the effective priority of a thread, as last handed in; 0 if it was not admitted
 abbrev pub local_of : Owners → ℕ → ℕ
 local_of v t = (task_at v t).local
 
@@ -33,7 +33,7 @@ greatest_base v t = effective_among (length v.seats) (waits_for v) (base_of v) t
 abbrev pub priority_at : List (Option ℕ) → ℕ → ℕ
 priority_at xs t = unwrap_or (get_or xs t None) 0
 
--- what stands by thread u after a priority went from `t` to each that is reached from it over so many hops, where this
+-- what stands by thread u after a priority went from `t` to each that is reached from it over so many hops, if this
 -- stood by each thread before
 abbrev pub after_propagation : ℕ → (ℕ → ℕ) → ℕ → ℕ → (ℕ → ℕ) → ℕ → ℕ
 after_propagation hops waits_for priority t before u =
@@ -54,7 +54,7 @@ pub record IsRepaired (old new : Owners) : Type 0 where
   pub owners : new.owners ≡ old.owners
   pub seats : (t : ℕ) → t < length old.seats → task_at new t ≡ with_effective (greatest_base old t) (task_at old t)
 
--- the greatest effective priority of the threads that wait for t; 0 where none does
+-- the greatest effective priority of the threads that wait for t; 0 if none does
 abbrev pub greatest_waiting : Owners → ℕ → ℕ
 greatest_waiting v t = greatest_where (λ u. waits_for v u == t) (local_of v) (length v.seats)
 

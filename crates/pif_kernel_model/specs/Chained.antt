@@ -13,7 +13,7 @@ pub record Chained : Type 0 where
   pub owners : Owners
   pub queue : Queue
   pub table : NodeLists
-  -- the key of the owner state of each mutex, by number; None where there is no owner state
+  -- the key of the owner state of each mutex, by number; None if there is no owner state
   pub keys : List (Option ℕ)
   -- the parked threads, in the order in which they were parked
   pub parked : List Parking

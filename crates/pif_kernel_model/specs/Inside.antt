@@ -18,7 +18,7 @@ pub record Inside : Type 0 where
   pub limits : Bounds
   -- the status of each thread, by number; place 0 stands for nobody
   pub statuses : List Status
-  -- the key of the owner state of each mutex, by number; None where there is no owner state
+  -- the key of the owner state of each mutex, by number; None if there is no owner state
   pub keys : List (Option ℕ)
   pub owners : Owners
   -- the run queue, in its table
@@ -39,11 +39,11 @@ status_at p t = get_or p.statuses t (Ready Fresh)
 abbrev pub state_key_at : Inside → ℕ → Option ℕ
 state_key_at p m = get_or p.keys m None
 
--- the owner in the owner state under a key; 0 where there is no key
+-- the owner in the owner state under a key; 0 if there is no key
 abbrev pub owner_under : Owners → Option ℕ → ℕ
 owner_under v key = unwrap_or (option_and_then (owner_at v) key) 0
 
--- the owner in the owner state of a mutex; 0 where it has none
+-- the owner in the owner state of a mutex; 0 if it has none
 abbrev pub state_at : Inside → ℕ → ℕ
 state_at p m = owner_under p.owners (state_key_at p m)
 
@@ -72,7 +72,7 @@ kernel_of p = record {
 abbrev pub next_ticket : Inside → ℕ
 next_ticket p = p.next
 
--- the ticket with which a thread waits; 0 where it waits for nothing
+-- the ticket with which a thread waits; 0 if it waits for nothing
 abbrev pub ticket_of : Owners → ℕ → ℕ
 ticket_of v t = unwrap_or (option_map (λ (r : Key). r.ticket) (rank_of v t)) 0
 

@@ -8,7 +8,7 @@ use Rattle.pif_kernel_model.specs.Owners.{task_at, owner_at, count}
 use Rattle.pif_kernel_model.specs.Inside.{Inside, kernel_of, state_key_at}
 use Rattle.pif_kernel_model.specs.Arrivals.{mutexes_of}
 
--- t has left: it waits for nothing, is not parked, and is on no level, and an owner state stays exactly where others
+-- t has left: it waits for nothing, is not parked, and is on no level, and an owner state stays exactly if others
 -- are queued. Nobody but `start` had it as a waiter. Its status, by which the waiters are found, is still the old one
 pub record IsLeft (old now : Inside) (t start : ℕ) : Type 0 where
   pub frame : now ≡ record old {

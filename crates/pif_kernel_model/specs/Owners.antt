@@ -20,7 +20,7 @@ pub record Wait : Type 0 where
 -- what is known of a thread: its priorities and what it waits for (task_struct of Linux: normal_prio, prio and
 -- pi_blocked_on)
 pub record Task : Type 0 where
-  -- its base priority; 0 where it was not admitted
+  -- its base priority; 0 if it was not admitted
   pub base : ℕ
   -- its effective priority, as last handed in
   pub local : ℕ
@@ -60,7 +60,7 @@ no_owners threads = record { seats = replicate (threads + 1) no_task; owners = e
 abbrev pub task_at : Owners → ℕ → Task
 task_at v t = get_or v.seats t no_task
 
--- the owner of a state; None where there is no such state
+-- the owner of a state; None if there is no such state
 abbrev pub owner_at : Owners → ℕ → Option ℕ
 owner_at v k = get v.owners k
 
@@ -80,7 +80,7 @@ waits_on v t = state_of (task_at v t)
 abbrev pub rank_of : Owners → ℕ → Option Key
 rank_of v t = option_map (λ (w : Wait). w.rank) (task_at v t).wait
 
--- the thread for which a thread waits: the owner of the state on which it is queued; 0 where it waits for nobody
+-- the thread for which a thread waits: the owner of the state on which it is queued; 0 if it waits for nobody
 abbrev pub waits_for : Owners → ℕ → ℕ
 waits_for v t = unwrap_or (option_and_then (owner_at v) (waits_on v t)) 0
 
@@ -113,7 +113,7 @@ pub record KeepsOrder (v : Owners) (t ticket : ℕ) : Type 0 where
       → rank_of v t ≡ Some mine → rank_of v u ≡ Some other
       → comes_before other (record mine { ticket = ticket }) ≡ comes_before other mine
 
--- the states with something else known of one thread; the same where the thread has no seat
+-- the states with something else known of one thread; the same if the thread has no seat
 abbrev pub with_task : ℕ → Task → Owners → Owners
 with_task t x v = record v { seats = set v.seats t x }
 
@@ -147,7 +147,7 @@ with_owner k owner v = record v { owners = insert v.owners k owner }
 abbrev pub without_state : ℕ → Owners → Owners
 without_state k v = record v { owners = remove v.owners k }
 
--- what holds of a seat: its priorities are at most 99, and where the thread waits, it does so on a state that there is,
+-- what holds of a seat: its priorities are at most 99, and if the thread waits, it does so on a state that there is,
 -- with a priority of 1 to 99
 pub record IsSeat (v : Owners) (x : Task) : Type 0 where
   pub base : x.base ≤ 99

@@ -10,7 +10,7 @@ use Rattle.pif_nodes_model.specs.Lists.{first_of}
 use Rattle.pif_nodes_model.specs.Table.{NodeLists, list_at, key_at}
 use Rattle.pif_kernel_model.specs.Owners.{Owners, Task}
 
--- what the value has of a thread: its base and its effective priority, 0 where it was not admitted, and the owner state
+-- what the value has of a thread: its base and its effective priority, 0 if it was not admitted, and the owner state
 -- on which it is queued
 pub record Row : Type 0 where
   pub base : ℕ
@@ -111,7 +111,7 @@ owners_in m t = record { seats = map (seat_in m t) (range_with_len 0 (length m.r
 abbrev pub with_row : ℕ → Row → States → States
 with_row u x m = record m { rows = set m.rows u x }
 
--- the value where a thread waits on this state, or on none
+-- the value if a thread waits on this state, or on none
 abbrev pub with_wait_on : ℕ → Option ℕ → States → States
 with_wait_on u w m = with_row u (record (row_at m u) { wait = w }) m
 

@@ -6,7 +6,7 @@ use Rattle.pif_model.specs.Graph.{has_waiter, next_waiter}
 use Rattle.pif_model.specs.Word.{word_at}
 use Rattle.pif_model.specs.PiKernel.{Kernel, System, Parking, state_at, is_living, parked_count}
 
--- the first of greatest priority of those that are parked on c, in this order; None where none is
+-- the first of greatest priority of those that are parked on c, in this order; None if none is
 abbrev pub first_parked : (ℕ → ℕ) → List (ℕ × ℕ) → ℕ → Option ℕ
 first_parked effective ws c = if has_waiter ws c then Some (next_waiter effective ws c) else None
 
@@ -19,7 +19,7 @@ goes_before effective t (Some u) = nat_lt (effective u) (effective t)
 abbrev pub have_target : List Parking → ℕ → ℕ → Bool
 have_target ps c m = list_all (λ (p : Parking). if p.cond == c then p.target == m else true) ps
 
--- word and owner state of m fit together: where there is an owner state, the word has a number, and where that is of a
+-- word and owner state of m fit together: if there is an owner state, the word has a number, and if that is of a
 -- living thread, the owner state names it
 pub record FitsWord (m : ℕ) (x : System) : Type 0 where
   pub some : state_at x.kernel m ≢ 0 → (word_at x.words m).number ≢ 0

@@ -11,7 +11,7 @@ renumbered_ticket ticket n zero ws u = ticket u
 renumbered_ticket ticket n (suc count) [] u = ticket u
 renumbered_ticket ticket n (suc count) (w ∷ ws) u = if w.0 == u then n else renumbered_ticket ticket (n + 1) count ws u
 
--- a seat with another ticket, where its thread waits
+-- a seat with another ticket, if its thread waits
 abbrev pub seat_with_ticket : ℕ → Task → Task
 seat_with_ticket n x =
     record x {
@@ -53,7 +53,7 @@ abbrev pub is_sooner : Owners → ℕ → Option ℕ → ℕ → Bool
 is_sooner v least None t = if nat_lt (ticket_of v t) least then false else true
 is_sooner v least (Some u) t = if nat_lt (ticket_of v t) least then false else nat_lt (ticket_of v t) (ticket_of v u)
 
--- of the threads below n the first has the lowest ticket from `least` on, and is None where none has such a ticket
+-- of the threads below n the first has the lowest ticket from `least` on, and is None if none has such a ticket
 abbrev pub IsFirstFrom : Owners → ℕ → ℕ → Option ℕ → Type 0
 IsFirstFrom v least n None = (u : ℕ) → u ≢ 0 → u < n → ticket_of v u < least
 IsFirstFrom v least n (Some t) =

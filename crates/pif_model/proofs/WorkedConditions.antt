@@ -202,7 +202,7 @@ guarded : Table
 unfolding machine small
 guarded = cond_added 1 (mutex_added Normal true (thread_added 10 (thread_added 10 small)))
 
--- a thread that ends in a wait passes the mutex on where it has not given it up, and no longer then
+-- a thread that ends in a wait passes the mutex on if it has not given it up, and no longer then
 death_inside_wait :
     shows (Call 2 (Lock 1) ∷ Do (Begin 2 (Wait 1 1)) ∷ goes 2 5 ++ Do (End 2) ∷ Word 1 ∷ Call 1 (Lock 1) ∷ []) guarded
     ≡ Saw (Answered 0) ∷ Saw Begun ∷ wents 5 ++ Saw Ended ∷ Bits 0x40000000 ∷ Saw (Answered 130) ∷ []
@@ -234,7 +234,7 @@ unfolding machine small closing stored parked
 taken = after_requeue 1 1 0 (Ok 1) stored parked
 
 -- a priority comes before its thread; a use since is found; a thread is parked for one mutex, and taken for no other;
--- where the mutex has the number of nobody it is woken to lock the mutex itself, and the word stays
+-- if the mutex has the number of nobody, it is woken to lock the mutex itself, and the word stays
 set_prio_and_requeue_refusals :
     (set_prio_answer 9 0 closing.kernel ≡ Err Invalid)
     × (set_prio_answer 9 10 closing.kernel ≡ Err NoSuchThread)

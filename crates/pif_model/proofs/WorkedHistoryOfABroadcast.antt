@@ -275,7 +275,7 @@ t1_holds =
     table_after (Calls 1 (Lock 1)) (table_after (Calls 3 (Wait 1 1)) (table_after (Calls 3 (Lock 1))
     (table_after (Calls 2 (Wait 1 1)) (table_after (Calls 2 (Lock 1)) core))))
 
--- what is remembered of the threads then, where t1's broadcast has found these
+-- what is remembered of the threads then, if t1's broadcast has found these
 abbrev memories : List (ℕ × ℕ) → HistoryVariables
 memories fs = record { memories = no_memory ∷ record { waits = 0; found = fs } ∷ waited 1 ∷ waited 1 ∷ [] }
 

@@ -77,7 +77,7 @@ stalled_mutex_stays_lost :
 unfolding machine small stalled shows reply next finished goes_on
 stalled_mutex_stays_lost = refl
 
--- the word of m1 after exit of t1 with m1 on its list, where the word was this and nobody was queued
+-- the word of m1 after exit of t1 with m1 on its list, if the word was this and nobody was queued
 exit_word : ℕ → ℕ
 exit_word bits =
     bits_of (word_at (after_exit 1 (1 ∷ []) (set_word stalled.words 1 (word_of bits)) stalled.kernel).words 1)

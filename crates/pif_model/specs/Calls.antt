@@ -96,7 +96,7 @@ request_at (At q p) = Some q
 abbrev pub open_call_answer : ℕ → Table → Option Request
 open_call_answer t s = if has_thread s t then option_map (with_deadline_if_any (timer_at s t).deadline) (request_at (line_at s t)) else None
 
--- the number in a word and how often its thread holds the mutex; none where the word has no number
+-- the number in a word and how often its thread holds the mutex; none if the word has no number
 abbrev pub owner_by : ℕ → ℕ → Option (ℕ × ℕ)
 owner_by number count = if number == 0 then None else Some (number, count)
 

@@ -62,7 +62,7 @@ abbrev pub reported_result : Request → Bool → ℕ → ℕ
 reported_result (Wait c m) true a = if a == 0 then ETIMEDOUT else a
 reported_result q expired a = a
 
--- what a step shows, where it would show this of a call with no deadline
+-- what a step shows, if it would show this of a call with no deadline
 abbrev pub reported_seen : Request → Bool → Seen → Seen
 reported_seen q expired (Answered a) = Answered (reported_result q expired a)
 reported_seen q expired seen = seen

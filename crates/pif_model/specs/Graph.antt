@@ -15,7 +15,7 @@ reaches_within zero waits_for u t = u == t
 reaches_within (suc hops) waits_for u t =
     if u == t then true else (if waits_for u == 0 then false else reaches_within hops waits_for (waits_for u) t)
 
--- the greatest value of f at the numbers below n that pass the test; 0 where none passes
+-- the greatest value of f at the numbers below n that pass the test; 0 if none passes
 unfoldable pub greatest_where : (ℕ → Bool) → (ℕ → ℕ) → ℕ → ℕ
 greatest_where test f zero = 0
 greatest_where test f (suc n) =
@@ -25,13 +25,13 @@ greatest_where test f (suc n) =
 unfoldable pub effective_among : ℕ → (ℕ → ℕ) → (ℕ → ℕ) → ℕ → ℕ
 effective_among n waits_for base t = greatest_where (λ u. reaches_within n waits_for u t) base n
 
--- of pairs of a thread and a priority, the first of greatest priority; (0, 0) where there is none
+-- of pairs of a thread and a priority, the first of greatest priority; (0, 0) if there is none
 unfoldable pub first_greatest : List (ℕ × ℕ) → ℕ × ℕ
 first_greatest [] = (0, 0)
 first_greatest (p ∷ ps) =
     if nat_lt p.1 (first_greatest ps).1 then first_greatest ps else p
 
--- the mutex for which u waits, from pairs of a waiter and its mutex; 0 where u waits for none
+-- the mutex for which u waits, from pairs of a waiter and its mutex; 0 if u waits for none
 unfoldable pub waited_by : List (ℕ × ℕ) → ℕ → ℕ
 waited_by [] u = 0
 waited_by (w ∷ ws) u = if w.0 == u then w.1 else waited_by ws u
@@ -48,7 +48,7 @@ without ws u = filter (λ w. if w.0 == u then false else true) ws
 abbrev pub waiters_with : (ℕ → ℕ) → List (ℕ × ℕ) → ℕ → List (ℕ × ℕ)
 waiters_with effective ws m = map (λ w. (w.0, effective w.0)) (filter (λ w. w.1 == m) ws)
 
--- the next waiter of m: among its waiters of greatest effective priority the first in arrival; 0 where m has none
+-- the next waiter of m: among its waiters of greatest effective priority the first in arrival; 0 if m has none
 unfoldable pub next_waiter : (ℕ → ℕ) → List (ℕ × ℕ) → ℕ → ℕ
 next_waiter effective ws m = (first_greatest (waiters_with effective ws m)).0
 
@@ -86,7 +86,7 @@ pub record IsNextWaiter (effective : ℕ → ℕ) (ws : List (ℕ × ℕ)) (m u 
   pub above_later : (v : ℕ) → list_any (λ w. if w.0 == v then w.1 == m else false) later ≡ true → effective v ≤ effective u
 
 -- these are the threads from t on along whom each waits for, in order: t, the one for which it waits, and so on, up to
--- the one that waits for nobody; none where t is nobody. There is one such list at most, and no thread stands in it
+-- the one that waits for nobody; none if t is nobody. There is one such list at most, and no thread stands in it
 -- twice
 abbrev pub IsPath : (ℕ → ℕ) → ℕ → List ℕ → Type 0
 IsPath waits_for t [] = t ≡ 0

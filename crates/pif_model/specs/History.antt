@@ -30,7 +30,7 @@ hold_count_locked a count = if a == 0 then count + 1 else (if a == EOWNERDEAD th
 abbrev pub hold_count_waited : ℕ → ℕ → ℕ
 hold_count_waited a count = if a == ENOTRECOVERABLE then 0 else (if a == EDEADLK then 0 else count)
 
--- the hold count on m after an answer to this request: lock and trylock may add 1, unlock takes 1 away where it is
+-- the hold count on m after an answer to this request: lock and trylock may add 1, unlock takes 1 away if it is
 -- answered 0, and wait may make it 0
 abbrev pub hold_count_after_answer : ℕ → Option Request → ℕ → ℕ → ℕ
 hold_count_after_answer m None a count = count

@@ -91,7 +91,7 @@ after_exchange (Some w) m done failed s = done (with_word m w s)
 after_exchange None m done failed s = failed s
 
 -- lock and trylock: compare-exchange from 0 to t. Done, a stalled mutex is taken, and of a robust one the health is
--- next; where it fails its kernel call is next
+-- next; if it fails, its kernel call is next
 unfoldable pub own_exchange : Request → ℕ → ℕ → Table → Outcome
 own_exchange q t m s =
     after_exchange (take_word (cell_at s m).word t) m (ends_by t q m (Take (LoadHealth false)) 0) (goes_to t q CallKernel) s
@@ -295,7 +295,7 @@ wait_parked c m t s =
 unfoldable pub use_read : Request → ℕ → ℕ → Table → Outcome
 use_read q n t s = if n == s.limits.signals then answers t EOVERFLOW s else goes_to t q (Wake (CountUse n)) s
 
--- signal and broadcast: compare-exchange the condition word from v to one more. Where it fails it goes on with what the
+-- signal and broadcast: compare-exchange the condition word from v to one more. If it fails, it goes on with what the
 -- word is
 unfoldable pub use_exchange : Request → ℕ → ℕ → ℕ → Table → Outcome
 use_exchange q v c t s =
@@ -398,7 +398,7 @@ line_of _ _ t s = answers t EINVAL s
 
 -- DEADLINES
 
--- whether the deadline of a call counts at this place, where it has one, by its thread's status: that of a lock while
+-- whether the deadline of a call counts at this place, if it has one, by its thread's status: that of a lock while
 -- it is queued or stopped, that of a wait while it is parked. Who was handed the mutex is ready; who was taken off its
 -- variable is parked no more
 abbrev pub counts_at : Request → Place → Status → Bool

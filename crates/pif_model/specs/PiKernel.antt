@@ -35,7 +35,7 @@ pub record Kernel : Type 0 where
   pub limits : Bounds
   -- the threads, by number
   pub seats : List Seat
-  -- the owner that the owner state of each mutex names, by number; 0 where there is no owner state. There is a place
+  -- the owner that the owner state of each mutex names, by number; 0 if there is no owner state. There is a place
   -- for each of the 1,024 mutexes that can be
   pub states : List ℕ
   -- pairs of a thread and the mutex on which it is queued, in order of their tickets
@@ -65,7 +65,7 @@ has_ended _ = false
 abbrev pub is_living : Kernel → ℕ → Bool
 is_living k t = if has_seat k t then (if has_ended (seat_at k t).status then false else true) else false
 
--- the mutex on which a thread of this status is queued, 0 where it is on none
+-- the mutex on which a thread of this status is queued, 0 if it is on none
 abbrev pub queued_on : Status → ℕ
 queued_on (Queued m) = m
 queued_on _ = 0
@@ -92,7 +92,7 @@ is_out Stopped = true
 is_out Ended = true
 is_out _ = false
 
--- the owner that the owner state of m names; 0 where there is no owner state
+-- the owner that the owner state of m names; 0 if there is no owner state
 abbrev pub state_at : Kernel → ℕ → ℕ
 state_at k m = get_or k.states m 0
 
@@ -104,12 +104,12 @@ waits_for k u = state_at k (queued_on (seat_at k u).status)
 abbrev pub effective_in : Kernel → ℕ → ℕ
 effective_in k t = effective_among (length k.seats) (waits_for k) (λ u. (seat_at k u).base) t
 
--- these are the threads from t on along whom each waits for, in order, up to the one that waits for nobody; none where
+-- these are the threads from t on along whom each waits for, in order, up to the one that waits for nobody; none if
 -- t doesn't live
 abbrev pub IsPathIn : Kernel → ℕ → List ℕ → Type 0
 IsPathIn k t us = IsPath (waits_for k) (if is_living k t then t else 0) us
 
--- the next waiter of m, 0 where there is none
+-- the next waiter of m, 0 if there is none
 abbrev pub next_in : Kernel → ℕ → ℕ
 next_in k m = next_waiter (effective_in k) k.waiters m
 
@@ -126,7 +126,7 @@ abbrev pub has_parked : Kernel → ℕ → Bool
 has_parked k c = has_waiter (parked_pairs k.parked) c
 
 -- the thread that is taken next from c: the first in order of tickets among those of greatest effective priority that
--- are parked on it; 0 where none is
+-- are parked on it; 0 if none is
 abbrev pub top_parked : Kernel → ℕ → ℕ
 top_parked k c = next_waiter (effective_in k) (parked_pairs k.parked) c
 
@@ -194,12 +194,12 @@ effective_levels n effective levels =
 abbrev pub with_effective_levels : Kernel → Kernel
 with_effective_levels k = record k { levels = effective_levels (length k.seats - 1) (effective_in k) k.levels }
 
--- the first of the greatest of the levels up to p that has a thread; 0 where none has
+-- the first of the greatest of the levels up to p that has a thread; 0 if none has
 unfoldable pub first_from : List (List ℕ) → ℕ → ℕ
 first_from levels zero = 0
 first_from levels (suc p) = elim (level_at levels (suc p)) [ [] ↦ first_from levels p | (t ∷ ts) ↦ t ]
 
--- the thread that runs next: the first that joined the greatest level; 0 where none is ready
+-- the thread that runs next: the first that joined the greatest level; 0 if none is ready
 abbrev pub pick_in : Kernel → ℕ
 pick_in k = first_from k.levels 99
 
@@ -237,7 +237,7 @@ kernel_after_add p k = record k {
   levels = levels_with (length k.seats) p k.levels;
 }
 
--- what lock_pi answers to t where the word has the number n of an owner, and the owner state that of s, 0 for none
+-- what lock_pi answers to t if the word has the number n of an owner, and the owner state that of s, 0 for none
 abbrev pub wait_answer : ℕ → ℕ → ℕ → Kernel → Result Took Errno
 wait_answer t n s k =
     if is_living k n then
@@ -337,7 +337,7 @@ pub record System : Type 0 where
 
 -- CONDITION VARIABLES
 
--- what wait_requeue_pi answers on c and m, where the caller expects this condition word
+-- what wait_requeue_pi answers on c and m, if the caller expects this condition word
 unfoldable pub wait_requeue_answer : ℕ → ℕ → ℕ → Words → Result (record {}) Errno
 wait_requeue_answer c expected m ws =
     if (if has_cond_word ws c then has_word ws m else false) then
@@ -409,7 +409,7 @@ parked_count k c = length (filter (λ (p : Parking). p.cond == c) k.parked)
 abbrev pub fits_state : ℕ → ℕ → Kernel → Bool
 fits_state n s k = if s == 0 then true else (if n == 0 then false else (if is_living k n then s == n else true))
 
--- what cmp_requeue_pi answers on c and m, where `val` threads, which is to be 1, and this many `more` may be taken, and
+-- what cmp_requeue_pi answers on c and m, if `val` threads, which is to be 1, and this many `more` may be taken, and
 -- the caller expects this condition word: how many are taken
 unfoldable pub requeue_answer : ℕ → ℕ → ℕ → ℕ → ℕ → Words → Kernel → Result ℕ Errno
 requeue_answer c m val more expected ws k =
@@ -433,7 +433,7 @@ after_requeue c m more (Err e) ws k = record { words = ws; kernel = k }
 -- LEAVING WHAT A THREAD WAITS FOR
 
 -- t has this status, by which it waits for nothing: it has left the mutex on which it was queued, whose owner state
--- goes where nobody else waits, or the variable on which it was parked, and its level, and the chain above has its
+-- goes if nobody else waits, or the variable on which it was parked, and its level, and the chain above has its
 -- priorities. Of the owner states that it still owns nothing is changed
 unfoldable pub kernel_left_as : Status → ℕ → Kernel → Kernel
 kernel_left_as x t k =
@@ -459,7 +459,7 @@ kernel_after_expire t k =
 abbrev pub kernel_after_leaving : ℕ → Kernel → Kernel
 kernel_after_leaving t k = kernel_left_as Ended t k
 
--- m passes on where its word has the number of t, which has ended: with no owner state it has no owner; with one of t
+-- m passes on if its word has the number of t, which has ended: with no owner state it has no owner; with one of t
 -- it is handed to its next waiter; with one of another owner nothing changes. OWNER_DIED is set
 unfoldable pub after_death : ℕ → ℕ → System → System
 after_death t m x =
@@ -476,7 +476,7 @@ unfoldable pub after_deaths : ℕ → List ℕ → System → System
 after_deaths t [] x = x
 after_deaths t (m ∷ ms) x = after_deaths t ms (after_death t m x)
 
--- words and kernel after exit of t, where its robust list and its pending field name these mutexes
+-- words and kernel after exit of t, if its robust list and its pending field name these mutexes
 abbrev pub after_exit : ℕ → List ℕ → Words → Kernel → System
 after_exit t ms ws k = after_deaths t ms (record { words = ws; kernel = kernel_after_leaving t k })
 
@@ -516,6 +516,6 @@ pub record IsKernel (k : Kernel) : Type 0 where
   pub owners : (m : ℕ) → state_at k m ≢ 0 → has_seat k (state_at k m) ≡ true
   -- no chain closes
   pub acyclic : (u : ℕ) → waits_for k u ≢ 0 → reaches_within (length k.seats) (waits_for k) (waits_for k u) u ≡ false
-  -- a thread is on a level exactly where it may run and the level is its effective priority
+  -- a thread is on a level exactly if it may run and the level is its effective priority
   pub level : (t p : ℕ) → is_among (level_at k.levels p) t ≡ (if has_seat k t then (if is_ready (seat_at k t).status then effective_in k t == p else false) else false)
   pub level_once : (p : ℕ) → IsDistinct eqb (level_at k.levels p)

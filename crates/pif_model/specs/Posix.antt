@@ -6,7 +6,7 @@
 -- It knows no words, no kernel and no chain walks. A call has effects, each of which happens at one moment between its
 -- beginning and its answer. Threads, mutexes and variables are numbered from 1; place 0 of each list stands for nobody.
 -- What its state is made of stands in World.antt, and is passed on here.
--- Each rule says whose it is: a page of POSIX with what it says, or 'this project's choice' where POSIX leaves it open.
+-- Each rule says whose it is: a page of POSIX with what it says, or 'this project's choice' if POSIX leaves it open.
 use Rattle.std.specs.Prelude.{ℕ, zero, suc, ◌≡◌, ◌≢◌, ◌≤◌, ◌<◌, ◌+◌, ◌-◌, Bool, true, false, ◌==◌, List, [], ◌∷◌, ◌++◌, length, set, map, Option, Some, None, is_some, if◌then◌else◌}
 use Rattle.std.specs.List.{list_any}
 use Rattle.pif_types.specs.Bounds.{Bounds}
@@ -223,7 +223,7 @@ pub data LocksAgain (t m : ℕ) (w v : World) : Type 0 where
   -- that it is 255 is this project's choice)
   at_limit : IsHeldMost w m → HasResult t EAGAIN w v → LocksAgain t m w v
 
--- the mutex that a request names; 0 where it names none
+-- the mutex that a request names; 0 if it names none
 abbrev pub named_by : Request → ℕ
 named_by (Lock m) = m
 named_by (TryLock m) = m
@@ -240,7 +240,7 @@ is_use (Signal c) = true
 is_use (Broadcast c) = true
 is_use _ = false
 
--- pthread_mutex_lock by t on m, where no effect has happened yet; or the lock by which a wait of t reacquires m
+-- pthread_mutex_lock by t on m, if no effect has happened yet; or the lock by which a wait of t reacquires m
 pub data Locks (t m : ℕ) (w v : World) : Type 0 where
   -- the owner locks it again, and stops (NORMAL): it waits for good (pthread_mutex_lock, table of relocking: deadlock)
   own_normal : IsOwner w t m → Relocks w m Deadlocks → Comes t Stuck w v → Locks t m w v
@@ -258,7 +258,7 @@ pub data Locks (t m : ℕ) (w v : World) : Type 0 where
   -- else t joins the end of its waiters (pthread_mutex_lock: the caller blocks until the mutex becomes available)
   joins : IsHeldByAnother w t m → ClosesNoCycle w t m → Comes t Waiting (with_waiter t m w) v → Locks t m w v
 
--- pthread_mutex_trylock by t on m, where no effect has happened yet
+-- pthread_mutex_trylock by t on m, if no effect has happened yet
 pub data TriesToLock (t m : ℕ) (w v : World) : Type 0 where
   -- the owner locks it again, and that counts (pthread_mutex_trylock: the lock count is incremented, and it succeeds)
   own_recursive : IsOwner w t m → Relocks w m Counts → LocksAgain t m w v → TriesToLock t m w v
@@ -273,7 +273,7 @@ pub data Passes (m : ℕ) (w v : World) : Type 0 where
   to_nobody : next_of w m ≡ 0 → v ≡ with_no_owner m w → Passes m w v
   to_next : (u : ℕ) → next_of w m ≡ u → u ≢ 0 → v ≡ taken u m (without_waiter u w) → Passes m w v
 
--- pthread_mutex_unlock by t on m, where no effect has happened yet
+-- pthread_mutex_unlock by t on m, if no effect has happened yet
 pub data Unlocks (t m : ℕ) (w v : World) : Type 0 where
   -- t isn't the owner: EPERM (pthread_mutex_unlock, for ERRORCHECK, RECURSIVE and robust mutexes; for a stalled NORMAL
   -- one POSIX leaves it undefined, and this is this project's choice)
@@ -289,7 +289,7 @@ pub data Unlocks (t m : ℕ) (w v : World) : Type 0 where
   released : IsOwner w t m → IsHeldOnce w m → IsNotInconsistent w m
       → Passes m (with_progress t (Has 0) w) v → Unlocks t m w v
 
--- pthread_mutex_consistent by t on m, where no effect has happened yet
+-- pthread_mutex_consistent by t on m, if no effect has happened yet
 pub data MakesConsistent (t m : ℕ) (w v : World) : Type 0 where
   -- it isn't robust: EINVAL (pthread_mutex_consistent: not robust, or doesn't protect an inconsistent state)
   not_robust : IsStalled w m → HasResult t EINVAL w v → MakesConsistent t m w v
@@ -304,7 +304,7 @@ pub data MakesConsistent (t m : ℕ) (w v : World) : Type 0 where
 abbrev pub with_base : ℕ → ℕ → World → World
 with_base t p w = with_thread t (record (thread_at w t) { base = p }) w
 
--- pthread_setschedprio by t, of the priority p for u, where no effect has happened yet
+-- pthread_setschedprio by t, of the priority p for u, if no effect has happened yet
 pub data SetsPriority (t u p : ℕ) (w v : World) : Type 0 where
   -- p is no priority: EINVAL (pthread_setschedprio: invalid for the scheduling policy of the thread, here SCHED_FIFO's
   -- 1 to 99)
@@ -316,7 +316,7 @@ pub data SetsPriority (t u p : ℕ) (w v : World) : Type 0 where
   -- choice)
   changed : IsPriority p → Lives w u → HasResult t 0 (with_base u p w) v → SetsPriority t u p w v
 
--- pthread_cond_wait by t on c with m, where no effect has happened yet
+-- pthread_cond_wait by t on c with m, if no effect has happened yet
 pub data ChecksWait (t c m : ℕ) (w v : World) : Type 0 where
   -- c is bound to another mutex: EINVAL (pthread_cond_wait leaves other mutexes than the bound one undefined; the
   -- error, and that a variable is bound when it is added and stays so, are this project's choice)
@@ -330,7 +330,7 @@ pub data ChecksWait (t c m : ℕ) (w v : World) : Type 0 where
   -- the owner holds it once (pthread_cond_wait: it is called with the mutex locked by the calling thread)
   checked : IsBoundTo w c m → IsOwner w t m → IsHeldOnce w m → Comes t Checked w v → ChecksWait t c m w v
 
--- how far a wait has come once it has given the mutex up, where it is blocked still, or is not
+-- how far a wait has come once it has given the mutex up, by whether it is blocked still
 abbrev pub on_release : Bool → Progress
 on_release still = if still then Blocked false else Reacquiring
 
@@ -371,7 +371,7 @@ used c w = record w {
   variables = set w.variables c (record (variable_at w c) { uses = (variable_at w c).uses + 1 });
 }
 
--- pthread_cond_signal or pthread_cond_broadcast by t on c, where no effect has happened yet
+-- pthread_cond_signal or pthread_cond_broadcast by t on c, if no effect has happened yet
 pub data Uses (t c : ℕ) (w v : World) : Type 0 where
   -- c was used as often as it may be: EOVERFLOW (this project's choice; POSIX knows no such limit)
   at_limit : IsUsedUp w c → HasResult t EOVERFLOW w v → Uses t c w v
@@ -388,7 +388,7 @@ all_unblocked (u ∷ us) w = all_unblocked us (with_call_by u after_unblocking w
 -- pthread_cond_signal: at least one of the threads that are blocked; pthread_cond_broadcast: all of them)
 pub data Chooses (t : ℕ) (q : Request) (w v : World) : Type 0 where
   -- a signal wakes one thread that is blocked (POSIX allows for more; that it is just one, and one of greatest
-  -- effective priority, is this project's choice), where none of those that were blocked when the signal began, and
+  -- effective priority, is this project's choice), if none of those that were blocked when the signal began, and
   -- still are by the same wait, has a greater effective priority
   one : (c u : ℕ) → q ≡ Signal c → IsBlocked w c u → NoneFoundIsAbove w t c u
       → v ≡ with_call_by u after_unblocking (with_progress t (Has 0) w) → Chooses t q w v
@@ -497,7 +497,7 @@ begun_thread w q x = record x {
   memory = begun_memory w (plain q) x.memory;
 }
 
--- a call that was answered Waits: where it is blocked, it is noted
+-- a call that was answered Waits: if it is blocked, it is noted
 abbrev pub after_waits : Option Call → Option Call
 after_waits None = None
 after_waits (Some x) = Some (record x { progress = elim x.progress [ Blocked b ↦ Blocked true | p ↦ p ] })

@@ -151,7 +151,7 @@ world_of s x = record {
   time = s.time;
 }
 
--- WHAT JOINS A SHADOW TO ITS TABLE
+-- WHAT JOINS HISTORY VARIABLES TO THEIR TABLE
 
 -- whether the signal or broadcast of t found u blocked when it began, by the wait that is u's last
 abbrev pub is_remembered : HistoryVariables → ℕ → ℕ → Bool

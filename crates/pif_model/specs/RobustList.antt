@@ -9,9 +9,9 @@ use Rattle.pif_types.specs.Bounds.{Bounds}
 pub record RobustRow : Type 0 where
   -- the mutexes on it, from the head
   pub listed : List ℕ
-  -- the mutex whose link to what follows it is written, while the head doesn't name it yet; 0 where there is none
+  -- the mutex whose link to what follows it is written, while the head doesn't name it yet; 0 if there is none
   pub half_linked : ℕ
-  -- the mutex that the pending field names, whose taking or releasing is in progress; 0 where there is none
+  -- the mutex that the pending field names, whose taking or releasing is in progress; 0 if there is none
   pub pending : ℕ
 
 -- the robust lists of all threads

@@ -77,16 +77,16 @@ pub data Need : Type 0 where
   OwnsNot : Need
   -- the thread owns the mutex as soon as it may run: it was handed over
   OwnsOnceReady : Need
-  -- the thread owns the mutex exactly where it may run and wasn't woken to lock it again: it was handed over
+  -- the thread owns the mutex exactly if it may run and wasn't woken to lock it again: it was handed over
   OwnsOnceHanded : Need
-  -- the thread holds the mutex once, where it owns it
+  -- the thread holds the mutex once, if it owns it
   HoldsOnce : Need
   -- the thread may stop for good
   MayStop : Need
   -- the mutex is robust
   OfRobust : Need
-  -- where the thread owns the mutex: its health word is this, or is not; OWNER_DIED is set, or is not; its health word
-  -- says that it is inconsistent only where OWNER_DIED is set
+  -- if the thread owns the mutex: its health word is this, or is not; OWNER_DIED is set, or is not; its health word
+  -- says that it is inconsistent only if OWNER_DIED is set
   HealthIs : ℕ → Need
   HealthIsNot : ℕ → Need
   DiedIs : Bool → Need
@@ -245,7 +245,7 @@ belongs (Broadcast c) p = is_using p
 belongs (SetPrio u p) SetPriority = true
 belongs _ _ = false
 
--- the mutex for which a call of this request may wait; 0 where it waits for none
+-- the mutex for which a call of this request may wait; 0 if it waits for none
 abbrev pub waited_in : Request → ℕ
 waited_in (Lock m) = m
 waited_in (Wait c m) = m
@@ -301,7 +301,7 @@ abbrev pub is_named_clearing : Footing → Bool
 is_named_clearing HadStopped = false
 is_named_clearing _ = true
 
--- whether the pending field names the call's mutex at this place, where that is robust
+-- whether the pending field names the call's mutex at this place, if that is robust
 abbrev pub is_pending : Place → Bool
 is_pending Exchange = true
 is_pending CallKernel = true
@@ -314,7 +314,7 @@ is_pending (Park v) = true
 is_pending StayParked = true
 is_pending _ = false
 
--- whether the call's mutex, where its thread owns it, is not on the list at this place: handed over and not noticed,
+-- whether the call's mutex, if its thread owns it, is not on the list at this place: handed over and not noticed,
 -- while it is taken over, left, or given up by an unlock or a wait
 abbrev pub is_unlinked : Place → Bool
 is_unlinked StayQueued = true
@@ -329,7 +329,7 @@ abbrev pub is_half_linked : Place → Bool
 is_half_linked (Link WriteHead a) = true
 is_half_linked _ = false
 
--- whether at this place the call's mutex, where its thread owns it, may have OWNER_DIED or be unusable
+-- whether at this place the call's mutex, if its thread owns it, may have OWNER_DIED or be unusable
 abbrev pub is_unsettled : Place → Bool
 is_unsettled StayQueued = true
 is_unsettled (Take x) = true
@@ -337,12 +337,12 @@ is_unsettled (Give x y) = is_loose_giving x
 is_unsettled StayParked = true
 is_unsettled _ = false
 
--- the mutex of the call at a line, where its place passes this test; 0 else
+-- the mutex of the call at a line, if its place passes this test; 0 else
 abbrev pub mutex_by : (Place → Bool) → Line → ℕ
 mutex_by test Idle = 0
 mutex_by test (At q p) = if test p then named_by q else 0
 
--- the mutex that the pending field, or the half-linked one, is at a line: such a mutex, where it is robust
+-- the mutex that the pending field, or the half-linked one, is at a line: such a mutex, if it is robust
 abbrev pub robust_by : (Place → Bool) → Table → Line → ℕ
 robust_by test s l = if (library_at s (mutex_by test l)).robust then mutex_by test l else 0
 
@@ -372,7 +372,7 @@ pub record AbsentIsSound (s : Table) (t : ℕ) : Type 0 where
   pub line : line_at s t ≡ Idle
   pub list : robust_at s.lists t ≡ no_robust_row
 
--- how often its owner, 0 for none, holds a mutex of this kind: once to 255 times, and once where it has no owner or
+-- how often its owner, 0 for none, holds a mutex of this kind: once to 255 times, and once if it has no owner or
 -- no lock by the owner counts
 pub record CountIsSound (kind : Kind) (owner count : ℕ) : Type 0 where
   pub some : 1 ≤ count

@@ -32,7 +32,7 @@ WhereStands s Holds = (h : List Entry) (r : List World) (w : World) → Stands s
 
 -- WHAT STANDING TELLS A CALLER
 
--- x may be m's word in this state: its number is the owner's, WAITERS is set where m has waiters, OWNER_DIED only where
+-- x may be m's word in this state: its number is the owner's, WAITERS is set if m has waiters, OWNER_DIED only if
 -- m is robust and not Fine; with no owner a Fine mutex has the word 0 and an Inconsistent one OWNER_DIED (futex(2),
 -- robust futexes)
 pub record IsPossible (w : World) (m : ℕ) (x : Word) : Type 0 where
@@ -42,7 +42,7 @@ pub record IsPossible (w : World) (m : ℕ) (x : Word) : Type 0 where
   pub free : (mutex_at w m).owner ≡ 0 → (mutex_at w m).health ≡ Fine → x ≡ free_word
   pub inconsistent : (mutex_at w m).owner ≡ 0 → (mutex_at w m).health ≡ Inconsistent → x.died ≡ true
 
--- h may be m's health word in this state: it is 2 exactly where m is Unusable, and 1 only where it is Inconsistent
+-- h may be m's health word in this state: it is 2 exactly if m is Unusable, and 1 only if it is Inconsistent
 pub record IsPossibleHealth (w : World) (m h : ℕ) : Type 0 where
   pub unusable : h ≡ 2 → (mutex_at w m).health ≡ Unusable
   pub given_up : (mutex_at w m).health ≡ Unusable → h ≡ 2
@@ -61,7 +61,7 @@ abbrev pub HasEffective : World → ℕ → ℕ → Type 0
 HasEffective w t p = IsEffective (λ u. is_thread w u ≡ true) (WaitsFor w) (λ u. (thread_at w u).base) t p
 
 -- p runs next: a living thread that doesn't rest, and no living thread that doesn't rest has a greater effective
--- priority; 0 only where every living thread rests
+-- priority; 0 only if every living thread rests
 pub record IsPick (w : World) (p : ℕ) : Type 0 where
   pub runs : p ≢ 0 → (lives w p ≡ true) × (rests w p ≡ false)
   pub greatest : (t : ℕ) → lives w t ≡ true → rests w t ≡ false → (p ≢ 0) × (effective_of w t ≤ effective_of w p)
@@ -89,6 +89,6 @@ abbrev pub waiters_of : World → ℕ → List ℕ
 waiters_of w m = waiting_order (effective_of w) w.waiters m
 
 -- us are the threads from t on along whom each waits for, in order, up to the one that waits for nobody: after each one
--- stands the owner of the mutex for which it waits; none where t doesn't live
+-- stands the owner of the mutex for which it waits; none if t doesn't live
 abbrev pub IsPathFrom : World → ℕ → List ℕ → Type 0
 IsPathFrom w t us = IsPath (waits_for w) (if lives w t then t else 0) us

@@ -101,7 +101,7 @@ pub record Cell : Type 0 where
   pub word : Word
   -- its health word: 0 fine, 1 inconsistent, 2 unusable
   pub health : ℕ
-  -- the owner that the kernel's owner state names, 0 where there is no owner state
+  -- the owner that the kernel's owner state names, 0 if there is no owner state
   pub state_owner : ℕ
 
 -- all that the parts have of m

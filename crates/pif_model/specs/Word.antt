@@ -8,7 +8,7 @@ use Rattle.pif_types.specs.declared.requests.Health.TheVariants.{Fine, Inconsist
 
 -- a word, taken apart
 pub record Word : Type 0 where
-  -- the owner's number, 0 where there is no owner
+  -- the owner's number, 0 if there is no owner
   pub number : ℕ
   -- FUTEX_WAITERS: threads contend, or did
   pub waiters : Bool
@@ -31,11 +31,11 @@ taken_word t w = record { number = t; waiters = false; died = w.died }
 abbrev pub is_bare : Word → ℕ → Bool
 is_bare w t = if w.waiters then false else (if w.died then false else w.number == t)
 
--- the word after a compare-exchange from 0 to the bare number t; None where it fails
+-- the word after a compare-exchange from 0 to the bare number t; None if it fails
 abbrev pub take_word : Word → ℕ → Option Word
 take_word w t = if is_bare w 0 then Some (held_by t) else None
 
--- the word after a compare-exchange from the bare number t to 0; None where it fails
+-- the word after a compare-exchange from the bare number t to 0; None if it fails
 abbrev pub release_word : Word → ℕ → Option Word
 release_word w t = if is_bare w t then Some free_word else None
 
@@ -79,7 +79,7 @@ pub record Words : Type 0 where
   -- the condition word of each variable: how often it was signalled or broadcast
   pub conds : List ℕ
 
--- the word of m; the free word where there is none
+-- the word of m; the free word if there is none
 abbrev pub word_at : Words → ℕ → Word
 word_at ws m = get_or ws.mutexes m free_word
 
@@ -101,7 +101,7 @@ health_word Fine = 0
 health_word Inconsistent = 1
 health_word Unusable = 2
 
--- the health word of m; 0 where there is none
+-- the health word of m; 0 if there is none
 abbrev pub health_word_at : Words → ℕ → ℕ
 health_word_at ws m = get_or ws.healths m 0
 
@@ -109,7 +109,7 @@ health_word_at ws m = get_or ws.healths m 0
 abbrev pub set_health_word : Words → ℕ → ℕ → Words
 set_health_word ws m h = record ws { healths = set ws.healths m h }
 
--- the condition word of c; 0 where there is none
+-- the condition word of c; 0 if there is none
 abbrev pub cond_word_at : Words → ℕ → ℕ
 cond_word_at ws c = get_or ws.conds c 0
 

@@ -64,7 +64,7 @@ pub record Thread : Type 0 where
 pub record Mutex : Type 0 where
   pub kind : Kind
   pub robust : Bool
-  -- the owner's number, also of an owner that ended; 0 where there is none
+  -- the owner's number, also of an owner that ended; 0 if there is none
   pub owner : ℕ
   -- how often the owner holds it
   pub count : ℕ
@@ -105,7 +105,7 @@ no_mutex = record { kind = Normal; robust = false; owner = 0; count = 1; health 
 abbrev pub no_variable : Variable
 no_variable = record { mutex = 0; uses = 0 }
 
--- the state in which nothing was added yet, where a variable may be used this often
+-- the state in which nothing was added yet, of variables that may be used this often
 abbrev pub empty_world : ℕ → World
 empty_world n = record {
   threads = nobody ∷ [];
@@ -171,7 +171,7 @@ pub record WaitsFor (w : World) (u t : ℕ) : Type 0 where
   pub owned : (mutex_at w mutex).owner ≡ t
   pub somebody : t ≢ 0
 
--- the thread for which u waits; 0 where u waits for nobody
+-- the thread for which u waits; 0 if u waits for nobody
 abbrev pub waits_for : World → ℕ → ℕ
 waits_for w u = (mutex_at w (waited_by w.waiters u)).owner
 
@@ -180,7 +180,7 @@ waits_for w u = (mutex_at w (waited_by w.waiters u)).owner
 abbrev pub effective_of : World → ℕ → ℕ
 effective_of w t = effective_among (length w.threads) (waits_for w) (λ u. (thread_at w u).base) t
 
--- the waiter that gets m next: the first in arrival among those of greatest effective priority; 0 where none waits
+-- the waiter that gets m next: the first in arrival among those of greatest effective priority; 0 if none waits
 -- (pthread_mutex_unlock: the scheduling policy determines which thread acquires the mutex; under SCHED_FIFO that is one
 -- of greatest priority. Who comes first among equals, by arrival and also after a change of priority, is this project's
 -- choice)
@@ -222,7 +222,7 @@ is_blocked (Enlisted still) = still
 is_blocked (Blocked noted) = true
 is_blocked _ = false
 
--- the variable that a request names; 0 where it names none
+-- the variable that a request names; 0 if it names none
 abbrev pub variable_of : Request → ℕ
 variable_of (Wait c m) = c
 variable_of (Signal c) = c

@@ -51,7 +51,7 @@ pub enum Order {
 pub enum Entry {
     /// This thread was added, with this base priority.
     Thread(Tid, Prio),
-    /// This mutex was added, of this kind; true where it is robust.
+    /// This mutex was added, of this kind; true if it is robust.
     Mutex(MutexId, Kind, bool),
     /// This condition variable was added, bound to this mutex.
     Cond(CondId, MutexId),

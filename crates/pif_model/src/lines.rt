@@ -5,7 +5,7 @@ use pif_types::{Answer, CondId, MutexId, Request};
 pub enum TakeStep {
     /// Load the word, and see whether its last owner ended.
     LoadWord,
-    /// Load the health word; true where the last owner was seen to have ended.
+    /// Load the health word; true if the last owner was seen to have ended.
     LoadHealth(bool),
     /// Store in the health word that the mutex is inconsistent.
     StoreInconsistent,
@@ -78,7 +78,7 @@ pub enum WakeStep {
     ReadUses,
     /// Compare-exchange the condition word from what it was to one more.
     CountUse(u32),
-    /// The kernel call cmp_requeue_pi, where the condition word is what this call wrote or read.
+    /// The kernel call cmp_requeue_pi, if the condition word is what this call wrote or read.
     Requeue(u32),
     /// Load the condition word, which another has changed since.
     ReadAgain,
@@ -113,7 +113,7 @@ pub enum Place {
     Clear(Footing, Answer),
     /// wait: load the condition word. What it was goes along from here on.
     LoadUses,
-    /// wait: the kernel call wait_requeue_pi, which parks the caller where the condition word is what it was.
+    /// wait: the kernel call wait_requeue_pi, which parks the caller if the condition word is what it was.
     Park(u32),
     /// wait: the kernel has parked the caller. Once it was made the owner it takes the mutex over; once it was woken to
     /// lock the mutex again, this is the exchange of lock.

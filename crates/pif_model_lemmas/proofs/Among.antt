@@ -33,7 +33,7 @@ pub is_among_push : (ws : List (ℕ × ℕ)) (t n u m : ℕ) → is_among (ws ++
 is_among_push [] t n u m h = grind (arith, nat_tests)
 is_among_push (p ∷ ws) t n u m h = grind (arith, nat_tests, h, is_among_push ws t n u m)
 
--- of pairs each of which is (t, p) for a waiter t of m, the first of greatest priority is such a pair, where it isn't 0
+-- of pairs each of which is (t, p) for a waiter t of m, the first of greatest priority is such a pair, if it isn't 0
 first_is_among : (effective : ℕ → ℕ) (ws : List (ℕ × ℕ)) (m u : ℕ) → (first_greatest (waiters_with effective ws m)).0 ≡ u → u ≢ 0 → is_among ws u m ≡ true
 unfolding first_greatest
 first_is_among effective [] m u e h = grind arith

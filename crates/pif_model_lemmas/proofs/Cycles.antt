@@ -1,4 +1,4 @@
--- Chains of waiting, and that no thread waits for itself through one, where hops come and go: over a relation, and over
+-- Chains of waiting, and that no thread waits for itself through one, when hops come and go: over a relation, and over
 -- a function that says for whom each thread waits.
 use Rattle.std.proofs.Common.{◌≡◌, ◌≢◌, ◌⊎◌, ◌<◌, ℕ, Bool, true, false, refl, sym, ap, ◌∙◌, subst, inl, inr}
 use Rattle.std.proofs.lemmas.Bool.{true≢false, cases_eq, cases_Bool, false_from_ne_true}
@@ -20,7 +20,7 @@ pub Reaches-trans : {W : ℕ → ℕ → Type 0} {x y z : ℕ} → Reaches W x y
 Reaches-trans {W} {z = z} (here e) r = subst (λ (v : ℕ). Reaches W v z) (sym e) r
 Reaches-trans (hop a q) r = hop a (Reaches-trans q r)
 
--- where each hop was there before, no cycle comes
+-- if each hop was there before, no cycle comes
 pub NoCycle-fewer : {W V : ℕ → ℕ → Type 0} → ((t u : ℕ) → V t u → W t u) → NoCycle W → NoCycle V
 NoCycle-fewer f none t u a r = none t u (f t u a) (Reaches-map f r)
 
@@ -37,7 +37,7 @@ reaches-past_hop {W} {V} t n f {y = y} (hop {u = x} {v = z} a r) = further (f x 
     further (inr e) (inl q) = inr (here e.0, subst (λ (v : ℕ). Reaches W v y) e.1 q)
     further (inr e) (inr q) = inr (here e.0, q.1)
 
--- one more hop, from t to n, makes no cycle where n did not reach t
+-- one more hop, from t to n, makes no cycle if n did not reach t
 pub NoCycle-hop : {W V : ℕ → ℕ → Type 0} (t n : ℕ) → ((x z : ℕ) → V x z → W x z ⊎ ((x ≡ t) × (z ≡ n)))
     → (Reaches W n t → ⊥) → NoCycle W → NoCycle V
 NoCycle-hop {W} {V} t n f apart none x z a r = further (f x z a) (reaches-past_hop t n f r)
@@ -80,7 +80,7 @@ NoCycle-still {W} {V} r still f none x z a q = further (f x z a) (reaches-past_s
 
 -- OVER A FUNCTION
 
--- where the test finds that nobody reaches itself over the hops that it looks at, nobody waits for itself
+-- if the test finds that nobody reaches itself over the hops that it looks at, nobody waits for itself
 NoCycle-from_test : (n : ℕ) (w : ℕ → ℕ) → ((x : ℕ) → w x < n) → ((y : ℕ) → w y ≢ 0 → reaches_within n w (w y) y ≡ false) → NoCycle (Follows w)
 NoCycle-from_test n w below acyclic t u a r =
     true≢false
@@ -91,7 +91,7 @@ NoCycle-from_test n w below acyclic t u a r =
 test-from_NoCycle : (n : ℕ) (w : ℕ → ℕ) → NoCycle (Follows w) → (y : ℕ) → w y ≢ 0 → reaches_within n w (w y) y ≡ false
 test-from_NoCycle n w none y some = false_from_ne_true (reaches_within n w (w y) y) (λ h. none y (w y) (refl, some) (reaches-from_within n w (w y) y h))
 
--- where t comes to wait for an owner that did not reach it, no thread comes to reach itself
+-- if t comes to wait for an owner that did not reach it, no thread comes to reach itself
 pub still_acyclic : (w now : ℕ → ℕ) (t owner : ℕ) → ((x : ℕ) → x ≢ t → now x ≡ w x) → now t ≡ owner → (n : ℕ) → ((x : ℕ) → w x < n) → owner < n
     → reaches_within n w owner t ≡ false → ((y : ℕ) → w y ≢ 0 → reaches_within n w (w y) y ≡ false) → (y : ℕ) → now y ≢ 0 → reaches_within n now (now y) y ≡ false
 still_acyclic w now t owner same new n below less unreached acyclic =
@@ -104,7 +104,7 @@ still_acyclic w now t owner same new n below less unreached acyclic =
     never : Reaches (Follows w) owner t → ⊥
     never r = true≢false (sym (within-from_reaches n w owner t less (λ x some. below x) r) ∙ unreached)
 
--- nor where those that `on` tells come to wait for u, which waits for nobody then
+-- nor if those that `on` tells come to wait for u, which waits for nobody then
 pub acyclic_handed : (w now : ℕ → ℕ) (u : ℕ) (on : ℕ → Bool) → ((x : ℕ) → on x ≡ false → now x ≡ w x) → ((x : ℕ) → on x ≡ true → x ≢ u → now x ≡ u) → now u ≡ 0
     → (n : ℕ) → ((x : ℕ) → w x < n) → ((y : ℕ) → w y ≢ 0 → reaches_within n w (w y) y ≡ false) → (y : ℕ) → now y ≢ 0 → reaches_within n now (now y) y ≡ false
 acyclic_handed w now u on others moved freed n below acyclic =

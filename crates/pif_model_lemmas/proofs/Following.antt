@@ -92,7 +92,7 @@ pub no_repeats : IsDistinct eqb []
 unfolding IsDistinct
 no_repeats = tt
 
--- the numbers of a trail are below n, where its first is, and for whoever one waits
+-- the numbers of a trail are below n, if its first is, and for whoever one waits
 trail_below : {waits_for : ℕ → ℕ} {t : ℕ} {xs : List ℕ} {u : ℕ} → Trail waits_for t xs u → (n : ℕ) → u < n → ((x : ℕ) → waits_for x ≢ 0 → waits_for x < n)
     → (q : ℕ) → list_any (eqb q) xs ≡ true → q < n
 trail_below {waits_for} (last {u = u} e) n l below q h = grind (arith, nat_tests)
@@ -115,7 +115,7 @@ trail_of {waits_for} {t = t} (hop {u = u} {v = v} e r) = shorten (trail_of r)
         by_place (inl y) = let c = trail_from r.1 u y in (c.0, c.1, c.2 r.2)
         by_place (inr n) = ((u ∷ r.0), more e.0 e.1 r.1, IsDistinct-cons eqb u r.0 (all_apart u r.0 n) r.2)
 
--- whom one reaches at all, one reaches over n hops, where all numbers on the way are below n
+-- whom one reaches at all, one reaches over n hops, if all numbers on the way are below n
 pub within-from_reaches : (n : ℕ) (waits_for : ℕ → ℕ) (u t : ℕ) → u < n → ((x : ℕ) → waits_for x ≢ 0 → waits_for x < n)
     → Reaches (Follows waits_for) u t → reaches_within n waits_for u t ≡ true
 within-from_reaches n waits_for u t l below r =
@@ -141,12 +141,12 @@ greatest_where_above test f (suc n) u l h = grind (arith, nat_tests, greatest_wh
 abbrev pub IsGreatestAt : (ℕ → Bool) → (ℕ → ℕ) → ℕ → Type 0
 IsGreatestAt test f n = (u : ℕ) × (u < n) × (test u ≡ true) × (f u ≡ greatest_where test f n)
 
--- the greatest value one number further, where that number fails
+-- the greatest value one number further, if that number fails
 greatest_where_no : (test : ℕ → Bool) (f : ℕ → ℕ) (n : ℕ) → test n ≡ false → greatest_where test f (suc n) ≡ greatest_where test f n
 unfolding greatest_where
 greatest_where_no test f n e = rw e refl
 
--- and where it passes
+-- and if it passes
 greatest_where_yes : (test : ℕ → Bool) (f : ℕ → ℕ) (n : ℕ) → test n ≡ true → greatest_where test f (suc n) ≡ max (f n) (greatest_where test f n)
 unfolding greatest_where
 greatest_where_yes test f n e = rw e refl
@@ -196,7 +196,7 @@ greatest_where_some test f n h = by_case (greatest_where_cases test f n)
     by_case (inl p) = p
     by_case (inr p) = absurd (omega (arith, p.1))
 
--- where a number below n passes, the greatest value is that of one that does
+-- if a number below n passes, the greatest value is that of one that does
 pub greatest_where_at : (test : ℕ → Bool) (f : ℕ → ℕ) (n t : ℕ) → t < n → test t ≡ true → IsGreatestAt test f n
 greatest_where_at test f n t l h = by_case (greatest_where_cases test f n)
   where

@@ -15,7 +15,7 @@ greatest_where_most test f n m h = by_case (greatest_where_cases test f n)
     by_case (inl p) = omega (arith, p.3, h p.0 p.1 p.2)
     by_case (inr p) = omega (arith, p.1)
 
--- the greatest value where two tests and two functions agree below n
+-- the greatest value if two tests and two functions agree below n
 pub greatest_where_same : (p q : ℕ → Bool) (f g : ℕ → ℕ) (n : ℕ) → ((u : ℕ) → u < n → p u ≡ q u) → ((u : ℕ) → u < n → f u ≡ g u)
     → greatest_where p f n ≡ greatest_where q g n
 unfolding greatest_where
@@ -41,7 +41,7 @@ effective_attained n w b t l = greatest_where_at (λ (u : ℕ). reaches_within n
 pub effective_own : (n : ℕ) (w b : ℕ → ℕ) (t : ℕ) → t < n → b t ≤ effective_among n w b t
 effective_own n w b t l = effective_above n w b t t l (within_here n w t)
 
--- the effective priority is at most another where each that reaches the one has one as high that reaches the other
+-- the effective priority is at most another if each that reaches the one has one as high that reaches the other
 pub effective_under : (n n' : ℕ) (w w' b b' : ℕ → ℕ) (t t' : ℕ)
     → ((u : ℕ) → u < n → reaches_within n w u t ≡ true → (b u ≡ 0) ⊎ ((v : ℕ) × (v < n') × (reaches_within n' w' v t' ≡ true) × (b u ≤ b' v)))
     → effective_among n w b t ≤ effective_among n' w' b' t'
@@ -77,7 +77,7 @@ reaches_same n n' w w' u u' t e same f = λ i. reaches_within (e i) (fun_ext sam
 -- ONE HOP OF WAITING
 
 -- an effective priority is the greatest of the base priority and of the effective priorities of those that wait for the
--- thread, where no number from n on waits
+-- thread, if no number from n on waits
 pub effective_step : (n : ℕ) (w b : ℕ → ℕ) → ((x : ℕ) → n ≤ x → w x ≡ 0) → (t : ℕ) → t < n → t ≢ 0
     → effective_among n w b t ≡ max (b t) (greatest_where (λ u. w u == t) (effective_among n w b) n)
 effective_step n w b out t l some = omega (arith, less, effective_own n w b t l, waiting)

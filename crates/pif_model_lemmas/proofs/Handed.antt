@@ -45,7 +45,7 @@ module _ (n : ℕ) (w now b : ℕ → ℕ) (t u : ℕ) (on : ℕ → Bool) (belo
       greater : effective_among n w b y ≤ effective_among n now b y
       greater = effective_under n n w now b b y y (λ x l e. inr (x, l, within-from_reaches n now x y l (λ z some. below_now z) (down ne (reaches-from_within n w x y e)), omega arith))
 
-  -- the same holds of t besides, where its base priority is what its effective priority was
+  -- the same holds of t besides, if its base priority is what its effective priority was
   pub effective_lifted : (c : ℕ → ℕ) → c t ≡ effective_among n w b t → ((x : ℕ) → x ≢ t → c x ≡ b x) → t < n → (y : ℕ) → effective_among n now c y ≡ effective_among n w b y
   effective_lifted c high same l y = omega (arith, less, greater (cases_eq y t))
     where

@@ -1,4 +1,4 @@
--- Chains of waiting, hop by hop: one hop more, the last hop, and whom one reaches. Where threads below n alone wait,
+-- Chains of waiting, hop by hop: one hop more, the last hop, and whom one reaches. If threads below n alone wait,
 -- also chains that end at a number from n on are found over few hops.
 use Rattle.std.proofs.Common.{◌≡◌, ◌≢◌, ◌⊎◌, ℕ, zero, suc, ◌<◌, ◌≤◌, ◌+◌, ◌-◌, true, false, ◌==◌, nat_lt, refl, sym, ◌∙◌, subst, inl, inr, if◌then◌else◌, arith}
 use Rattle.std.proofs.lemmas.Bool.{cases_lt, ne_eqb, false_from_ne_true}
@@ -30,12 +30,12 @@ pub nobody : (w : ℕ → ℕ) {u t : ℕ} → t ≡ 0 → Reaches (Follows w) u
 nobody w e (here s) = s ∙ e
 nobody w e (hop {v = v} a r) = absurd (a.1 (nobody w e r))
 
--- who is reached by a number below n is below n, where each waits for one below n
+-- who is reached by a number below n is below n, if each waits for one below n
 pub reach_below : (w : ℕ → ℕ) (n : ℕ) → ((x : ℕ) → w x < n) → {u t : ℕ} → Reaches (Follows w) u t → u < n → t < n
 reach_below w n below (here e) l = omega arith
 reach_below w n below (hop {u = u} {v = v} e r) l = reach_below w n below r (omega (arith, e.0, below u))
 
--- over the hops of another function, where that one waits for the same or for nobody
+-- over the hops of another function, if that one waits for the same or for nobody
 within_wider : (f w : ℕ → ℕ) → ((x : ℕ) → f x ≢ 0 → f x ≡ w x) → (k u t : ℕ) → reaches_within k f u t ≡ true → reaches_within k w u t ≡ true
 unfolding reaches_within
 within_wider f w same zero u t h = h

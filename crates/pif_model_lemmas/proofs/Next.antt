@@ -6,15 +6,15 @@ use Rattle.pif_model.specs.Graph.{has_waiter, first_greatest, waiters_with, next
 use Rattle.pif_model_lemmas.proofs.Among.{is_among, is_among_cons}
 
 module _ (effective : ℕ → ℕ) where
-  -- what the head adds to the waiters of m, where it is one
+  -- what the head adds to the waiters of m, if it is one
   waiters_with_yes : (w : ℕ × ℕ) (ws : List (ℕ × ℕ)) (m : ℕ) → w.1 ≡ m → waiters_with effective (w ∷ ws) m ≡ (w.0, effective w.0) ∷ waiters_with effective ws m
   waiters_with_yes w ws m e = grind (arith, nat_tests)
 
-  -- and where it is none
+  -- and if it is none
   waiters_with_no : (w : ℕ × ℕ) (ws : List (ℕ × ℕ)) (m : ℕ) → w.1 ≢ m → waiters_with effective (w ∷ ws) m ≡ waiters_with effective ws m
   waiters_with_no w ws m e = grind (arith, nat_tests)
 
-  -- where nobody waits for m, its waiters are none
+  -- if nobody waits for m, its waiters are none
   waiters_with_none : (ws : List (ℕ × ℕ)) (m : ℕ) → has_waiter ws m ≡ false → waiters_with effective ws m ≡ []
   waiters_with_none [] m h = refl
   waiters_with_none (w ∷ ws) m h = grind (arith, nat_tests, waiters_with_none ws m, waiters_with_no w ws m)

@@ -64,7 +64,7 @@ has_split m (x ∷ xs) h = ⊎_elim
     (x ∷ r.0, r.1, ap (λ zs. x ∷ zs) r.2))
     (cases_Bool (eqb m x))
 
--- where no mutex stands twice, none does once m is taken out, and m is on neither side
+-- if no mutex stands twice, none does once m is taken out, and m is on neither side
 pub record Apart (front back : List ℕ) (m : ℕ) : Type 0 where
   pub once : HasNoRepeats (front ++ back)
   pub front_lacks : has_entry front m ≡ false

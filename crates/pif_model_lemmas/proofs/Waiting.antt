@@ -27,7 +27,7 @@ Once ws = IsDistinct eqb (map (λ (w : ℕ × ℕ). w.0) ws)
 
 -- WHO WAITS
 
--- where nobody waits for 0, who waits for 0 is nowhere in the queue
+-- if nobody waits for 0, who waits for 0 is nowhere in the queue
 pub unnamed-from_0 : (ws : List (ℕ × ℕ)) (u : ℕ) → has_waiter ws 0 ≡ false → waited_by ws u ≡ 0 → names u ws ≡ false
 unfolding waited_by
 unnamed-from_0 [] u h e = refl

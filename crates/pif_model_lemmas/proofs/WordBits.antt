@@ -82,19 +82,19 @@ pub number-is : (b : ℕ) → bit_and b 1073741823 ≡ (word_of b).number
 unfolding word_of
 number-is b = and_mask b 30
 
--- a flag is set where `&` with it is not 0
+-- a flag is set if `&` with it is not 0
 flag-test : (x n : ℕ) → 0 < n → x < 2 → not (x * n == 0) ≡ (x == 1)
 flag-test zero n p h = rw (zero-mul n) refl
 flag-test (suc zero) n p h = rw (one-mul n) (grind (arith, nat_tests))
 flag-test (suc (suc x)) n p h = absurd (omega arith)
 
--- `& WAITERS` is not 0 where WAITERS is set
+-- `& WAITERS` is not 0 if WAITERS is set
 pub waiters-is : (b : ℕ) → not (bit_and b 2147483648 == 0) ≡ (word_of b).waiters
 unfolding word_of
 waiters-is b =
     ap (λ k. not (k == 0)) (and_pow b 31) ∙ flag-test ((b / 2147483648) % 2) 2147483648 (omega arith) (omega arith)
 
--- `& OWNER_DIED` is not 0 where OWNER_DIED is set
+-- `& OWNER_DIED` is not 0 if OWNER_DIED is set
 pub died-is : (b : ℕ) → not (bit_and b 1073741824 == 0) ≡ (word_of b).died
 unfolding word_of
 died-is b =
@@ -125,7 +125,7 @@ word_of-hand u h =
     ap word_of (or_waiters u (omega arith))
     ∙ word_from (2147483648 + u % 2147483648) u 1 0 (omega arith) (omega arith) (omega arith)
 
--- `& OWNER_DIED | t` is the word of t, with OWNER_DIED where it was set
+-- `& OWNER_DIED | t` is the word of t, with OWNER_DIED if it was set
 pub word_of-taken : (b t : ℕ) → t < 1073741824 → word_of (bit_or (bit_and b 1073741824) t) ≡ word t false (word_of b).died
 unfolding word_of
 word_of-taken b t h =
@@ -142,7 +142,7 @@ word_of-without_died b h =
     let p : bit_and b 1073741824 ≡ (b / 1073741824) % 2 * 1073741824 = and_pow b 30 in
     word_from (bit_and b 3221225471) (b % 1073741824) ((b / 2147483648) % 2) 0 (omega arith) (omega arith) (omega arith)
 
--- `& WAITERS | OWNER_DIED` is the word of no owner with OWNER_DIED, and with WAITERS where it was set
+-- `& WAITERS | OWNER_DIED` is the word of no owner with OWNER_DIED, and with WAITERS if it was set
 pub word_of-orphan : (b : ℕ) → word_of (bit_or (bit_and b 2147483648) 1073741824) ≡ word 0 (word_of b).waiters true
 unfolding word_of
 word_of-orphan b =

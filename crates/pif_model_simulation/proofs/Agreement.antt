@@ -79,7 +79,7 @@ pub record Follows (l l' : Line) : Type 0 where
 pub quiet : {l l' : Line} → may_enlist l' ≡ false → chooses_on l' ≡ 0 → Follows l l'
 quiet a b = record { joins = λ e. a; chooses = λ c z e. absurd (z (sym e ∙ b)) }
 
--- where t alone goes to another line, and the others are blocked as they were
+-- if t alone goes to another line, and the others are blocked as they were
 pub frames_by : (s v : Table) (t : ℕ) → length v.lines ≡ length s.lines
     → ((u : ℕ) → u ≢ t → line_at v u ≡ line_at s u) → ((u : ℕ) → u ≢ t → WasBlockedIn s v u)
     → Follows (line_at s t) (line_at v t) → (may_enlist (line_at s t) ≡ false → WasBlockedIn s v t) → Frames s v

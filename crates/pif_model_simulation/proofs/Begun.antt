@@ -38,7 +38,7 @@ idle_line (At q p) e = absurd (true≢false e)
 
 -- THE TABLE
 
--- where a call begins it rests on its thread alone
+-- when a call begins, it rests on its thread alone
 begins_sound : (s : Table) (t : ℕ) (q : Request) → names_known (has_mutex s) (has_cond s) q ≡ true
     → is_ready (status_at s t) ≡ true → LineIsSound s t (At (plain q) (first_place q))
 begins_sound s t (Lock m) named ready = record { named = named; belongs = refl; needs = (ready, tt) }

@@ -95,7 +95,7 @@ rank (Repair x) = repair_rank x
 rank (Wake x) = wake_rank x
 rank _ = 0
 
--- where it has read a condition word, by whether that is still what it was
+-- if it has read a condition word, by whether that is still what it was
 abbrev rank_in : Table → Request → Place → ℕ
 rank_in s q (Wake (CountUse v)) = if uses_of s (variable_of q) == v then 4 else 5
 rank_in s q (Wake (Requeue v)) = if uses_of s (variable_of q) == v then 1 else 3
@@ -436,7 +436,7 @@ shared-turns q (Take x) t m s k l = take-turns q x t m s k l
 shared-turns q (Link x a) t m s k l = link-turns q x a t m s k l
 shared-turns q p t m s k l = giving-turns q p t m s k l
 
--- cmp_requeue_pi answers EAGAIN only where the condition word is another
+-- cmp_requeue_pi answers EAGAIN only if the condition word is another
 changed_since : (c m more v : ℕ) (s : Table) → requeue_answer c m 1 more v s.words s.kernel ≡ Err Again
     → (uses_of s c == v) ≡ false
 unfolding requeue_answer
@@ -558,7 +558,7 @@ told-turns q x t n o (ends (inl e)) = ends (inl (ap (reported_seen q x) e))
 told-turns q x t n o (ends (inr e)) = ends (inr (reported_result q x e.0, ap (reported_seen q x) e.1))
 told-turns q x t n o (goes e known busy less) = goes (ap (reported_seen q x) e) known busy less
 
--- a step of t is not refused where its call is open
+-- a step of t is not refused if its call is open
 open_step : (s : Table) (t : ℕ) → is_living s.kernel t ≡ true → is_open (line_at s t) ≡ true
     → event_outcome (Go t) s ≡ go_outcome (line_at s t) t s
 unfolding event_outcome accepted_outcome
@@ -587,7 +587,7 @@ step-turns : (s : Table) (t : ℕ) → is_living s.kernel t ≡ true → is_open
 step-turns s t known busy = subst (Turns t (line_rank s (line_at s t))) (sym (open_step s t known busy))
     (go_outcome-turns s t (line_at s t) known (lined s t busy) busy)
 
--- where a step turns that went, the next one is not refused
+-- if a step turns that went, the next one is not refused
 turn-allows : (t n : ℕ) (o : Outcome) → Turns t n o → o.seen ≡ Went → table_refusal o.after (Go t) ≡ None
 turn-allows t n o (ends e) went = absurd (ends-not_went o.seen e went)
 turn-allows t n o (goes e known busy less) went =
@@ -610,7 +610,7 @@ last-ends : (first later : Outcome) (x : Seen) → ClosesOrWaits x → last firs
 last-ends first later x (inl e) = ap (last first later) e
 last-ends first later x (inr e) = ap (last first later) e.1
 
--- a step of t that turns, with what follows it, ends the call or waits, where what follows does
+-- a step of t that turns, with what follows it, ends the call or waits, if what follows does
 turn-ends : (t n : ℕ) (first later : Outcome) → Turns t n first
     → (is_living first.after.kernel t ≡ true → is_open (line_at first.after t) ≡ true
     → line_rank first.after (line_at first.after t) < n → ClosesOrWaits later.seen)

@@ -55,7 +55,7 @@ stop_on bound t m k living = record {
   targets = λ c n e. inl e;
 }
 
--- whose number n a word has that had the number n before: the same, or that of t, where it had none
+-- whose number n a word has that had the number n before: the same, or that of t, if it had none
 pub data HasTaken (t before after : ℕ) : Type 0 where
   kept : after ≡ before → HasTaken t before after
   taken : before ≡ 0 → after ≡ t → HasTaken t before after
@@ -261,7 +261,7 @@ module _ {s : Table} {t : ℕ} {q : Request} {p : Place} (g : Going s t q p) (na
         waiters = k.waiters;
       })
 
-  -- where the word keeps its number, no mutex changes
+  -- if the word keeps its number, no mutex changes
   pub called_shown : (y : HistoryVariables) (o : Progress) → x.number ≡ (word_at s.words m).number → progress_then ≡ o
       → world_of called y ≡ record (with_progress t o (world_of s y)) { waiters = k.waiters }
   called_shown y o same_number e = called_world y o e
@@ -279,7 +279,7 @@ module _ {s : Table} {t : ℕ} {q : Request} {p : Place} (g : Going s t q p) (na
       mutexes : set (world_of s y).mutexes m (mutex_of cell) ≡ (world_of s y).mutexes
       mutexes = ap (set (world_of s y).mutexes m) same ∙ set-get_or (world_of s y).mutexes m no_mutex
 
-  -- where t has taken it, t owns it
+  -- if t has taken it, t owns it
   pub called_taken : (y : HistoryVariables) (o : Progress) → x.number ≡ t → n ≡ 1 → progress_then ≡ o
       → world_of called y ≡ record (with_progress t o (with_mutex m
       (record (mutex_at (world_of s y) m) { owner = t; count = 1 }) (world_of s y))) { waiters = k.waiters }

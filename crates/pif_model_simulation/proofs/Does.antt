@@ -21,13 +21,13 @@ use Rattle.pif_model.specs.Posix.Passes.{to_nobody}
 use Rattle.pif_model.specs.Posix.Effects.{none, then as first}
 use Rattle.pif_model_simulation.proofs.Owning.{next_none}
 
--- q locks m where nobody owns it, and again where its thread does and the kind is RECURSIVE
+-- q locks m if nobody owns it, and again if its thread does and the kind is RECURSIVE
 pub data IsLocking (m : ℕ) (q : Request) : Type 0 where
   by_lock : q ≡ Lock m → IsLocking m q
   by_try_lock : q ≡ TryLock m → IsLocking m q
   by_wait : (c : ℕ) → q ≡ Wait c m → IsLocking m q
 
--- q waits for m where another owns it: a lock, or a wait that must reacquire its mutex
+-- q waits for m if another owns it: a lock, or a wait that must reacquire its mutex
 pub data MayQueue (m : ℕ) (q : Request) : Type 0 where
   in_lock : q ≡ Lock m → MayQueue m q
   in_wait : (c : ℕ) → q ≡ Wait c m → MayQueue m q

@@ -16,7 +16,7 @@ use Rattle.pif_model_lemmas.proofs.kernel.Facts.{waited-status}
 use Rattle.pif_model_simulation.proofs.Shown.{threads_shown, base_seen, mutex_seen}
 
 module _ {Exempt : ℕ → Type 0} {s : Table} (h : SoundExcept Exempt s) (kernel : IsKernel s.kernel) where
-  -- where threads wait, the kernel's owner state names the owner in the word
+  -- if threads wait, the kernel's owner state names the owner in the word
   pub state_is_number_but : (m : ℕ) → m ≢ 0 → has_waiter s.kernel.waiters m ≡ true
       → state_at s.kernel m ≡ (word_at s.words m).number
   state_is_number_but m n w = go (cases_lt m (length s.mutexes))

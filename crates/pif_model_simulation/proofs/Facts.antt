@@ -18,12 +18,12 @@ either : (b : Bool) (A B : Type 0) → A → B → Either b A B
 either true A B x y = x
 either false A B x y = y
 
--- the first of some needs that passes a test, as a fact; nothing where none does
+-- the first of some needs that passes a test, as a fact; nothing if none does
 abbrev pub Fact : (Need → Bool) → (ℕ → Bool) → ℕ → Status → Cell → Use → List Need → Type 0
 Fact test living t x c z [] = ⊤
 Fact test living t x c z (n ∷ ns) = Either (test n) (Meets living t x c z n) (Fact test living t x c z ns)
 
--- it is met where all are
+-- it is met if all are
 pub fact : (test : Need → Bool) (living : ℕ → Bool) (t : ℕ) (x : Status) (c : Cell) (z : Use) (ns : List Need)
     → MeetsAll living t x c z ns → Fact test living t x c z ns
 fact test living t x c z [] h = tt
@@ -133,7 +133,7 @@ module _ {s : Table} {t : ℕ} {q : Request} {p : Place} (c : CallIsSound s t q 
   pub call_own_ready : Known is_own_ready_need s t q p
   call_own_ready = known_by is_own_ready_need
 
-  -- t owns the mutex exactly where it was handed over
+  -- t owns the mutex exactly if it was handed over
   pub call_own_handed : Known is_own_handed_need s t q p
   call_own_handed = known_by is_own_handed_need
 
@@ -157,7 +157,7 @@ module _ {s : Table} {t : ℕ} {q : Request} {p : Place} (c : CallIsSound s t q 
   pub call_died : Known is_died_need s t q p
   call_died = known_by is_died_need
 
-  -- the health word says that the mutex is inconsistent only where OWNER_DIED is set
+  -- the health word says that the mutex is inconsistent only if OWNER_DIED is set
   pub call_behind : Known is_behind_need s t q p
   call_behind = known_by is_behind_need
 

@@ -101,7 +101,7 @@ using_needs l l' u x c d z z' (Wake (CountUse v)) b o h = (h.0, (subst (λ n. v 
 using_needs l l' u x c d z z' (Wake _) b o h = h
 using_needs l l' u x c d z z' _ b o h = absurd (true≢false (sym b))
 
--- two conditions both hold, and so they do of others that hold where these do
+-- two conditions both hold, and so they do of others that hold if these do
 both_kept : (a b a' b' : Bool) → (a ≡ true → a' ≡ true) → (b ≡ true → b' ≡ true) → (if a then b else false) ≡ true
     → (if a' then b' else false) ≡ true
 both_kept true b a' b' f g e = rw (f refl) (g e)

@@ -59,7 +59,7 @@ module _ (s : Table) (t : ℕ) (l : Line) (h : IsSound s) (known : is_living s.k
         (library_at s 0).count k s
         (same_word s 0) (same_health s 0) (same_list s t) (same_library s 0)
 
-    -- where it knows what it has to, and its robust list is right there, the table is sound
+    -- if it knows what it has to, and its robust list is right there, the table is sound
     pub lined_sound : IsKernel k → IsCallOn (λ u. u ≡ t) (bound_to s) s.kernel k 0 → (seat_at k t).status ≡ status_at s t
         → is_ready (status_at s t) ≡ true
         → LineIsSound s t l → ListIsSound s t l
@@ -117,7 +117,7 @@ module _ (s : Table) (t : ℕ) (l : Line) (h : IsSound s) (known : is_living s.k
                 ∙ sym (ap (state_at s.kernel) e ∙ h.kernel.shape.no_mutex)
             state j (inr d) = call.states j d
 
-    -- where the others know the same of each other, and t is blocked as it was, who was found blocked stays so
+    -- if the others know the same of each other, and t is blocked as it was, who was found blocked stays so
     pub lined_frames : ((u : ℕ) → (seat_at k u).status ≡ status_at s u) → Follows (line_at s t) l
         → (may_enlist (line_at s t) ≡ false → WasBlockedIn s lined t) → Frames s lined
     lined_frames status follows here = frames_by s lined t (length-set s.lines t l)

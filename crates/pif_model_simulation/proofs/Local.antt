@@ -59,7 +59,7 @@ KnowsAfter s t q c Idle = is_ready (status_at s t) ≡ true
 KnowsAfter s t q c (At r p) = (r ≡ q) × (belongs q p ≡ true) × MeetsAll (is_living s.kernel) t
     (status_at s t) c (use_at s q) (needs p)
 
--- what the answer says of the call q, which has come as far as a, where its mutex m has the health h then: it went and
+-- what the answer says of the call q, which has come as far as a, if its mutex m has the health h then: it went and
 -- is open, or it has a result and is closed
 abbrev pub Shows : Table → ℕ → ℕ → Health → Request → Progress → Seen → Line → Type 0
 Shows s t m h q a Went l =
@@ -72,8 +72,8 @@ Shows s t m h q a Ticked l = ⊥
 Shows s t m h q a (Refused r) l = ⊥
 
 -- what is on the robust list of t after a line that goes to l and leaves m as the cell c: pending field and half-linked
--- mutex are the place's, the other mutexes stay on the list or off it, and m is there where t owns it, save at an
--- unlinked place; and t, where it owns m, finds it in order, save at an unsettled place
+-- mutex are the place's, the other mutexes stay on the list or off it, and m is there if t owns it, save at an
+-- unlinked place; and t, if it owns m, finds it in order, save at an unsettled place
 pub record ListsAfter (s : Table) (t m : ℕ) (c : Cell) (l : Line) (r : RobustRow) : Type 0 where
   pub pending : r.pending ≡ robust_by is_pending s l
   pub half_linked : r.half_linked ≡ robust_by is_half_linked s l
@@ -110,7 +110,7 @@ ready-not_queued x m h e = true≢false (sym h ∙ ap is_ready e)
 pub ready-not_parked : (x : Status) (c : ℕ) → is_ready x ≡ true → x ≡ Parked c → ⊥
 ready-not_parked x c h e = true≢false (sym h ∙ ap is_ready e)
 
--- who is blocked on a variable then was so before, where it was blocked
+-- who is blocked on a variable then was so before, if it was blocked
 pub blocked_before : (x y b : Bool) → (if x then b else false) ≡ true → (x ≡ true → y ≡ true)
     → (if y then b else false) ≡ true
 blocked_before true y b e f = ap (λ z. if z then b else false) (f refl) ∙ e

@@ -64,7 +64,7 @@ module _ {s : Table} {t : ℕ} {q : Request} {p : Place} (g : Going s t q p)
   mutex_of_line test Idle n = refl
   mutex_of_line test (At r b) n = ap (λ j. if test b then j else 0) n
 
-  -- what it is where m is robust
+  -- what it is if m is robust
   robust_of_line : (test : Place → Bool) (l : Line) → NamesOnly m l → (library_at s m).robust ≡ true
       → robust_by test s l ≡ (if at_line test l then m else 0)
   robust_of_line test l n r =
@@ -73,7 +73,7 @@ module _ {s : Table} {t : ℕ} {q : Request} {p : Place} (g : Going s t q p)
       ≡ (if b then m else 0))
       (at_line test l) (λ _. ap (λ b. if b then m else 0) r) (λ _. either (library_at s 0).robust 0)
 
-  -- and where it is stalled
+  -- and if it is stalled
   stalled_of_line : (test : Place → Bool) (l : Line) → NamesOnly m l → (library_at s m).robust ≡ false
       → robust_by test s l ≡ 0
   stalled_of_line test l n r =
@@ -91,7 +91,7 @@ module _ {s : Table} {t : ℕ} {q : Request} {p : Place} (g : Going s t q p)
       (λ _. ap (λ x. if x then false else true) (eq-eqb m m refl))
       (λ _. ap (λ x. if x then false else true) (ne_eqb m 0 m0))
 
-  -- t's robust list now, where m is robust
+  -- t's robust list now, if m is robust
   pub row_pending : (library_at s m).robust ≡ true → (robust_at s.lists t).pending ≡ (if is_pending p then m else 0)
   row_pending r = (going_list g named).pending ∙ robust_of_line is_pending (At q p) refl r
 
@@ -107,13 +107,13 @@ module _ {s : Table} {t : ℕ} {q : Request} {p : Place} (g : Going s t q p)
       then (if m == mutex_by is_unlinked (At q p) then false else true) else false) named r
       ∙ ap (λ x. if (word_at s.words m).number == t then x else false) (not_of_line is_unlinked (At q p) refl)
 
-  -- m is not on it, where it is another's
+  -- m is not on it, if it is another's
   pub row_unowned : (library_at s m).robust ≡ true → (word_at s.words m).number ≢ t
       → has_entry (robust_at s.lists t).listed m ≡ false
   row_unowned r d = row_own r ∙ ap (λ b. if b then (if is_unlinked p then false else true) else false)
       (ne_eqb (word_at s.words m).number t d)
 
-  -- and is where it is t's as the place has it
+  -- and is if it is t's as the place has it
   pub row_owned : (library_at s m).robust ≡ true → (word_at s.words m).number ≡ t
       → has_entry (robust_at s.lists t).listed m ≡ (if is_unlinked p then false else true)
   row_owned r o = row_own r ∙ ap (λ b. if b then (if is_unlinked p then false else true) else false)
@@ -124,7 +124,7 @@ module _ {s : Table} {t : ℕ} {q : Request} {p : Place} (g : Going s t q p)
       → ((word_at s.words m).died ≡ false) × (health_word_at s.words m ≢ 2)
   settled_so_far u own = going_settled g named m named own (λ e. m0 (e ∙ ap (λ b. if b then m else 0) u))
 
-  -- after a line, where m is robust
+  -- after a line, if m is robust
   pub robust_lists : {c : Cell} {l : Line} {r : RobustRow} → NamesOnly m l → (library_at s m).robust ≡ true
       → c.robust ≡ true → RowAfter s t m c l r → ListsAfter s t m c l r
   robust_lists {c} {l} {r} n e f a = record {
@@ -137,7 +137,7 @@ module _ {s : Table} {t : ℕ} {q : Request} {p : Place} (g : Going s t q p)
         (λ _ x. absurd (d (sym (mutex_of_line is_unsettled l n ∙ ap (λ b. if b then m else 0) x)))) (λ _ _. refl) refl);
   }
 
-  -- and where it is stalled
+  -- and if it is stalled
   pub stalled_lists : {c : Cell} {l : Line} → NamesOnly m l → (library_at s m).robust ≡ false → c.robust ≡ false
       → (c.word.died ≡ false) × (c.health ≡ 0) → ListsAfter s t m c l (robust_at s.lists t)
   stalled_lists {c} {l} n e f d = record {
@@ -167,7 +167,7 @@ module _ {s : Table} {t : ℕ} {q : Request} {p : Place} (g : Going s t q p)
       (library_at s m).robust (λ _ e. robust_lists n e (same ∙ e) (row e))
       (λ _ e. stalled_lists n e (same ∙ e) (sound.stalled (same ∙ e))) refl
 
-  -- the list stays as it is where the places before and after have the same of it, whatever OWNER_DIED and the health
+  -- the list stays as it is if the places before and after have the same of it, whatever OWNER_DIED and the health
   -- word are then
   pub row_stated : {l : Line} (b : Bool) (h : ℕ) → (library_at s m).robust ≡ true → at_line is_pending l ≡ is_pending p
       → at_line is_half_linked l ≡ is_half_linked p → at_line is_unlinked l ≡ is_unlinked p
@@ -191,7 +191,7 @@ module _ {s : Table} {t : ℕ} {q : Request} {p : Place} (g : Going s t q p)
       → RowAfter s t m (cell_at s m) l (robust_at s.lists t)
   row_same = row_stated (word_at s.words m).died (health_word_at s.words m)
 
-  -- and where t has given m up that was not on it
+  -- and if t has given m up that was not on it
   pub row_given : {c : Cell} {l : Line} → (library_at s m).robust ≡ true → at_line is_pending l ≡ is_pending p
       → at_line is_half_linked l ≡ is_half_linked p → is_unlinked p ≡ true → (word_at s.words m).number ≡ t
       → c.word.number ≢ t
@@ -206,7 +206,7 @@ module _ {s : Table} {t : ℕ} {q : Request} {p : Place} (g : Going s t q p)
     settled = λ o. absurd (e o);
   }
 
-  -- and where t owns m neither before nor after
+  -- and if t owns m neither before nor after
   pub row_other : {c : Cell} {l : Line} → (library_at s m).robust ≡ true → at_line is_pending l ≡ is_pending p
       → at_line is_half_linked l ≡ is_half_linked p → (word_at s.words m).number ≢ t → c.word.number ≢ t
       → RowAfter s t m c l (robust_at s.lists t)
@@ -240,7 +240,7 @@ module _ {s : Table} {t : ℕ} {q : Request} {p : Place} (g : Going s t q p)
       (library_at s m).count s.kernel s
       (same_word s m) (same_health s m) refl (same_library s m)
 
-  -- and all but t's line, where the list stays
+  -- and all but t's line, if the list stays
   still_line : (seen : Seen) (l : Line)
       → moved t m (still seen l (robust_at s.lists t)) s ≡ record s { lines = set s.lines t l }
   still_line seen l = written_is t m l (robust_at s.lists t) (word_at s.words m) (health_word_at s.words m)
@@ -270,7 +270,7 @@ module _ {s : Table} {t : ℕ} {q : Request} {p : Place} (g : Going s t q p)
     blocked = λ j e. e;
   }
 
-  -- to go on at a place where all that the call rests on is met, with no effect and with this robust list
+  -- to go on at a place if all that the call rests on is met, with no effect and with this robust list
   pub goes_listed : (b : Place) → Follows (At q p) (At q b) → (r : RobustRow) → is_ready (status_at s t) ≡ true → belongs q b ≡ true
       → progress_of s t q b ≡ progress_of s t q p
       → MeetsAll (is_living s.kernel) t (status_at s t) (cell_at s m) (use_at s q) (needs b)

@@ -10,7 +10,7 @@ use Rattle.pif_model.specs.Soundness.{CountIsSound, CellIsSound}
 use Rattle.pif_model_lemmas.proofs.Waiting.{by_test}
 use Rattle.pif_model_simulation.proofs.Kept.{held_once}
 
--- where the kernel has no owner state, or the word no flag, nobody waits
+-- if the kernel has no owner state, or the word no flag, nobody waits
 module _ {added : ℕ → Bool} {waited : Bool} {c : Cell} (h : CellIsSound added waited c) where
   -- nobody waits for a mutex whose word has not the flag
   pub none_from_flag : c.word.waiters ≡ false → waited ≡ false
@@ -43,7 +43,7 @@ module _ {added : ℕ → Bool} {waited : Bool} {c : Cell} (h : CellIsSound adde
   pub stalled_in_order : c.robust ≡ false → health_of c.health c.word.died ≡ Fine
   stalled_in_order e = ap₂ health_of (h.stalled e).1 (h.stalled e).0
 
-  -- a mutex held once and for which nobody waits stays sound with another word and health word, where these say of a
+  -- a mutex held once and for which nobody waits stays sound with another word and health word, if these say of a
   -- stalled one what they said, an owner was added, and no disorder is told of a free one without OWNER_DIED
   pub reworded : (x : Word) (a : ℕ) → c.count ≡ 1 → waited ≡ false → (c.robust ≡ false → (x.died ≡ false) × (a ≡ 0))
       → (x.number ≢ 0 → added x.number ≡ true)
@@ -59,7 +59,7 @@ module _ {added : ℕ → Bool} {waited : Bool} {c : Cell} (h : CellIsSound adde
     contended = λ k. absurd (true≢false (sym k ∙ e));
   }
 
-  -- an owned mutex stays sound with the same number and flag of waiters, where it is robust
+  -- an owned mutex stays sound with the same number and flag of waiters, if it is robust
   pub rehealthed : (b : Bool) (a : ℕ) → c.robust ≡ true → c.word.number ≢ 0
       → CellIsSound added waited (record c { word = record c.word { died = b }; health = a })
   rehealthed b a robust owned = record {

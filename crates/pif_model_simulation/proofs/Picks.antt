@@ -24,7 +24,7 @@ living-from_ready : (s : Table) (t : ℕ) → has_thread s t ≡ true → is_rea
     → is_living s.kernel t ≡ true
 living-from_ready s t k e = λ i. if k i then (if ready-not_ended (status_at s t) e i then false else true) else false
 
--- OWNER_DIED is set only where a mutex is not Fine
+-- OWNER_DIED is set only if a mutex is not Fine
 died_not_fine : (h : ℕ) → health_of h true ≢ Fine
 died_not_fine h e = true≢false (fine-undied h true e)
 

@@ -64,7 +64,7 @@ module _ (s : Table) (t u p : ℕ) (g : Going s t (SetPrio u p) SetPriority) whe
   abbrev by_call : Result (record {}) Errno → Outcome
   by_call r = answered_by r t (with_kernel s.words (kernel_after_set_prio u p r s.kernel) s)
 
-  -- to answer n and leave the kernel, where that is an effect
+  -- to answer n and leave the kernel, if that is an effect
   refuses : (n : ℕ) → ((y : HistoryVariables) → SetsPriority t u p (world_of s y) (with_progress t (Has n) (world_of s y)))
       → GoKeeps s t (answers t n s)
   refuses n rule =

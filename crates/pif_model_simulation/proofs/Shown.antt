@@ -40,7 +40,7 @@ place_at {A = A} f (suc n) i d h = ap (λ (l : List A). get_or l i d) (map-appen
     go before (inl l) = get_or_append_left (map f (places n)) (f n ∷ []) d i (omega (arith, long)) ∙ before l
     go before (inr m) = let e : n ≡ i = omega arith in get_or_push (map f (places n)) (f n) d i (long ∙ e) ∙ ap f e
 
--- two worlds are one where they have the same threads and mutexes, place by place, and the same variables, waiters and
+-- two worlds are one if they have the same threads and mutexes, place by place, and the same variables, waiters and
 -- time
 pub same_world : (v w : World) → length v.threads ≡ length w.threads
     → ((t : ℕ) → t < length v.threads → thread_at v t ≡ thread_at w t)

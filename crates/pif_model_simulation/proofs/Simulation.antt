@@ -133,7 +133,7 @@ go_kept s t (At q p) h k e o = by_test
     at_line : is_due_in s t ≡ is_line_due (At q p) t s
     at_line = ap (λ l. is_line_due l t s) e
 
-    -- where it is due its deadline counts
+    -- if it is due, its deadline counts
     counted : is_line_due (At q p) t s ≡ true → counts_at q p (status_at s t) ≡ true
     counted = go (is_reached (timer_at s t).deadline s.time)
       where

@@ -47,7 +47,7 @@ pub record Keeps (s : Table) (e : Entry) (v : Table) : Type 0 where
   pub limits : v.limits ≡ s.limits
   pub shows : (x : HistoryVariables) → Agrees s x → (y : HistoryVariables) × Agrees v y × Step s.limits (world_of s x) e (world_of v y)
 
--- the request of the call at a line; a lock where none is open, which never comes
+-- the request of the call at a line; a lock if none is open, which never comes
 abbrev pub asked_at : Line → Request
 asked_at Idle = Lock 0
 asked_at (At q p) = q
@@ -125,7 +125,7 @@ waking_awake (CountUse v) = refl
 waking_awake (Requeue v) = refl
 waking_awake ReadAgain = refl
 
--- an open call sleeps where its thread is parked or stopped
+-- an open call sleeps if its thread is parked or stopped
 place_sleeps : (l : ℕ → Bool) (t : ℕ) (q : Request) (x : Status) (c : Cell) (z : Use) (p : Place) (h : Health) (n : ℕ)
     → MeetsAll l t x c z (needs p) → is_idle (progress_at q p x h n) ≡ is_still x
 place_sleeps l t q x c z Exchange h n k = locking_awake q ∙ sym (ready_not_still x k.0)
@@ -151,14 +151,14 @@ place_sleeps l t q Ended c z StayParked h n k = refl
 place_sleeps l t q x c z (Wake y) h n k = waking_awake y ∙ sym (ready_not_still x k.0)
 place_sleeps l t q x c z _ h n k = sym (ready_not_still x k.0)
 
--- a call sleeps where its thread is parked or stopped
+-- a call sleeps if its thread is parked or stopped
 pub line_sleeps : (s : Table) (t : ℕ) (l : Line) → LineIsSound s t l
     → sleeps (call_at (health_at s) (uses_of s) l (status_at s t)) ≡ is_still (status_at s t)
 line_sleeps s t Idle h = sym (ready_not_still (status_at s t) h)
 line_sleeps s t (At q p) h = place_sleeps (is_living s.kernel) t q (status_at s t) (cell_at s (named_by q)) (use_at s q)
     p (health_at s (named_by q)) (uses_of s (variable_of q)) h.needs
 
--- a call whose thread may not run has been noted, where it is blocked
+-- a call whose thread may not run has been noted, if it is blocked
 place_noted : (l : ℕ → Bool) (t : ℕ) (q : Request) (x : Status) (c : Cell) (z : Use) (p : Place) (h : Health) (n : ℕ)
     → MeetsAll l t x c z (needs p) → is_ready x ≡ false
     → after_waits (Some (record { request = q; progress = progress_at q p x h n }))
@@ -262,7 +262,7 @@ module _ {s : Table} {t : ℕ} {q : Request} {p : Place} (g : Going s t q p) whe
   pub going_own_ready : KnownHere is_own_ready_need
   going_own_ready = call_own_ready going_knows
 
-  -- t owns the mutex exactly where it was handed over
+  -- t owns the mutex exactly if it was handed over
   pub going_own_handed : KnownHere is_own_handed_need
   going_own_handed = call_own_handed going_knows
 
@@ -286,7 +286,7 @@ module _ {s : Table} {t : ℕ} {q : Request} {p : Place} (g : Going s t q p) whe
   pub going_died : KnownHere is_died_need
   going_died = call_died going_knows
 
-  -- the health word says that the mutex is inconsistent only where OWNER_DIED is set
+  -- the health word says that the mutex is inconsistent only if OWNER_DIED is set
   pub going_behind : KnownHere is_behind_need
   going_behind = call_behind going_knows
 
@@ -345,7 +345,7 @@ module _ {s : Table} {t : ℕ} {q : Request} {p : Place} (g : Going s t q p) whe
     );
   }
 
-  -- the step follows with these effects, after which t rests, and is noted where it is blocked
+  -- the step follows with these effects, after which t rests, and is noted if it is blocked
   pub waits_noted : (v : Table) (u : HistoryVariables → World) → IsSound v → v.limits ≡ s.limits → is_living v.kernel t ≡ true
       → is_ready (status_at v t) ≡ false → Frames s v
       → ((x : HistoryVariables) → Effects t (world_of s x) (world_of s x) (u x))

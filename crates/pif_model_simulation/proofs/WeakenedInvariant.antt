@@ -16,7 +16,7 @@ use Rattle.pif_model_simulation.proofs.Kept.{Spares, Uses, unwritten, line_spare
 abbrev pub aims : Kernel → ℕ → ℕ → Bool
 aims k c m = list_any (λ (p : Parking). if p.cond == c then p.target == m else false) k.parked
 
--- the table v in place of s, where m alone may be another mutex, and other threads than the exempt ones stay
+-- the table v in place of s, if m alone may be another mutex, and other threads than the exempt ones stay
 pub record Changes (Exempt : ℕ → Type 0) (s v : Table) (m : ℕ) : Type 0 where
   pub shape : IsShaped v
   -- both have the same threads and mutexes, and of each mutex the same kind
@@ -26,7 +26,7 @@ pub record Changes (Exempt : ℕ → Type 0) (s v : Table) (m : ℕ) : Type 0 wh
   -- the other mutexes, and who waits for them, stay
   pub cells : (n : ℕ) → n ≢ m → cell_at v n ≡ cell_at s n
   pub waited : (n : ℕ) → n ≢ m → has_waiter v.kernel.waiters n ≡ has_waiter s.kernel.waiters n
-  -- m is sound, where it was added, and who owns it lives, where it is robust
+  -- m is sound, if it was added, and who owns it lives, if it is robust
   pub cell : has_mutex s m ≡ true → CellIsSound (has_thread s) (has_waiter v.kernel.waiters m) (cell_at v m)
   pub alive : has_mutex s m ≡ true → (cell_at v m).robust ≡ true → (cell_at v m).word.number ≢ 0
       → (Exempt (cell_at v m).word.number → ⊥)
@@ -48,7 +48,7 @@ pub record Changes (Exempt : ℕ → Type 0) (s v : Table) (m : ℕ) : Type 0 wh
   -- who is parked then was, or is to get the mutex to which the variable is bound
   pub targets : (c n : ℕ) → aims v.kernel c n ≡ true → (aims s.kernel c n ≡ true) ⊎ (bound_to s c ≡ n)
 
--- a sound mutex stays so where all threads that were added still are
+-- a sound mutex stays so if all threads that were added still are
 pub cell_spared : (added added' : ℕ → Bool) (waited waited' : Bool) (c d : Cell)
     → ((u : ℕ) → added u ≡ true → added' u ≡ true) → waited' ≡ waited → d ≡ c → CellIsSound added waited c
     → CellIsSound added' waited' d

@@ -83,7 +83,7 @@ written_is t m l r x a n k s e f g h = λ i. record s {
   mutexes = h i;
 }
 
--- what a kernel call on m leaves, but for exempt threads, where variables are bound so
+-- what a kernel call on m leaves, but for exempt threads, if variables are bound so
 pub record IsCallOn (Exempt : ℕ → Type 0) (bound : ℕ → ℕ) (k k' : Kernel) (m : ℕ) : Type 0 where
   pub limits : k'.limits ≡ k.limits
   pub seats : length k'.seats ≡ length k.seats
@@ -93,7 +93,7 @@ pub record IsCallOn (Exempt : ℕ → Type 0) (bound : ℕ → ℕ) (k k' : Kern
   pub waited : (n : ℕ) → n ≢ m → has_waiter k'.waiters n ≡ has_waiter k.waiters n
   pub targets : (c n : ℕ) → aims k' c n ≡ true → (aims k c n ≡ true) ⊎ (bound c ≡ n)
 
--- where the same threads are parked
+-- if the same threads are parked
 pub same_targets : (bound : ℕ → ℕ) (k k' : Kernel) → k'.parked ≡ k.parked → (c n : ℕ) → aims k' c n ≡ true
     → (aims k c n ≡ true) ⊎ (bound c ≡ n)
 same_targets bound k k' e c n a = inl (sym (ap (λ ps. aims (record k { parked = ps }) c n) e) ∙ a)
@@ -170,7 +170,7 @@ module _ (s : Table) (t m : ℕ) (l : Line) (r : RobustRow) (x : Word) (a n : �
     state_owner = state_at k m;
   }
 
-  -- another mutex, where the kernel has the same owner state of it
+  -- another mutex, if the kernel has the same owner state of it
   pub cell_there : (j : ℕ) → j ≢ m → state_at k j ≡ state_at s.kernel j → cell_at v j ≡ cell_at s j
   cell_there j d e =
       let b : library_at v j ≡ library_at s j = get_or-set_other s.mutexes m j (record (library_at s m) { count = n })
@@ -291,7 +291,7 @@ module _ (s : Table) (t m : ℕ) (l : Line) (r : RobustRow) (x : Word) (a n : �
   pub health_m : health_at v m ≡ health_of a x.died
   health_m = λ i. health_of (health_here i) (word_here i).died
 
-  -- where m's health stays or its owner was not u, u's call has come as far as before
+  -- if m's health stays or its owner was not u, u's call has come as far as before
   pub call_there : (u : ℕ) → (health_of a x.died ≡ health_at s m) ⊎ ((word_at s.words m).number ≢ u) → ThreadIsSound s u
       → call_at (health_at v) (uses_of s) (line_at s u) (status_at s u) ≡ call_shown s u
   call_there u why b = go (line_at s u) b.line
@@ -371,7 +371,7 @@ module _ (s : Table) (t m : ℕ) (l : Line) (r : RobustRow) (x : Word) (a n : �
         health = health_there j d i;
       })
 
-  -- what is shown is w, where w has these threads, mutexes and waiters, and the variables and the time that there were
+  -- what is shown is w, if w has these threads, mutexes and waiters, and the variables and the time that there were
   pub shows : (y : HistoryVariables) (w : World) → IsShaped v → length w.threads ≡ length s.lines
       → length w.mutexes ≡ length s.mutexes → k.waiters ≡ w.waiters
       → (thread_shown v y t ≡ thread_at w t)
@@ -401,7 +401,7 @@ module _ (s : Table) (t m : ℕ) (l : Line) (r : RobustRow) (x : Word) (a n : �
   -- the kernel knows the same of all other threads, and their calls have come as far
   module _ (others : (u : ℕ) → u ≢ t → seat_at k u ≡ seat_at s.kernel u)
       (calls : (u : ℕ) → u ≢ t → call_at (health_at v) (uses_of s) (line_at s u) (status_at s u) ≡ call_shown s u) where
-    -- where t's base priority and life stay, that world is shown with another call of t
+    -- if t's base priority and life stay, that world is shown with another call of t
     pub world_shown : (y : HistoryVariables) (c : Option Call) → IsShaped v → ((u : ℕ) → is_living k u ≡ is_living s.kernel u)
         → (seat_at k t).base ≡ (seat_at s.kernel t).base
         → call_at (health_at v) (uses_of s) l (seat_at k t).status ≡ c
@@ -436,7 +436,7 @@ module _ (s : Table) (t m : ℕ) (l : Line) (r : RobustRow) (x : Word) (a n : �
         (sym (get_or-set_same (world_of s y).mutexes m z no_mutex mw))
         (λ j d. sym (get_or-set_other (world_of s y).mutexes m j z no_mutex d ∙ mutex_seen shape y j)) refl refl refl
 
-    -- where t is blocked as it was, who was found blocked stays so
+    -- if t is blocked as it was, who was found blocked stays so
     pub frames_written : Follows (line_at s t) l → (may_enlist (line_at s t) ≡ false → WasBlockedIn s v t) → Frames s v
     frames_written follows here = frames_by s v t (length-set s.lines t l) line_there
         (λ u d. was_same s v u (call_same u d) (ap (λ (y : Seat). y.status) (others u d)))

@@ -38,7 +38,7 @@ is_unlink _ = false
 pub record CallMayStep (s : Table) (t : ℕ) (q : Request) (p : Place) : Type 0 where
   -- the mutex and the variable that it names were added
   pub named : names_known (has_mutex s) (has_cond s) q ≡ true
-  -- its thread may run, save where it may wait, and may not where its deadline counts
+  -- its thread may run, save when it may wait, and may not when its deadline counts
   pub ready : may_wait_at p ≡ false → is_ready (status_at s t) ≡ true
   pub unready : counts_at q p (status_at s t) ≡ true → is_ready (status_at s t) ≡ false
   -- a mutex that is linked is on no list, and half-linked by no other thread

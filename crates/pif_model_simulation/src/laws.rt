@@ -22,9 +22,9 @@ pub fn next_waiter_is_first_of_greatest()
     ensures { (effective : ℕ → ℕ) (waiters : List (ℕ × ℕ)) (m : ℕ) → has_waiter waiters m ≡ true → IsNextWaiter effective waiters m (next_waiter effective waiters m) }
 {}
 
-/// A law: where nobody waits twice and no effective priority is above 99, the waiters of a mutex in order are those
-/// that get it, one after another: its next waiter, and then the order of those that wait when that one has it. Where
-/// nobody waits for it there is none.
+/// A law: if nobody waits twice and no effective priority is above 99, the waiters of a mutex in order are those
+/// that get it, one after another: its next waiter, and then the order of those that wait when that one has it. If
+/// nobody waits for it, there is none.
 pub fn waiters_get_a_mutex_in_order()
     ensures none { (effective : ℕ → ℕ) (waiters : List (ℕ × ℕ)) (m : ℕ) → has_waiter waiters m ≡ false → waiting_order effective waiters m ≡ [] }
     ensures next { (effective : ℕ → ℕ) (waiters : List (ℕ × ℕ)) (m : ℕ) → IsDistinct eqb (map (λ (w : ℕ × ℕ). w.0) waiters) → ((u : ℕ) → effective u ≤ 99) → has_waiter waiters m ≡ true → waiting_order effective waiters m ≡ next_waiter effective waiters m ∷ waiting_order effective (without waiters (next_waiter effective waiters m)) m }
@@ -43,7 +43,7 @@ pub fn effective_priority_is_greatest_over_any_chain()
 {}
 
 /// A law: in each state that a run of the POSIX machine reaches, the test for a chain of waiting, which looks over as
-/// many hops as there are threads, finds one from a thread to another exactly where there is one, of any length.
+/// many hops as there are threads, finds one from a thread to another exactly if there is one, of any length.
 pub fn chain_is_found_where_there_is_one()
     ensures found { (limits : Bounds) (history : List Entry) (states : List World) (last : World) → IsRun limits history states last → (u t : ℕ) → leads_to last u t ≡ true → Reaches (WaitsFor last) u t }
     ensures finds { (limits : Bounds) (history : List Entry) (states : List World) (last : World) → IsRun limits history states last → (u t : ℕ) → Reaches (WaitsFor last) u t → leads_to last u t ≡ true }

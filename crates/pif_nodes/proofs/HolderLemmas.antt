@@ -53,14 +53,14 @@ list_with-absent (xs ∷ ls) n h = let first : has n xs ≡ false = h 0 in
     let rest = list_with-absent ls n (λ l. h (suc l)) in
     rw (first, rest) refl
 
--- where one list changes, and neither gains nor loses a number, that number stays in its list
+-- if one list changes, and neither gains nor loses a number, that number stays in its list
 pub list_with-same : (ls : List (List ℕ)) (n l : ℕ) (xs : List ℕ) → has n xs ≡ has n (get_or ls l []) → list_with (set ls l xs) n ≡ list_with ls n
 list_with-same [] n l xs h = refl
 list_with-same (ys ∷ ls) n zero xs h = ap (λ b. cond b (Some 0) (option_map (λ k. k + 1) (list_with ls n))) h
 list_with-same (ys ∷ ls) n (suc l) xs h =
     ap (λ o. cond (has n ys) (Some 0) (option_map (λ k. k + 1) o)) (list_with-same ls n l xs h)
 
--- where one list gains a number that is in no list, it is in that one
+-- if one list gains a number that is in no list, it is in that one
 pub list_with-put : (ls : List (List ℕ)) (n l : ℕ) (xs : List ℕ) → list_with ls n ≡ None → l < length ls → has n xs ≡ true → list_with (set ls l xs) n ≡ Some l
 list_with-put [] n l xs free l_in h = absurd (omega arith)
 list_with-put (ys ∷ ls) n zero xs free l_in h = rw h refl

@@ -1,4 +1,4 @@
--- Lemmas on links that hold some lists, where a node is put into a list or taken out of one.
+-- Lemmas on links that hold some lists, when a node is put into a list or taken out of one.
 use Rattle.std.proofs.Common.{◌≡◌, ℕ, ◌<◌, true, false, cond, eqb, List, [], ◌∷◌, ◌++◌, Option, Some, None, option_and_then, refl, sym, ◌∙◌, ap, subst, ⊎_elim, length, get_or, set}
 use Rattle.std.proofs.lemmas.Bool.{cases_eq, eq-eqb, ne_eqb, both_ways, false_from_ne_true}
 use Rattle.std.proofs.lemmas.Option.{same_Some}

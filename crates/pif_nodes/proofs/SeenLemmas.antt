@@ -34,7 +34,7 @@ same_table xs ys ks js p q = cc
 pub shows_lists : (ns : List Slot) (es : List Ends) (ls : List (List ℕ)) (keys : List Key) → Ties ns es ls → keys_of ns ≡ keys → Shows ns es (record { lists = ls; keys = keys })
 shows_lists ns es ls keys t same = record { view = same_table (lists_of ns es) ls (keys_of ns) keys (lists_of_is ns es ls t) same; ties = t }
 
--- a list written over a vector's elements, where it is as long
+-- a list written over a vector's elements, if it is as long
 written_over : {X : Type 0} (n : ℕ) (was xs : List X) → length xs ≡ n → take n (xs ++ drop (length xs) was) ≡ xs
 written_over n was xs same = ap (λ k. take k (xs ++ drop (length xs) was)) (sym same) ∙ take-append_seam xs (drop (length xs) was)
 
@@ -45,7 +45,7 @@ Shows-closed n m was had ns es t same_nodes same_ends shows =
     subst (λ (xs : List Slot). Shows xs (take m (es ++ drop (length es) had)) t) (sym (written_over n was ns same_nodes))
     (subst (λ (xs : List Ends). Shows ns xs t) (sym (written_over m had es same_ends)) shows)
 
--- the same where only the nodes were written
+-- the same if only the nodes were written
 pub Shows-closed-nodes : (n : ℕ) (was ns : List Slot) (es : List Ends) (t : NodeLists) → length ns ≡ n → Shows ns es t → Shows (take n (ns ++ drop (length ns) was)) es t
 Shows-closed-nodes n was ns es t same shows = subst (λ (xs : List Slot). Shows xs es t) (sym (written_over n was ns same)) shows
 

@@ -1,4 +1,4 @@
--- Lemmas on links that hold some lists: what changes where one of the lists does.
+-- Lemmas on links that hold some lists: what changes if one of the lists does.
 use Rattle.std.proofs.Common.{◌≡◌, ℕ, ◌<◌, true, List, [], Option, Some, None, option_and_then, refl, sym, ◌∙◌, ap, subst, ⊎_elim, arith, length, get_or, set, IsSome}
 use Rattle.std.proofs.Math.Seq.{set_out}
 use Rattle.std.proofs.lemmas.Bool.{cases_eq, cases_lt}
@@ -121,7 +121,7 @@ within_from_Ties ns es ls n l t h = ⊎_elim
     absurd cc)
     (cases_lt n (length ns))
 
--- what f says of a number in its list, where one list has changed to `now` without changing that
+-- what f says of a number in its list, if one list has changed to `now` without changing that
 at_moved : (f : List ℕ → ℕ → Option ℕ) (ls : List (List ℕ)) (l : ℕ) (now : List ℕ) (m : ℕ) (o : Option ℕ) → l < length ls → f now m ≡ f (get_or ls l []) m →
     option_and_then (λ k. f (get_or (set ls l now) k []) m) o ≡ option_and_then (λ k. f (get_or ls k []) m) o
 at_moved f ls l now m None l_in same = refl

@@ -71,7 +71,7 @@ pub record Ties (ns : List Slot) (es : List Ends) (ls : List (List ℕ)) : Type 
 abbrev pub with_place : List Slot → ℕ → Option ℕ → Option ℕ → Option ℕ → List Slot
 with_place ns n list prev next = slice_set ns n (record (slot_at ns n) { prev = prev; next = next; list = list })
 
--- the node after a place in a list, or the first of the list where no place is given
+-- the node after a place in a list, or the first of the list if no place is given
 abbrev pub follower_of : List Slot → List Ends → ℕ → Option ℕ → Option ℕ
 follower_of ns es l None = (ends_at es l).first
 follower_of ns es l (Some p) = (slot_at ns p).next

@@ -4,7 +4,7 @@ ghost use Rattle.pif_nodes.specs.Links.{with_next, with_prev, with_first, with_l
 
 use crate::slots::{Ends, Slot};
 
-/// Makes `to` the node after `place`, or the first of the list where no place is given.
+/// Makes `to` the node after `place`, or the first of the list if no place is given.
 fn set_next(nodes: &mut [Slot], ends: &mut [Ends], list: u32, place: Option<u32>, to: Option<u32>)
     requires list_in { list < length ends.old }
     requires place_in { ForSome place (λ p. p < length nodes.old) }
@@ -17,7 +17,7 @@ fn set_next(nodes: &mut [Slot], ends: &mut [Ends], list: u32, place: Option<u32>
     }
 }
 
-/// Makes `to` the node before `place`, or the last of the list where no place is given.
+/// Makes `to` the node before `place`, or the last of the list if no place is given.
 fn set_prev(nodes: &mut [Slot], ends: &mut [Ends], list: u32, place: Option<u32>, to: Option<u32>)
     requires list_in { list < length ends.old }
     requires place_in { ForSome place (λ p. p < length nodes.old) }
@@ -45,7 +45,7 @@ fn set_place(nodes: &mut [Slot], node: u32, list: Option<u32>, prev: Option<u32>
     };
 }
 
-/// The node after `place`, or the first of the list where no place is given.
+/// The node after `place`, or the first of the list if no place is given.
 pub(crate) fn follower(nodes: &[Slot], ends: &[Ends], list: u32, place: Option<u32>) -> Option<u32>
     requires list_in { list < length ends.now }
     requires place_in { ForSome place (λ p. p < length nodes.now) }

@@ -31,7 +31,8 @@ impl Model for NodeTable {
 }
 
 impl NodeTable {
-    /// A table of so many nodes and lists: each list is empty, and each key is 0 and 0. Takes two pieces of memory.
+    /// A table of so many nodes and lists: each list is empty, and each key is 0 and 0. Takes two pieces of memory,
+    /// and answers `NoMemory` if one of them is refused.
     pub fn new(alloc: Global, nodes: u32, lists: u32) -> Result<NodeTable, NoMemory>
         ensures made { IfOk result (λ t. t ≡ record { lists = replicate lists []; keys = replicate nodes no_key }) }
         ensures apart { IfOk result IsApart }
@@ -52,7 +53,7 @@ impl NodeTable {
         Ok(NodeTable { nodes, ends })
     }
 
-    /// Puts `node` into `list`, right after the node `after`, or at the head where that is `None`. All other lists and
+    /// Puts `node` into `list`, right after the node `after`, or at the head if that is `None`. All other lists and
     /// all keys stay as they were.
     pub fn attach_after(&mut self, list: List, after: Option<Node>, node: Node)
         requires list_in { list < length self.old.lists }
@@ -97,7 +98,7 @@ impl NodeTable {
         }
     }
 
-    /// The node after `node` in its list. `None` where it is the last, or in no list.
+    /// The node after `node` in its list. `None` if it is the last, or in no list.
     #[tactic(auto, using(crate::proofs::ReadLemmas::reads))]
     pub fn next(&self, node: Node) -> Option<Node>
         requires { node < length self.now.keys }
@@ -108,7 +109,7 @@ impl NodeTable {
         slot.next.map(|number| Node::new(number))
     }
 
-    /// The node before `node` in its list. `None` where it is the first, or in no list.
+    /// The node before `node` in its list. `None` if it is the first, or in no list.
     #[tactic(auto, using(crate::proofs::ReadLemmas::reads))]
     pub fn prev(&self, node: Node) -> Option<Node>
         requires { node < length self.now.keys }
@@ -119,7 +120,7 @@ impl NodeTable {
         slot.prev.map(|number| Node::new(number))
     }
 
-    /// The first node of `list`. `None` where it is empty.
+    /// The first node of `list`. `None` if it is empty.
     #[tactic(auto, using(crate::proofs::ReadLemmas::reads))]
     pub fn first(&self, list: List) -> Option<Node>
         requires { list < length self.now.lists }
@@ -130,7 +131,7 @@ impl NodeTable {
         ends.first.map(|number| Node::new(number))
     }
 
-    /// The last node of `list`. `None` where it is empty.
+    /// The last node of `list`. `None` if it is empty.
     #[tactic(auto, using(crate::proofs::ReadLemmas::reads))]
     pub fn last(&self, list: List) -> Option<Node>
         requires { list < length self.now.lists }
@@ -141,7 +142,7 @@ impl NodeTable {
         ends.last.map(|number| Node::new(number))
     }
 
-    /// The list in which `node` is. `None` where it is in no list.
+    /// The list in which `node` is. `None` if it is in no list.
     #[tactic(auto, using(crate::proofs::ReadLemmas::reads))]
     pub fn list_of(&self, node: Node) -> Option<List>
         requires { node < length self.now.keys }

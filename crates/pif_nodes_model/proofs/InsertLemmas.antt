@@ -28,7 +28,7 @@ list_at-other t l j xs ne = get_or-set_other t.lists l j xs [] ne
 pub list_at-same : (t : NodeLists) (l : ℕ) (xs : List ℕ) → l < length t.lists → list_at (with_list t l xs) l ≡ xs
 list_at-same t l xs l_in = get_or-set_same t.lists l xs [] l_in
 
--- a list that doesn't have a node stays in order where only that node's key changes
+-- a list that doesn't have a node stays in order if only that node's key changes
 pub IsInOrder-elsewhere : (keys : List Key) (n : ℕ) (k : Key) (xs : List ℕ) → has n xs ≡ false → IsInOrder keys xs → IsInOrder (set keys n k) xs
 IsInOrder-elsewhere keys n k xs absent h =
     IsInOrder-same keys (set keys n k) xs (λ m in'. get_or-set_other keys n m k (record { prio = 0; ticket = 0 }) (apart_by_has m n xs in' absent)) h

@@ -75,7 +75,7 @@ list_at-changed q t r xs lr fits = get_or-set_same t.lists (list_for q r) xs [] 
 pub list_at-other : (q : Queue) (t : NodeLists) (r p : ℕ) (xs : List ℕ) → IsLevel r → IsLevel p → (p ≡ r → ⊥) → list_at (with_list t (list_for q r) xs) (list_for q p) ≡ list_at t (list_for q p)
 list_at-other q t r p xs lr lp ne = get_or-set_other t.lists (list_for q r) (list_for q p) xs [] (λ e. ne (same_level q p r lp lr e))
 
--- where the list of a level becomes xs, and the bit of the level says whether that has a node, the queue stands
+-- if the list of a level becomes xs, and the bit of the level says whether that has a node, the queue stands
 Holds-masked : (q : Queue) (m : ℕ) (t : NodeLists) (r bit : ℕ) (xs : List ℕ) → Holds q t → IsLevel r → ChangesBit q.mask m r bit →
     IsApart (with_list t (list_for q r) xs) → ((n : ℕ) → has n xs ≡ true → IsThreadNode q n) → ((bit ≡ 0) ↔ (xs ≡ [])) →
     Holds (record q { mask = m }) (with_list t (list_for q r) xs)

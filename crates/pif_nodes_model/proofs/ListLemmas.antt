@@ -22,7 +22,7 @@ prev_from-split before (x ∷ xs) back n h =
     let parts = or_parts (eqb n x) (has n xs) h in
     rw parts.0 (prev_from-split (Some x) xs back n parts.1)
 
--- the number after another one than the last of the front stays where n is put in
+-- the number after another one than the last of the front stays if n is put in
 pub next_in_list-put : (before : Option ℕ) (front back : List ℕ) (n m : ℕ) → (m ≡ n → ⊥) → (last_or before front ≡ Some m → ⊥) → next_in_list (front ++ n ∷ back) m ≡ next_in_list (front ++ back) m
 next_in_list-put before [] back n m apart other = rw (ne_eqb m n apart) refl
 next_in_list-put before (x ∷ []) back n m apart other =
@@ -31,7 +31,7 @@ next_in_list-put before (x ∷ []) back n m apart other =
 next_in_list-put before (x ∷ (y ∷ ys)) back n m apart other =
     ap (λ rest. cond (eqb m x) (Some y) rest) (next_in_list-put (Some x) (y ∷ ys) back n m apart other)
 
--- the number before another one than the first of the back stays where n is put in
+-- the number before another one than the first of the back stays if n is put in
 pub prev_from-put : (before : Option ℕ) (front back : List ℕ) (n m : ℕ) → (m ≡ n → ⊥) → (first_of back ≡ Some m → ⊥) → prev_from before (front ++ n ∷ back) m ≡ prev_from before (front ++ back) m
 prev_from-put before [] [] n m apart other = rw (ne_eqb m n apart) refl
 prev_from-put before [] (y ∷ ys) n m apart other =
@@ -85,7 +85,7 @@ pub has-put : (m n : ℕ) (front back : List ℕ) → (m ≡ n → ⊥) → has 
 has-put m n [] back apart = rw (ne_eqb m n apart) refl
 has-put m n (x ∷ xs) back apart = ap (λ b. eqb m x || b) (has-put m n xs back apart)
 
--- where no number stands twice in what n was put into, which doesn't have n, none does afterwards
+-- if no number stands twice in what n was put into, which doesn't have n, none does afterwards
 pub HasNoRepeats-put : (front back : List ℕ) (n : ℕ) → HasNoRepeats (front ++ back) → has n (front ++ back) ≡ false → HasNoRepeats (front ++ n ∷ back)
 HasNoRepeats-put [] back n once free = (free, once)
 HasNoRepeats-put (x ∷ xs) back n once free =
@@ -93,7 +93,7 @@ HasNoRepeats-put (x ∷ xs) back n once free =
     let apart : x ≡ n → ⊥ = λ e. eqb-false n x parts.0 (sym e) in
     (has-put x n xs back apart ∙ once.0, HasNoRepeats-put xs back n once.1 parts.1)
 
--- where no number stands twice, none does once n is taken out, and n isn't there any more
+-- if no number stands twice, none does once n is taken out, and n isn't there any more
 pub HasNoRepeats-taken : (front back : List ℕ) (n : ℕ) → HasNoRepeats (front ++ n ∷ back) → HasNoRepeats (front ++ back) × (has n front ≡ false) × (has n back ≡ false)
 HasNoRepeats-taken [] back n once = (once.1, refl, once.0)
 HasNoRepeats-taken (x ∷ xs) back n once =

@@ -42,7 +42,7 @@ pub slice_get-all : {A : Type 0} (P : A → Type 0) (xs : List A) → All P xs �
     → P x
 slice_get-all P xs a n x e = subst P (get_or_from_slice_get xs n x x e) (a n x (slice_get_within xs n x e))
 
--- where nothing stands, the list has ended
+-- if nothing stands, the list has ended
 pub slice_get-ended : {A : Type 0} (xs : List A) (k : ℕ) → slice_get xs k ≡ None → length xs ≤ k
 slice_get-ended [] k e = omega arith
 slice_get-ended (x ∷ xs) zero e = absurd cc

@@ -82,7 +82,7 @@ module _ (keys : List Key) (k : Key) (xs : List ℕ) (place : Option ℕ) (n : �
       let there : left next xs ≡ length rest = (λ i. left ((to ∙ next_is once) i) (longer i)) ∙ left-split (walked.front ++ n ∷ []) rest (subst HasNoRepeats longer once) in
       omega (arith, here, there)
 
--- the last node of a sorted list is the place, where it comes no later
+-- the last node of a sorted list is the place, if it comes no later
 pub place_at_end : (keys : List Key) (k : Key) (xs : List ℕ) (p : ℕ) → IsInOrder keys xs → last_of xs ≡ Some p → comes_before k (key_in keys p) ≡ false → IsPlace keys k xs (Some p)
 place_at_end keys k [] p order last no_later = absurd cc
 place_at_end keys k (x ∷ xs) p order last no_later =

@@ -63,7 +63,7 @@ pub record Holds (q : Queue) (t : NodeLists) : Type 0 where
   pub threads : (p n : ℕ) → IsLevel p → has n (list_at t (list_for q p)) ≡ true → IsThreadNode q n
   -- the node of a thread stands on a level, or in no list
   pub alone : (n l : ℕ) → IsThreadNode q n → holder t n ≡ Some l → IsLevelList q l
-  -- the bit of a level is 0 exactly where no thread is on it
+  -- the bit of a level is 0 exactly if no thread is on it
   pub bits : (p : ℕ) → IsLevel p → (bit_at q.mask p ≡ 0) ↔ (list_at t (list_for q p) ≡ [])
   -- no other bit is set
   pub no_more : (p : ℕ) → bit_at q.mask p ≡ 1 → IsLevel p
@@ -81,11 +81,11 @@ pub record HasRoom (q : Queue) (t : NodeLists) : Type 0 where
 abbrev pub IsQueued : Queue → NodeLists → ℕ → Type 0
 IsQueued q t u = (p : ℕ) × IsLevel p × (has u (level_of q t p) ≡ true)
 
--- the level of a list; None where it is the list of no level
+-- the level of a list; None if it is the list of no level
 abbrev pub level_for : Queue → ℕ → Option ℕ
 level_for q l = if nat_le q.first_list l && nat_lt l (q.first_list + 99) then Some (l - q.first_list + 1) else None
 
--- the level on which a thread is: that of the list in which its node is; None where it has no node, or is on no level
+-- the level on which a thread is: that of the list in which its node is; None if it has no node, or is on no level
 abbrev pub level_with : Queue → NodeLists → ℕ → Option ℕ
 level_with q t u = if nat_le 1 u && nat_le u q.threads then option_and_then (level_for q) (holder t (node_for q u)) else None
 
@@ -112,7 +112,7 @@ IsEmpty q t = (p : ℕ) → IsLevel p → level_of q t p ≡ []
 abbrev pub level_after_add : ℕ → ℕ → ℕ → List ℕ → List ℕ
 level_after_add u to p ts = if nat_eq p to then ts ++ u ∷ [] else ts
 
--- the threads of level p once u, which was on some level, is at level `to`: where that is its level it keeps its
+-- the threads of level p once u, which was on some level, is at level `to`: if that is its level, it keeps its
 -- place, and else it joins the end (sched(7))
 abbrev pub level_after_move : ℕ → ℕ → ℕ → List ℕ → List ℕ
 level_after_move u to p ts = if nat_eq p to then (if has u ts then ts else ts ++ u ∷ []) else list_without u ts

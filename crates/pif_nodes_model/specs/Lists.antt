@@ -11,7 +11,7 @@ abbrev pub first_of : List ℕ → Option ℕ
 first_of [] = None
 first_of (x ∷ xs) = Some x
 
--- the last number of a list, or `before` where it is empty
+-- the last number of a list, or `before` if it is empty
 abbrev pub last_or : Option ℕ → List ℕ → Option ℕ
 last_or before [] = before
 last_or before (x ∷ xs) = last_or (Some x) xs
@@ -20,7 +20,7 @@ last_or before (x ∷ xs) = last_or (Some x) xs
 abbrev pub last_of : List ℕ → Option ℕ
 last_of xs = last_or None xs
 
--- the number that stands after n in a list: none after the last, nor where the list doesn't have n
+-- the number that stands after n in a list: none after the last, nor if the list doesn't have n
 abbrev pub next_in_list : List ℕ → ℕ → Option ℕ
 next_in_list [] n = None
 next_in_list (x ∷ xs) n = if nat_eq n x then first_of xs else next_in_list xs n
@@ -30,7 +30,7 @@ abbrev pub prev_from : Option ℕ → List ℕ → ℕ → Option ℕ
 prev_from before [] n = None
 prev_from before (x ∷ xs) n = if nat_eq n x then before else prev_from (Some x) xs n
 
--- the number that stands before n in a list: none before the first, nor where the list doesn't have n
+-- the number that stands before n in a list: none before the first, nor if the list doesn't have n
 abbrev pub prev_in_list : List ℕ → ℕ → Option ℕ
 prev_in_list xs n = prev_from None xs n
 
@@ -39,7 +39,7 @@ abbrev pub put_after : ℕ → ℕ → List ℕ → List ℕ
 put_after p n [] = []
 put_after p n (x ∷ xs) = if nat_eq p x then x ∷ n ∷ xs else x ∷ put_after p n xs
 
--- the list with n put right after a place, or at its head where no place is given
+-- the list with n put right after a place, or at its head if no place is given
 abbrev pub insert_after : Option ℕ → ℕ → List ℕ → List ℕ
 insert_after None n xs = n ∷ xs
 insert_after (Some p) n xs = put_after p n xs

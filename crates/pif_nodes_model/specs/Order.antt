@@ -8,7 +8,7 @@ use Rattle.pif_nodes_model.specs.Table.{NodeLists, no_key, list_at, key_at, next
 abbrev pub comes_before : Key → Key → Bool
 comes_before a b = nat_lt b.prio a.prio || (a.prio == b.prio && nat_lt a.ticket b.ticket)
 
--- the key of a node among these; `no_key` where there is no such node
+-- the key of a node among these; `no_key` if there is no such node
 abbrev pub key_in : List Key → ℕ → Key
 key_in keys n = slice_index_or keys n no_key
 
@@ -21,7 +21,7 @@ IsInOrder keys (x ∷ xs) = ((y : ℕ) → has y xs ≡ true → comes_before (k
 abbrev pub IsSorted : NodeLists → ℕ → Type 0
 IsSorted t l = IsInOrder t.keys (list_at t l)
 
--- a list with a node put before the first one that comes later, or at the end where none does
+-- a list with a node put before the first one that comes later, or at the end if none does
 abbrev pub list_after_insert : List Key → ℕ → List ℕ → List ℕ
 list_after_insert keys n [] = n ∷ []
 list_after_insert keys n (x ∷ xs) = if comes_before (key_in keys n) (key_in keys x) then n ∷ x ∷ xs else x ∷

@@ -10,7 +10,7 @@ pub record NodeLists : Type 0 where
   -- the key of each node, by the number of the node
   pub keys : List Key
 
--- the nodes of a list, in order; none where there is no such list
+-- the nodes of a list, in order; none if there is no such list
 abbrev pub list_at : NodeLists → ℕ → List ℕ
 list_at t l = slice_index_or t.lists l []
 
@@ -18,7 +18,7 @@ list_at t l = slice_index_or t.lists l []
 abbrev pub no_key : Key
 no_key = record { prio = 0; ticket = 0 }
 
--- the key of a node; `no_key` where there is no such node
+-- the key of a node; `no_key` if there is no such node
 abbrev pub key_at : NodeLists → ℕ → Key
 key_at t n = slice_index_or t.keys n no_key
 

@@ -91,7 +91,7 @@ zero-behind v t s = by_wait (task_at v t).wait
     by_wait None = refl
     by_wait (Some w) = ap (option_and_then (later w.rank)) (none w.state)
 
--- where nobody was found, t is the last
+-- if nobody was found, t is the last
 last-zero : (v : Owners) (t n first : ℕ) → AreSoundOwners v → n ≡ length v.seats → IsSome (waits_on v t) → first ≡ 0
     → IsFirstBehind v t n first → IsLast v t
 last-zero v t n first s all some zero f x mine other on rank ranked =
@@ -110,7 +110,7 @@ last-zero v t n first s all some zero f x mine other on rank ranked =
         let nobody : standing_behind v t first ≡ None = ap (standing_behind v t) zero ∙ zero-behind v t s in
         absurd (true≢false ((λ i. leads (sym stands i) (sym nobody i)) ∙ f.ahead x (omega (arith, within, all))))
 
--- where somebody was, that one stands right behind it
+-- if somebody was, that one stands right behind it
 behind-first : (v : Owners) (t n first : ℕ) → n ≡ length v.seats → IsSome (waits_on v t) → 1 ≤ first
     → IsFirstBehind v t n first → IsBehind v t first
 behind-first v t n first all some one f = by_stands f.stands
@@ -146,7 +146,7 @@ behind-first v t n first all some one f = by_stands f.stands
         let w = waits-some v t some in
         let a = behind-at v t w.0 w.1 first h in by_parts w.0 w.1 a.0 a.1 a.2 a.3
 
--- the same of a thread that is there where its number is not 0
+-- the same of a thread that is there if its number is not 0
 pub behind-some : (o : Option ℕ) (v : Owners) (t n first : ℕ) → n ≡ length v.seats → IsSome (waits_on v t)
     → (IsSome o ↔ (1 ≤ first)) → IfSome o (λ u. u ≡ first) → IsFirstBehind v t n first
     → IfSome o (λ u. IsBehind v t u)

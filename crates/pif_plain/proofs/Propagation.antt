@@ -1,4 +1,4 @@
--- A priority is propagated along a chain, hop by hop, where the threads have the numbers below n.
+-- A priority is propagated along a chain, hop by hop, if the threads have the numbers below n.
 use Rattle.std.proofs.Common.{◌≡◌, ◌≢◌, ◌⊎◌, ◌<◌, ◌≤◌, ◌+◌, ℕ, zero, suc, max, Bool, true, false, List, length, replicate, get_or, set, Option, Some, None, refl, sym, ap, ◌∙◌, inl, inr, if◌then◌else◌, arith, length-set}
 use Rattle.std.specs.Prelude.{unwrap_or}
 use Rattle.std.proofs.lemmas.Bool.{cases_eq, cases_lt, eq-eqb, ne_eqb}

@@ -17,7 +17,7 @@ pub contains-state : (rows : List Task) (s : Slab ℕ) (v : Owners) (j k : ℕ) 
     → IsSome (owner_at v k) → ContainsKey s j
 contains-state rows s v j k e same some = subst IsSome (sym (value-owner rows s v j k e same)) some
 
--- it has room for one more where there are fewer states than threads
+-- it has room for one more if there are fewer states than threads
 pub room-for_one : (rows : List Task) (s : Slab ℕ) (v : Owners) → owners_from rows s ≡ v
     → length rows ≤ s.capacity + 1 → count v + 1 < length v.seats → HasRoomFor s 1
 room-for_one rows s v e room fewer = omega (arith, len-owners_of s, ap count e, ap (λ (x : Owners). length x.seats) e)

@@ -46,7 +46,7 @@ waits-within v k t w = by_number (cases_lt t (length v.seats))
         let none : waits_on v t ≡ None = ap state_of (get_or_past v.seats t no_task m) in
         absurd (cc)
 
--- where that one is not 0 it is the top waiter
+-- if that one is not 0, it is the top waiter
 pub first-top : (v : Owners) (k n first : ℕ) → n ≡ length v.seats → 1 ≤ first → IsFirst v k n first → IsTop v k first
 first-top v k n first e one f = by_first f.stands
   where
@@ -65,7 +65,7 @@ first-top v k n first e one f = by_first f.stands
     by_first (inl z) = absurd (omega arith)
     by_first (inr some) = top (standing-some v k first some)
 
--- the same of a thread that is there where its number is not 0
+-- the same of a thread that is there if its number is not 0
 pub first-some : (o : Option ℕ) (v : Owners) (k n first : ℕ) → n ≡ length v.seats → (IsSome o ↔ (1 ≤ first))
     → IfSome o (λ t. t ≡ first) → IsFirst v k n first
     → IfSome o (λ t. IsTop v k t)

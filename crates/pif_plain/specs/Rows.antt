@@ -9,7 +9,7 @@ use Rattle.pif_kernel_model.specs.Tickets.{is_named}
 pub record PlainRows : Type 0 where
   -- for how many parked threads there is room
   pub room : ℕ
-  -- the key of the owner state of each mutex, by number; None where there is no owner state
+  -- the key of the owner state of each mutex, by number; None if there is no owner state
   pub keys : List (Option ℕ)
   -- the parked threads, in the order in which they were parked
   pub parked : List Parking

@@ -33,8 +33,8 @@ use pif_types::{Prio, Tid};
 /// Gives each thread the greatest base priority of it and of all that wait for it through any chain, also where it
 /// stands among the waiters of a state, with the ticket that it has; so the top waiter of a state is its next one. A
 /// thread of the run queue is moved to the level of its priority; one that keeps its level keeps its place. All else in
-/// the owner states and in the table stays as it was. Answers at most the number of threads. (RT-mutex design, the
-/// priority chain walk.)
+/// the owner states and in the table stays as it was. Answers how many threads got another effective priority; only
+/// that these are at most the threads is proved. (RT-mutex design, the priority chain walk.)
 ///
 /// Before the call nothing may be left to repair but the effective priority of `start`, which was admitted: each other
 /// thread has the greatest of its base priority and of the effective priorities of those that wait for it, and every

@@ -4,7 +4,7 @@
 //! `rt_mutexes` has the owner states and the rows of the threads, `chain_walk` the walk over them and `cycles` the test
 //! whether a wait closes a cycle; they are public for their tests. `paths` goes up one chain of waiting. `plain_rows`
 //! has the keys of the mutexes, and the parked threads in one list in the order in which they were parked: there a
-//! parked thread has no ticket, and its priority is read where one is taken. `chains` is these together with the run
+//! parked thread has no ticket, and its priority is read when one is taken. `chains` is these together with the run
 //! queue, as `KernelOn` of `pif_kernel` takes them.
 #![tactic(auto)]
 

@@ -26,7 +26,7 @@ pub fn path(owners: &RtMutexes, start: Tid) -> ArrayVec<Tid, 1024>
     passed
 }
 
-/// The thread for which the thread `t` waits: the owner of the state on which it is queued. `None` where it waits for
+/// The thread for which the thread `t` waits: the owner of the state on which it is queued. `None` if it waits for
 /// nobody.
 fn awaited(owners: &RtMutexes, t: Tid) -> Option<Tid>
     ensures { unwrap_or result 0 ≡ waits_for owners.now t }

@@ -8,9 +8,9 @@ use pif_types::{Prio, Tid};
 /// How many places a table by the number of a thread has: one for number 0, and one for each of at most 1,024 threads.
 pub const PLACES: usize = 1025;
 
-/// Propagates the base priority of each thread along its chain, where nothing stood by any thread before: then the
+/// Propagates the base priority of each thread along its chain, if nothing stood by any thread before: then the
 /// greatest base priority of each thread and of all that wait for it through any chain stands by its number, and `None`
-/// where none of them was admitted. What stands behind the last thread is left open.
+/// if none of them was admitted. What stands behind the last thread is left open.
 pub fn propagate_all(owners: &RtMutexes, greatest: &mut [Option<Prio>; PLACES])
     requires none { (t : ℕ) → priority_at greatest.old t ≡ 0 }
     ensures values { (t : ℕ) → t < length owners.now.seats → priority_at greatest.new t ≡ greatest_base owners.now t }
@@ -23,7 +23,7 @@ pub fn propagate_all(owners: &RtMutexes, greatest: &mut [Option<Prio>; PLACES])
     }
 }
 
-/// The priority that stands by the thread `t`. `None` where none does, also for a thread without a place.
+/// The priority that stands by the thread `t`. `None` if none does, also for a thread without a place.
 pub fn priority_of(greatest: &[Option<Prio>; PLACES], t: Tid) -> Option<Prio>
     ensures { unwrap_or result 0 ≡ priority_at greatest.now t }
 {

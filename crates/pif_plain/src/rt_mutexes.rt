@@ -13,8 +13,8 @@
 //! | Row of a thread | `base`, `local` | `waits_on`, `ticket` |
 //! |---|---|---|
 //! | not admitted, or no row | `None` | `None` |
-//! | after `admit`, `dequeue`, or `hand_over` to it | `Some`, where it was admitted | `None` |
-//! | after `enqueue` | `Some`, where it was admitted | the state on which it is queued, and its ticket there |
+//! | after `admit`, `dequeue`, or `hand_over` to it | `Some`, if it was admitted | `None` |
+//! | after `enqueue` | `Some`, if it was admitted | the state on which it is queued, and its ticket there |
 //!
 //! A waiter stands among the others by the priority that `enqueue` or `rekey` last handed in, and of equals by its
 //! ticket. `local` is the effective priority as it was last set; nothing here keeps the two the same (`chain_walk`
@@ -65,7 +65,7 @@ impl Model for RtMutexes {
 
 impl RtMutexes {
     /// No owner state, and a row for each of `threads` threads, at most 1,024, of which none is admitted. It takes two
-    /// pieces of memory, which are enough for as many states as threads, and answers `NoMemory` where one is refused.
+    /// pieces of memory, which are enough for as many states as threads, and answers `NoMemory` if one is refused.
     pub fn new(alloc: Global, threads: u32) -> Result<RtMutexes, NoMemory>
         requires { threads ≤ 1024 }
         ensures made { IfOk result (λ m. m ≡ no_owners threads) }
@@ -99,7 +99,7 @@ impl RtMutexes {
         self.put(t, row);
     }
 
-    /// The base priority of the thread `t`. `None` where it was given none.
+    /// The base priority of the thread `t`. `None` if it was given none.
     pub fn base(&self, t: Tid) -> Option<Prio>
         ensures given { IsSome result ↔ (1 ≤ (task_at self.now t).base) }
         ensures value { IfSome result (λ p. p ≡ (task_at self.now t).base) }
@@ -109,7 +109,7 @@ impl RtMutexes {
         known.priorities.base()
     }
 
-    /// Makes `prio` the base priority of the thread `t`. All else stays as it was, and so does all where `t` has no
+    /// Makes `prio` the base priority of the thread `t`. All else stays as it was, and so does all if `t` has no
     /// row.
     pub fn set_base(&mut self, t: Tid, prio: Prio)
         ensures changed { self.new ≡ with_base t prio self.old }
@@ -123,7 +123,7 @@ impl RtMutexes {
         self.put(t, changed);
     }
 
-    /// The effective priority of the thread `t` as it was last set. `None` where it was given none.
+    /// The effective priority of the thread `t` as it was last set. `None` if it was given none.
     pub fn local(&self, t: Tid) -> Option<Prio>
         ensures given { IsSome result ↔ (1 ≤ (task_at self.now t).local) }
         ensures value { IfSome result (λ p. p ≡ (task_at self.now t).local) }
@@ -133,7 +133,7 @@ impl RtMutexes {
         known.priorities.local()
     }
 
-    /// Makes `prio` the effective priority of the thread `t`. All else stays as it was, and so does all where `t` has
+    /// Makes `prio` the effective priority of the thread `t`. All else stays as it was, and so does all if `t` has
     /// no row.
     pub fn set_local(&mut self, t: Tid, prio: Prio)
         ensures changed { self.new ≡ with_local t prio self.old }
@@ -169,7 +169,7 @@ impl RtMutexes {
     }
 
     /// The top waiter of a state: of those that are queued on it the one with the highest priority as last handed in,
-    /// and of equal ones the one with the lowest ticket. `None` where nobody is queued on it.
+    /// and of equal ones the one with the lowest ticket. `None` if nobody is queued on it.
     pub fn top(&self, key: Key) -> Option<Tid>
         ensures none { IfNone result (HasNoWaiter self.now key) }
         ensures top { IfSome result (λ t. IsTop self.now key t) }
@@ -247,7 +247,7 @@ impl RtMutexes {
         }
     }
 
-    /// The ticket with which the thread `t` is queued. `None` where it waits for nothing.
+    /// The ticket with which the thread `t` is queued. `None` if it waits for nothing.
     pub fn ticket(&self, t: Tid) -> Option<u64>
         ensures value { result ≡ option_map (λ (r : RankSeen). r.ticket) (rank_of self.now t) }
     {
@@ -305,7 +305,7 @@ impl RtMutexes {
         self.owners.remove(key.get());
     }
 
-    /// The state on which the thread `t` is queued. `None` where it waits for nothing.
+    /// The state on which the thread `t` is queued. `None` if it waits for nothing.
     pub fn waits_on(&self, t: Tid) -> Option<Key>
         ensures value { result ≡ waits_on self.now t }
         ensures state { ForSome result (λ k. IsSome (owner_at self.now k)) }
@@ -363,7 +363,7 @@ impl RtMutexes {
         self.owners[key.get()] = owner;
     }
 
-    /// The rank with which a thread stands among the waiters of a state. `None` where it doesn't wait there.
+    /// The rank with which a thread stands among the waiters of a state. `None` if it doesn't wait there.
     fn standing(&self, key: Key, t: u32) -> Option<Rank>
         ensures { result ≡ standing self.now key t }
     {
@@ -373,7 +373,7 @@ impl RtMutexes {
         }
     }
 
-    /// The rank with which a thread stands behind the thread `t` among the waiters of its state. `None` where it
+    /// The rank with which a thread stands behind the thread `t` among the waiters of its state. `None` if it
     /// doesn't stand behind it.
     fn standing_behind(&self, t: Tid, u: u32) -> Option<Rank>
         ensures { result ≡ standing_behind self.now t u }

@@ -17,7 +17,7 @@ IsInOrder-front : (keys : List Key) (front back : List ℕ) → IsInOrder keys (
 IsInOrder-front keys [] back h = record {}
 IsInOrder-front keys (x ∷ xs) back h = ((λ y in'. h.0 y (has-left y xs back in')), IsInOrder-front keys xs back h.1)
 
--- where the last of a list in order comes no later than a key, none of the list does
+-- if the last of a list in order comes no later than a key, none of the list does
 none_later : (keys : List Key) (k : Key) (xs : List ℕ) → IsInOrder keys xs
     → ((p : ℕ) → last_of xs ≡ Some p → comes_before k (key_in keys p) ≡ false)
     → (m : ℕ) → has m xs ≡ true → comes_before k (key_in keys m) ≡ false
@@ -33,7 +33,7 @@ none_later keys k (x ∷ y ∷ ys) h last m in' = ⊎_elim
     (λ rest. none_later keys k (y ∷ ys) h.1 last m rest)
     (or_cases (eqb m x) (has m (y ∷ ys)) in')
 
--- where only the key of one node changes, the lists that don't have it stay sorted
+-- if only the key of one node changes, the lists that don't have it stay sorted
 pub rekeyed_others : (t : NodeLists) (l n : ℕ) (k : Key) → IsApart (with_key t n k) → holder t n ≡ Some l
     → OthersStaySorted t (with_key t n k) l
 rekeyed_others t l n k apart held j ne h =

@@ -30,7 +30,7 @@ impl PList {
     }
 
     /// Gives `node` the key `prio` and `ticket`, and puts it into this list, behind all nodes that come no later. Takes
-    /// constant time where that is at the head or at the end. All other lists, and the keys of all other nodes, stay as
+    /// constant time if that is at the head or at the end. All other lists, and the keys of all other nodes, stay as
     /// they were.
     pub fn insert(&self, table: &mut NodeTable, node: Node, prio: u32, ticket: u64)
         requires list_in { self.now < length table.old.lists }
@@ -63,7 +63,7 @@ impl PList {
     }
 
     /// Gives `node` the priority `prio`, and the place in this list that goes with it. Its ticket stays, and so does
-    /// its place among equals. Takes constant time where it keeps its place, and where it goes to the head or the end.
+    /// its place among equals. Takes constant time if it keeps its place, and if it goes to the head or the end.
     /// All other lists, and the keys of all other nodes, stay as they were.
     pub fn rekey(&self, table: &mut NodeTable, node: Node, prio: u32)
         requires held { holder table.old node ≡ Some self.now }
@@ -100,7 +100,7 @@ impl PList {
         table.set_key(node, prio, ticket);
     }
 
-    /// The first node of this list: in a sorted list none comes before it. `None` where the list is empty.
+    /// The first node of this list: in a sorted list none comes before it. `None` if the list is empty.
     pub fn top(&self, table: &NodeTable) -> Option<Node>
         requires { self.now < length table.now.lists }
         ensures first { result ≡ first_of (list_at table.now self.now) }
@@ -111,7 +111,7 @@ impl PList {
         table.first(self.list)
     }
 
-    /// The last node that comes no later than `key`. `None` where all nodes come later.
+    /// The last node that comes no later than `key`. `None` if all nodes come later.
     fn place(&self, table: &NodeTable, key: Key) -> Option<Node>
         requires list_in { self.now < length table.now.lists }
         requires sorted { IsSorted table.now self.now }

@@ -58,7 +58,7 @@ step-over f (Some x) (Some y) n = by_first (cases_Bool (eqb (f x) (f n)))
     by_first (inl e) = omega (arith, ap {B = ℕ} (λ (k : ℕ). cond (eqb k (f y)) 0 1) (eqb-true (f x) (f n) e))
     by_first (inr e) = omega (arith, ap {B = ℕ} (λ (b : Bool). cond b 0 1) e, cond-most (eqb (f x) (f y)))
 
--- where none differs, none does without a number either
+-- if none differs, none does without a number either
 pub differences-left : (f : ℕ → ℕ) (xs : List ℕ) (n : ℕ) → HasNoRepeats xs → has n xs ≡ true → differences f xs ≡ 0
     → differences f (list_without n xs) ≡ 0
 differences-left f xs n once there none =

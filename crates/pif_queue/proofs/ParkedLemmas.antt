@@ -94,7 +94,7 @@ module _ (p : ParkedLists) (t : NodeLists) (h : StandParked p t) where
       differences-list_without (target_of p) (list_at t (variable_list p c)) n (h.apart.once (variable_list p c))
       (h.apart.listed (variable_list p c) n held)
 
-  -- where no neighbours differ, none do without a node either
+  -- if no neighbours differ, none do without a node either
   pub none-left : (c n : ℕ) → IsCond p c → holder t n ≡ Some (variable_list p c)
       → differences (target_of p) (list_at t (variable_list p c)) ≡ 0
       → differences (target_of p) (list_without n (list_at t (variable_list p c))) ≡ 0

@@ -330,7 +330,7 @@ impl ParkedLists {
         // For the prover: nodes have numbers of 32 bits.
         let _first = self.first_node;
         let differing = self.count(c);
-        // Where all are the same, those that are left are too.
+        // If all are the same, those that are left are too.
         if differing == 0 {
             return;
         }

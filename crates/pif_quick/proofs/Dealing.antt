@@ -70,7 +70,7 @@ module _ {T : Type 0} (starts : List (Option T)) where
           → turns_by p (r.logs i) ≡ []) s.views id w undealt (λ j d _ e. r.undealt j d e);
     }
 
-    -- a value stays out where another view changes
+    -- a value stays out if another view changes
     out_with_other : (id : ℕ) (v w : View T) → get_elem? s.views id ≡ some v → v.role ≢ Seated → (i : ℕ)
         → IsOut s.views i → IsOut (set s.views id w) i
     out_with_other id v w at other i o =

@@ -1,4 +1,4 @@
--- One seat steps at its word: the rule is kept where it is kept of that word.
+-- One seat steps at its word: the rule is kept if it is kept of that word.
 use Rattle.std.proofs.Common.{◌≡◌, ◌≢◌, ◌⊎◌, ℕ, ◌<◌, ◌^◌, List, [], ◌++◌, length, get_or, set, Option, Some, sym, ap, ◌∙◌, subst, ⊎_elim, inl, inr, arith, length-set, get_or-set_same, get_or-set_other}
 use mathlib.Core.Option.{some, none, some-injective}
 use mathlib.Core.Option as maybe
@@ -44,7 +44,7 @@ module _ {T : Type 0} where
     };
   }
 
-  -- a seat that has no open turn, where the log grows by turns of others
+  -- a seat that has no open turn, if the log grows by turns of others
   pub seat_quiet : (starts : List (Option T)) (words words' : List ℕ) (homes homes' : Homes T)
       (extra log : List (Turn T)) (u : View T)
       → ((f : T) → u.known.found ≡ Some f → ⊥) → turns_by u.pass extra ≡ [] → IsSeatOfPass starts words homes log u
@@ -67,7 +67,7 @@ module _ {T : Type 0} where
     abbrev here : ℕ
     here = v.word
 
-    -- What a step of the seat keeps of its own word, where n is what it writes, and the log grows by `extra`
+    -- What a step of the seat keeps of its own word, if n is what it writes, and the log grows by `extra`
     pub record Keeps (n : ℕ) (homes' : Homes T) (extra : List (Turn T)) (w : View T) : Type 0 where
       pub narrow : n < 2 ^ 32
       pub same : IsSameSeat v w

@@ -39,7 +39,7 @@ module _ {T : Type 0} where
   some_there (x ∷ xs) zero h = (x, refl)
   some_there (x ∷ xs) (suc i) h = some_there xs i (omega arith)
 
-  -- records are sound where the seats' are
+  -- records are sound if the seats' are
   pub sound_from : (p : Pass T) → ((m : ℕ) (s : Place T) → slice_get p.places.items m ≡ Some s
       → IsSound p.number (record_of s)) → AreSound p
   sound_from p each m lt =
@@ -49,7 +49,7 @@ module _ {T : Type 0} where
   pub same_records : (p p' : Pass T) (m : ℕ) → records p' ≡ records p → record_at p' m ≡ record_at p m
   same_records p p' m e = ap (λ (l : List (Record T)). get_or l m (fresh None)) e
 
-  -- what holds of two records holds of them where they are unchanged
+  -- what holds of two records holds of them if they are unchanged
   same_agree : (p p' r r' : Pass T) (m : ℕ) → IsUnchanged p p' → IsUnchanged r r'
       → Agree (record_at p m) (record_at r m) → Agree (record_at p' m) (record_at r' m)
   same_agree p p' r r' m a b h = subst (λ (z : Record T × Record T). Agree z.0 z.1)

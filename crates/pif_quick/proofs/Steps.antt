@@ -33,7 +33,7 @@ release_part n t narrow fits = exchanged n t 0 (λ (k : ℕ). IsWordStep (λ w. 
     (λ ne. subst (λ (o : Option Word). MatchOption o (n ≡ n) (λ w. word_of n ≡ w))
     (sym (release_word-miss n t narrow fits ne)) refl)
 
--- what holds of the word that a compare-exchange leaves, where it went and where it failed
+-- what holds of the word that a compare-exchange leaves, if it went and if it failed
 exchange_cases : (n old new : ℕ) (F : ℕ → Type 0) → F new
     → (n ≡ old → F (either (eqb n old) new n)) × (n ≢ old → either (eqb n old) new n ≡ n)
 exchange_cases n old new F new_is =

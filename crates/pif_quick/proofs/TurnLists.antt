@@ -36,7 +36,7 @@ module _ {T : Type 0} where
   chain-older o [] ts h = h
   chain-older o (t ∷ newer) ts h = chain-older o newer ts h.1
 
-  -- where there is an opening value, some value was left
+  -- if there is an opening value, some value was left
   pub left_by-some : (o : Option T) (x : T) (log : List (Turn T)) → o ≡ Some x → (f : T) × (left_by o log ≡ Some f)
   left_by-some o x [] e = (x, e)
   left_by-some o x (t ∷ ts) e = (t.left, refl)
@@ -60,7 +60,7 @@ module _ {T : Type 0} where
   older-either (t ∷ a) [] xs ys e = inl (t ∷ a, e)
   older-either (t ∷ a) (u ∷ b) xs ys e = older-either a b xs ys (ap (tail_or []) e)
 
-  -- the record whose open turn found f is sound, where the turns and what they left are known
+  -- the record whose open turn found f is sound, if the turns and what they left are known
   pub sound-opened : (p : ℕ) (f : T) (newer : List (Turn T)) (r : Record T) → IsChainOfTurns r.opening (newer ++ r.turns)
       → left_by r.opening (newer ++ r.turns) ≡ Some f
       → turns_by p newer ≡ [] → turns_by p r.turns ≡ r.made → IsSound p (with_open f newer r)

@@ -21,7 +21,7 @@ set_there (x ∷ xs) zero a b e = refl
 set_there (x ∷ xs) (suc i) a b e = set_there xs i a b e
 
 module _ {T : Type 0} where
-  -- a seat where the bits of its word change and not the number
+  -- a seat if the bits of its word change and not the number
   seat_reworded : (starts : List (Option T)) (words : List ℕ) (homes : Homes T) (log : List (Turn T)) (u w : View T)
       (i n : ℕ)
       → i < length words → (word_of n).number ≡ number_at words i → u.word ≡ i → w.pass ≡ u.pass → w.word ≡ u.word
@@ -57,7 +57,7 @@ module _ {T : Type 0} where
     Quiet = (j : ℕ) (u : View T) (f : T) → get_elem? s.views j ≡ some u → u.role ≡ Seated → u.word ≡ v.word
         → u.known.found ≡ Some f → ⊥
 
-    -- no other seat has an open turn where the word has this seat's number
+    -- no other seat has an open turn if the word has this seat's number
     pub others_quiet : number_at s.words v.word ≡ v.pass → (j : ℕ) (u : View T) (f : T) → j ≢ id
         → get_elem? s.views j ≡ some u → u.role ≡ Seated → u.word ≡ v.word → u.known.found ≡ Some f → ⊥
     others_quiet owns j u f other e role is open_turn =
@@ -148,7 +148,7 @@ module _ {T : Type 0} where
             (with_record (with_open f me.newer v.known) v) (opens_with f left);
       }
 
-      -- the seat's turn opens, where the word becomes n, which has its number, and no turn is open
+      -- the seat's turn opens, if the word becomes n, which has its number, and no turn is open
       pub opens : (x : T) → v.known.opening ≡ Some x → OpensSeat n
       opens x op =
           let l = left_by-some (opening_at starts v.word) x (r.logs v.word) (sym me.opening ∙ op) in

@@ -94,7 +94,7 @@ module _ {T : Type 0} where
             (s.dealt j k x.0 y.0 x.1 (sym x.2.role ∙ rd) y.1 (sym y.2.role ∙ rb));
       }
 
-  -- the seats are as they were where one has changed its view
+  -- the seats are as they were if one has changed its view
   pub seating_stays : (starts : List (Option T)) (l : List (View T)) (i : ℕ) (v w : View T) → get_elem? l i ≡ some v
       → IsSameSeat v w → IsSeating starts l → IsSeating starts (set l i w)
   seating_stays starts l i v w at same s = seating_from starts l (set l i w) (λ j b e _. before l i v w at same j b e) s

@@ -45,7 +45,7 @@ module _ {T : Type 0} where
     pub place : (m : ℕ) (s : Seat (Option T) (View T)) → slice_get p.places.items m ≡ Some s
         → IsPlaceOf q.board.shared.table_id (8 * m) p.number s
 
-  -- a pass as it is dealt, where these are the opening values, eight places apart
+  -- a pass as it is dealt, if these are the opening values, eight places apart
   pub record IsDealtPass (starts : List (Option T)) (z : TableId) (count number : ℕ) (p : Pass T) : Type 0 where
     pub number_is : p.number ≡ number
     pub counted : vec_len p.places ≡ count
@@ -88,13 +88,14 @@ module _ {T : Type 0} where
   abbrev pub UnlocksWord : Held T → Pass T → Pass T → Type 0
   UnlocksWord h p p' = ChangesAt (held_word h) (λ r r'. r' ≡ closed (pass_number p) (held_value h) r) p p'
 
-  -- a pass before any turn, where these are the opening values
+  -- a pass before any turn, if these are the opening values
   abbrev pub IsFresh : List T → Pass T → Type 0
   IsFresh values p =
       (length (records p) ≡ length values) × ((m : ℕ) (x : T) → slice_get values m ≡ Some x
       → record_at p m ≡ fresh (Some x))
 
--- the values, eight places apart, so that no two of them, nor their words, share a line of the cache
+-- the values, eight places apart, so that no two of their words share a line of the cache, nor two values if a slot
+-- has at least eight bytes
 abbrev pub spaced : {T : Type 0} → T → List (Option T)
 spaced x = Some x ∷ replicate 7 None
 

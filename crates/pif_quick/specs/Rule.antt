@@ -16,7 +16,7 @@ use Rattle.pif_quick.specs.Turns.{left_by, IsChainOfTurns, turns_by, EndsWithOwn
 abbrev pub number_at : List ℕ → ℕ → ℕ
 number_at words i = (word_of (slice_index words i)).number
 
--- what stood in a place at first: nothing where the place is between two words
+-- what stood in a place at first: nothing if the place is between two words
 abbrev pub opening_at : {T : Type 0} → List (Option T) → ℕ → Option T
 opening_at starts i = slice_index_or starts i None
 
@@ -129,7 +129,7 @@ abbrev pub handed_to : Option ℕ → Word
 handed_to None = free_word
 handed_to (Some u) = hand_word u
 
--- The word part of a step: the word becomes what the function says, or stays where that fails
+-- The word part of a step: the word becomes what the function says, or stays if that fails
 abbrev pub IsWordStep : (Word → Option Word) → ℕ → ℕ → Type 0
 IsWordStep f found left = MatchOption (f (word_of found)) (left ≡ found) (λ w. word_of left ≡ w)
 
@@ -167,7 +167,7 @@ module _ {T : Type 0} where
     pub taken : found ≡ 0 → Opened st.word m m'
     pub kept : found ≢ 0 → m' ≡ m
 
-  -- Put the value home where the word was what one expected, which has one's own number
+  -- Put the value home if the word was what one expected, which has one's own number
   pub record Left (st : At T) (m : Known T) (found : ℕ) (m' : Known T) : Type 0 where
     pub given : found ≡ st.first → (v : T) → m.1 ≡ (st.word, Some v) ∷ [] → Closed m m' v
     pub kept : found ≢ st.first → m' ≡ m
@@ -177,7 +177,7 @@ module _ {T : Type 0} where
   Released st m found m' = IsWordStep (λ w. release_word w m.0.pass) found (exchanged_word st found)
       × Left st m found m'
 
-  -- Hand the word, which is marked, to a pass that waits, or free it where none does
+  -- Hand the word, which is marked, to a pass that waits, or free it if none does
   abbrev pub Handed : At T → Known T → ℕ → Known T → Type 0
   Handed st m found m' =
       (found ≡ st.first → (word_of found ≡ mark_word (held_by m.0.pass))
@@ -196,7 +196,7 @@ module _ {T : Type 0} where
   abbrev pub Looked : At T → Known T → ℕ → Known T → Type 0
   Looked st m found m' = (found < 2 ^ 32) × (m' ≡ m)
 
-  -- Read the word, and take its value where the word has one's number: it was handed over
+  -- Read the word, and take its value if the word has one's number: it was handed over
   pub record Claimed (st : At T) (m : Known T) (found : ℕ) (m' : Known T) : Type 0 where
     pub narrow : found < 2 ^ 32
     pub taken : (word_of found).number ≡ m.0.pass → Opened st.word m m'

@@ -5,7 +5,7 @@ use Rattle.pif_quick.specs.declared.rule.Turn.{Turn}
 use Rattle.pif_quick.specs.declared.rule.Record.{Record}
 
 module _ {T : Type 0} where
-  -- the value that the last of these turns left, or the opening value where there is none
+  -- the value that the last of these turns left, or the opening value if there is none
   abbrev pub left_by : Option T → List (Turn T) → Option T
   left_by opening [] = opening
   left_by opening (t ∷ ts) = Some t.left

@@ -55,7 +55,7 @@ impl Order {
             .position(|parked| parked.word == word)
     }
 
-    /// Puts the pass behind the others. Answers false, with nothing changed, where there is no room.
+    /// Puts the pass behind the others. Answers false, with nothing changed, if there is no room.
     pub(crate) fn park(&mut self, word: usize, pass: u8) -> bool
         ensures parked { IsTrue result → self.new.parked.items ≡ self.old.parked.items ++ (record { word = word; pass = pass }) ∷ [] }
         ensures full { IsFalse result → (length self.old.parked.items ≡ 64) × (self.new ≡ self.old) }

@@ -70,7 +70,7 @@ pub(crate) fn take_free<T>(
     take(shelf, place, word, pass).ok()
 }
 
-/// Puts the value home and releases the word, where its bits are the pass's number alone. Otherwise gives the value
+/// Puts the value home and releases the word, if its bits are the pass's number alone. Otherwise gives the value
 /// back.
 pub(crate) fn release<T>(
     shelf: &Shelf<T>,
@@ -131,7 +131,7 @@ fn handed_word(next: Option<u8>) -> u32
     }
 }
 
-/// Takes the value of the word where its bits have the pass's number: it was handed over.
+/// Takes the value of the word if its bits have the pass's number: it was handed over.
 pub(crate) fn claim<T>(shelf: &Shelf<T>, place: &mut Place<T>, word: usize, pass: u8) -> Option<T>
     requires place { IsPlaceOf shelf.now.table_id word pass place.old }
     requires quiet { (record_of place.old).found ≡ None }
@@ -154,7 +154,7 @@ pub(crate) fn look<T>(shelf: &Shelf<T>, place: &mut Place<T>, word: usize) -> u3
     shelf.load::<Look>(place, word) as u32
 }
 
-/// Sets `WAITERS` in the word where its bits are `seen`, and says whether they were.
+/// Sets `WAITERS` in the word if its bits are `seen`, and says whether they were.
 pub(crate) fn mark<T>(shelf: &Shelf<T>, place: &mut Place<T>, word: usize, seen: u32) -> bool
     requires { IsPlaceOfPass shelf.now.table_id word place.old }
     ensures { (place.new.table_id ≡ place.old.table_id) × (place.new.id ≡ place.old.id) × (place.new.me ≡ place.old.me) }

@@ -130,7 +130,7 @@ pub length-with_previous : (ns : List Link) (p to : Option ℕ) → length (with
 length-with_previous ns None to = refl
 length-with_previous ns (Some p) to = length-set ns p (record (link_at ns p) { previous = to })
 
--- who holds an entry stays where its neighbours change
+-- who holds an entry stays if its neighbours change
 pub with_next_mutex-holder : (ns : List Link) (p to : Option ℕ) (k : ℕ) →
     (link_at (with_next_mutex ns p to) k).holder ≡ (link_at ns k).holder
 with_next_mutex-holder ns None to k = refl
@@ -160,7 +160,7 @@ pub length-with_first_mutex : (hs : List Head) (t : ℕ) (p to : Option ℕ) →
 length-with_first_mutex hs t None to = length-set hs t (record (head_at hs t) { first = to })
 length-with_first_mutex hs t (Some p) to = refl
 
--- the first of two lists, where the front is empty and where it is not
+-- the first of two lists, if the front is empty and if it is not
 pub first_or-back : (xs ys : List ℕ) → last_or None xs ≡ None → first_or (xs ++ ys) None ≡ first_or ys None
 first_or-back [] ys h = refl
 first_or-back (x ∷ xs) ys h = absurd (last_some None x xs h)

@@ -44,7 +44,7 @@ pub FieldsHold-seen : (ns : List Link) (hs : List Head) (v : Robust) → robust_
     FieldsHold ns hs (robust_from ns hs) → FieldsHold ns hs v
 FieldsHold-seen ns hs v view t = subst (FieldsHold ns hs) view t
 
--- a list written over a vector's elements, where it is as long
+-- a list written over a vector's elements, if it is as long
 written_over : {X : Type 0} (n : ℕ) (was xs : List X) → length xs ≡ n → take n (xs ++ drop (length xs) was) ≡ xs
 written_over n was xs same = ap (λ k. take k (xs ++ drop (length xs) was)) (sym same)
     ∙ take-append_seam xs (drop (length xs) was)

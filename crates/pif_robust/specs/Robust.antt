@@ -3,7 +3,7 @@ use Rattle.std.specs.Prelude.{ℕ, zero, suc, List, Option, Some, None, refl}
 use Rattle.std.specs.Coded.{Coded, code_by, coded×, coded_ℕ, coded_list}
 use Rattle.pif_model.specs.RobustList.{Robust, RobustRow}
 
--- the mutex of a number, where 0 is none
+-- the mutex of a number; 0 is none
 abbrev pub named_mutex : ℕ → Option ℕ
 named_mutex zero = None
 named_mutex (suc m) = Some (suc m)

@@ -68,7 +68,7 @@ pub(crate) fn settle(links: &[Link], head: &Head, next: Option<MutexId>) -> Opti
     }
 }
 
-/// Makes `to` the entry after `place`, or the first of the list of `t` where no place is given.
+/// Makes `to` the entry after `place`, or the first of the list of `t` if no place is given.
 fn set_next(
     links: &mut [Link],
     heads: &mut [Head],

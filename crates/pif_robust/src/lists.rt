@@ -34,7 +34,7 @@ impl Model for RobustLists {
 }
 
 impl RobustLists {
-    /// An empty list for each thread that `limits` allow. Takes two pieces of memory, and answers `NoMemory` where one
+    /// An empty list for each thread that `limits` allow. Takes two pieces of memory, and answers `NoMemory` if one
     /// is refused. No other call takes any.
     pub fn new(alloc: Global, limits: Limits) -> Result<RobustLists, NoMemory>
         ensures made { IfOk result (λ l. l ≡ no_robust limits) }
@@ -57,7 +57,7 @@ impl RobustLists {
         self.heads[t.get() as usize].pending = Some(m);
     }
 
-    /// Makes the pending field of `t` name no mutex. All else stays as it was, and so does all where `t` lies outside
+    /// Makes the pending field of `t` name no mutex. All else stays as it was, and so does all if `t` lies outside
     /// the limits.
     pub fn clear_pending(&mut self, t: Tid)
         ensures pending { self.new ≡ without_pending t self.old }
@@ -111,7 +111,7 @@ impl RobustLists {
 
     /// What the end of `t` goes through: the mutexes on its list from the head, that is, the last linked first, without
     /// the one that its pending field names, and that one last, whether it was listed or not. Each comes once, so there
-    /// are at most 1,024. Empty where `t` lies outside the limits. It is what `walk_first` and then `walk_next` answer,
+    /// are at most 1,024. Empty if `t` lies outside the limits. It is what `walk_first` and then `walk_next` answer,
     /// which need no room for a list.
     pub fn walk(&self, t: Tid) -> ArrayVec<MutexId, 1024>
         ensures walk { result.items ≡ walk_of (robust_at self.now t) }
@@ -128,7 +128,7 @@ impl RobustLists {
         found
     }
 
-    /// The first mutex that the end of `t` goes through. `None` where it goes through none, and where `t` lies outside
+    /// The first mutex that the end of `t` goes through. `None` if it goes through none, and if `t` lies outside
     /// the limits.
     pub fn walk_first(&self, t: Tid) -> Option<MutexId>
         ensures first { result ≡ first_or (walk_of (robust_at self.now t)) None }
@@ -138,7 +138,7 @@ impl RobustLists {
         settle(&self.links, &head, head.first)
     }
 
-    /// The mutex that the end of `t` goes through right after `m`, which is one of those. `None` where `m` is the last.
+    /// The mutex that the end of `t` goes through right after `m`, which is one of those. `None` if `m` is the last.
     pub fn walk_next(&self, t: Tid, m: MutexId) -> Option<MutexId>
         requires { has_entry (walk_of (robust_at self.now t)) m ≡ true }
         ensures next { result ≡ first_or (behind m (walk_of (robust_at self.now t))) None }
@@ -152,7 +152,7 @@ impl RobustLists {
     }
 
     /// Empties the list of `t` and its pending field, and ends what it has half-linked. All other threads' stay as they
-    /// were, and so does all where `t` lies outside the limits. It takes as many steps as there are mutexes on the
+    /// were, and so does all if `t` lies outside the limits. It takes as many steps as there are mutexes on the
     /// list.
     pub fn forget(&mut self, t: Tid)
         ensures forgotten { self.new ≡ without_robust t self.old }
@@ -167,7 +167,7 @@ impl RobustLists {
         }
     }
 
-    /// The mutex that the pending field of `t` names. `None` where it names none, and where `t` lies outside the
+    /// The mutex that the pending field of `t` names. `None` if it names none, and if `t` lies outside the
     /// limits.
     pub fn pending(&self, t: Tid) -> Option<MutexId>
         ensures value { result ≡ named_mutex (robust_at self.now t).pending }
@@ -176,7 +176,7 @@ impl RobustLists {
         self.head(t).pending
     }
 
-    /// The mutex that `t` has half-linked. `None` where there is none, and where `t` lies outside the limits.
+    /// The mutex that `t` has half-linked. `None` if there is none, and if `t` lies outside the limits.
     pub fn half_linked(&self, t: Tid) -> Option<MutexId>
         ensures value { result ≡ named_mutex (robust_at self.now t).half_linked }
         ensures sound { IsRobust self.now }
@@ -184,7 +184,7 @@ impl RobustLists {
         self.head(t).half_linked
     }
 
-    /// The thread on whose list `m` is. `None` where it is on no list, and where `m` lies outside the limits.
+    /// The thread on whose list `m` is. `None` if it is on no list, and if `m` lies outside the limits.
     pub fn holder(&self, m: MutexId) -> Option<Tid>
         ensures listed { IfSome result (λ t. is_listed self.now t m ≡ true) }
         ensures unlisted { IfNone result (IsUnlisted self.now m) }

@@ -173,7 +173,7 @@ rank-most m t o n u h i first e =
     no_later-prio (key_at t (wait_node m u)) (key_at t (wait_node m top.0)) top.2 in
     omega (arith, above, ranked, below, priority-waiting m t u on.0 on.1)
 
--- and where it has none nobody waits for it
+-- and if it has none, nobody waits for it
 rank-none : (m : States) (t : NodeLists) (o u : ℕ) → HoldsStates m t → IsThread m o → first_of (list_at t (top_list m o)) ≡ None
     → waits_for (owners_in m t) u ≡ o → ⊥
 rank-none m t o u h i none e =

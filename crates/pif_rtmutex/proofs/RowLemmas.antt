@@ -103,7 +103,7 @@ holds-row m t u x one base local same h =
         by_row (inl p) = ap (λ (r : Row). r.wait) p.1 ∙ same ∙ ap (wait_of m) (sym p.0)
         by_row (inr e) = ap (λ (r : Row). r.wait) e
 
--- what is answered where another row of a thread is written, which waits for the same
+-- what is answered if another row of a thread is written, which waits for the same
 pub record IsWritten (m n : States) (t : NodeLists) (u : ℕ) (y : Task) : Type 0 where
   pub view : owners_in n t ≡ with_task u y (owners_in m t)
   pub place : n ≡ record m { rows = n.rows }

@@ -66,7 +66,7 @@ module _ (m n : States) (t now : NodeLists) (k o u : ℕ) (v : Owners) (s : IsSt
   pub still_thread : (w : ℕ) → IsThread m w → IsThread n w
   still_thread w i = subst (λ (x : States). IsThread x w) (sym s.frame) i
 
-  -- where no state got another owner only rows changed
+  -- if no state got another owner, only rows changed
   pub rows_only : v.owners ≡ m.owners → n ≡ record m { rows = n.rows }
   rows_only same =
       s.frame ∙ (λ i. record m { rows = n.rows; owners = (ap (λ (x : Owners). x.owners) s.view ∙ same) i })

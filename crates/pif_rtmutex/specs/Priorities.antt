@@ -2,7 +2,7 @@
 use Rattle.std.specs.Prelude.{ℕ, refl}
 use Rattle.std.specs.Coded.{Coded, code_by, coded×, coded_ℕ}
 
--- both, each 0 where it was given none
+-- both, each 0 if it was given none
 pub record ThreadPriorities : Type 0 where
   pub base : ℕ
   pub local : ℕ

@@ -3,7 +3,7 @@
 //!
 //! The waiters of a state stand in a list of a node table, in order, and its top waiter also among the top waiters of
 //! its owner. So a value and its table together are the owner states, and each call but `new` takes the table. No call
-//! but `new` takes memory or looks at every thread: each takes constant time where its nodes come to stand at the head
+//! but `new` takes memory or looks at every thread: each takes constant time if its nodes come to stand at the head
 //! or the end of a list.
 //!
 //! ```text

@@ -18,7 +18,7 @@ pub fn without_bit(mask: u128, i: u32) -> u128
     mask & !(1 << i)
 }
 
-/// The greatest bit that is set. `None` where none is.
+/// The greatest bit that is set. `None` if none is.
 pub fn greatest_bit(mask: u128) -> Option<u32>
     ensures none { IfNone result ((i : ℕ) → bit_at mask i ≡ 0) }
     ensures greatest { IfSome result (λ i. IsGreatestBit mask i) }

@@ -106,7 +106,7 @@ impl RunQueue {
         }
     }
 
-    /// The first thread of the greatest level that has one. `None` where no level has a thread.
+    /// The first thread of the greatest level that has one. `None` if no level has a thread.
     pub fn pick(&self, table: &NodeTable) -> Option<Tid>
         requires holds { Holds self.now table.now }
         ensures none { IfNone result (IsEmpty self.now table.now) }
@@ -119,7 +119,7 @@ impl RunQueue {
     }
 
     /// The thread before which `place` others stand: those of the greatest level first, and those of each level in the
-    /// order in which they joined it. `None` where so few threads are on a level.
+    /// order in which they joined it. `None` if so few threads are on a level.
     pub fn nth(&self, table: &NodeTable, place: u32) -> Option<Tid>
         requires { Holds self.now table.now }
         ensures { result ≡ slice_get (all_below self.now table.now 100) place }
@@ -170,7 +170,7 @@ impl RunQueue {
         Tid::new(node.get() - self.first_node + 1)
     }
 
-    /// The greatest level of the mask. `None` where it has none.
+    /// The greatest level of the mask. `None` if it has none.
     fn greatest(&self) -> Option<u32>
         ensures none { IfNone result ((p : ℕ) → bit_at self.now.mask p ≡ 0) }
         ensures greatest { IfSome result (λ p. IsGreatestBit self.now.mask p) }
@@ -196,7 +196,7 @@ impl RunQueue {
         self.mask = without_bit(self.mask, level);
     }
 
-    /// The level on which the thread `t` is. `None` where it is on none.
+    /// The level on which the thread `t` is. `None` if it is on none.
     pub fn level(&self, table: &NodeTable, t: Tid) -> Option<Prio>
         requires holds { Holds self.now table.now }
         ensures level { result ≡ level_with self.now table.now t }
@@ -215,7 +215,7 @@ impl RunQueue {
     }
 }
 
-/// The node of a list before which `before` others stand. `None` where it has so few, which are taken off `before`
+/// The node of a list before which `before` others stand. `None` if it has so few, which are taken off `before`
 /// then.
 fn nth_of_list(table: &NodeTable, list: List, before: &mut u32) -> Option<Node>
     requires { list < length table.now.lists }

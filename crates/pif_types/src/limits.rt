@@ -26,7 +26,7 @@ impl Model for Limits {
 }
 
 impl Limits {
-    /// These limits, or `None` where one of them is outside its range.
+    /// These limits, or `None` if one of them is outside its range.
     pub fn new(threads: u32, mutexes: u32, conds: u32, signals: u32) -> Option<Limits>
         ensures valid { IsSome result ↔ IsWithin (record { threads = threads; mutexes = mutexes; conds = conds; signals = signals }) }
         ensures value { IfSome result (λ l. l ≡ record { threads = threads; mutexes = mutexes; conds = conds; signals = signals }) }

@@ -20,7 +20,7 @@ impl Model for Tid {
 }
 
 impl Tid {
-    /// The number `number`, or `None` where it is 0.
+    /// The number `number`, or `None` if it is 0.
     pub fn new(number: u32) -> Option<Self>
         ensures valid { IsSome result ↔ (1 ≤ number) }
         ensures value { IfSome result (λ t. t ≡ number) }
@@ -44,7 +44,7 @@ impl Tid {
 impl Default for Tid {
     ghost is_default = { λ t. t ≡ 1 };
 
-    /// The first thread, number 1.
+    /// The first thread, number 1. It is there since `ArrayVec` fills its unused places with it; it never means nobody.
     fn default() -> Self {
         Tid { thread: 1 }
     }
@@ -67,7 +67,7 @@ impl Model for MutexId {
 }
 
 impl MutexId {
-    /// The number `number`, or `None` where it is 0.
+    /// The number `number`, or `None` if it is 0.
     pub fn new(number: u32) -> Option<Self>
         ensures valid { IsSome result ↔ (1 ≤ number) }
         ensures value { IfSome result (λ t. t ≡ number) }
@@ -114,7 +114,7 @@ impl Model for CondId {
 }
 
 impl CondId {
-    /// The number `number`, or `None` where it is 0.
+    /// The number `number`, or `None` if it is 0.
     pub fn new(number: u32) -> Option<Self>
         ensures valid { IsSome result ↔ (1 ≤ number) }
         ensures value { IfSome result (λ t. t ≡ number) }
@@ -154,7 +154,7 @@ impl Model for Prio {
 }
 
 impl Prio {
-    /// The priority `level`, or `None` where it is outside 1 to 99.
+    /// The priority `level`, or `None` if it is outside 1 to 99.
     pub fn new(level: u32) -> Option<Self>
         ensures valid { IsSome result ↔ ((1 ≤ level) × (level ≤ 99)) }
         ensures value { IfSome result (λ p. p ≡ level) }

@@ -7,8 +7,8 @@ pub enum Kind {
     Normal,
     /// PTHREAD_MUTEX_ERRORCHECK: a thread that locks a mutex that it owns is answered EDEADLK.
     ErrorCheck,
-    /// PTHREAD_MUTEX_RECURSIVE: a thread that locks a mutex that it owns holds it once more, and where it holds it 255
-    /// times it is answered EAGAIN. The mutex is given up once it was unlocked as often.
+    /// PTHREAD_MUTEX_RECURSIVE: a thread that locks a mutex that it owns holds it once more, and if it holds it 255
+    /// times, it is answered EAGAIN. The mutex is given up once it was unlocked as often.
     Recursive,
 }
 
@@ -41,11 +41,11 @@ pub enum Request {
     Consistent(MutexId),
     /// pthread_cond_wait: gives the mutex up, waits until the variable is signalled, and locks the mutex again. A mutex
     /// to which the variable isn't bound is answered EINVAL, then one that the caller doesn't own EPERM, then one that
-    /// the caller holds more than once EINVAL. Where the mutex can't be locked again the answer is EDEADLK or
+    /// the caller holds more than once EINVAL. If the mutex can't be locked again, the answer is EDEADLK or
     /// ENOTRECOVERABLE, as that of a lock, and the caller doesn't hold it.
     Wait(CondId, MutexId),
     /// pthread_cond_signal: wakes one of the threads that wait on the variable, if there is one. It is answered
-    /// EOVERFLOW where the variable has had all the signals and broadcasts that its limit allows.
+    /// EOVERFLOW if the variable has had all the signals and broadcasts that its limit allows.
     Signal(CondId),
     /// pthread_cond_broadcast: wakes all threads that wait on the variable. It is answered EOVERFLOW as a signal is.
     Broadcast(CondId),
@@ -57,7 +57,7 @@ pub enum Request {
     TimedLock(MutexId, u32),
     /// pthread_cond_timedwait: waits as `Wait` does, but once the time is at least this deadline it waits for the
     /// variable no longer, locks the mutex again, for which no deadline counts, and is answered ETIMEDOUT in place of
-    /// 0. Another answer of that lock stays: EOWNERDEAD, or EDEADLK or ENOTRECOVERABLE, where the caller doesn't hold
-    /// the mutex.
+    /// 0. Another answer of that lock stays: EOWNERDEAD, or EDEADLK or ENOTRECOVERABLE, after which the caller
+    /// doesn't hold the mutex.
     TimedWait(CondId, MutexId, u32),
 }

@@ -3,7 +3,7 @@ ghost use Rattle.std.specs.Prelude.{◌≡◌, ◌<◌, ◌≤◌, ◌+◌, ◌+
 use crate::errors::NoMemory;
 use std::alloc::Global;
 
-/// An empty list with room for `count` items. It takes one piece of memory, and answers `NoMemory` where that is
+/// An empty list with room for `count` items. It takes one piece of memory, and answers `NoMemory` if that is
 /// refused.
 pub fn with_room<T: Drop>(alloc: Global, count: usize) -> Result<Vec<T>, NoMemory>
     ensures items { IfOk result (λ v. v.items ≡ []) }

@@ -13,7 +13,7 @@ pub const OWNER_DIED: u32 = 0x4000_0000;
 /// FUTEX_TID_MASK: the bits in which the owner's number stands.
 pub const TID_MASK: u32 = 0x3fff_ffff;
 
-/// The owner's number in the word `w`, below 2^30. 0 where there is no owner.
+/// The owner's number in the word `w`, below 2^30. 0 if there is no owner.
 pub fn number(w: u32) -> u32
     ensures value { result ≡ (word_of w).number }
     ensures range { result < 2 ^ 30 }
@@ -36,7 +36,7 @@ pub fn owner_died(w: u32) -> bool
 }
 
 /// The word after a compare-exchange of the word `w` from 0 to the number `t`, below 2^30: how user space takes a
-/// mutex. `Some(t)` where `w` is 0, and `None`, with nothing written, where it is not.
+/// mutex. `Some(t)` if `w` is 0, and `None`, with nothing written, if it is not.
 pub fn take_word(w: u32, t: u32) -> Option<u32>
     requires { t < 2 ^ 30 }
     ensures { option_map word_of result ≡ model.take_word (word_of w) t }
@@ -45,7 +45,7 @@ pub fn take_word(w: u32, t: u32) -> Option<u32>
 }
 
 /// The word after a compare-exchange of the word `w` from the number `t`, below 2^30, to 0: how user space releases a
-/// mutex. `Some(0)` where `w` is `t` with no flag, and `None`, with nothing written, where it is not.
+/// mutex. `Some(0)` if `w` is `t` with no flag, and `None`, with nothing written, if it is not.
 pub fn release_word(w: u32, t: u32) -> Option<u32>
     requires { t < 2 ^ 30 }
     ensures { option_map word_of result ≡ model.release_word (word_of w) t }

@@ -29,7 +29,7 @@ impl Model for Words {
 
 impl Words {
     /// A word and a health word for each mutex that `limits` allow, and a word for each condition variable that they
-    /// allow, each 0. Takes three pieces of memory, and answers `NoMemory` where one of them is refused.
+    /// allow, each 0. Takes three pieces of memory, and answers `NoMemory` if one of them is refused.
     pub fn new(alloc: Global, limits: Limits) -> Result<Words, NoMemory>
         ensures made { IfOk result (λ w. w ≡ free_words limits) }
         ensures words { IfOk result IsWordMap }
@@ -44,8 +44,8 @@ impl Words {
         })
     }
 
-    /// Whether there is such a cell: mutex m has a word and a health word where m is at most the mutexes that the
-    /// limits allow, and variable c has a word where c is at most the variables that they allow.
+    /// Whether there is such a cell: mutex m has a word and a health word if m is at most the mutexes that the
+    /// limits allow, and variable c has a word if c is at most the variables that they allow.
     pub fn has(&self, cell: Cell) -> bool
         ensures { IsTrue result ↔ HasCell self.now cell }
     {

@@ -38,7 +38,7 @@ parkings_without-no_more (p ∷ ps) u = by_test
     (λ b. length (cond (cond b false true) (p ∷ parkings_without ps u) (parkings_without ps u)) ≤ length (p ∷ ps)) (p.thread == u)
     (λ e. omega (arith, parkings_without-no_more ps u)) (λ e. omega (arith, parkings_without-no_more ps u))
 
--- and fewer where it was among them
+-- and fewer if it was among them
 pub parkings_without-fewer : (ps : List Parking) (u : ℕ) → names u (parked_pairs ps) ≡ true → length (parkings_without ps u) < length ps
 parkings_without-fewer [] u h = absurd (true≢false (sym h))
 parkings_without-fewer (p ∷ ps) u h = go (p.thread == u) refl (parkings_without-fewer ps u)

@@ -47,11 +47,11 @@ module _ (t m : ℕ) (x : System) where
   unfolding after_death
   death-no_word e = rw e refl
 
-  -- nor where the word has the number of another
+  -- nor if the word has the number of another
   pub death-other_number : (word_at x.words m).number ≢ t → after_death t m x ≡ x
   death-other_number d = death-cases (λ y. y ≡ x) refl (λ e f g. absurd (d f)) (λ e f g h. absurd (d f))
 
-  -- nor where the owner state names another
+  -- nor if the owner state names another
   pub death-other_owner : state_at x.kernel m ≢ 0 → state_at x.kernel m ≢ t → after_death t m x ≡ x
   death-other_owner some d = death-cases (λ y. y ≡ x) refl (λ e f g. absurd (some g)) (λ e f g h. absurd (d h))
 

@@ -83,7 +83,7 @@ module _ (t : ℕ) (k : Kernel) where
   state-expired_other i d =
       ap (λ x. state_at x i) expired-as_woken ∙ woken_state t WokenExpired left i ∙ state-left_other Stopped t k i d
 
-  -- an owner state stays exactly where others than t are queued
+  -- an owner state stays exactly if others than t are queued
   pub state-expired : IsKernel k → (i : ℕ)
       → state_at now i ≡ (if has_waiter (waiters_left t k) i then state_at k i else 0)
   state-expired h i =

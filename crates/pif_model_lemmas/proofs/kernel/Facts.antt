@@ -53,7 +53,7 @@ ready-not_ended (Parked c) e = refl
 ready-not_ended Stopped e = refl
 ready-not_ended Ended e = absurd (true≢false (sym e))
 
--- where a thread's seat is as it was, and as many were added, it lives if it did
+-- if a thread's seat is as it was, and as many were added, it lives if it did
 pub living-same : (k now : Kernel) (t : ℕ) → has_seat now t ≡ has_seat k t → seat_at now t ≡ seat_at k t
     → is_living now t ≡ is_living k t
 living-same k now t has seat =

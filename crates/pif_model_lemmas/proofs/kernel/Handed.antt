@@ -66,7 +66,7 @@ module _ (u m : ℕ) (k : Kernel) where
     added : has_seat k u ≡ true
     added = added-from_queued k h.shape u m (some_mutex k h m some) (ap queued_on queued)
 
-    -- the owner state of m names u, where others are queued on it
+    -- the owner state of m names u, if others are queued on it
     pub state-handed_same : state_at kernel_with_hand_over m ≡ (if has_waiter (without k.waiters u) m then u else 0)
     state-handed_same =
         get_or-set_same k.states m state_handed 0 (omega (arith, h.shape.states, mutex_below k h m some))

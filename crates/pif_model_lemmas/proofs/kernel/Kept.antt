@@ -15,7 +15,7 @@ use Rattle.pif_model_lemmas.proofs.kernel.Rested.{kernel-stopped}
 pub new_kernel_kept : (l : Bounds) → IsKernel (new_kernel l)
 new_kernel_kept l = kernel-new l
 
--- a thread is added, where there is room
+-- a thread is added, if there is room
 pub add_kept : (p : ℕ) (k : Kernel) → IsKernel k → is_priority p ≡ true → length k.seats ≤ k.limits.threads
     → IsKernel (kernel_after_add p k)
 add_kept p k h ranged room = kernel-added p k h ranged room

@@ -139,7 +139,7 @@ module _ (x : Status) (t : ℕ) (k : Kernel) where
         go (inl z) = omega arith
         go (inr d) = mutex_below k h was_on (has_state-from_queued k h t was_on d refl)
 
-    -- its owner state stays where others are queued on it
+    -- its owner state stays if others are queued on it
     pub state-left_same : state_at now was_on
         ≡ (if has_waiter rest was_on then state_at k was_on else 0)
     unfolding kernel_left_as
@@ -158,7 +158,7 @@ module _ (x : Status) (t : ℕ) (k : Kernel) where
         go (inl x) = x
         go (inr x) = absurd (true≢false (sym e ∙ has_waiter-without_none k.waiters t i x))
 
-    -- an owner state stays exactly where others than t are queued
+    -- an owner state stays exactly if others than t are queued
     pub state-left : (i : ℕ) → state_at now i ≡ (if has_waiter rest i then state_at k i else 0)
     state-left i = go (cases_eq i was_on) (cases_Bool (has_waiter k.waiters i)) (cases_eq (state_at k i) 0)
       where

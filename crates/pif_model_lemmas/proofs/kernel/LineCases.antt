@@ -1,4 +1,4 @@
--- What each line of the calls comes to, case by case: a fact on an outcome holds of a line where it holds in each of
+-- What each line of the calls comes to, case by case: a fact on an outcome holds of a line if it holds in each of
 -- the line's cases.
 use Rattle.std.proofs.Common.{◌≡◌, ◌≢◌, ℕ, ◌+◌, ◌-◌, ◌<◌, ◌≤◌, Bool, true, false, ◌==◌, nat_lt, Some, None, Result, Ok, Err, refl, if◌then◌else◌, eqb-true, ltb-true, ltb-false, sym}
 use Rattle.std.proofs.lemmas.Bool.{true≢false, eqb-false}

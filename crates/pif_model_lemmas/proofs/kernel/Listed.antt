@@ -21,7 +21,7 @@ stands-unready k at t p e = rw e (false_anyway (has_seat k t))
 pub stands-unadded : (k : Kernel) (at : ℕ → ℕ) (t p : ℕ) → has_seat k t ≡ false → stands k at t p ≡ false
 stands-unadded k at t p e = rw e refl
 
--- where all but t are as they were
+-- if all but t are as they were
 module _ (k now : Kernel) (t : ℕ) (at at_now : ℕ → ℕ) (has : (u : ℕ) → u ≢ t → has_seat now u ≡ has_seat k u)
     (same : (u : ℕ) → u ≢ t → (seat_at now u).status ≡ (seat_at k u).status)
     (level : (u : ℕ) → u ≢ t → at_now u ≡ at u) (h : IsListed k at) where
@@ -102,7 +102,7 @@ module _ (k now : Kernel) (t : ℕ) (at at_now : ℕ → ℕ) (has : (u : ℕ) �
           (distinct-push (level_at k.levels p) t (h.once p) (h.on t p ∙ nowhere p)))
       once q (inr d) = subst (IsDistinct eqb) (sym (is_other q d)) (h.once q)
 
--- the same where as many were added, with the statuses that they had
+-- the same if as many were added, with the statuses that they had
 pub listed-seats : (k now : Kernel) (at : ℕ → ℕ) → now.levels ≡ k.levels → ((u : ℕ) → has_seat now u ≡ has_seat k u)
     → ((u : ℕ) → (seat_at now u).status ≡ (seat_at k u).status) → IsListed k at → IsListed now at
 listed-seats k now at e has same h = record {

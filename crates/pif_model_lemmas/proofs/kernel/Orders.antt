@@ -35,7 +35,7 @@ module _ (f : ℕ → ℕ) where
       filter-append (λ v. f v == n) before (u ∷ after)
       ∙ rw (ne_eqb (f u) n d) (sym (filter-append (λ v. f v == n) before after))
 
-  -- one who has n comes first where nobody before has it
+  -- one who has n comes first if nobody before has it
   with_value-same : (n : ℕ) (before after : List ℕ) (u : ℕ) → f u ≡ n → with_value n before ≡ []
       → with_value n (before ++ u ∷ after) ≡ u ∷ with_value n (before ++ after)
   with_value-same n before after u e none =
@@ -190,7 +190,7 @@ order-next f ws m o few h = go (next_waiter f ws m) (next_is_next f ws m h)
 
 -- THE ORDER OF READY THREADS
 
--- the first that stands on levels up to n is the first of the greatest that has a thread, where level 0 has none
+-- the first that stands on levels up to n is the first of the greatest that has a thread, if level 0 has none
 pub first-levels_below : (levels : List (List ℕ)) (n : ℕ) → level_at levels 0 ≡ []
     → get_or (levels_below levels (suc n)) 0 0 ≡ first_from levels n
 unfolding levels_below first_from

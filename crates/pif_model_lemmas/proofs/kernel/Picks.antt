@@ -157,7 +157,7 @@ module _ (k : Kernel) (h : IsKernel k) where
       go (inl f) = inl (picked-from_first (pick_in k) f)
       go (inr r) = inr (unready r.0, r.1)
 
-  -- where somebody is picked
+  -- if somebody is picked
   pub pick_law : pick_in k ≢ 0 → IsPicked k (pick_in k)
   pick_law n = go pick_cases
     where
@@ -167,7 +167,7 @@ module _ (k : Kernel) (h : IsKernel k) where
       go (inl p) = p
       go (inr r) = absurd (n r.1)
 
-  -- where nobody is picked, no thread is ready
+  -- if nobody is picked, no thread is ready
   pub pick_none : pick_in k ≡ 0 → (u : ℕ) → has_seat k u ≡ true → is_ready (seat_at k u).status ≡ false
   pick_none e = go pick_cases
     where
@@ -177,6 +177,6 @@ module _ (k : Kernel) (h : IsKernel k) where
       go (inl p) = absurd (true≢false (sym p.added ∙ ap (has_seat k) e))
       go (inr r) = r.0
 
-  -- where a thread is ready, somebody is picked
+  -- if a thread is ready, somebody is picked
   pub pick_some : (u : ℕ) → has_seat k u ≡ true → is_ready (seat_at k u).status ≡ true → pick_in k ≢ 0
   pick_some u a r e = true≢false (sym r ∙ pick_none e u a)

@@ -93,7 +93,7 @@ module _ (u m : ℕ) (k : Kernel) where
   unfolding kernel_after_hand_over
   handed_state_other i d = state-handed_other u m k i d
 
-  -- the owner state of m names u, where others are queued on it
+  -- the owner state of m names u, if others are queued on it
   pub handed_state_same : IsKernel k → m < 1025
       → state_at after_hand_over m ≡ (if has_waiter (without k.waiters u) m then u else 0)
   unfolding kernel_after_hand_over

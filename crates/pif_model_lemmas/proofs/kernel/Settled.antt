@@ -51,7 +51,7 @@ effective_range k h t e = (low, high)
 
 -- LISTED
 
--- whether t stands at level p, where it stands at the level that `at` tells, if it may run
+-- whether t may run and `at` tells level p for it
 abbrev pub stands : Kernel → (ℕ → ℕ) → ℕ → ℕ → Bool
 stands k at t p = if has_seat k t then (if is_ready (seat_at k t).status then at t == p else false) else false
 
@@ -61,7 +61,7 @@ pub record IsListed (k : Kernel) (at : ℕ → ℕ) : Type 0 where
   pub range : (t : ℕ) → has_seat k t ≡ true → (1 ≤ at t) × (at t ≤ 99)
   pub once : (p : ℕ) → IsDistinct eqb (level_at k.levels p)
 
--- a thread is on some level exactly where it is ready
+-- a thread is on some level exactly if it is ready
 pub listed_any : (k : Kernel) (at : ℕ → ℕ) → IsListed k at → (t : ℕ)
     → list_any (λ q. is_among (level_at k.levels q) t) (numbers 99)
     ≡ (if has_seat k t then is_ready (seat_at k t).status else false)

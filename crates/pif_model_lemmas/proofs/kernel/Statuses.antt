@@ -48,7 +48,7 @@ out-queued_on_nothing Ended h = refl
 pub not_parked : (x : Status) (c : ℕ) → is_parked x ≡ false → x ≡ Parked c → ⊥
 not_parked x c h e = true≢false (sym (ap is_parked e) ∙ h)
 
--- the variable on which a thread of this status is parked; 0 where it is on none
+-- the variable on which a thread of this status is parked; 0 if it is on none
 abbrev pub parked_on : Status → ℕ
 parked_on (Ready w) = 0
 parked_on (Queued m) = 0

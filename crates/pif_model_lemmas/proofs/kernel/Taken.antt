@@ -62,7 +62,7 @@ may_queue-facts u n k e = go (is_living k n) (reaches_within (length k.seats) (w
     go true false e = (refl, refl)
     go false b e = absurd (true≢false (sym e))
 
--- word and owner state of m fit together: where there is an owner state, the word has a number, and where that is of a
+-- word and owner state of m fit together: if there is an owner state, the word has a number, and if that is of a
 -- living thread, the owner state names it
 pub record FitsState (m : ℕ) (x : System) : Type 0 where
   pub some : state_at x.kernel m ≢ 0 → (word_at x.words m).number ≢ 0
@@ -103,7 +103,7 @@ module _ (u m c : ℕ) (x : System) (h : IsKernel x.kernel) (was : (seat_at x.ke
   added : has_seat x.kernel u ≡ true
   added = added-from_parked x.kernel h u c was
 
-  -- who lives lives, where u was woken
+  -- who lives lives, if u was woken
   pub woken_living : (w : Woken) (v : ℕ) → is_living (kernel_after_waking u w x.kernel) v ≡ is_living x.kernel v
   woken_living w v = λ i. if woken_has u w x.kernel v i then (if ended (cases_eq v u) i then false else true) else false
     where

@@ -212,11 +212,11 @@ module _ (u m n : ℕ) (k : Kernel) where
   unfolding kernel_after_queueing
   requeued_parked = refl
 
-  -- the seat of u, where it is woken before
+  -- the seat of u, if it is woken before
   abbrev seat_woken : Woken → Seat
   seat_woken w = record (seat_at k u) { status = Ready w }
 
-  -- it is the same where u was woken before
+  -- it is the same if u was woken before
   pub requeued_as_woken : (w : Woken) → has_seat k u ≡ true
       → after_taking_queued ≡ kernel_after_queueing u m n (kernel_after_waking u w k)
   unfolding kernel_after_queueing kernel_after_waking

@@ -23,14 +23,14 @@ either_holds : (a b c : Bool) → (b ≡ true → c ≡ true) → (a || b) ≡ t
 either_holds true b c f e = refl
 either_holds false b c f e = f e
 
--- where somebody is parked on c for m, somebody is parked on c
+-- if somebody is parked on c for m, somebody is parked on c
 pub parked-from_aim : (ps : List Parking) (c m : ℕ) → aims_in ps c m ≡ true → has_waiter (parked_pairs ps) c ≡ true
 parked-from_aim [] c m e = absurd (true≢false (sym e))
 parked-from_aim (p ∷ ps) c m e = by_test (λ b. ((if b then p.target == m else false) || aims_in ps c m) ≡ true
     → (b || has_waiter (parked_pairs ps) c) ≡ true) (p.cond == c)
     (λ _ _. refl) (λ _ x. parked-from_aim ps c m x) e
 
--- and where some have left, those that are parked were
+-- and if some have left, those that are parked were
 pub aims-unparked : (ps : List Parking) (u c m : ℕ) → aims_in (parkings_without ps u) c m ≡ true → aims_in ps c m ≡ true
 aims-unparked [] u c m e = e
 aims-unparked (p ∷ ps) u c m e = by_test (λ b. aims_in (cond (cond b false true) (p ∷ parkings_without ps u) (parkings_without ps u)) c m

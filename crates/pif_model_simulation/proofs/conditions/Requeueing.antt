@@ -43,7 +43,7 @@ use Rattle.pif_model_simulation.proofs.conditions.Takings.{system_of, table_with
 use Rattle.pif_model_simulation.proofs.conditions.Taking.{takes_one}
 use Rattle.pif_model_simulation.proofs.conditions.Choosing.{found_parked, parked_blocked, some_parked, top_greatest}
 
--- where all that are parked on c are to get m, none is to get another
+-- if all that are parked on c are to get m, none is to get another
 no_other : (ps : List Parking) (c m : ℕ)
     → ((j : ℕ) → list_any (λ (p : Parking). if p.cond == c then p.target == j else false) ps ≡ true → m ≡ j)
     → list_any (λ (p : Parking). if p.cond == c then (if p.target == m then false else true) else false) ps ≡ false

@@ -41,7 +41,7 @@ use Rattle.pif_model_simulation.proofs.conditions.Unblocking.{orphaned_same, cha
 use Rattle.pif_model_simulation.proofs.Called.HasTaken.{kept, taken}
 use Rattle.pif_model_simulation.proofs.Called.{IsOneCall, called_sound, called_frames, called_shown, called_taken}
 
--- who lives lives, where one thread that has not ended is another, and has not either
+-- who lives lives, if one thread that has not ended is another, and has not either
 lives_same : (k k' : Kernel) (u : ℕ) → ((v : ℕ) → has_seat k' v ≡ has_seat k v)
     → ((v : ℕ) → v ≢ u → seat_at k' v ≡ seat_at k v) → has_ended (seat_at k u).status ≡ false
     → has_ended (seat_at k' u).status ≡ false → (v : ℕ) → is_living k' v ≡ is_living k v

@@ -26,7 +26,7 @@ abbrev pub table_with : System → Table → Table
 table_with x s = with_kernel x.words x.kernel s
 
 -- these threads were taken from c, and what it comes to: each of them was parked on it; the others have the statuses
--- that they had; and in the POSIX machine, where all of them are unblocked, some reacquire their mutexes
+-- that they had; and in the POSIX machine, if all of them are unblocked, some reacquire their mutexes
 pub record TakesAll (s : Table) (c : ℕ) (us : List ℕ) (x : System) : Type 0 where
   pub sound : IsSound (table_with x s)
   pub living : (v : ℕ) → is_living x.kernel v ≡ is_living s.kernel v
@@ -122,7 +122,7 @@ takings-zero c m x = refl
 abbrev pub Taken : ℕ → Table → ℕ → Type 0
 Taken n s c = (us : List ℕ) × TakesAll s c us (after_takings n c (bound_to s c) (system_of s))
 
--- by the rest, where one is left
+-- by the rest, if one is left
 takings_step : (n : ℕ) (s : Table) (c : ℕ) → IsSound s → ((v : Table) → IsSound v → Taken n v c) → Taken (suc n) s c
 takings_step n s c h ih = go (cases_Bool (has_parked s.kernel c))
   where

@@ -104,7 +104,7 @@ waking_unblocked (Requeue v) = refl
 waking_unblocked ReadAgain = refl
 
 module _ (c : ℕ) (q : Request) (here : (variable_of q == c) ≡ true) where
-  -- who owns the mutex still, and is blocked where this was read, is not blocked then
+  -- who owns the mutex still, and is blocked if this was read, is not blocked then
   enlisted : (v n : ℕ) → v ≤ n → call_of q (Enlisted (v == n + 1)) ≡ after_use_of c (call_of q (Enlisted (v == n)))
   enlisted v n l = ap (λ b. call_of q (Enlisted b)) (past_read v n l) ∙ sym (go (v == n))
     where
@@ -120,7 +120,7 @@ module _ (c : ℕ) (q : Request) (here : (variable_of q == c) ≡ true) where
       go true = ap (λ b. if b then call_of q (on_release false) else call_of q (on_release true)) here
       go false = refl
 
-  -- a call at any place is unblocked where its variable is used once more
+  -- a call at any place is unblocked if its variable is used once more
   place_used : (l : ℕ → Bool) (t : ℕ) (x : Status) (d : Cell) (z : Use) (p : Place) (h : Health)
       → MeetsAll l t x d z (needs p)
       → call_of q (progress_at q p x h (z.uses + 1)) ≡ after_use_of c (call_of q (progress_at q p x h z.uses))
@@ -299,7 +299,7 @@ module _ (s : Table) (t : ℕ) (q : Request) (n : ℕ) (g : Going s t q (Wake (C
 
   -- OTHERS
 
-  -- what a call at this line comes to, where its thread lives
+  -- what a call at this line comes to, if its thread lives
   open_used : (i : ℕ) (l : Line) → LineIsSound s i l
       → call_at (health_at s) (uses_of v) l (status_at s i)
       ≡ after_use_of c (call_at (health_at s) (uses_of s) l (status_at s i))

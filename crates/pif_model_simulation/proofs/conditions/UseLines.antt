@@ -136,7 +136,7 @@ module _ (s : Table) (t : ℕ) (q : Request) (p : Place) (g : Going s t q p) (u 
 
     -- LOADING
 
-    -- where the call has had no effect, how often the variable was used is read
+    -- if the call has had no effect, how often the variable was used is read
     pub use_read_kept : progress_of s t q p ≡ Fresh → Follows (At q p) (At q (Wake (CountUse (uses_of s (variable_of q)))))
         → GoKeeps s t (use_read q (uses_of s (variable_of q)) t s)
     use_read_kept fresh follows = use_read_cases (GoKeeps s t) q (uses_of s (variable_of q)) t s

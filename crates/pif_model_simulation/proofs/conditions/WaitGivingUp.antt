@@ -27,7 +27,7 @@ use Rattle.pif_model_simulation.proofs.Does.Does.{waits_inconsistent, waits_own}
 use Rattle.pif_model_simulation.proofs.mutexes.GivingUp.{GivesUpTo}
 use Rattle.pif_model_simulation.proofs.mutexes.GivingSteps.{GivesLast, GivesUpBy, MeetsOf, met_by, met_behind, gives_to, frees_kept, hands_kept, gives_kept}
 
--- a wait that gave its mutex up is blocked where it was
+-- a wait that gave its mutex up is blocked only if it was
 release_blocked : (b : Bool) → is_blocked (on_release b) ≡ true → is_blocked (Enlisted b) ≡ true
 release_blocked true e = refl
 release_blocked false e = e

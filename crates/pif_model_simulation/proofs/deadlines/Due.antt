@@ -58,7 +58,7 @@ released_uncounted : (c m : ℕ) (b : Bool) → counts_now (Wait c m) (on_releas
 released_uncounted c m true = refl
 released_uncounted c m false = refl
 
--- a deadline counts in the POSIX machine where it counts at the call's place
+-- a deadline counts in the POSIX machine if it counts at the call's place
 counts_seen : (q : Request) (p : Place) (x : Status) (h : Health) (n : ℕ) → belongs q p ≡ true
     → counts_now q (progress_at q p x h n) ≡ counts_at q p x
 counts_seen (Lock m) StayQueued (Ready w) h n b = taking_uncounted (Lock m) h
@@ -99,7 +99,7 @@ counts_seen (SetPrio u r) p x h n b = refl
 counts_seen (TimedLock m d) p x h n b = refl
 counts_seen (TimedWait c m d) p x h n b = refl
 
--- a living thread's call is due in the POSIX machine where it is due at its line
+-- a living thread's call is due in the POSIX machine if it is due at its line
 pub due_seen : {s : Table} (h : IsSound s) (x : HistoryVariables) (t : ℕ) → is_living s.kernel t ≡ true
     → is_due (world_of s x) t ≡ is_due_in s t
 due_seen {s} h x t k =

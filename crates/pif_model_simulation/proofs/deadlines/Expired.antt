@@ -129,7 +129,7 @@ module _ {s : Table} {t : ℕ} {q : Request} {p : Place} (g : Going s t q p) (na
   pub status_then : (seat_at k t).status ≡ Ready WokenExpired
   status_then = status-expired_same t s.kernel added
 
-  -- t goes to another place by it, where what the call rests on is met and its robust list is right, and is not blocked
+  -- t goes to another place by it, if what the call rests on is met and its robust list is right, and is not blocked
   pub expired_one : (b : Place) → belongs q b ≡ true → Follows (At q p) (At q b)
       → MeetsAll (is_living s.kernel) t (Ready WokenExpired) cell (use_at s q) (needs b)
       → is_blocked (progress_at q b (Ready WokenExpired) (health_at s m) (uses_of s (variable_of q))) ≡ false

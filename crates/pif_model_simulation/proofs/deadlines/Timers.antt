@@ -81,7 +81,7 @@ module _ (s : Table) (ts : List Timer) (n : ℕ) (long : length ts ≡ length s.
 -- ONE THREAD
 
 module _ (s : Table) (t : ℕ) (x : Timer) (h : IsSound s) where
-  -- it stays sound where t has another timer
+  -- it stays sound if t has another timer
   pub timer_sound : IsSound (with_timer t x s)
   timer_sound = retimed_sound s (set s.timers t x) s.time (length-set s.timers t x) h
 

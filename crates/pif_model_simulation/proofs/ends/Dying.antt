@@ -132,7 +132,7 @@ module _ (s : Table) (t m : ℕ) (h : IsDead s t) (named : has_mutex s m ≡ tru
   none_called y = thread_seen h.sound.shape y t h.lined ∙ (λ i.
       record (thread_shown s y t) { call = call_at (health_at s) (uses_of s) (h.line i) (status_at s t) })
 
-  -- where t has no call then, it is not blocked
+  -- if t has no call then, it is not blocked
   not_blocked : (z : Table) → line_at z t ≡ Idle → (c : ℕ) → is_call_blocked c (call_shown z t) ≡ false
   not_blocked z e c = ap (λ l. is_call_blocked c (call_at (health_at z) (uses_of z) l (status_at z t))) e
 

@@ -189,7 +189,7 @@ module _ (s : Table) (t : ℕ) (h : IsSound s) (known : is_living s.kernel t ≡
   entry_first m ms = ap (λ b. b || has_entry ms m) (eq-eqb m m refl)
 
   module _ (m : ℕ) (ms : List ℕ) (x : System) (ls : List LibraryMutex) (w : Walks x ls (m ∷ ms)) where
-    -- where m has passed on, what holds before the rest
+    -- if m has passed on, what holds before the rest
     walks_on : (x1 : System) (ls1 : List LibraryMutex) → (word_at x.words m).number ≡ t
         → HasPassed (at_system x ls) (at_system x1 ls1) t m → Walks x1 ls1 ms
     walks_on x1 ls1 own p = record {
@@ -226,7 +226,7 @@ module _ (s : Table) (t : ℕ) (h : IsSound s) (known : is_living s.kernel t ≡
       agrees = λ y f. a.agrees y (framed p.frames y f);
     }
 
-    -- where m is not t's, nothing changes
+    -- if m is not t's, nothing changes
     walks_past : (word_at x.words m).number ≢ t → Walks x ls ms
     walks_past n = record {
       dead = w.dead;

@@ -97,7 +97,7 @@ try_takes_free t m ws k x e =
 
 -- KERNEL CALLS
 
--- lock_pi of a mutex that is held once where nobody owns it
+-- lock_pi of a mutex that is held once if nobody owns it
 pub lock_goes : (t m : ℕ) (r : Result Took Errno) (s : Table) → (r ≡ Ok TookOwns → (library_at s m).count ≡ 1)
     → WordsGoOnce s (words_after_lock t m r s.words)
 unfolding words_after_lock
@@ -121,7 +121,7 @@ unlock_goes m (Err e) s h = λ k. inl refl
 
 -- CONDITION VARIABLES
 
--- who is taken from a variable gets a mutex that is held once where nobody owns it, and no other
+-- who is taken from a variable gets a mutex that is held once if nobody owns it, and no other
 module _ (s : Table) (m : ℕ) (free : (word_at s.words m).number ≡ 0 → (library_at s m).count ≡ 1) where
   -- one thread
   taking_goes : (u : ℕ) (x : System) → WordsGoOnce s x.words → WordsGoOnce s (after_taking u m x).words

@@ -36,7 +36,7 @@ lock_alike t m (Ok TookOwns) ws k = alike k
 lock_alike t m (Ok TookQueued) ws k = record { limits = refl; seats = length-set k.seats t _ }
 lock_alike t m (Err e) ws k = alike k
 
--- where a mutex is handed over
+-- if a mutex is handed over
 pub hand_over_alike : (u m : ℕ) (k : Kernel) → IsAlike k (kernel_after_hand_over u m k)
 unfolding kernel_after_hand_over
 hand_over_alike u m k = record { limits = refl; seats = length-set k.seats u _ }

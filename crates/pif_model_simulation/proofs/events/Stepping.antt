@@ -83,7 +83,7 @@ holds_not s u m other =
     either true false = refl
     either false b = refl
 
--- a mutex is on no list but its owner's, and not there where the owner's line has it off the list
+-- a mutex is on no list but its owner's, and not there if the owner's line has it off the list
 unlisted_by : (s : Table) (u m : ℕ) (l : Line) → ListIsSound s u l
     → ((word_at s.words m).number ≡ u → m ≡ mutex_by is_unlinked l) → is_listed s.lists u m ≡ false
 unlisted_by s u m l h off = h.listed m ∙ by_owner (cases_eq (word_at s.words m).number u)

@@ -38,7 +38,7 @@ use Rattle.pif_model_simulation.proofs.events.Counts.{GoesOnce, words_go, word_g
 abbrev Has : Table → Outcome → Type 0
 Has v o = (o.after.words ≡ v.words) × (o.after.mutexes ≡ v.mutexes)
 
--- where a call goes on or answers
+-- if a call goes on or answers
 ends_has : (q : Request) (p : Place) (a t m : ℕ) (v : Table) → Has v (ends_by t q m p a v)
 ends_has q p a t m v = ends_by_cases (Has v) q p a t m v (λ r. (refl, refl)) (λ r. (refl, refl))
 
@@ -89,7 +89,7 @@ use_has (Err _) q t v = (refl, refl)
 
 -- a call of t that locks m, which was added, in a sound table
 module _ (s : Table) (t m : ℕ) (h : IsSound s) (known : has_mutex s m ≡ true) where
-  -- m is held once where nobody owns it
+  -- m is held once if nobody owns it
   free_once : (word_at s.words m).number ≡ 0 → (library_at s m).count ≡ 1
   free_once e = (h.all.mutexes m known).count.unowned e
 

@@ -1,5 +1,5 @@
 -- The steps by which a call gives up a mutex that it holds once. An unlock or a wait names it in the pending field,
--- loads its health word, stores that it is unusable where it was inconsistent, and takes it off its list; then it
+-- loads its health word, stores that it is unusable if it was inconsistent, and takes it off its list; then it
 -- exchanges its word, or calls the kernel, and so does who leaves an unusable mutex. Each step is an entry of the POSIX
 -- machine and keeps the invariant.
 use Rattle.std.proofs.Common.{◌≡◌, ◌≢◌, ℕ, Bool, true, false, ◌==◌, Some, List, [], ◌∷◌, ◌++◌, length, refl, sym, ap, ◌∙◌, subst, if◌then◌else◌}
@@ -73,7 +73,7 @@ pub record GivesLast (s : Table) (t : ℕ) (q : Request) (y : Purpose) : Type 0 
   -- how far it has come when it has given the mutex up
   pub after : Progress
   pub named : names_known (has_mutex s) (has_cond s) q ≡ true → has_mutex s (named_by q) ≡ true
-  -- where the exchange fails, the kernel call is next
+  -- if the exchange fails, the kernel call is next
   pub calls : belongs q (Give CallUnlock y) ≡ true
   pub rests : needs (Give Release y) ≡ needs (Give CallUnlock y)
   pub blocked : is_blocked after ≡ true → is_blocked (before s q y) ≡ true
@@ -198,7 +198,7 @@ abbrev pub handed_over : Table → ℕ → Table
 handed_over s m = with_kernel (set_word s.words m (hand_word (next_in s.kernel m)))
     (kernel_after_hand_over (next_in s.kernel m) m s.kernel) s
 
--- what comes after, where nobody waits for the mutex, and where the kernel hands it on
+-- what comes after, if nobody waits for the mutex, and if the kernel hands it on
 pub record GoesAfter (s : Table) (t : ℕ) (q : Request) (y : Purpose) : Type 0 where
   pub freed : (x : GiveStep) → is_last x ≡ true → Going s t q (Give x y)
       → has_waiter s.kernel.waiters (named_by q) ≡ false
@@ -233,7 +233,7 @@ module _ {s : Table} {t : ℕ} {q : Request} {y : Purpose} (r : GivesLast s t q 
     health : health_of (health_word_at s.words mutex) false ≡ health_at s mutex
     health = (r.order x last g).1
 
-    -- where no thread waits, by the word
+    -- if no thread waits, by the word
     pub alone : (cell_at s mutex).word.waiters ≡ false → has_waiter s.kernel.waiters mutex ≡ false
     alone w = none_from_flag (going_cell g exists) w
 
@@ -253,7 +253,7 @@ module _ {s : Table} {t : ℕ} {q : Request} {y : Purpose} (r : GivesLast s t q 
       unlinked = λ e. last;
     }
 
-    -- the call goes on at a place where all that it rests on is met of a mutex that another has, or nobody
+    -- the call goes on at a place if all that it rests on is met of a mutex that another has, or nobody
     pub gives_to : (b : Place) → belongs q b ≡ true → is_pending b ≡ true → is_half_linked b ≡ false
         → may_enlist (At q b) ≡ false → chooses_on (At q b) ≡ 0
         → ((c : Cell) → c.word.number ≢ t → c.robust ≡ (library_at s mutex).robust → MeetsOf s t q c (needs b))

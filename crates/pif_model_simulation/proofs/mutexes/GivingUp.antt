@@ -309,7 +309,7 @@ module _ {s : Table} {t : ℕ} {q : Request} {p : Place} (h : GivesUp s t q p) w
             h.going.sound.all.shape.few_mutexes,
           ))
 
-  -- a fact on what unlock_pi leads to holds where it does with the mutex free, and with the mutex handed on
+  -- a fact on what unlock_pi leads to holds if it does with the mutex free, and with the mutex handed on
   pub gives_up_cases : (P : Outcome → Type 0) (done : Table → Outcome)
       → (has_waiter s.kernel.waiters m ≡ false → P (done (with_word m free_word s)))
       → (state_at s.kernel m ≢ 0 → P (done (with_kernel (set_word s.words m (hand_word (next_in s.kernel m)))

@@ -1,4 +1,4 @@
--- The kernel hands a mutex on to its next waiter, where the thread that owned it gives it up or has ended: the table
+-- The kernel hands a mutex on to its next waiter, when the thread that owned it gives it up or has ended: the table
 -- stays sound, save for that thread, and the POSIX machine's mutex passes on.
 use Rattle.std.proofs.Common.{◌≡◌, ◌≢◌, ℕ, ◌<◌, Bool, true, false, ◌==◌, ◌⊎◌, inl, inr, length, Some, refl, sym, ap, ap₂, ◌∙◌, subst, arith, if◌then◌else◌, eq-eqb}
 use Rattle.std.proofs.lemmas.Bool.{cases_eq, true≢false}
@@ -367,7 +367,7 @@ module _ {s : Table} {t m : ℕ} {l : Line} {r : RobustRow} {x : Word} (h : Hand
       ∙ ap (λ (b : Line). at_progress (on_taking (health_of a x.died))
       (call_at (health_at s) (uses_of s) b (status_at s u))) (sym queued_line.line)
 
-  -- where t goes on to no wait or use, who was found blocked stays so
+  -- if t goes on to no wait or use, who was found blocked stays so
   pub handed_frames : Follows (line_at s t) l → (may_enlist (line_at s t) ≡ false → WasBlockedIn s handed t)
       → Frames s handed
   handed_frames follows here = frames_by s handed t (length-set s.lines t l)
@@ -388,7 +388,7 @@ module _ {s : Table} {t m : ℕ} {l : Line} {r : RobustRow} {x : Word} (h : Hand
           ((λ i. call_at (health_at handed) (uses_of s) (line_j j d i) (seat_kept j e i).status) ∙ calls j d e)
           (ap (λ (y : Seat). y.status) (seat_kept j e))
 
-  -- the world that the table shows is w, where w has these threads, mutexes and waiters
+  -- the world that the table shows is w, if w has these threads, mutexes and waiters
   pub handed_shown : (y : HistoryVariables) (w : World) → length w.threads ≡ length s.lines → length w.mutexes ≡ length s.mutexes
       → w.waiters ≡ without s.kernel.waiters u
       → thread_at w t ≡ record (thread_shown s y t) { call = call_at (health_at handed) (uses_of s) l (status_at s t) }

@@ -47,7 +47,7 @@ use Rattle.pif_model_simulation.proofs.Called.HasTaken.{kept}
 use Rattle.pif_model_simulation.proofs.Called.{IsOneCall, queueing_on, stop_on, called_sound, called_known, called_frames, called_shown}
 use Rattle.pif_model_simulation.proofs.mutexes.LockLines.{locks, owner_seen, locking_belongs}
 
--- who lives is the same where the kernel knows something else of one thread, which may run and has not ended then
+-- who lives is the same if the kernel knows something else of one thread, which may run and has not ended then
 living_same : (k k' : Kernel) (t : ℕ) (x : Seat) → has_seat k t ≡ true → is_ready (seat_at k t).status ≡ true
     → has_ended x.status ≡ false
     → k'.seats ≡ set k.seats t x → (u : ℕ) → is_living k' u ≡ is_living k u
@@ -161,7 +161,7 @@ module _ (s : Table) (t : ℕ) (q : Request) (named : has_mutex s (named_by q) �
         g.sound.all.shape.few_mutexes,
       ))
 
-  -- what lock_pi answers where nobody owns m
+  -- what lock_pi answers if nobody owns m
   answer_free : (g : Going s t q CallKernel) → (cell_at s m).word.number ≡ 0
       → lock_answer t m s.words s.kernel ≡ Ok TookOwns
   unfolding lock_answer
@@ -182,7 +182,7 @@ module _ (s : Table) (t : ℕ) (q : Request) (named : has_mutex s (named_by q) �
   abbrev closes : Bool
   closes = reaches_within (length s.kernel.seats) (waits_for s.kernel) (cell_at s m).word.number t
 
-  -- what it answers where somebody owns m
+  -- what it answers if somebody owns m
   answer_owned : (g : Going s t q CallKernel) → (cell_at s m).word.number ≢ 0
       → lock_answer t m s.words s.kernel ≡ (if lives_owner then (if closes then Err Deadlock else Ok TookQueued)
       else Err NoSuchThread)
@@ -221,7 +221,7 @@ module _ (s : Table) (t : ℕ) (q : Request) (named : has_mutex s (named_by q) �
     chain_seen y = ap (λ n. leads_to (world_of s y) n t) (owner_seen s t q named may g y)
         ∙ leads_seen g.sound y (cell_at s m).word.number t
 
-    -- where a chain leads back, the lock is refused
+    -- if a chain leads back, the lock is refused
     refused : lives_owner ≡ true → closes ≡ true → GoKeeps s t (ends_by t q m (Clear Unowned 35) 35 s)
     refused l e = ends_by_cases (GoKeeps s t) q (Clear Unowned 35) 35 t m s
         (λ robust. goes_alone g named (Has 35) (Clear Unowned 35) (quiet refl refl)

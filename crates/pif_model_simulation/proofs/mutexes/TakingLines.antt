@@ -91,7 +91,7 @@ module _ {s : Table} {t : ℕ} {q : Request} {p : Place} (g : Going s t q p) (na
   owned : (word_at s.words m).number ≡ t → (word_at s.words m).number ≢ 0
   owned own e = t0 (sym own ∙ e)
 
-  -- to write OWNER_DIED and the health word of one's own robust mutex is local, where the list stays
+  -- to write OWNER_DIED and the health word of one's own robust mutex is local, if the list stays
   pub states : (seen : Seen) (l : Line) → Follows (At q p) l → (b : Bool) (h : ℕ) (a : Progress)
       → (may_enlist (At q p) ≡ false → is_blocked a ≡ true → is_blocked (progress_of s t q p) ≡ true)
       → (word_at s.words m).number ≡ t → (library_at s m).robust ≡ true
@@ -213,13 +213,13 @@ module _ {s : Table} {t : ℕ} {q : Request} {p : Place} (g : Going s t q p) (na
           blocked = λ j e. absurd (true≢false (sym e ∙ taking_unblocked (health_at s m)));
         }) (taken_does l (on_taking (health_at s m)) refl))
 
-    -- where t goes to load the word
+    -- if t goes to load the word
     pub takes_to_load : IsLocking m q → (library_at s m).robust ≡ true → belongs q (Take LoadWord) ≡ true
         → is_pending p ≡ true → is_half_linked p ≡ false → GoKeeps s t (goes_to t q (Take LoadWord) (with_word m mine s))
     takes_to_load l robust ours pp ph = takes_robust l robust (Take LoadWord) (quiet refl refl) ours refl
         (ready, (refl, ((λ e. c.count.unowned zero), (robust, ((λ e. behind), tt))))) pp ph refl refl refl refl
 
-    -- where t goes to load the health word, since it has seen no OWNER_DIED
+    -- if t goes to load the health word, since it has seen no OWNER_DIED
     pub takes_to_health : IsLocking m q → (library_at s m).robust ≡ true → belongs q (Take (LoadHealth false)) ≡ true
         → (word_at s.words m).died ≡ false → is_pending p ≡ true → is_half_linked p ≡ false
         → GoKeeps s t (goes_to t q (Take (LoadHealth false)) (with_word m mine s))
@@ -231,7 +231,7 @@ module _ {s : Table} {t : ℕ} {q : Request} {p : Place} (g : Going s t q p) (na
     bare_word : (word_at s.words m).died ≡ false → mine ≡ held_by t
     bare_word d = λ i. record { number = t; waiters = false; died = d i }
 
-  -- compare-exchange from 0 to t; where it fails the kernel call is next
+  -- compare-exchange from 0 to t; if it fails, the kernel call is next
   pub own_exchange_kept : progress_of s t q p ≡ before_lock q → IsLocking m q
       → belongs q (Take (LoadHealth false)) ≡ true
       → is_pending p ≡ true → is_half_linked p ≡ false → GoKeeps s t (goes_to t q CallKernel s)
@@ -353,7 +353,7 @@ module _ {s : Table} {t : ℕ} {q : Request} {p : Place} (g : Going s t q p) (na
         limit : 255 ≤ (cell_at s m).count → (cell_at s m).count ≡ 255
         limit e = omega (arith, c.count.few)
 
-    -- by an unlock it is held once less, where it was held more than once
+    -- by an unlock it is held once less, if it was held more than once
     pub unlocks_one_kept : q ≡ Unlock m → 1 < (cell_at s m).count
         → GoKeeps s t (answers t 0 (with_count m ((cell_at s m).count - 1) s))
     unlocks_one_kept r more = counts ((cell_at s m).count - 1)

@@ -64,7 +64,7 @@ module _ (s : Table) (t m : ℕ) where
         g.sound.all.shape.few_mutexes,
       ))
 
-  -- what trylock_pi answers where nobody owns m
+  -- what trylock_pi answers if nobody owns m
   answer_free : (g : Going s t (TryLock m) CallKernel) → (cell_at s m).word.number ≡ 0
       → try_lock_answer t m s.words s.kernel ≡ Ok (record {})
   unfolding try_lock_answer
@@ -76,7 +76,7 @@ module _ (s : Table) (t m : ℕ) where
         ((going_cell g (going_named g)).free zero)),
   ) refl
 
-  -- what it answers where another thread owns m
+  -- what it answers if another thread owns m
   answer_owned : (g : Going s t (TryLock m) CallKernel) → (cell_at s m).word.number ≢ 0
       → try_lock_answer t m s.words s.kernel ≡ Err Again
   unfolding try_lock_answer

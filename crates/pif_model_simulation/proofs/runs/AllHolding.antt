@@ -169,7 +169,7 @@ IsHeld-time h n = IsHeld-stays h
     })
     (λ m y. y) (λ t. record { call = refl; living = λ e. e; held = λ m. refl; fewer = λ m y. y })
 
--- The mutexes ms and the waiters ws, where t's call of q goes on from a to b: t holds of its call's mutex what the call
+-- The mutexes ms and the waiters ws, if t's call of q goes on from a to b: t holds of its call's mutex what the call
 -- then says, and all else is held as before; of the waiters none is new but t.
 record MovesTo (w : World) (t : ℕ) (q : Request) (a b : Progress) (ms : List Mutex) (ws : List (ℕ × ℕ)) : Type 0 where
   orderly : IsOrderly (record w { mutexes = ms })
@@ -302,7 +302,7 @@ times-free {w} h x y free = by_thread (cases_eq x 0)
 times-owner : (t : ℕ) (y : Mutex) → y.owner ≡ t → times_held true t y ≡ y.count
 times-owner t y own = grind (arith, nat_tests)
 
--- a call of this request that has come this far may take its mutex: where it doesn't hold that, it holds it once then
+-- a call of this request that has come this far may take its mutex: if it doesn't hold that, it holds it once then
 abbrev pub MayTake : Request → Progress → Type 0
 MayTake q a = (n : ℕ) (x : Health) → Counted q a n 0 → Counted q (on_taking x) n 1
 

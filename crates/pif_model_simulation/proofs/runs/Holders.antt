@@ -72,11 +72,11 @@ left_by (Unlock m) n e = grind (arith, nat_tests)
 left_by (Wait c m) n e = rw (eq-eqb m m refl) refl
 left_by _ n e = e
 
--- a call that leaves its mutex holds it once by the machine, and has given it up where it has its result
+-- a call that leaves its mutex holds it once by the machine, and has given it up if it has its result
 leaving_ends : (q : Request) (n k : ℕ) → Counted q Leaving n k → (k ≡ 1) × Counted q (Has 131) n 0
 leaving_ends q n k c = (c.1, left_by q n c.0)
 
--- what a call of q that has come to a rests on where it locks its mutex: how what it says of its hold count goes on to
+-- what a call of q that has come to a rests on if it locks its mutex: how what it says of its hold count goes on to
 -- what it says at each point to which a lock may bring it
 record MayLock (q : Request) (a : Progress) : Type 0 where
   takes : MayTake q a
@@ -139,7 +139,7 @@ module _ {f : ℕ → Option Request} {counts : ℕ → ℕ → ℕ} {w : World}
       rw e (IsHeld-owns h k known (Has 11) own
       (λ n. subst (λ i. Counted q a n i → Counted q (Has 11) n i) (sym full) (may.full n)))
 
-  -- it locks its mutex, for which it waits where another owns it
+  -- it locks its mutex, for which it waits if another owns it
   IsHeld-Locks : {v : World} → waited_in q ≡ named_by q → Locks t (named_by q) w v → IsHeld f counts v
   IsHeld-Locks named (own_normal own kind e) = rw e (IsHeld-progresses h k Stuck may.sticks)
   IsHeld-Locks named (own_errorcheck own kind e) = rw e (IsHeld-progresses h k (Has 35) may.cycle)
@@ -376,7 +376,7 @@ IsHeld-SetsPriority {w = w} h {t} {u} {p} k (changed good lives e) =
       alone = k.alone;
     }
 
--- a call on which no effect has happened yet stays so where a variable is used
+-- a call on which no effect has happened yet stays so if a variable is used
 after_use_fresh : (c : ℕ) (x : Thread) (q : Request) → x.call ≡ Some (record { request = q; progress = Fresh })
     → (after_use c x).call ≡ Some (record { request = q; progress = Fresh })
 after_use_fresh c x q e =

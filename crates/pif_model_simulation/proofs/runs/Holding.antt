@@ -11,9 +11,9 @@
 -- TO ADD.
 -- * A new request: in the definitions what an answer to it does (`hold_count_after_answer`), what it names, and for
 --   which mutex it waits; here its case in `names_kept`, `elsewhere_answered` and `unlocked_once`; in `AllHolding` its
---   case in `waiting_takes`, and `may_take` where it may take a mutex; in `Holders` in `error_changes_nothing`, and in
---   `may_lock` where it locks its mutex.
--- * A new progress: its line in `Counted`, for the requests that can come so far, and in `unlocked_once`. Where a call
+--   case in `waiting_takes`, and `may_take` if it may take a mutex; in `Holders` in `error_changes_nothing`, and in
+--   `may_lock` if it locks its mutex.
+-- * A new progress: its line in `Counted`, for the requests that can come so far, and in `unlocked_once`. If a call
 --   has given its mutex up and will own it again, `Counted` says that it holds it once by the answers and not at all by
 --   the machine.
 -- * A new effect: its line in `Holders`, by the lemma in `AllHolding` for what it does. All of those ask one thing of
@@ -129,7 +129,7 @@ elsewhere_answered m (Unlock k) a n d = rw (ne_eqb k m d) refl
 elsewhere_answered m (Wait c k) a n d = rw (ne_eqb k m d) refl
 elsewhere_answered m _ a n d = refl
 
--- ETIMEDOUT in place of 0 changes a hold count as 0 does, where a wait is told it
+-- ETIMEDOUT in place of 0 changes a hold count as 0 does, if a wait is told it
 told_counted : (m : ℕ) (q : Request) (x : Bool) (a n : ℕ)
     → hold_count_after_answer m (Some q) (reported_result q x a) n ≡ hold_count_after_answer m (Some q) a n
 told_counted m (Wait c k) true a n = ap (λ i. if k == m then i else n) (by_test

@@ -59,7 +59,7 @@ pub record Quiet (w v : World) : Type 0 where
   pub timer : (u : ℕ) → (thread_at v u).timer ≡ (thread_at w u).timer
   pub call : (u : ℕ) → GoesOn (call_of w u) (call_of v u)
 
--- where no thread changes
+-- if no thread changes
 pub quiet_threads : {w v : World} → v.time ≡ w.time → v.threads ≡ w.threads → Quiet w v
 quiet_threads t e = record {
   time = t;
@@ -82,7 +82,7 @@ call-recalled w t f none = written_at (λ (y : Thread). y.call) w.threads t
     (record (thread_at w t) { call = f (call_of w t) }) nobody
     (λ l. ap (λ (y : Thread). f y.call) (get_or_past w.threads t nobody l) ∙ none)
 
--- where t's call is changed so
+-- if t's call is changed so
 pub quiet_recalled : (w : World) (t : ℕ) (f : Option Call → Option Call) → f None ≡ None
     → GoesOn (call_of w t) (f (call_of w t)) → Quiet w (with_call_by t f w)
 quiet_recalled w t f none g = record {
@@ -99,7 +99,7 @@ quiet_recalled w t f none g = record {
         (subst (GoesOn (call_of w t)) (sym (call-recalled w t f none)) g)
     go u (inr d) = stays (call-with_thread_other w t x u d)
 
--- where t's call comes as far as b, from wherever it may have been
+-- if t's call comes as far as b, from wherever it may have been
 pub quiet_progress : (w : World) (t : ℕ) (b : Progress)
     → ((q : Request) (p : Progress) → call_of w t ≡ Some (record { request = q; progress = p })
     → is_past q p ≡ true → is_past q b ≡ true)

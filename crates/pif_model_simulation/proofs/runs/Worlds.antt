@@ -18,7 +18,7 @@ owner_of w m = (mutex_at w m).owner
 
 -- LISTS
 
--- what is written at a place stands there, where the default would as well past the list's end
+-- what is written at a place stands there, if the default would as well past the list's end
 pub written_at : {A B : Type 0} (part : A → B) (l : List A) (n : ℕ) (x d : A) → (length l ≤ n → part x ≡ part d)
     → part (get_or (set l n x) n d) ≡ part x
 written_at part l n x d past = by_room (cases_lt n (length l))
@@ -37,7 +37,7 @@ push_other l x d n other = by_order (cases_order n (length l))
     by_order (inr (inr h)) =
         get_or_past (l ++ x ∷ []) n d (omega (arith, length_push l x)) ∙ sym (get_or_past l n d (omega arith))
 
--- where it is the default in the part that matters, every place stays
+-- if it is the default in the part that matters, every place stays
 pub push_same : {A B : Type 0} (part : A → B) (l : List A) (x d : A) (n : ℕ) → part x ≡ part d
     → part (get_or (l ++ x ∷ []) n d) ≡ part (get_or l n d)
 push_same part l x d n e = by_place (cases_eq n (length l))
@@ -63,7 +63,7 @@ pub call-with_thread_other : (w : World) (t : ℕ) (x : Thread) (u : ℕ) → u 
     → call_of (with_thread t x w) u ≡ call_of w u
 call-with_thread_other w t x u d = ap (λ (y : Thread). y.call) (get_or-set_other w.threads t u x nobody d)
 
--- who lives is as before, where the thread that is written lives as it did
+-- who lives is as before, if the thread that is written lives as it did
 pub living-with_thread : (w : World) (t : ℕ) (x : Thread) → x.living ≡ is_living w t → (u : ℕ)
     → is_living (with_thread t x w) u ≡ is_living w u
 living-with_thread w t x h = kept_at (λ (y : Thread). y.living) w.threads t x nobody h

@@ -9,7 +9,7 @@ use std::snapshot::Snapshot;
 
 impl<T: Drop> Quick<T> {
     /// Locks the word `m` if it is free, by one compare-exchange, and gives its value. `None`, with nothing changed,
-    /// where it isn't free.
+    /// if it isn't free.
     pub fn try_lock(&self, pass: &mut Pass<T>, m: usize) -> Option<Held<T>>
         requires word { m < word_count self.now }
         requires own { IsPassOf self.now pass.old }
@@ -31,8 +31,8 @@ impl<T: Drop> Quick<T> {
         }
     }
 
-    /// Unlocks the word of `held` with the value that it has, by one compare-exchange, where no pass waits for it.
-    /// Gives `held` back, with nothing changed, where the word is marked for a pass that waits.
+    /// Unlocks the word of `held` with the value that it has, by one compare-exchange, if no pass waits for it.
+    /// Gives `held` back, with nothing changed, if the word is marked for a pass that waits.
     pub fn unlock_quiet(&self, pass: &mut Pass<T>, held: Held<T>) -> Result<(), Held<T>>
         requires own { IsPassOf self.now pass.old }
         requires turn { IsTurnOf self.now pass.old held }

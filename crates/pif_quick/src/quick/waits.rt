@@ -51,8 +51,8 @@ impl<T: Drop> Quick<T> {
         }
     }
 
-    /// Unlocks the word of `held` with the value that it has. Where the word is marked, hands it to the pass that has
-    /// waited longest for it, or frees it where none waits.
+    /// Unlocks the word of `held` with the value that it has. If the word is marked, hands it to the pass that has
+    /// waited longest for it, or frees it if none waits.
     pub fn unlock<R: Wait>(&self, rt: &R, pass: &mut Pass<T>, held: Held<T>)
         requires own { IsPassOf self.now pass.old }
         requires turn { IsTurnOf self.now pass.old held }

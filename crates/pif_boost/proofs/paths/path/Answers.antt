@@ -7,7 +7,7 @@ use Rattle.pif_boost.proofs.Chaining.{owned-below}
 use Rattle.pif_boost.proofs.paths.path.Goals.{In-Some}
 use Rattle.pif_boost.proofs.paths.path.Goals as goal
 
--- the walk, where it stands at a thread
+-- the walk, if it stands at a thread
 here : (c : In-Some) → IsPathing (owners_in c.args.owners.now c.args.table.now) c.args.start c.loop-next.passed.items c.in-Some.at
 here c = subst (IsPathing (owners_in c.args.owners.now c.args.table.now) c.args.start c.loop-next.passed.items)
     (ap (λ o. unwrap_or o 0) c.in-Some.is) c.loop-next.invariant

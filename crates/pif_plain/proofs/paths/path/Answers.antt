@@ -5,7 +5,7 @@ use Rattle.pif_kernel_model.proofs.Ways.{IsPathing, pathing-start, pathing-few, 
 use Rattle.pif_plain.proofs.paths.path.Goals.{In-Some}
 use Rattle.pif_plain.proofs.paths.path.Goals as goal
 
--- the walk, where it stands at a thread
+-- the walk, if it stands at a thread
 here : (c : In-Some) → IsPathing c.args.owners.now c.args.start c.loop-next.passed.items c.in-Some.at
 here c = subst (IsPathing c.args.owners.now c.args.start c.loop-next.passed.items)
     (ap (λ o. unwrap_or o 0) c.in-Some.is) c.loop-next.invariant

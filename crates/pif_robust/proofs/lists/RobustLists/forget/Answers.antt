@@ -19,7 +19,7 @@ pub loop-m-preserved : goal.loop-m-preserved
 loop-m-preserved c = ap (without_robust c.args.t) c.unlink.ensures.unlisted
     ∙ without_robust-listed c.loop-m.self c.args.t c.in-Some.m ∙ c.loop-m.invariant
 
--- the fields once the head is that of nobody, or as they were where there is no head
+-- the fields once the head is that of nobody, or as they were if there is no head
 shown : (c : goal.Joined-place-len) → Shows c.if-place-len.self-inside.links.items
     c.if-place-len.self-inside.heads.items (without_robust c.args.t c.args.self.now)
 shown c =

@@ -6,7 +6,7 @@ use Rattle.pif_model_lemmas.proofs.RobustWalks.{first-ahead, next-ahead, next-sm
 use Rattle.pif_robust.proofs.lists.RobustLists.walk.Goals.{In-Some}
 use Rattle.pif_robust.proofs.lists.RobustLists.walk.Goals as goal
 
--- the walk, where it stands at a mutex
+-- the walk, if it stands at a mutex
 here : (c : In-Some) →
     c.loop-next.found.items ++ c.in-Some.m ∷ behind c.in-Some.m (walk_of (robust_at c.args.self.now c.args.t))
     ≡ walk_of (robust_at c.args.self.now c.args.t)
