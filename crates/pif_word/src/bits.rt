@@ -94,13 +94,6 @@ pub fn inherit_word(u: u32) -> u32
     u | (WAITERS | OWNER_DIED)
 }
 
-/// The word `w` without `OWNER_DIED`. The number and `WAITERS` stay.
-pub fn settled_word(w: u32) -> u32
-    ensures { word_of result ≡ record (word_of w) { died = false } }
-{
-    w & !OWNER_DIED
-}
-
 /// What the health word `w` says: 1 inconsistent, 2 unusable, and any other fine.
 pub fn health_in(w: u32) -> Health
     ensures { result ≡ model.health_in w }
@@ -109,16 +102,5 @@ pub fn health_in(w: u32) -> Health
         1 => Health::Inconsistent,
         2 => Health::Unusable,
         _ => Health::Fine,
-    }
-}
-
-/// The health word that says this: 0, 1 or 2.
-pub fn health_word(health: Health) -> u32
-    ensures { result ≡ model.health_word health }
-{
-    match health {
-        Health::Fine => 0,
-        Health::Inconsistent => 1,
-        Health::Unusable => 2,
     }
 }
