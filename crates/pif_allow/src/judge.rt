@@ -99,7 +99,7 @@ fn witness_of<W: Watch>(
 ///
 /// # Errors
 ///
-/// Memory ran out, or a number of a state got too great for it.
+/// Out of memory, or a number got too great for a state.
 pub fn find_run_allowing<W: Watch>(
     alloc: Global,
     rules: &Rules,
@@ -149,14 +149,15 @@ fn searched<W: Watch>(
 
 /// Whether some run, under these limits and with these rules, shows the lines of a history, oldest first.
 ///
-/// `Legal` has a witness: the labels of such a run, newest first. `Illegal(n)` says that no run shows the first n lines,
-/// and that some run shows the first n - 1. `Undecided(n)` says nothing of the first n lines: more than `states` states
-/// were made for one line. `watch` is told how far a search has come: up to five that are guided come first,
-/// without rules, then up to two with them, and then the exact one, each from the first line.
+/// `Legal` has a witness: the labels of such a run, newest first. `Illegal(n)` says that no run shows the first n
+/// lines, and that some run shows the first n - 1. `Undecided(n)` says nothing of the first n lines: more than `states`
+/// states were made for one line, or `watch` ended the search. `watch` is told how far a search has come: up to five
+/// that are guided come first, without rules, then up to two with them, and then the exact one, each from the first
+/// line.
 ///
 /// # Errors
 ///
-/// Memory ran out, or a number of a state got too great for it. It then says nothing.
+/// Out of memory, or a number got too great for a state. Then nothing is claimed.
 pub fn judge_allowing<W: Watch>(
     alloc: Global,
     rules: &Rules,

@@ -3,6 +3,7 @@
 //! | Function | What it answers |
 //! |---|---|
 //! | `judge_allowing` | a witness, the first line up to which no run exists, or that the search gave up |
+//! | `find_run_allowing` | a witness, if a guided search finds one |
 //! | `possible_answers_allowing`, `possible_priorities_allowing` | with which answers, or priorities, a line would be shown |
 //!
 //! The searches are `find` and `judge` of `pif_search`, over the states of `pif_posix_rules`. The first is guided by what

@@ -78,7 +78,7 @@ tells l s line among kept entry seen =
     (subst (λ (ns : List Configuration). Contains ns s) (sym all)
     (in_one_from (with_dying us s.world) s (ap (λ (ts : List ℕ). with_dying ts s.world) (sym kept))))
 
--- the same, where t stands for s
+-- the same, if t stands for s
 pub comes_from : (l : Bounds) (s t : Configuration) (line : Line) (e : Entry) (v : World) → t ≡ s → is_line_among s.dying line ≡ false
     → dying_after line s.dying ≡ s.dying → Some e ≡ entry_for s.world line → entered l t.world e ≡ v ∷ [] → Advances l s (Shown line) (record t { world = v })
 comes_from l s t line e v same among kept entry one =

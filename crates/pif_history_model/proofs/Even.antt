@@ -101,7 +101,7 @@ StaysEven-kept p = record {
   unblocked = λ w u. each_thread (IsEven p) w u _ (even_unblocked p (thread_at w u));
 }
   where
-    -- a priority is set, where threads may differ in it
+    -- a priority is set, and threads may differ in it
     even_base : (w : World) (u b : ℕ) → not (is_some p) ≡ true → AreEven p w → AreEven p (with_base u b w)
     even_base w u b differ =
         each_thread (IsEven p) w u _ (λ f. record {
@@ -210,7 +210,7 @@ untimed_not_due p w x t m b c due =
     let none : (thread_at w t).timer.deadline ≡ None = (x t).untimed (ap call_is_lock c) in
     true≢false (sym due ∙ ap (λ (d : Option ℕ). if is_reached d w.time then is_counting (call_of w t) else false) none)
 
--- where somebody signals all threads have the same base priority
+-- if somebody signals, all threads have the same base priority
 pub same_where_signalled : (o : Option ℕ) (w : World) → AreEven o w → (t : ℕ) (q : Request) (b : Progress) → HasCome w t q b → (c : ℕ)
     → q ≡ Signal c → (p : ℕ) × (o ≡ Some p)
 same_where_signalled o w x t q b e c is = one_of o refl

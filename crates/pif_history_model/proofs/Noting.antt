@@ -173,7 +173,7 @@ reaches_on l all w us ys zs vs x y = record {
 }
 
 module _ (l : Bounds) (all : Bool) (w : World) (us : List ℕ) (t : ℕ) (c : ℕ) (uses : will_use c (thread_at w t).call ≡ true) where
-  -- who is about to use a variable is so where others lag
+  -- who is about to use a variable is so if others lag
   used_soon : (zs : List Thread) → AreBehind w.threads zs → is_used_soon (other zs w) c ≡ true
   used_soon zs a =
       used_at (other zs w) c t (ap (λ (z : Thread). will_use c z.call) (same_thread w zs a t (quiet (thread_at w t).call uses)) ∙ uses)

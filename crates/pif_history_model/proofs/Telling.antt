@@ -16,7 +16,7 @@ use Rattle.pif_history_model.specs.Lines.{is_among, dying_by, dying_after}
 use Rattle.pif_history_model.specs.Refused.{threads_in, mutexes_in, conds_in, is_known, time_by, is_open, is_gone, room_refused, event_refused, living_refused}
 use Rattle.pif_history_model.proofs.Keeping.{Keeps, keeps_Releases}
 
--- what lines tell of a state of the search: w, where these threads are dying
+-- what lines tell of a state of the search: w, and these threads are dying
 pub record Tells (lines : List Line) (w : World) (dying : List ℕ) : Type 0 where
   pub threads : length w.threads ≡ threads_in lines + 1
   pub mutexes : length w.mutexes ≡ mutexes_in lines + 1

@@ -38,7 +38,7 @@ is_among us t = list_any (λ u. u == t) us
 abbrev pub is_line_among : List ℕ → Line → Bool
 is_line_among us x = elim (thread_of x) [ None ↦ false | Some t ↦ is_among us t ]
 
--- who is dying behind one more line, where these were
+-- who is dying behind one more line, if these were before it
 abbrev pub dying_after : Line → List ℕ → List ℕ
 dying_after (Dying t) us = t ∷ us
 dying_after (End t) us = filter (λ u. not (u == t)) us

@@ -54,7 +54,7 @@ is_gone (Dying u ∷ xs) t = if u == t then true else is_gone xs t
 is_gone (End u ∷ xs) t = if u == t then true else is_gone xs t
 is_gone (x ∷ xs) t = is_gone xs t
 
--- an addition where there are so many already, and a limit
+-- an addition if there are so many already, and a limit
 abbrev pub room_refused : (count limit : ℕ) → Option LineRefusal
 room_refused count limit = if nat_lt count limit then None else Some (Addition TooMany)
 

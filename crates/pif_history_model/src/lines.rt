@@ -8,7 +8,7 @@ use pif_types::{Answer, Kind, MutexId, Request, Tid};
 pub enum Line {
     /// `thread P`: a thread of this base priority, which may be out of range.
     Thread(u32),
-    /// `mutex K` or `mutex K robust`: a mutex of this kind, robust where the second value is true.
+    /// `mutex K` or `mutex K robust`: a mutex of this kind, robust if the second value is true.
     Mutex(Kind, bool),
     /// `cond mN`: a condition variable that is bound to this mutex.
     Cond(MutexId),

@@ -135,7 +135,7 @@ ReadsHistory before after (Err NoMemory) = (read : List ℕ) × ReadsSome before
 ReadsHistory before after (Err (Differs line)) = ⊥
 ReadsHistory before after (Err Write) = ⊥
 
--- A history that was heard, where nothing failed.
+-- A history that was heard, if nothing failed.
 abbrev pub with_heard : Heard → Result (Unit {0}) CliFault → Result Heard CliFault
 with_heard h (Ok x) = Ok h
 with_heard h (Err fault) = Err fault

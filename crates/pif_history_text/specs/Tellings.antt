@@ -15,7 +15,7 @@ use Rattle.pif_history_text.specs.Deeds.{deed_line, other_deed, own_deed, rule_f
 abbrev pub owns : World → (t m : ℕ) → Bool
 owns w t m = (mutex_at w m).owner == t
 
--- What t does from w to v, by this rule or by none, where its open call was and is this.
+-- What t does from w to v, by this rule or by none, if its open call was and is this.
 abbrev pub own_telling : Option Rule → (t : ℕ) → World → World → Option Call → Option Call → List ℕ
 own_telling rule t w v (Some c) (Some d) =
     deed_line rule t c.request
@@ -27,7 +27,7 @@ abbrev pub deed_telling : (t : ℕ) → Request → Option Deed → List ℕ
 deed_telling t q None = []
 deed_telling t q (Some d) = deed_line None t q d
 
--- What happens to t by another, where its open call was and is this.
+-- What happens to t by another, if its open call was and is this.
 abbrev pub other_telling : (t : ℕ) → Option Call → Option Call → List ℕ
 other_telling t (Some c) (Some d) = deed_telling t c.request (other_deed c.progress d.progress)
 other_telling t c d = []

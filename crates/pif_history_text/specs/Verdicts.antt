@@ -51,7 +51,7 @@ abbrev pub possible_text : List ℕ → List ℕ
 possible_text [] = codes " none"
 possible_text (n ∷ ns) = spaced (n ∷ ns)
 
--- These may stand in place of the answer or the priority; none where the search was given up.
+-- These may stand in place of the answer or the priority; none if the search was given up.
 abbrev pub possible_line : Option (List ℕ) → List ℕ
 possible_line (Some ns) = codes "possible there:" ++ possible_text ns ++ codes "\n"
 possible_line None = codes "possible there: undecided\n"

@@ -156,7 +156,7 @@ fn said_by_words(text: &[u8]) -> Option<Said>
     }
 }
 
-/// What the text of a line says, or `None` where the line is a fault.
+/// What the text of a line says, or `None` if the line is a fault.
 #[tactic(auto, unfolding(crate::specs::Lines::said_in))]
 pub fn said_of(text: &[u8]) -> Option<Said>
     ensures { result ≡ said_in text.now }

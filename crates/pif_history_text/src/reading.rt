@@ -18,7 +18,7 @@ const CHUNK: usize = 4096;
 /// more has a text that is too long.
 const LINE_ROOM: usize = 124;
 
-/// How many bytes stand before the first LF, or all of them, where there is none.
+/// How many bytes stand before the first LF, or all of them, if there is none.
 fn before_feed(bytes: &[u8]) -> usize
     ensures within { result ≤ length bytes.now }
     ensures before { (k : ℕ) → k < result → slice_index bytes.now k ≢ 10 }
@@ -222,7 +222,7 @@ fn read_text<R: Read>(reader: &mut R, text: &mut TextSoFar) -> Result<(), CliFau
 /// # Errors
 ///
 /// `Script` with the number and the cause of the first line that is a fault, whatever stands behind what was read then;
-/// `Read`, where the reader fails; and `NoMemory`.
+/// `Read`, if the reader fails; and `NoMemory`.
 pub fn read_history<R: Read>(alloc: Global, reader: &mut R) -> Result<History, CliFault>
     ensures read { IfOk result (λ history. ReadsHistory (R.remaining reader.old) (R.remaining reader.new) (Ok (heard_of history))) }
     ensures failed { IfErr result (λ fault. ReadsHistory (R.remaining reader.old) (R.remaining reader.new) (Err fault)) }

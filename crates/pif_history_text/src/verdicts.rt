@@ -1,4 +1,4 @@
-//! The lines of verdicts. Each is appended to `out`; where memory is refused, a part of it may be.
+//! The lines of verdicts. Each is appended to `out`; if out of memory, a part of it may be.
 ghost use Rattle.std.specs.Prelude.{◌≡◌, ◌++◌, None, OnOk, Some, decimal};
 ghost use Rattle.pif_history_text.specs.Verdicts.{at_number, began_line, colon_line, fault_line, found_line, illegal_line, legal_line, line_refusal_word, possible_line, possible_text, refused_line, undecided_line};
 
@@ -40,7 +40,7 @@ fn push_colon_line(out: &mut Vec<u8>, line: Line) -> Result<(), AllocError>
 ///
 /// # Errors
 ///
-/// A growth of memory was refused.
+/// Out of memory.
 pub fn push_legal(out: &mut Vec<u8>, lines: u32) -> Result<(), AllocError>
     ensures { OnOk result (out.new.items ≡ out.old.items ++ legal_line lines) }
 {
@@ -52,7 +52,7 @@ pub fn push_legal(out: &mut Vec<u8>, lines: u32) -> Result<(), AllocError>
 ///
 /// # Errors
 ///
-/// A growth of memory was refused.
+/// Out of memory.
 pub fn push_illegal(out: &mut Vec<u8>, number: u32, line: Line) -> Result<(), AllocError>
     ensures { OnOk result (out.new.items ≡ out.old.items ++ illegal_line number line) }
 {
@@ -64,7 +64,7 @@ pub fn push_illegal(out: &mut Vec<u8>, number: u32, line: Line) -> Result<(), Al
 ///
 /// # Errors
 ///
-/// A growth of memory was refused.
+/// Out of memory.
 pub fn push_undecided(out: &mut Vec<u8>, number: u32) -> Result<(), AllocError>
     ensures { OnOk result (out.new.items ≡ out.old.items ++ undecided_line number) }
 {
@@ -76,7 +76,7 @@ pub fn push_undecided(out: &mut Vec<u8>, number: u32) -> Result<(), AllocError>
 ///
 /// # Errors
 ///
-/// A growth of memory was refused.
+/// Out of memory.
 pub fn push_fault(out: &mut Vec<u8>, number: u64, cause: Cause) -> Result<(), AllocError>
     ensures { OnOk result (out.new.items ≡ out.old.items ++ fault_line number cause) }
 {
@@ -106,7 +106,7 @@ fn refusal_word(why: LineRefusal) -> &'static [u8]
 ///
 /// # Errors
 ///
-/// A growth of memory was refused.
+/// Out of memory.
 pub fn push_refused(out: &mut Vec<u8>, why: LineRefusal) -> Result<(), AllocError>
     ensures { OnOk result (out.new.items ≡ out.old.items ++ refused_line why) }
 {
@@ -133,7 +133,7 @@ fn push_numbers(out: &mut Vec<u8>, numbers: &[u32]) -> Result<(), AllocError>
 ///
 /// # Errors
 ///
-/// A growth of memory was refused.
+/// Out of memory.
 pub fn push_possible(out: &mut Vec<u8>, numbers: &[u32]) -> Result<(), AllocError>
     ensures { OnOk result (out.new.items ≡ out.old.items ++ possible_line (Some numbers.now)) }
 {
@@ -146,7 +146,7 @@ pub fn push_possible(out: &mut Vec<u8>, numbers: &[u32]) -> Result<(), AllocErro
 ///
 /// # Errors
 ///
-/// A growth of memory was refused.
+/// Out of memory.
 pub fn push_possible_undecided(out: &mut Vec<u8>) -> Result<(), AllocError>
     ensures { OnOk result (out.new.items ≡ out.old.items ++ possible_line None) }
 {
@@ -157,7 +157,7 @@ pub fn push_possible_undecided(out: &mut Vec<u8>) -> Result<(), AllocError>
 ///
 /// # Errors
 ///
-/// A growth of memory was refused.
+/// Out of memory.
 pub fn push_found(out: &mut Vec<u8>, numbers: &[u32]) -> Result<(), AllocError>
     ensures { OnOk result (out.new.items ≡ out.old.items ++ found_line numbers.now) }
 {
@@ -170,7 +170,7 @@ pub fn push_found(out: &mut Vec<u8>, numbers: &[u32]) -> Result<(), AllocError>
 ///
 /// # Errors
 ///
-/// A growth of memory was refused.
+/// Out of memory.
 pub fn push_began(
     out: &mut Vec<u8>,
     number: u32,

@@ -30,7 +30,7 @@ fn ruling(plan: &Plan, explored: &Explored, claim: &Claim) -> Ruling
 ///
 /// # Errors
 ///
-/// Memory ran out.
+/// Out of memory.
 pub fn rulings(
     alloc: Global,
     plan: &Plan,

@@ -98,7 +98,7 @@ fn push_ending(out: &mut Vec<u8>, played: &Played, schedules: u32) -> Result<(),
 ///
 /// # Errors
 ///
-/// Memory ran out. A part of the text may have been appended then.
+/// Out of memory. A part of the text may have been appended then.
 pub fn push_played(out: &mut Vec<u8>, played: &Played, schedules: u32) -> Result<(), Stop>
     ensures { OnOk result (out.new.items ≡ out.old.items ++ played_told played.now schedules) }
 {

@@ -38,9 +38,9 @@ TellsVerdict form r l (Legal witness) text = TellsRun form r l witness.items tex
 TellsVerdict form r l (Illegal n) text = ⊥
 TellsVerdict form r l (Undecided n) text = ⊥
 
--- What is told of a history in lines, and how that ends: the verdict on it with the rules that it allows. Behind the line
--- of a legal one its witness is told, if it is wanted. Where the search was given up, its line or one behind it is named
--- as the first for which no witness was found.
+-- What is told of a history in lines, and how that ends: the verdict on it with the rules that it allows. Behind the
+-- line of a legal one its witness is told, if it is wanted. If the search was given up, its line or one behind it is
+-- named as the first for which no witness was found.
 pub data IsTold (form : Form) (h : Heard) (text : List ℕ) (end : Result (Unit {0}) JudgeFault) : Type 0 where
   legal : (v : Verdict) (witness : List ℕ) → IsVerdictWith h.allowed (limits_of h) h.shown v
       → TellsVerdict form h.allowed (limits_of h) v witness → text ≡ legal_line h.count ++ witness → end ≡ Ok tt

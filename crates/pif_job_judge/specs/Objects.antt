@@ -45,7 +45,7 @@ HasNoWitness (Illegal n) = ⊤
 HasNoWitness (Undecided n) = ⊤
 
 -- A text tells a run that shows the first `before` lines of a history; or nothing, if the verdict on these lines has no
--- witness. Where some run shows them, that is a search that was given up.
+-- witness. If some run shows them, that is a search that was given up.
 abbrev pub TellsBefore : Heard → (before left_out : ℕ) → (text : List ℕ) → Type 0
 TellsBefore h before left_out text =
     ((labels : List Label) × IsLegalWith h.allowed (limits_of h) (take before h.shown) labels × TellsSteps h left_out labels text)
@@ -58,7 +58,7 @@ began_with (Numbers numbers) began = began
 began_with Nothing began = began
 
 -- What is told of a history in lines of JSON, and how that ends: the verdict, and behind it a run that shows all lines,
--- or those before the line of the verdict, if it was found. Where the search was given up, its line or one behind it is
+-- or those before the line of the verdict, if it was found. If the search was given up, its line or one behind it is
 -- named as the first for which no witness was found.
 pub data AreObjects (form : Form) (h : Heard) (text : List ℕ) (end : Result (Unit {0}) JudgeFault) : Type 0 where
   legal : (labels : List Label) (run : List ℕ) → IsLegalWith h.allowed (limits_of h) h.shown labels

@@ -28,7 +28,7 @@ pub enum Needed {
 ///
 /// # Errors
 ///
-/// Memory ran out, or a number of a state got too great for it. It then says nothing.
+/// Out of memory, or a number got too great for a state. Then nothing is claimed.
 pub fn least<W: Watch>(
     alloc: Global,
     base: &Rules,

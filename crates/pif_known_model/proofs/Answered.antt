@@ -1,4 +1,4 @@
--- What an open call may be answered where it has come so far, it may be answered wherever it was before on its way.
+-- What an open call may be answered if it has come so far, it may be answered wherever it was before on its way.
 use Rattle.std.proofs.Common.{ℕ, ◌≡◌, ◌==◌, ◌∙◌, Bool, true, false, not, refl, sym, ap, if◌then◌else◌, arith}
 use Rattle.std.proofs.lemmas.Bool.{true≢false}
 use Rattle.std.proofs.lemmas.Bool.Decides.{nat_tests}

@@ -18,7 +18,7 @@ use Rattle.pif_known_model.proofs.Answered.{answered_before, answered_blocked, i
 
 -- STEPS
 
--- u's call of this request is still open in v, and may be answered no more than it may where it has come so far
+-- u's call of this request is still open in v, and may be answered no more than it may if it has come so far
 pub record IsLed (q : Request) (p : Progress) (x : Bool) (u : ℕ) (v : World) : Type 0 where
   pub progress : Progress
   pub come : HasCome v u q progress
@@ -112,7 +112,7 @@ mover {w} t q p ok c r n = record {
   apart = no_waiter w t q p ok c n;
 }
 
--- it is so where its call and the waiters are the same
+-- it is so if its call and the waiters are the same
 abbrev pub mover_after : {t : ℕ} {w : World} (v : World) → Mover t w → call_of v t ≡ call_of w t → IsApart t v → Mover t v
 mover_after v x e apart = record {
   request = x.request;
@@ -145,7 +145,7 @@ follows_same w t y e f ok = record {
       (kept_at (λ (z : Thread). z.timer) w.threads t y nobody f u);
 }
 
--- waiters but t wait where t is written
+-- waiters but t wait when t is written
 waiting_written : (w : World) (t : ℕ) (y : Thread) → AreWaiting w → IsApart t w → AreWaiting (with_thread t y w)
 waiting_written w t y ok apart u m e =
     let o = ok u m e in

@@ -11,7 +11,7 @@ pub done_by_rule : {old new : World} {o : Option World} {b : Bool} → Does old 
 done_by_rule (did e) = ap option_to_list e
 done_by_rule (did_not e f) = ap option_to_list e
 
--- the list of what it gave, where it worked on a copy
+-- the list of what it gave, if it worked on a copy
 pub done_on_copy : (o : World → Option World) {w copy new : World} {b : Bool} {xs : List World}
     → copy ≡ w → Does copy (o copy) b new → xs ≡ if_done b new → xs ≡ option_to_list (o w)
 done_on_copy o e d f = f ∙ sym (done_by_rule d) ∙ ap (λ (x : World). option_to_list (o x)) e

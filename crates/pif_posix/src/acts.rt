@@ -10,7 +10,7 @@ use crate::state::State;
 use pif_search::Stop;
 use pif_types::Request;
 
-/// What an open call does, where that leaves no choice.
+/// What an open call does, if that leaves no choice.
 impl State {
     /// The first effect of a call of a thread.
     fn act_first(&mut self, thread: u32, request: Request) -> Result<bool, Stop>

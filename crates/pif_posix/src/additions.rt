@@ -58,7 +58,11 @@ fn is_next(number: u32, places: usize, limit: u32) -> bool
 
 /// The empty state, additions and ticks.
 impl State {
-    /// The state in which nothing was added yet, where a variable takes this many signals and broadcasts together.
+    /// The state in which nothing was added yet, if a variable takes this many signals and broadcasts together.
+    ///
+    /// # Errors
+    ///
+    /// Out of memory.
     pub fn new(alloc: Global, signals: u32) -> Result<State, Stop>
         ensures { IfOk result (λ s. s ≡ empty_world signals) }
     {
@@ -103,7 +107,7 @@ impl State {
         self.time = time;
     }
 
-    /// A thread is added, with this base priority; false where it isn't the next, or passes the limit.
+    /// A thread is added, with this base priority; false if it isn't the next, or passes the limit.
     pub(crate) fn add_thread(
         &mut self,
         alloc: Global,
@@ -120,7 +124,7 @@ impl State {
         Ok(true)
     }
 
-    /// A mutex of this kind is added, robust or not; false where it isn't the next, or passes the limit.
+    /// A mutex of this kind is added, robust or not; false if it isn't the next, or passes the limit.
     pub(crate) fn add_mutex(
         &mut self,
         limits: &HistoryLimits,
@@ -137,7 +141,7 @@ impl State {
         Ok(true)
     }
 
-    /// A variable is added, bound to this mutex; false where it isn't the next, or passes the limit, or the mutex was
+    /// A variable is added, bound to this mutex; false if it isn't the next, or passes the limit, or the mutex was
     /// never added.
     pub(crate) fn add_variable(
         &mut self,
@@ -157,7 +161,7 @@ impl State {
         Ok(true)
     }
 
-    /// The time is this from here on; false where that would set it back.
+    /// The time is this from here on; false if that would set it back.
     pub(crate) fn tick(&mut self, time: u32) -> bool
         ensures { Does self.old (ticked time self.old) result self.new }
     {

@@ -85,7 +85,7 @@ impl State {
         task.open(request);
     }
 
-    /// A thread begins a call; false where that is refused.
+    /// A thread begins a call; false if that is refused.
     pub(crate) fn begin(
         &mut self,
         alloc: Global,
@@ -117,7 +117,7 @@ impl State {
         }
     }
 
-    /// The open call of a thread is answered this and closes; false where it isn't.
+    /// The open call of a thread is answered this and closes; false if it isn't.
     pub(crate) fn answer(&mut self, thread: u32, answer: Answer) -> Result<bool, Stop>
         ensures { IfOk result (λ b. Does self.old (answered thread answer self.old) b self.new) }
     {

@@ -78,6 +78,10 @@ impl State {
     }
 
     /// A thread before all other waiters, for a mutex, whether or not a step leads there. Nothing else changes.
+    ///
+    /// # Errors
+    ///
+    /// Out of memory.
     pub fn put_first(&mut self, thread: u32, mutex: u32) -> Result<(), Stop>
         ensures { OnOk result (self.new ≡ record self.old { waiters = (thread, mutex) ∷ self.old.waiters }) }
     {

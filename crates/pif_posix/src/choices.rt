@@ -53,6 +53,10 @@ impl State {
     }
 
     /// The threads that are blocked on a variable, those of greatest numbers first.
+    ///
+    /// # Errors
+    ///
+    /// Out of memory, or a number got too great for a state.
     pub fn all_blocked(&self, alloc: Global, variable: u32) -> Result<Vec<u32>, Stop>
         ensures { IfOk result (λ v. v.items ≡ all_blocked self.now variable) }
     {
@@ -104,6 +108,10 @@ impl State {
     }
 
     /// The state once the signal of a thread wakes another.
+    ///
+    /// # Errors
+    ///
+    /// Out of memory, or a number got too great for a state.
     pub fn woken(&self, alloc: Global, thread: usize, other: usize) -> Result<State, Stop>
         requires thread { thread < length self.now.threads }
         requires other { other < length self.now.threads }
@@ -184,6 +192,10 @@ impl State {
     }
 
     /// The state once a thread is unblocked, if it was blocked.
+    ///
+    /// # Errors
+    ///
+    /// Out of memory, or a number got too great for a state.
     pub fn with_awake(&self, alloc: Global, thread: usize) -> Result<State, Stop>
         requires { thread < length self.now.threads }
         ensures { IfOk result (λ s. s ≡ with_call_by thread after_unblocking self.now) }

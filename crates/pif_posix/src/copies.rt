@@ -61,6 +61,10 @@ fn all_copied<T: Copied>(alloc: Global, items: &[T]) -> Result<Vec<T>, Stop>
 
 impl State {
     /// A copy of the state.
+    ///
+    /// # Errors
+    ///
+    /// Out of memory.
     pub fn copied(&self, alloc: Global) -> Result<State, Stop>
         ensures { IfOk result (λ s. s ≡ self.now) }
     {

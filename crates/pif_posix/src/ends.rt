@@ -80,8 +80,12 @@ impl State {
         Ok(())
     }
 
-    /// The states once a thread has ended, for each order in which its robust mutexes pass on; none where the end is
+    /// The states once a thread has ended, for each order in which its robust mutexes pass on; none if the end is
     /// refused.
+    ///
+    /// # Errors
+    ///
+    /// Out of memory, or a number got too great for a state.
     pub fn ended(&self, alloc: Global, thread: u32) -> Result<Vec<State>, Stop>
         ensures { IfOk result (λ v. v.items ≡ ended thread self.now) }
     {

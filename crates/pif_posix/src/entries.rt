@@ -24,7 +24,7 @@ pub(crate) fn if_done(alloc: Global, did: bool, state: State) -> Result<Vec<Stat
 
 /// Where entries of a history lead.
 impl State {
-    /// The state once a thread is added; none where it can't be.
+    /// The state once a thread is added; none if it can't be.
     fn with_thread(
         &self,
         alloc: Global,
@@ -39,7 +39,7 @@ impl State {
         if_done(alloc, did, next)
     }
 
-    /// The state once a mutex is added; none where it can't be.
+    /// The state once a mutex is added; none if it can't be.
     fn with_mutex(
         &self,
         alloc: Global,
@@ -55,7 +55,7 @@ impl State {
         if_done(alloc, did, next)
     }
 
-    /// The state once a variable is added; none where it can't be.
+    /// The state once a variable is added; none if it can't be.
     fn with_variable(
         &self,
         alloc: Global,
@@ -70,7 +70,7 @@ impl State {
         if_done(alloc, did, next)
     }
 
-    /// The state once a thread has begun a call; none where that is refused.
+    /// The state once a thread has begun a call; none if that is refused.
     fn begun(&self, alloc: Global, thread: Tid, request: Request) -> Result<Vec<State>, Stop>
         ensures { IfOk result (λ v. v.items ≡ option_to_list (begun thread request self.now)) }
     {
@@ -80,7 +80,7 @@ impl State {
         Ok(all)
     }
 
-    /// The state once the open call of a thread is answered this; none where it isn't.
+    /// The state once the open call of a thread is answered this; none if it isn't.
     fn answered(&self, alloc: Global, thread: Tid, answer: Answer) -> Result<Vec<State>, Stop>
         ensures { IfOk result (λ v. v.items ≡ option_to_list (answered thread answer self.now)) }
     {
@@ -94,7 +94,7 @@ impl State {
         Ok(all)
     }
 
-    /// The state once the time is this; none where that is refused.
+    /// The state once the time is this; none if that is refused.
     fn ticked(&self, alloc: Global, time: u32) -> Result<Vec<State>, Stop>
         ensures { IfOk result (λ v. v.items ≡ option_to_list (ticked time self.now)) }
     {
@@ -147,9 +147,13 @@ impl State {
     }
 
     /// The states to which one entry of a history leads that a line shows: an addition, the begin of a call, an answer,
-    /// the end of a thread or a tick, where nothing moves beside it. None where it can't happen, and for an entry that
-    /// is refused or closes no call; several for an end, by the order in which robust mutexes pass on. This state stays
-    /// as it is.
+    /// the end of a thread or a tick. Nothing moves beside it. None if it can't happen, and for an entry that is
+    /// refused or closes no call; several for an end, by the order in which robust mutexes pass on. This state stays as
+    /// it is.
+    ///
+    /// # Errors
+    ///
+    /// Out of memory, or a number got too great for a state.
     pub fn enter(
         &self,
         alloc: Global,

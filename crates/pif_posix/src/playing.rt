@@ -1,4 +1,4 @@
-//! One step in place, where there is no choice: what a player does that keeps one state.
+//! One step in place, if there is no choice: what a player does that keeps one state.
 ghost use Rattle.std.specs.Prelude.{◌≡◌, ◌<◌, ◌∷◌, [], true, Some, ℕ, length, option_to_list, IfOk};
 ghost use Rattle.pif_model.specs.Posix.{thread_at};
 ghost use Rattle.pif_posix_model.specs.Once.{MovesOnce, Enters};
@@ -83,7 +83,7 @@ impl State {
     ///
     /// # Errors
     ///
-    /// Memory ran out, or a number got too great for a state.
+    /// Out of memory, or a number got too great for a state.
     pub fn go(&mut self, alloc: Global, thread: u32) -> Result<bool, Stop>
         ensures sound { IfOk result (λ b. b ≡ true → MovesOnce thread self.old self.new) }
         ensures value { IfOk result (λ b. b ≡ true → moved thread self.old ≡ self.new ∷ []) }
@@ -92,7 +92,7 @@ impl State {
         Ok(went)
     }
 
-    /// A thread begins a call, in place; false where that is refused.
+    /// A thread begins a call, in place; false if that is refused.
     fn begin_call(&mut self, alloc: Global, thread: Tid, request: Request) -> Result<bool, Stop>
         ensures { IfOk result (λ b. b ≡ true → option_to_list (begun thread request self.old) ≡ self.new ∷ []) }
     {
@@ -141,7 +141,7 @@ impl State {
     ///
     /// # Errors
     ///
-    /// Memory ran out, or a number got too great for a state.
+    /// Out of memory, or a number got too great for a state.
     pub fn come(
         &mut self,
         alloc: Global,

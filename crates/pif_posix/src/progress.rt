@@ -44,7 +44,7 @@ impl Progress {
         }
     }
 
-    /// How far a wait has come once it has given the mutex up, where it is blocked still, or is not.
+    /// How far a wait that is blocked still, or isn't, has come once it has given the mutex up.
     pub(crate) fn on_release(still: bool) -> Progress
         ensures { progress_of result ≡ on_release still }
     {

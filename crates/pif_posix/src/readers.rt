@@ -37,6 +37,10 @@ impl State {
     }
 
     /// How many threads are blocked on a variable.
+    ///
+    /// # Errors
+    ///
+    /// Out of memory, or a number got too great for a state.
     pub fn blocked_count(&self, alloc: Global, variable: u32) -> Result<usize, Stop>
         ensures { IfOk result (λ n. n ≡ length (all_blocked self.now variable)) }
     {

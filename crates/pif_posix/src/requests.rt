@@ -5,7 +5,7 @@ ghost use Rattle.pif_model.specs.Deadlines.{plain, deadline_of, is_reached, repo
 
 use pif_types::{Answer, Errno, Request};
 
-/// The variable that a request names; 0 where it names none.
+/// The variable that a request names; 0 if it names none.
 pub fn variable_of(request: &Request) -> u32
     ensures { result ≡ variable_of request.now }
 {
@@ -18,7 +18,7 @@ pub fn variable_of(request: &Request) -> u32
     }
 }
 
-/// The mutex that a request names; 0 where it names none.
+/// The mutex that a request names; 0 if it names none.
 pub fn named_by(request: &Request) -> u32
     ensures { result ≡ named_by request.now }
 {

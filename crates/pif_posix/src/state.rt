@@ -31,7 +31,7 @@ impl Model for State {
 }
 
 impl State {
-    /// The owner of a mutex; 0 where it has none.
+    /// The owner of a mutex; 0 if it has none.
     pub(crate) fn owner(&self, mutex: usize) -> u32
         requires { mutex < length self.now.mutexes }
         ensures { result ≡ (mutex_at self.now mutex).owner }
@@ -40,7 +40,7 @@ impl State {
         it.owner
     }
 
-    /// The owner of a mutex; 0 where it has none or was not added.
+    /// The owner of a mutex; 0 if it has none or was not added.
     pub fn owner_or_none(&self, mutex: usize) -> u32
         ensures { result ≡ (mutex_at self.now mutex).owner }
     {

@@ -43,7 +43,7 @@ is_blocking (Enlisted still) = true
 is_blocking (Blocked noted) = true
 is_blocking _ = false
 
--- whether an open call is a wait where it is so
+-- whether an open call is a wait if it is so
 abbrev blocks_by_wait : Option Call → Bool
 blocks_by_wait None = true
 blocks_by_wait (Some c) = if is_blocking c.progress then is_wait c.request else true
@@ -236,7 +236,7 @@ after_Releases : {t : ℕ} {w v : World} → OnlyWaitsBlock w → Releases t w v
 after_Releases h (none_left none e) = rw e h
 after_Releases h (one_more m own robust passes more) = after_Releases (after_Passes h passes) more
 
--- t is written, whose call is a wait where it is blocked
+-- t is written, whose call is a wait if it is blocked
 written : (w : World) (t : ℕ) (x : Thread) → OnlyWaitsBlock w → blocks_by_wait x.call ≡ true
     → OnlyWaitsBlock (with_thread t x w)
 written w t x h e u = kept_at (λ (y : Thread). blocks_by_wait y.call) w.threads t x nobody (e ∙ sym (h t)) u ∙ h u

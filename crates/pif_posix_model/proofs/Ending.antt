@@ -96,7 +96,7 @@ module _ {t : ℕ} {w : World} (h : HasLeft t w) where
     to_waits_not some = rw (ne_eqb to 0 some)
         (unnamed_waits (without w.waiters to) to (named-without_same w.waiters to))
 
-    -- for which mutex z waits then: for the one for which it waited, or for none where it was passed m
+    -- for which mutex z waits then: for the one for which it waited, or for none if it was passed m
     waited_then : (z : ℕ) → (waited_by (passed_waiters to w.waiters) z ≡ waited_by w.waiters z)
         ⊎ ((waited_by w.waiters z ≡ m) × (waited_by (passed_waiters to w.waiters) z ≡ 0))
     waited_then z = go (cases_eq to 0) (cases_eq z to)

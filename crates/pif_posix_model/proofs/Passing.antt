@@ -54,14 +54,14 @@ module _ (w : World) (m : ℕ) (inside : m < length w.mutexes) where
   next_behind = ap (λ f. next_waiter f w.waiters m) (fun_ext (λ u. effective_same _ _ _ _ _ _ u refl
       (λ x. kept_at (λ (z : Mutex). z.owner) w.mutexes m behind no_mutex refl _) (λ x. refl)))
 
-  -- where nobody waits for it
+  -- if nobody waits for it
   passed-to_nobody : next_of w m ≡ 0 → with_no_owner m (after_owner_death m w) ≡ passed m w
   passed-to_nobody none =
       ap (λ (y : Mutex). record w { mutexes = set (set w.mutexes m behind) m (record y { owner = 0; count = 1 }) }) here
       ∙ ap (λ (ms : List Mutex). record w { mutexes = ms }) (set-set w.mutexes m behind (passed_mutex 0 (mutex_at w m)))
       ∙ ap (λ (u : ℕ). passed_to u m w) (sym none)
 
-  -- and where u is next
+  -- and if u is next
   passed-to_next : (u : ℕ) → next_of w m ≡ u → u ≢ 0
       → taken u m (without_waiter u (after_owner_death m w)) ≡ passed m w
   passed-to_next u is some =

@@ -1,5 +1,5 @@
--- What the pairs of waiters and their mutexes, chains of waiting and the next waiter keep where a waiter leaves, or
--- where chains change that don't lead to a thread.
+-- What the pairs of waiters and their mutexes, chains of waiting and the next waiter keep. A waiter leaves, or chains
+-- change that don't lead to a thread.
 use Rattle.std.proofs.Common.{ℕ, zero, suc, ◌≡◌, ◌≢◌, ◌⊎◌, ◌∙◌, ◌==◌, true, false, List, [], ◌∷◌, refl, sym, ap, inl, inr, if◌then◌else◌}
 use Rattle.std.proofs.lemmas.Bool.{true≢false, cases_eq, eq-eqb, ne_eqb, or_parts}
 use Rattle.pif_model.specs.Graph.{reaches_within, effective_among, waited_by, without, first_greatest, waiters_with, next_waiter}
@@ -15,7 +15,7 @@ unfolding waited_by
 unnamed_waits [] u h = refl
 unnamed_waits (w ∷ ws) u h = let p = or_parts (w.0 == u) (names u ws) h in rw p.0 (unnamed_waits ws u p.1)
 
--- where u leaves, each other waits for what it waited for
+-- when u leaves, each other waits for what it waited for
 pub waited-without_other : (ws : List (ℕ × ℕ)) (u v : ℕ) → v ≢ u → waited_by (without ws u) v ≡ waited_by ws v
 unfolding waited_by
 waited-without_other [] u v n = refl
@@ -69,7 +69,7 @@ waiters_same f g (w ∷ ws) m h =
         rw (eq-eqb w.1 m e) (λ i. (w.0, h w.0 (is_among_here w ws w.0 m refl e) i) ∷ ih i)
     by_head ih (inr d) = rw (ne_eqb w.1 m d) ih
 
--- the waiters of m where another has left
+-- the waiters of m when another has left
 waiters_left : (f : ℕ → ℕ) (ws : List (ℕ × ℕ)) (u m : ℕ) → (is_among ws u m ≡ true → ⊥)
     → waiters_with f (without ws u) m ≡ waiters_with f ws m
 waiters_left f [] u m none = refl
@@ -90,7 +90,7 @@ pub next_same : (f g : ℕ → ℕ) (ws : List (ℕ × ℕ)) (m : ℕ) → ((u :
 unfolding next_waiter
 next_same f g ws m h = ap (λ l. (first_greatest l).0) (waiters_same f g ws m h)
 
--- and where another has left
+-- and when another has left
 pub next_left : (f : ℕ → ℕ) (ws : List (ℕ × ℕ)) (u m : ℕ) → (is_among ws u m ≡ true → ⊥)
     → next_waiter f (without ws u) m ≡ next_waiter f ws m
 unfolding next_waiter
@@ -119,7 +119,7 @@ ends_before (suc h) f z y d = rw (ne_eqb z y d.0) (go d.1)
     go (inr p) = by_test (λ b. (if b then false else reaches_within h f (f z) y) ≡ false) (f z == 0)
         (λ _. refl) (λ _. stops h f (f z) y p.0 p.1)
 
--- who reaches y reaches it still, where only chains change that end before y
+-- who reaches y reaches it still, if only chains change that end before y
 reaches_same : (hops : ℕ) (f g : ℕ → ℕ) (y : ℕ)
     → ((z : ℕ) → (f z ≡ g z) ⊎ (EndsBefore f y z × EndsBefore g y z)) → (z : ℕ)
     → reaches_within hops f z y ≡ reaches_within hops g z y

@@ -95,7 +95,7 @@ undue-from_effect {t} {w} e =
 
 -- NOTING
 
--- where a call stays as it is, all does
+-- if a call stays as it is, all does
 pub same_call : (w : World) (t : ℕ) (f : Option Call → Option Call) → f (call_of w t) ≡ call_of w t
     → with_call_by t f w ≡ w
 same_call w t f e =

@@ -108,7 +108,7 @@ module _ (l : Bounds) where
           one_move_more t (unmoved t h) (inl refl) (record { allowed = g.allowed; acts = expires due e })
       go (move_acts due e) = by_effects (unmoved t h) e
 
-  -- t's timer is as before a Go where its call has a result then
+  -- t's timer is as before a Go if its call has a result then
   same_timer : {t : ℕ} {w u : World} → Goes t w u → (q : Request) (a : ℕ) → HasCome u t q (Has a)
       → (thread_at u t).timer ≡ (thread_at w t).timer
   same_timer {t} {w} {u} g q a before = go g.moves

@@ -24,7 +24,7 @@ use Rattle.pif_model.specs.World.Health.{Fine, Inconsistent, Unusable}
 use Rattle.pif_model.specs.World.Progress.{Fresh, Waiting, Stuck, Leaving, Has, Checked, Enlisted, Blocked, Reacquiring, Used}
 use Rattle.pif_model.specs.Posix.{World, Call, Health, Progress, Thread, thread_at, mutex_at, variable_at, is_living, is_mutex, is_orphaned, leads_to, next_of, rests, effective_of, is_blocked_on, is_still_blocked, with_thread, with_call_by, with_progress, with_waiter, without_waiter, with_no_owner, with_health, with_one_hold_more, with_one_hold_less, with_base, taken, named_by, on_release, used, after_unblocking, all_unblocked, is_due, after_timeout, begun_thread, without_call, after_end, after_owner_death, refusal_of, new_thread, new_mutex, new_variable}
 
--- what a function that does this effect leaves: the state, where a rule fits; else the state before
+-- what a function that does this effect leaves: the state, if a rule fits; else the state before
 pub data Does (old : World) (after : Option World) : Bool → World → Type 0 where
   did : {new : World} → after ≡ Some new → Does old after true new
   did_not : {new : World} → after ≡ None → new ≡ old → Does old after false new
@@ -42,7 +42,7 @@ locked_more t m w =
     if nat_lt (mutex_at w m).count most_holds then Some (with_progress t (Has 0) (with_one_hold_more m w))
     else (if (mutex_at w m).count == most_holds then Some (with_progress t (Has EAGAIN) w) else None)
 
--- the owner locks again, where that does this
+-- the owner locks again, if that does this
 abbrev pub relocked : Relock → ℕ → ℕ → World → Option World
 relocked Deadlocks t m w = Some (with_progress t Stuck w)
 relocked Answers t m w = Some (with_progress t (Has EDEADLK) w)
@@ -57,7 +57,7 @@ locked t m w =
     else (if leads_to w (mutex_at w m).owner t then Some (with_progress t (Has EDEADLK) w)
     else Some (with_progress t Waiting (with_waiter t m w)))))
 
--- the owner tries to lock again, where a lock by it does this
+-- the owner tries to lock again, if a lock by it does this
 abbrev pub retried : Relock → ℕ → ℕ → World → Option World
 retried Deadlocks t m w = Some (with_progress t (Has EBUSY) w)
 retried Answers t m w = Some (with_progress t (Has EBUSY) w)

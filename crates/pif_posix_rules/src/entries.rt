@@ -55,6 +55,10 @@ impl Wide {
     /// The states to which one entry of a history leads that a line shows. By the rule `revives`, the end of a thread may
     /// revive a mutex that it is giving up. It is remembered if the thread is blocked on a variable. All other entries
     /// lead where `State::enter` says. This state stays as it is.
+    ///
+    /// # Errors
+    ///
+    /// Out of memory, or a number got too great for a state.
     pub fn enter(
         &self,
         alloc: Global,

@@ -198,7 +198,11 @@ impl Wide {
     }
 
     /// The states to which one move of a thread leads, by the plain machine or by one of the rules that are allowed.
-    /// First come those of `State::moves`. None where it can do nothing, or was never added. This state stays as it is.
+    /// First come those of `State::moves`. None if it can do nothing, or was never added. This state stays as it is.
+    ///
+    /// # Errors
+    ///
+    /// Out of memory, or a number got too great for a state.
     pub fn moves(&self, alloc: Global, thread: u32, rules: &Rules) -> Result<Vec<Wide>, Stop>
         ensures sound { IfOk result (λ vs. All (λ v. WideMoves rules.now thread self.now v) vs.items) }
         ensures complete { IfOk result (λ vs. (v : Widened) → WideMoves rules.now thread self.now v → Contains vs.items v) }

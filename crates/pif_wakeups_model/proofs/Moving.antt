@@ -95,7 +95,7 @@ told_Passes {m = m} {w = w} {v = v} ok told (to_next u next some e) =
     told_taken u m (without_waiter u w) v (told_same {v = without_waiter u w} told refl)
     (record { request = o.0; progress = Waiting; come = o.1; anywhere = inr refl }) e
 
--- waiters still wait where a call that waits for no mutex comes further
+-- waiters still wait when a call that waits for no mutex comes further
 waiting_on : (w : World) (t : ℕ) (q : Request) (p o : Progress) → AreWaiting w → HasCome w t q p → p ≢ Waiting
     → AreWaiting (with_progress t o w)
 waiting_on w t q p o ok come n u m among =

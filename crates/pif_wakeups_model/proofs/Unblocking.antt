@@ -85,7 +85,7 @@ pub told_unblocked : {lines : List Line} {w : World} (t : ℕ) → AreTold lines
     → AreTold lines (with_call_by t after_unblocking w)
 told_unblocked {w = w} t told i = told_written t _ told (thread_unblocked t (thread_at w t) (told.each t) i)
 
--- requests stay where a call is unblocked, or comes further
+-- requests stay when a call is unblocked, or comes further
 kept_request : (o : Option Call) → request_of (after_unblocking o) ≡ request_of o
 kept_request None = refl
 kept_request (Some x) = refl
