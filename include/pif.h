@@ -11,7 +11,7 @@
    - give a handle to one call at a time. Between two calls it may pass to another thread, if you order the calls, as by
      a lock, a thread's start or a join. Different handles share nothing;
    - give a pointer to a handle that is there, and to as many bytes as you say, which no other argument shares. No
-     argument is a null pointer, not even where a length is 0;
+     argument is a null pointer, not even if a length is 0;
    - don't call from a signal handler, or in the child of a fork of a process with threads.
 
    All else is answered. A handle with no core, numbers that name nothing, and limits out of range are told by the
@@ -53,7 +53,7 @@ enum pif_result {
     PIF_NO_MEMORY = 8  /* malloc refused a request */
 };
 
-/* A number, 0 where `result` isn't PIF_OK. */
+/* A number, 0 if `result` isn't PIF_OK. */
 typedef struct pif_number {
     uint32_t result; /* enum pif_result */
     uint32_t number;
@@ -99,7 +99,7 @@ typedef struct pif_seen {
     uint32_t detail; /* of PIF_ANSWERED and PIF_REFUSED, else 0 */
 } pif_seen;
 
-/* Why an event was refused. Where several hold it is the first in this order: of the thread PIF_NO_SUCH, then PIF_DEAD,
+/* Why an event was refused. If several hold it is the first in this order: of the thread PIF_NO_SUCH, then PIF_DEAD,
    then PIF_BUSY or PIF_IDLE, then PIF_NO_SUCH of what the call names. */
 enum pif_refusal {
     PIF_NO_SUCH = 1, /* the thread was never added, or the call names what was never added */
@@ -261,39 +261,42 @@ pif_seen pif_tick(pif_core *core, uint32_t time);
 /* READERS: the core is the same afterwards. Each answers PIF_NO_CORE on a handle with no core. */
 
 /* The effective priority of a thread, 1 to 99: the greatest base priority of it and of all that wait for it through any
-   chain. PIF_NONE where no living thread has that number. */
+   chain. PIF_NONE if no living thread has that number. */
 pif_number pif_effective(pif_core *core, uint32_t thread);
 
-/* Whether a thread rests, 1, or may take a step, 0. PIF_NONE where no living thread has that number, or that thread has
+/* Whether a thread rests, 1, or may take a step, 0. PIF_NONE if no living thread has that number, or that thread has
    no call open. */
 pif_number pif_waiting(pif_core *core, uint32_t thread);
 
-/* The word of a mutex. PIF_NONE where it was never added. */
+/* The word of a mutex. PIF_NONE if it was never added. */
 pif_number pif_word(pif_core *core, uint32_t mutex);
 
-/* The health of a mutex (enum pif_health_of). PIF_NONE where it was never added. */
+/* The health of a mutex (enum pif_health_of). PIF_NONE if it was never added. */
 pif_number pif_health(pif_core *core, uint32_t mutex);
 
-/* The condition word of a variable: how often it was signalled and broadcast. PIF_NONE where it was never added. */
+/* The condition word of a variable: how often it was signalled and broadcast. PIF_NONE if it was never added. */
 pif_number pif_cond_word(pif_core *core, uint32_t cond);
 
 /* The thread that runs next: of the ready threads of greatest effective priority the first that joined them. PIF_NONE
-   where no thread is ready. */
+   if no thread is ready. */
 pif_number pif_pick(pif_core *core);
 
-/* The owner of a mutex, also one that has ended, and how often it holds the mutex. PIF_NONE where nobody owns it, or it
+/* The owner of a mutex, also one that has ended, and how often it holds the mutex. PIF_NONE if nobody owns it, or it
    was never added. */
 pif_owned pif_owner(pif_core *core, uint32_t mutex);
 
-/* What a thread does (enum pif_state). PIF_NONE where it was never added. */
+/* What a thread does (enum pif_state). PIF_NONE if it was never added. */
 pif_doing pif_status(pif_core *core, uint32_t thread);
 
-/* TEXTS: bytes in, bytes out. No handle is used. */
+/* TEXTS: bytes in, bytes out. No handle is used: any number of threads may call these at once, if your malloc allows
+   that. A text is written to the start of the room if all of it fits, and no other byte of the room changes. Else the
+   room stays as it is. */
 
 /* How a job ended. The text that is written says more. */
 enum pif_ended_by {
     PIF_WHOLE = 0,         /* the text was read to its end; a history is legal */
-    PIF_FAULT = 1,         /* a line is no command, or is not allowed there */
+    PIF_FAULT = 1,         /* a line is no command, is not allowed there, has limits out of range, is too long or cut
+                              off; or the text is too large */
     PIF_DIFFERS = 2,       /* a line has another answer than the core gives; a history is illegal at a line */
     PIF_OUT_OF_MEMORY = 3, /* malloc refused a request */
     PIF_UNWRITTEN = 4,     /* malloc refused room for the text that is to be written, which is cut */
@@ -303,7 +306,7 @@ enum pif_ended_by {
 
 typedef struct pif_text {
     uint32_t ended; /* enum pif_ended_by */
-    size_t wanted;  /* how many bytes the text has. Where the room is smaller nothing was written: ask with more */
+    size_t wanted;  /* how many bytes the text has. If the room is smaller nothing was written: ask with more */
 } pif_text;
 
 /* Runs a script, and writes what `pif run` prints. */

@@ -19,7 +19,7 @@ pub enum Crowd {
     Desk(Mutexes, u32),
 }
 
-/// How many thousand events there were a second, where there were so many in such a time.
+/// How many thousand events there were a second, if there were so many in such a time.
 fn thousands(events: usize, time: Duration) -> u128 {
     let microseconds = time.as_micros();
     if microseconds == 0 {
@@ -28,8 +28,8 @@ fn thousands(events: usize, time: Duration) -> u128 {
     events as u128 * 1000 / microseconds
 }
 
-/// Runs a benchmark. Answers how many thousand events there were a second. `None` where memory is refused, a thread
-/// can't be started, the clock has a fault, or the desk doesn't settle.
+/// Runs a benchmark. Answers how many thousand events there were a second. `None` if memory is refused, a thread can't
+/// be started, the clock has a fault, or the desk doesn't settle.
 pub fn thousands_of<R: Clock + Threads + Wait + Sync + AllocGlobal>(
     rt: &R,
     crowd: Crowd,

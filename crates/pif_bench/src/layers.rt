@@ -21,7 +21,7 @@ pub enum Layer {
     Core(Room, Scene),
 }
 
-/// How many threads the chain has along which a benchmark goes; 0 where it goes along none.
+/// How many threads the chain has along which a benchmark goes; 0 if it goes along none.
 pub fn depth_of(layer: Layer) -> u32 {
     match layer {
         Layer::Core(_, Scene::LastLock(depth) | Scene::SetPrio(depth)) => depth,
@@ -29,8 +29,8 @@ pub fn depth_of(layer: Layer) -> u32 {
     }
 }
 
-/// Runs a benchmark. Answers how many nanoseconds what it measures took. `None` where memory is refused or the clock
-/// has a fault.
+/// Runs a benchmark. Answers how many nanoseconds what it measures took. `None` if memory is refused or the clock has a
+/// fault.
 pub fn nanoseconds_of(rt: &(impl Clock + AllocGlobal), layer: Layer) -> Option<u64> {
     match layer {
         Layer::Lists(priorities) => lists::nanoseconds_each(rt, priorities),

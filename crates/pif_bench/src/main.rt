@@ -18,7 +18,7 @@ use std::sync::Wait;
 use std::thread::Threads;
 use std::{env, io};
 
-/// The status where the words name no benchmark.
+/// The status if the words name no benchmark.
 const REFUSED: u8 = 1;
 
 /// How the program ends, unless it fails to print.
@@ -37,7 +37,7 @@ fn refuse(rt: &impl Eprint, name: &str) -> io::Result<()> {
     eprintln!(rt; "no benchmark {name}; with no name its names are printed")
 }
 
-/// Ends so where something was printed.
+/// Ends so if something was printed.
 fn ends(printed: io::Result<()>, ending: Ending) -> io::Result<Ending> {
     match printed {
         Ok(()) => Ok(ending),

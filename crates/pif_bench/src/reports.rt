@@ -25,7 +25,7 @@ pub enum Report {
 }
 
 /// What a layer took, in nanoseconds, and pairs of bare compare-exchanges of the same run. It went along a chain of so
-/// many threads, or along none where that is 0.
+/// many threads, or along none if that is 0.
 #[derive(Clone, Copy)]
 pub struct Layered {
     nanoseconds: u64,
@@ -34,7 +34,7 @@ pub struct Layered {
 }
 
 impl Layered {
-    /// The picoseconds that each hop of the chain took, or all where there is none.
+    /// The picoseconds that each hop of the chain took, or all if there is none.
     fn hop(&self) -> u64 {
         self.nanoseconds.saturating_mul(1000) / u64::from(self.depth.max(1))
     }
@@ -56,8 +56,8 @@ fn measure_layer(rt: &(impl Clock + AllocGlobal), layer: Layer) -> Option<Layere
     })
 }
 
-/// Runs a benchmark. `None` where memory is refused, a thread can't be started, the clock has a fault, or a desk
-/// doesn't settle.
+/// Runs a benchmark. `None` if memory is refused, a thread can't be started, the clock has a fault, or a desk doesn't
+/// settle.
 pub fn report_of<R: Clock + Threads + Wait + Sync + AllocGlobal>(
     rt: &R,
     benchmark: Benchmark,

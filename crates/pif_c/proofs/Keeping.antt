@@ -21,7 +21,7 @@ use Rattle.pif_c.specs.declared.adding.Addition.TheVariants.{Thread, Mutex, Cond
 use Rattle.pif_c.specs.Asking.{outcome_of, turn_after, added, added_after, add_after}
 use Rattle.pif_c.specs.Standing.{after_turn, entry_of, Keeps, HeldKeeps, HeldKeepsAdded}
 
--- where a core stands on, POSIX allows the longer history, and no mutex ever has two holders in it
+-- if a core stands on, POSIX allows the longer history, and no mutex ever has two holders in it
 keeps_by : (longer : List Entry → List Entry) (s after : Table)
     → ((h : List Entry) (r : List World) (w : World) → Stands s h r w → StandsOn after (longer h) r w)
     → Keeps longer s after

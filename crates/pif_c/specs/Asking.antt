@@ -1,4 +1,4 @@
--- What a handle answers to what C asks: what its core answers, where it holds one and the numbers name something.
+-- What a handle answers to what C asks: what its core answers, if it holds one and the numbers name something.
 use Rattle.std.specs.Prelude.{ℕ, ◌≡◌, ◌==◌, Bool, Option, Some, None, option_map, Result, if◌then◌else◌}
 use Rattle.pif_types.specs.declared.errors.AddFault.{AddFault}
 use Rattle.pif_model.specs.declared.events.Event.TheVariants.{Begin, Go, End, Tick}

@@ -1,4 +1,4 @@
--- What a handle's core keeps: where it stands it goes on standing, and its history stays legal, with one holder of each
+-- What a handle's core keeps: if it stands it goes on standing, and its history stays legal, with one holder of each
 -- mutex. A new core stands after the empty history.
 use Rattle.std.specs.Prelude.{ℕ, ◌≡◌, [], ◌∷◌, List, Option, Some, None, IfOk}
 use Rattle.pif_types.specs.Bounds.{Bounds, IsWithin}
@@ -34,7 +34,7 @@ after_turn (OneEvent e) s h = Happened e (event_outcome e s).seen ∷ h
 after_turn (Call t q) s h = after_call t q s h
 after_turn (Finish t) s h = after_finish t s h
 
--- what a turn keeps of what a handle holds, before and afterwards, where the numbers name one
+-- what a turn keeps of what a handle holds, before and afterwards, if the numbers name one
 abbrev pub HeldKeeps : Option Turn → Option Table → Option Table → Type 0
 HeldKeeps (Some x) (Some s) (Some after) = Keeps (after_turn x s) s after
 HeldKeeps x s after = Unit {0}
@@ -67,7 +67,7 @@ pub record Adds (x : Option Addition) (before after : Option Table) (told : PifN
 -- CORES
 
 -- a new core under these limits, on what a handle held: what it holds then, and the result. The core stands after the
--- empty history. It is refused where there is a core already, or a limit is outside its range; where the heap refuses a
+-- empty history. It is refused if there is a core already, or a limit is outside its range; if the heap refuses a
 -- request there is no core
 pub data IsMade (l : Bounds) : Option Table → Option Table → ℕ → Type 0 where
   made : IsWithin l → Stands (new_table l) [] [] (empty_world l.signals) → IsMade l None (Some (new_table l)) 0

@@ -44,7 +44,7 @@ JudgesAlone told r before left held holds done = JudgesTo told r before left hel
 abbrev pub Wholly : {E : Type 0} → Job E → List ℕ → List ℕ → Result (Unit {0}) E → Type 0
 Wholly Does input text done = (left : Option (List ℕ)) × Does (Some input) left (Some []) (Some text) done
 
--- a text is handed out into room for bytes: the room begins with it where it fits, and else is as it was
+-- a text is handed out into room for bytes: the room begins with it if it fits, and else is as it was
 pub record IsHandedOut (text : List ℕ) (ended : ℕ) (before after : List ℕ) (told : PifText) : Type 0 where
   pub is_ended : told.ended ≡ ended
   pub is_wanted : told.wanted ≡ length text

@@ -15,7 +15,7 @@ use std::alloc::Global;
 pub enum Addition {
     /// A thread of this base priority.
     Thread(u32),
-    /// A mutex of this kind; true where it is robust.
+    /// A mutex of this kind; true if it is robust.
     Mutex(Kind, bool),
     /// A condition variable, bound to this mutex.
     Cond(u32),
@@ -54,7 +54,7 @@ fn add_cond(core: &mut Core, mutex: u32) -> Result<u32, AddFault>
     }
 }
 
-/// An addition to a core, where the numbers name one.
+/// An addition to a core, if the numbers name one.
 fn add(core: &mut Core, asked: Option<Addition>) -> PifNumber
     ensures answer { result ≡ add_told asked (Some core.old) }
     ensures after { Some core.new ≡ add_after asked (Some core.old) }
@@ -104,7 +104,7 @@ pub extern "C" fn pif_add_thread(alloc: Global, handle: &mut PifCore, prio: u32)
     add_on(alloc, handle, Some(Addition::Thread(prio)))
 }
 
-/// Adds a mutex of this kind, robust or stalled: `Core::add_mutex`. Where no kind has that number, nothing has changed.
+/// Adds a mutex of this kind, robust or stalled: `Core::add_mutex`. If no kind has that number, nothing has changed.
 #[unsafe(no_mangle)]
 pub extern "C" fn pif_add_mutex(
     alloc: Global,

@@ -25,7 +25,7 @@ pub enum Turn {
 pub enum Look {
     /// The effective priority of this thread.
     Effective(u32),
-    /// Whether this thread rests: 1 where it does, else 0.
+    /// Whether this thread rests: 1 if it does, else 0.
     Waiting(u32),
     /// The word of this mutex.
     Word(u32),
@@ -50,7 +50,7 @@ fn take_turn(core: &mut Core, turn: Turn) -> Seen
     }
 }
 
-/// A turn of the core that a handle holds, where the numbers name one.
+/// A turn of the core that a handle holds, if the numbers name one.
 #[inline(always)]
 #[tactic(auto, using(crate::proofs::Keeping::keeps_after))]
 pub(crate) fn turn_on(alloc: Global, handle: &mut PifCore, asked: Option<Turn>) -> PifSeen
@@ -66,7 +66,7 @@ pub(crate) fn turn_on(alloc: Global, handle: &mut PifCore, asked: Option<Turn>) 
     }
 }
 
-/// A turn of a core, where the numbers name one.
+/// A turn of a core, if the numbers name one.
 #[inline(always)]
 fn told_turn(core: &mut Core, asked: Option<Turn>) -> PifSeen
     ensures answer { result ≡ turn_told asked (Some core.old) }

@@ -8,7 +8,7 @@ use pif_core::Core;
 use pif_types::Limits;
 use std::alloc::Global;
 
-/// A new core in its block: none where the heap refuses a request.
+/// A new core in its block: none if the heap refuses a request.
 fn boxed(alloc: Global, limits: Limits) -> Option<Box<Core>>
     ensures { IfSome result (λ core. core.value ≡ new_table limits) }
 {
@@ -17,8 +17,8 @@ fn boxed(alloc: Global, limits: Limits) -> Option<Box<Core>>
 }
 
 /// Has a handle hold a new core under these limits, to which nothing was added: 0, or why not, and then it holds what
-/// it held. It is refused where the handle holds a core already (`Full`), or where a limit is outside its range
-/// (`Invalid`), and fails where the heap refuses a request (`NoMemory`).
+/// it held. It is refused if the handle holds a core already (`Full`), or if a limit is outside its range (`Invalid`),
+/// and fails if the heap refuses a request (`NoMemory`).
 #[unsafe(no_mangle)]
 pub extern "C" fn pif_core_new(
     alloc: Global,

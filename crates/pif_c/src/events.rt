@@ -49,7 +49,7 @@ fn finish_of(thread: u32) -> Option<Turn>
     Some(Turn::Finish(Tid::new(thread)?))
 }
 
-/// A thread begins a call: `Core::step` of `Event::Begin`. Where a number names nothing, nothing has changed.
+/// A thread begins a call: `Core::step` of `Event::Begin`. If a number names nothing, nothing has changed.
 #[unsafe(no_mangle)]
 pub extern "C" fn pif_begin(
     alloc: Global,

@@ -26,7 +26,7 @@ impl PifCore {
         }
     }
 
-    /// Lets it go, where it holds no core.
+    /// Lets it go. It has to hold no core.
     #[inline(always)]
     pub(crate) fn let_go(self)
         requires { self.full ≡ false }

@@ -45,7 +45,7 @@ impl PifCore {
         std::mem::replace(self, PifCore::empty(alloc)).into_core()
     }
 
-    /// Has it hold this core, where it holds none.
+    /// Has it hold this core. It has to hold none.
     #[inline(always)]
     pub(crate) fn put(&mut self, core: Box<Core>)
         requires { held self.old ≡ None }

@@ -42,7 +42,7 @@ impl<T, A: Allocator> Opened<T, A> {
 
 /// A core in its block, or none, behind a pointer whose type C knows: a pointer to a type of Rattle doesn't cross to C.
 /// It can't be dropped, so that no core is ever forgotten: `into_opened` gives back the one that it has, and `let_go`
-/// is for where it has none.
+/// is for one that has none.
 #[repr(C)]
 pub struct Loose {
     at: *mut u8,
@@ -92,7 +92,7 @@ impl Loose {
         }
     }
 
-    /// Lets it go, where there is no core.
+    /// Lets it go. There has to be no core.
     #[inline(always)]
     pub(crate) fn let_go(self)
         requires { self.holds ≡ false }

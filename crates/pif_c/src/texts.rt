@@ -16,9 +16,9 @@ use std::alloc::Global;
 #[repr(C)]
 #[derive(Clone, Copy, Drop)]
 pub struct PifText {
-    /// How the job ended (`enum pif_ended`).
+    /// How the job ended (`enum pif_ended_by`).
     pub ended: u32,
-    /// How many bytes its text has. Where the room is smaller, no byte of it was written.
+    /// How many bytes its text has. If the room is smaller, no byte of it was written.
     pub wanted: usize,
 }
 
@@ -56,7 +56,7 @@ fn judged_number(done: Result<(), JudgeFault>) -> u32
     }
 }
 
-/// Writes a text to the start of `out`, where there is room for all of it; else `out` stays as it is.
+/// Writes a text to the start of `out`, if there is room for all of it; else `out` stays as it is.
 fn hand_out(text: &Vec<u8>, ended: u32, out: &mut [u8]) -> PifText
     ensures { IsHandedOut text.now.items ended out.old out.new result }
 {
@@ -119,7 +119,7 @@ fn judge_whole(
     (text, done)
 }
 
-/// Runs a script, and writes what `pif run` prints to the start of `out`, where there is room for all of it; else `out`
+/// Runs a script, and writes what `pif run` prints to the start of `out`, if there is room for all of it; else `out`
 /// stays as it is.
 #[unsafe(no_mangle)]
 pub extern "C" fn pif_run(alloc: Global, script: &[u8], out: &mut [u8]) -> PifText
@@ -129,7 +129,7 @@ pub extern "C" fn pif_run(alloc: Global, script: &[u8], out: &mut [u8]) -> PifTe
     hand_out(&text, ended_number(done), out)
 }
 
-/// Replays a trace, and writes what `pif replay` prints to the start of `out`, where there is room for all of it; else
+/// Replays a trace, and writes what `pif replay` prints to the start of `out`, if there is room for all of it; else
 /// `out` stays as it is.
 #[unsafe(no_mangle)]
 pub extern "C" fn pif_replay(alloc: Global, trace: &[u8], out: &mut [u8]) -> PifText
@@ -139,8 +139,8 @@ pub extern "C" fn pif_replay(alloc: Global, trace: &[u8], out: &mut [u8]) -> Pif
     hand_out(&text, ended_number(done), out)
 }
 
-/// Checks a story of this name, and writes what `pif check` prints to the start of `out`, where there is room for all
-/// of it; else `out` stays as it is.
+/// Checks a story of this name, and writes what `pif check` prints to the start of `out`, if there is room for all of
+/// it; else `out` stays as it is.
 #[unsafe(no_mangle)]
 pub extern "C" fn pif_check(alloc: Global, name: &[u8], story: &[u8], out: &mut [u8]) -> PifText
     ensures { HandsOut (TellsTo (check_telling name.now)) ended_number story.now out.old out.new result }
@@ -150,8 +150,8 @@ pub extern "C" fn pif_check(alloc: Global, name: &[u8], story: &[u8], out: &mut 
 }
 
 /// Judges a history, with at most so many states made for a line, and writes what `pif judge` prints, with the witness
-/// of a legal one if that is asked for, to the start of `out`, where there is room for all of it; else `out` stays as
-/// it is.
+/// of a legal one if that is asked for, to the start of `out`, if there is room for all of it; else `out` stays as it
+/// is.
 #[unsafe(no_mangle)]
 pub extern "C" fn pif_judge(
     alloc: Global,

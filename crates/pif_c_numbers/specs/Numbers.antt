@@ -107,7 +107,7 @@ seen_reported Ended = record { what = 5; detail = 0 }
 seen_reported Ticked = record { what = 6; detail = 0 }
 seen_reported (Refused r) = record { what = 7; detail = refusal_number r }
 
--- what is answered where the handle holds no core, and where a number names nothing
+-- what is answered if the handle holds no core, and if a number names nothing
 abbrev pub nothing_seen : PifSeen
 nothing_seen = record { what = 0; detail = 0 }
 
@@ -116,7 +116,7 @@ unnamed_seen = record { what = 8; detail = 0 }
 
 -- CALLS: `enum pif_kind_of_call`
 
--- this, where the number names something: numbers of threads, mutexes and condition variables begin at 1
+-- this, if the number names something: numbers of threads, mutexes and condition variables begin at 1
 abbrev pub where_named : {A : Type 0} → ℕ → A → Option A
 where_named n x = if n == 0 then None else Some x
 

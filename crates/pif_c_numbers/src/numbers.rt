@@ -14,29 +14,29 @@ pub struct PifSeen {
     pub detail: u32,
 }
 
-/// A number, where there is one.
+/// A number, if there is one.
 #[repr(C)]
 #[derive(Clone, Copy, Drop)]
 pub struct PifNumber {
     /// 0, or why there is none (`enum pif_result`).
     pub result: u32,
-    /// The number, 0 where there is none.
+    /// The number, 0 if there is none.
     pub number: u32,
 }
 
-/// The owner of a mutex, where there is one.
+/// The owner of a mutex, if there is one.
 #[repr(C)]
 #[derive(Clone, Copy, Drop)]
 pub struct PifOwned {
     /// 0, or why there is none (`enum pif_result`).
     pub result: u32,
-    /// Its number, 0 where there is none.
+    /// Its number, 0 if there is none.
     pub thread: u32,
     /// How often it holds the mutex.
     pub count: u32,
 }
 
-/// What a thread does, where it was added.
+/// What a thread does, if it was added.
 #[repr(C)]
 #[derive(Clone, Copy, Drop)]
 pub struct PifDoing {
@@ -175,7 +175,7 @@ pub fn doing_told(status: Status) -> PifDoing
     }
 }
 
-/// The call that these numbers name, where each number that it needs names something.
+/// The call that these numbers name, if each number that it needs names something.
 #[inline(always)]
 pub fn request_of(asked: PifRequest) -> Option<Request>
     ensures { result ≡ request_of asked }

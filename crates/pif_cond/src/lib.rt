@@ -4,8 +4,8 @@
 //! A thread with a call open stands at a place of that call. A step, `advance`, does what the line of the place says.
 //! The thread then goes on to another place, waits, or is answered; a number or the name of an error is an answer, and
 //! closes the call. A wait reads the condition word before it gives its mutex up, `v`, and carries it along: the kernel
-//! parks the thread only where the word is still that, so that no signal between the two is lost (FUTEX_WAIT_REQUEUE_PI
-//! of futex(2)). What a stalled mutex comes to stands after 'stalled'.
+//! parks the thread only if the word is still that, so that no signal between the two is lost (FUTEX_WAIT_REQUEUE_PI of
+//! futex(2)). What a stalled mutex comes to stands after 'stalled'.
 //!
 //! | Place | The step | Then |
 //! |---|---|---|

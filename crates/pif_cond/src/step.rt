@@ -20,12 +20,12 @@ use pif_mutex::{Lines, Parts, Progress, State};
 use pif_types::{CondId, Errno, MutexId, Request, Tid};
 
 /// The thread, which lives and has a wait, a signal or a broadcast open, takes one step of it: one access of one word,
-/// one write of its robust list, one kernel call, or the answer with no access where the variable is bound to another
-/// mutex, and after a stalled mutex was handed to it; or it waits, and nothing changes. A wait that is parked and
-/// whose deadline is reached expires, by the kernel call expire, and does nothing else; after that it is answered
-/// ETIMEDOUT in place of 0 (POSIX, pthread_cond_wait, pthread_cond_timedwait, pthread_cond_signal and
-/// pthread_cond_broadcast; futex(2), FUTEX_WAIT_REQUEUE_PI and FUTEX_CMP_REQUEUE_PI). Whoever owns a mutex after the
-/// step and did not before holds it once: the thread, the next waiter, or a thread that was parked.
+/// one write of its robust list, one kernel call, or the answer with no access if the variable is bound to another
+/// mutex, and after a stalled mutex was handed to it; or it waits, and nothing changes. A wait that is parked and whose
+/// deadline is reached expires, by the kernel call expire, and does nothing else; after that it is answered ETIMEDOUT
+/// in place of 0 (POSIX, pthread_cond_wait, pthread_cond_timedwait, pthread_cond_signal and pthread_cond_broadcast;
+/// futex(2), FUTEX_WAIT_REQUEUE_PI and FUTEX_CMP_REQUEUE_PI). Whoever owns a mutex after the step and did not before
+/// holds it once: the thread, the next waiter, or a thread that was parked.
 #[inline(always)]
 pub fn advance<K: PiKernel + Drop>(parts: &mut Parts<K>, t: Tid) -> Progress
     requires living { is_living parts.old.kernel t ≡ true }
@@ -81,7 +81,7 @@ fn go<K: PiKernel + Drop>(state: &mut State<K>, request: Request, place: Place, 
     }
 }
 
-/// One step of a wait. Where it is not on the variable it is one on the mutex.
+/// One step of a wait. If it is not on the variable it is one on the mutex.
 #[inline(always)]
 #[tactic(auto, using(crate::proofs::Stepping::load_goes, crate::proofs::Stepping::uses_goes, crate::proofs::Stepping::park_goes))]
 fn wait_step<K: PiKernel + Drop>(

@@ -57,7 +57,7 @@ fn use_read<K: PiKernel + Drop>(
     }
 }
 
-/// Compare-exchange of the condition word from `uses`, which is below its limit, to one more. Where it fails it goes on
+/// Compare-exchange of the condition word from `uses`, which is below its limit, to one more. If it fails it goes on
 /// with what the word is.
 #[tactic(auto, unfolding(pif_model::specs::Lines::use_exchange))]
 pub(crate) fn use_exchange<K: PiKernel + Drop>(
@@ -80,8 +80,8 @@ pub(crate) fn use_exchange<K: PiKernel + Drop>(
     }
 }
 
-/// The kernel call cmp_requeue_pi (FUTEX_CMP_REQUEUE_PI of futex(2)), for the mutex to which the variable is bound.
-/// Where the variable was used since the word is loaded again. It is a function of its own, so that its locals cost the
+/// The kernel call cmp_requeue_pi (FUTEX_CMP_REQUEUE_PI of futex(2)), for the mutex to which the variable is bound. If
+/// the variable was used since, the word is loaded again. It is a function of its own, so that its locals cost the
 /// other steps nothing.
 #[inline(never)]
 #[tactic(auto, unfolding(pif_model::specs::Lines::use_requeue, pif_model::specs::Lines::use_by), using(pif_model_simulation::proofs::events::KernelLeaves::requeue_keeps_threads))]

@@ -65,8 +65,8 @@ pub(crate) fn wait_uses<K: PiKernel + Drop>(
 }
 
 /// The kernel call wait_requeue_pi (FUTEX_WAIT_REQUEUE_PI of futex(2)), which expects the condition word that was read
-/// before the mutex was given up. Where the variable was used since the thread is not parked, and locks the mutex
-/// again. It is a function of its own, so that its locals cost the other steps nothing.
+/// before the mutex was given up. If the variable was used since, the thread is not parked, and locks the mutex again.
+/// It is a function of its own, so that its locals cost the other steps nothing.
 #[inline(never)]
 #[tactic(auto, unfolding(pif_model::specs::Lines::wait_park, pif_model::specs::Lines::wait_by), using(pif_model_simulation::proofs::events::KernelLeaves::wait_requeue_keeps_threads))]
 pub(crate) fn wait_park<K: PiKernel + Drop>(
@@ -89,7 +89,7 @@ pub(crate) fn wait_park<K: PiKernel + Drop>(
     }
 }
 
-/// A wait that was parked: where it is due it expires, and else it goes on as it was parked. Once it has expired it is
+/// A wait that was parked: if it is due it expires, and else it goes on as it was parked. Once it has expired it is
 /// answered ETIMEDOUT in place of 0.
 #[inline(never)]
 pub(crate) fn wait_stay_parked<K: PiKernel + Drop>(

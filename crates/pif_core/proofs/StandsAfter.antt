@@ -89,7 +89,7 @@ module _ (s : Table) (h : List Entry) (r : List World) (w : World) (st : Stands 
   pub pick_stands : IsPick w (pick_in s.kernel)
   pick_stands = subst (λ u. IsPick u (pick_in s.kernel)) (sym st.shows) (pick_runs st.sound st.history_variables)
 
-  -- a mutex's health word is possible, and OWNER_DIED where it doesn't say that the mutex is inconsistent
+  -- a mutex's health word is possible, and OWNER_DIED if it doesn't say that the mutex is inconsistent
   health_stands : (m : ℕ) → has_mutex s m ≡ true → IsPossibleHealth w m (cell_at s m).health
   health_stands m known =
       subst (λ u. IsPossibleHealth u m (cell_at s m).health) (sym st.shows)
@@ -236,7 +236,7 @@ both_answered s m o h r w st e =
 
 -- WHO RESTS
 
--- a living thread rests where it may not run
+-- a living thread rests if it may not run
 rests_said : (s : Table) (t : ℕ) (h : List Entry) (r : List World) (w : World) → Stands s h r w
     → is_living s.kernel t ≡ true → (if is_ready (status_at s t) then false else true) ≡ rests w t
 rests_said s t h r w st k =
@@ -248,7 +248,7 @@ rests_said s t h r w st k =
 abbrev rests_on : World → ℕ → Bool
 rests_on w t = if rests w t then (if is_due w t then false else true) else false
 
--- a living thread rests on where it may not run and its call is not due
+-- a living thread rests on if it may not run and its call is not due
 rests_on_said : (s : Table) (t : ℕ) (h : List Entry) (r : List World) (w : World) → Stands s h r w
     → is_living s.kernel t ≡ true
     → (if is_ready (status_at s t) then false else (if is_due_in s t then false else true)) ≡ rests_on w t

@@ -48,7 +48,7 @@ impl Model for Core {
 
 impl Core {
     /// A core under these limits to which nothing was added. It takes all the memory that it will ever need, piece by
-    /// piece, and fails where one of them is refused.
+    /// piece. `NoMemory` if a piece is refused.
     pub fn new(alloc: Global, limits: Limits) -> Result<Core, NoMemory>
         ensures made { IfOk result (λ c. c ≡ new_table limits) }
         ensures stands { IfOk result (λ c. (w : World) × Stands c [] [] w) }
@@ -60,8 +60,8 @@ impl Core {
         Ok(Core { parts })
     }
 
-    /// Adds a thread of base priority `prio`, 1 to 99, with no call open: the next number from 1. `BadPrio` where the
-    /// priority is outside its range, else `TooMany` where the limit is reached; nothing has changed then.
+    /// Adds a thread of base priority `prio`, 1 to 99, with no call open: the next number from 1. `BadPrio` if the
+    /// priority is outside its range, else `TooMany` if the limit is reached; nothing has changed then.
     pub fn add_thread(&mut self, prio: u32) -> Result<Tid, AddFault>
         ensures answer { result ≡ add_thread_answer prio self.old }
         ensures after { self.new ≡ add_thread_after prio result self.old }
@@ -79,7 +79,7 @@ impl Core {
     }
 
     /// Adds a mutex of this kind, free and fine, which is robust or stalled (pthread_mutexattr_settype and
-    /// pthread_mutexattr_setrobust of POSIX): the next number from 1. `TooMany` where the limit is reached; nothing has
+    /// pthread_mutexattr_setrobust of POSIX): the next number from 1. `TooMany` if the limit is reached; nothing has
     /// changed then.
     pub fn add_mutex(&mut self, kind: Kind, robust: bool) -> Result<MutexId, AddFault>
         ensures answer { result ≡ add_mutex_answer self.old }
@@ -94,10 +94,10 @@ impl Core {
         }
     }
 
-    /// Adds a condition variable that was never used, and binds it to this mutex for good (pthread_cond_init of POSIX,
-    /// where a wait binds it): the next number from 1. A pthread_cond_wait that names it with another mutex is answered
-    /// EINVAL at its first step. `NoSuch` where the mutex was never added, else `TooMany` where the limit is reached;
-    /// nothing has changed then.
+    /// Adds a condition variable that was never used, and binds it to this mutex for good (pthread_cond_init of POSIX;
+    /// there a wait binds it): the next number from 1. A pthread_cond_wait that names it with another mutex is answered
+    /// EINVAL at its first step. `NoSuch` if the mutex was never added, else `TooMany` if the limit is reached; nothing
+    /// has changed then.
     pub fn add_cond(&mut self, mutex: MutexId) -> Result<CondId, AddFault>
         ensures answer { result ≡ add_cond_answer mutex self.old }
         ensures after { self.new ≡ add_cond_after mutex result self.old }
@@ -114,12 +114,12 @@ impl Core {
         }
     }
 
-    /// One event: what it is answered. It is refused, and nothing changes, by the first of these that holds: `NoSuch`
-    /// where the thread was never added, `Dead` where it has ended, `Busy` where a thread with a call open begins one,
-    /// `Idle` where a thread goes on that has none, and `NoSuch` where the mutex or the condition variable of a call
-    /// was never added. A tick, which belongs to no thread, is refused, by `Past`, where it would set the time back. A
-    /// thread may end at any point, with a call open or not. A call that is open closes or waits within 24 steps of its
-    /// thread, where no other event comes between.
+    /// One event: what it is answered. It is refused, and nothing changes, by the first of these that holds. `NoSuch`:
+    /// the thread was never added. `Dead`: it has ended. `Busy`: a thread with a call open begins one. `Idle`: a thread
+    /// goes on that has none. `NoSuch`: the mutex or the condition variable of a call was never added. A tick, which
+    /// belongs to no thread, is refused, by `Past`, if it would set the time back. A thread may end at any point, with
+    /// a call open or not. A call that is open closes or waits within 24 steps of its thread, if no other event comes
+    /// between.
     #[inline(always)]
     pub fn step(&mut self, event: Event) -> Seen
         ensures seen { result ≡ (event_outcome event self.old).seen }
@@ -135,7 +135,7 @@ impl Core {
     }
 
     /// The effective priority of a thread: the greatest base priority of it and of all that wait for it through any
-    /// chain. `None` where no living thread has that number.
+    /// chain. `None` if no living thread has that number.
     pub fn effective(&self, thread: Tid) -> Option<Prio>
         ensures value { result ≡ effective_answer thread self.now }
         ensures added { WhereStands self.now (λ h r w. is_some result ≡ lives w thread) }
@@ -144,7 +144,7 @@ impl Core {
         self.parts.effective(thread)
     }
 
-    /// The 32 bits of the word of a mutex. `None` where it was never added.
+    /// The 32 bits of the word of a mutex. `None` if it was never added.
     pub fn word(&self, mutex: MutexId) -> Option<u32>
         ensures value { result ≡ word_answer mutex self.now }
         ensures added { WhereStands self.now (λ h r w. is_some result ≡ is_mutex w mutex) }
@@ -154,7 +154,7 @@ impl Core {
     }
 
     /// The health of a mutex, as its health word has it. Right after its owner ended it is still what it was: who takes
-    /// the mutex next writes it. That of a stalled mutex is `Fine`. `None` where the mutex was never added.
+    /// the mutex next writes it. That of a stalled mutex is `Fine`. `None` if the mutex was never added.
     pub fn health(&self, mutex: MutexId) -> Option<Health>
         ensures value { result ≡ health_answer mutex self.now }
         ensures added { WhereStands self.now (λ h r w. is_some result ≡ is_mutex w mutex) }
@@ -167,7 +167,7 @@ impl Core {
     }
 
     /// The condition word of a variable: how often it was used, by pthread_cond_signal and pthread_cond_broadcast
-    /// together, 0 up to the limit of signals. `None` where the variable was never added.
+    /// together, 0 up to the limit of signals. `None` if the variable was never added.
     pub fn cond_word(&self, cond: CondId) -> Option<u32>
         ensures value { result ≡ cond_word_answer cond self.now }
         ensures added { WhereStands self.now (λ h r w. is_some result ≡ is_variable w cond) }
@@ -177,7 +177,7 @@ impl Core {
     }
 
     /// The thread that runs next: of the ready threads of greatest effective priority the first that joined them.
-    /// `None` where no thread is ready.
+    /// `None` if no thread is ready.
     pub fn pick(&self) -> Option<Tid>
         ensures value { result ≡ pick_answer self.now }
         ensures next { WhereStands self.now (λ h r w. IsPick w (unwrap_or result 0)) }
@@ -185,9 +185,9 @@ impl Core {
         self.parts.pick()
     }
 
-    /// Whether a thread rests: true where it is among the waiters of a mutex, is blocked on a condition variable or
-    /// waits for good, false where it may take a step, also where that step is an expiry, since its deadline is
-    /// reached. `None` where no living thread has that number, or where that thread has no call open.
+    /// Whether a thread rests. True if it is among the waiters of a mutex, is blocked on a condition variable or waits
+    /// for good. False if it may take a step, also if that step is an expiry, since its deadline is reached. `None` if
+    /// no living thread has that number, or if that thread has no call open.
     pub fn waiting(&self, thread: Tid) -> Option<bool>
         ensures value { result ≡ waiting_answer thread self.now }
         ensures open { WhereStands self.now (λ h r w.

@@ -3,7 +3,7 @@
 //!
 //! An event, and an addition, is refused by the first of these that holds, and nothing changes then:
 //!
-//! | What is asked | Refused by | Where |
+//! | What is asked | Refused by | If |
 //! |---|---|---|
 //! | `Begin` | `NoSuch` | the thread was never added |
 //! | | `Dead` | the thread has ended |
@@ -21,8 +21,9 @@
 //! | `add_cond` | `NoSuch` | the mutex was never added |
 //! | | `TooMany` | as many condition variables were added as the limits allow |
 //!
-//! What is not refused is an entry of the core's history. The contracts say what a core shows after a history: that the
-//! history is one that POSIX allows, and what each reader answers then.
+//! Each event with its answer is an entry of the core's history, also a refused one, and so is each addition that is
+//! made. A refused addition is none. The contracts say what a core shows after a history: that the history is one that
+//! POSIX allows, and what each reader answers then.
 //!
 //! `cores` has the events, the additions and the readers of words, health and priorities. `calls` has whole calls: a
 //! thread begins one and goes on until it is answered or waits. `readers` has those of what a person looks at: what

@@ -36,7 +36,7 @@ impl Core {
     }
 
     /// The base priority of a thread: the one with which it was added, or which a pthread_setschedprio gave it last.
-    /// `None` where no living thread has that number.
+    /// `None` if no living thread has that number.
     pub fn base(&self, thread: Tid) -> Option<Prio>
         ensures value { result ≡ base_answer thread self.now }
         ensures added { WhereStands self.now (λ h r w. is_some result ≡ lives w thread) }
@@ -46,7 +46,7 @@ impl Core {
     }
 
     /// What a thread does: it may run, is among the waiters of a mutex, is blocked on a condition variable, waits for
-    /// good, or has ended. `None` where it was never added.
+    /// good, or has ended. `None` if it was never added.
     pub fn status(&self, thread: Tid) -> Option<Status>
         ensures value { result ≡ status_answer thread self.now }
         ensures added { WhereStands self.now (λ h r w. is_some result ≡ is_thread w thread) }
@@ -55,7 +55,7 @@ impl Core {
         self.doing(thread)
     }
 
-    /// The call that a thread has open, as it was made. `None` where it has none, has ended, or was never added.
+    /// The call that a thread has open, as it was made. `None` if it has none, has ended, or was never added.
     pub fn open_call(&self, thread: Tid) -> Option<Request>
         ensures value { result ≡ open_call_answer thread self.now }
         ensures open { WhereStands self.now (λ h r w. result ≡ call_of w thread) }
@@ -63,8 +63,8 @@ impl Core {
         self.asked(thread)
     }
 
-    /// The owner of a mutex, also one that has ended, and how often it holds the mutex, 1 to 255. `None` where nobody
-    /// owns it, or where it was never added.
+    /// The owner of a mutex, also one that has ended, and how often it holds the mutex, 1 to 255. `None` if nobody owns
+    /// it, or if it was never added.
     pub fn owner(&self, mutex: MutexId) -> Option<(Tid, u32)>
         ensures value { result ≡ owner_answer mutex self.now }
         ensures owner { WhereStands self.now (λ h r w. result ≡ owner_of w mutex) }
@@ -72,7 +72,7 @@ impl Core {
         self.parts.owner(mutex)
     }
 
-    /// The kind of a mutex, and whether it is robust. `None` where it was never added.
+    /// The kind of a mutex, and whether it is robust. `None` if it was never added.
     pub fn kind(&self, mutex: MutexId) -> Option<(Kind, bool)>
         ensures value { result ≡ kind_answer mutex self.now }
         ensures added { WhereStands self.now (λ h r w. is_some result ≡ is_mutex w mutex) }
@@ -82,7 +82,7 @@ impl Core {
         self.parts.kind(mutex)
     }
 
-    /// The mutex to which a condition variable is bound. `None` where the variable was never added.
+    /// The mutex to which a condition variable is bound. `None` if the variable was never added.
     pub fn bound(&self, cond: CondId) -> Option<MutexId>
         ensures value { result ≡ bound_answer cond self.now }
         ensures added { WhereStands self.now (λ h r w. is_some result ≡ is_variable w cond) }
@@ -93,7 +93,7 @@ impl Core {
 
     /// The waiter of a mutex before which `place` others get it, 0 for the next one, as long as no priority changes and
     /// nobody comes or goes: those of greatest effective priority come first, and of equals the first in arrival.
-    /// `None` where so few wait for it.
+    /// `None` if so few wait for it.
     pub fn waiter(&self, mutex: MutexId, place: u32) -> Option<Tid>
         ensures value { result ≡ waiter_answer mutex place self.now }
         ensures order { WhereStands self.now (λ h r w. result ≡ slice_get (waiters_of w mutex) place) }
@@ -103,7 +103,7 @@ impl Core {
 
     /// The thread that is parked on a condition variable and before which `place` others are woken, 0 for the next one,
     /// as long as no priority changes and nobody comes or goes: those of greatest effective priority come first, and of
-    /// equals the first that was parked. `None` where so few are parked on it.
+    /// equals the first that was parked. `None` if so few are parked on it.
     pub fn parked(&self, cond: CondId, place: u32) -> Option<Tid>
         ensures value { result ≡ parked_answer cond place self.now }
         ensures blocked { WhereStands self.now (λ h r w. IfSome result (λ t. is_blocked_on w cond t ≡ true)) }
@@ -113,7 +113,7 @@ impl Core {
 
     /// The ready thread before which `place` others run, 0 for the one that runs next, as long as none comes or goes:
     /// those of greatest effective priority come first, and of equals the first that joined them (SCHED_FIFO,
-    /// sched(7)). `None` where so few are ready.
+    /// sched(7)). `None` if so few are ready.
     pub fn ready(&self, place: u32) -> Option<Tid>
         ensures value { result ≡ ready_answer place self.now }
         ensures runs { WhereStands self.now (λ h r w. IfSome result (λ t. (lives w t ≡ true) × (rests w t ≡ false))) }
@@ -124,7 +124,7 @@ impl Core {
     }
 
     /// The thread of an order before which `place` others stand, 0 for the first: what `waiter`, `parked` or `ready`
-    /// answers. `None` where so few stand in it.
+    /// answers. `None` if so few stand in it.
     pub fn nth(&self, order: Order, place: u32) -> Option<Tid>
         ensures { result ≡ order_answer order place self.now }
     {
@@ -136,8 +136,8 @@ impl Core {
     }
 
     /// The threads along whom each waits for, in order: `thread`, the owner of the mutex for which it waits, also one
-    /// that has ended, and so on, up to the one that waits for nobody. Each comes once, and `thread` is alone where it
-    /// waits for no mutex. None where it was never added or has ended.
+    /// that has ended, and so on, up to the one that waits for nobody. Each comes once, and `thread` is alone if it
+    /// waits for no mutex. None if it was never added or has ended.
     pub fn path(&self, thread: Tid) -> ArrayVec<Tid, 1024>
         ensures value { IsPathAnswer thread self.now result.items }
         ensures path { WhereStands self.now (λ h r w. IsPathFrom w thread result.items) }

@@ -288,7 +288,7 @@ finished_only met Ended f g n = refl
 finished_only met Ticked f g n = refl
 finished_only met (Refused r) f g n = refl
 
--- a core stands on after a wait that was answered 0, and the other wait behind it where the test is not met
+-- a core stands on after a wait that was answered 0, and the other wait behind it if the test is not met
 pub resumed_stands : (s u v : Table) (t c m : ℕ) (met : Bool) (seen : Seen) (k : List Entry) (r : List World)
     (w : World) → seen ≡ Answered 0 → StandsOn u k r w → u ≡ (goes_on 23 t s).after
     → v ≡ if_waited met u (call_outcome t (Wait c m) u).after

@@ -84,7 +84,7 @@ module _ (t m : ℕ) (v : Table) (l : t < length v.lines) where
 away : (t m a : ℕ) (v : Table) → a ≢ 0 → Takes t m (answers t a v)
 away t m a v n = other (λ e. cc) (λ e. n (number_same a 0 e))
 
--- where an expired lock goes on its answer is not 0
+-- if an expired lock goes on, its answer is not 0
 expired_on : (t m : ℕ) (v : Table) (p : Place) → OnWay t m v (expired_place p)
 expired_on t m v StayQueued = λ d. absurd (omega (arith, d))
 expired_on t m v _ = λ d. absurd (omega (arith, d))

@@ -10,7 +10,7 @@ use Rattle.pif_core_callers.specs.declared.events.Next.TheVariants.{GoOn, LetOth
 use Rattle.pif_model.specs.Calls.{waiting_answer}
 use Rattle.pif_model.specs.Table.{Table}
 
--- the next event of a thread that makes this call: it goes on where it has a call open, else it begins this one
+-- the next event of a thread that makes this call: it goes on if it has a call open, else it begins this one
 abbrev pub event_for : ℕ → Request → Table → Event
 event_for t q s = if is_some (waiting_answer t s) then Go t else Begin t q
 

@@ -42,23 +42,23 @@ lock_finds t m s = locked_by (call_outcome t (Lock m) s).seen
 abbrev pub after_lock : ℕ → ℕ → Table → Table
 after_lock t m s = (call_outcome t (Lock m) s).after
 
--- of two tables or histories that which there is after a lock: the second where it has taken the mutex
+-- of two tables or histories that which there is after a lock: the second if it has taken the mutex
 abbrev pub if_taken : {A : Type 0} → Result Held Seen → (refused taken : A) → A
 if_taken (Ok x) refused taken = taken
 if_taken (Err seen) refused taken = refused
 
--- what a lock and the unlock behind it were answered: the unlock where the lock has taken the mutex
+-- what a lock and the unlock behind it were answered: the unlock if the lock has taken the mutex
 abbrev pub unlocked_by : Result Held Seen → Seen → Result Seen Seen
 unlocked_by (Ok x) unlocked = Ok unlocked
 unlocked_by (Err seen) unlocked = Err seen
 
--- of two tables, histories or values that which there is after a lock: the second where the last owner has ended
+-- of two tables, histories or values that which there is after a lock: the second if the last owner has ended
 abbrev pub if_died : {A : Type 0} → Result Held Seen → (orderly died : A) → A
 if_died (Ok InOrder) orderly died = orderly
 if_died (Ok OwnerDied) orderly died = died
 if_died (Err seen) orderly died = orderly
 
--- how a lock found the mutex; or what consistent is answered, where the last owner has ended and that is not 0
+-- how a lock found the mutex; or what consistent is answered, if the last owner has ended and that is not 0
 abbrev pub repaired_by : Result Held Seen → Seen → Result Held Seen
 repaired_by (Ok InOrder) consistent = Ok InOrder
 repaired_by (Ok OwnerDied) (Answered a) = if a == 0 then Ok OwnerDied else Err (Answered a)

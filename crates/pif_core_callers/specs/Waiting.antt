@@ -9,12 +9,12 @@ use Rattle.pif_core_callers.specs.declared.waiting.Awaited.TheVariants.{Met, Not
 abbrev pub awaited_by : Bool → Seen → Awaited
 awaited_by met seen = if met then Met else Not seen
 
--- of two tables or histories that which there is after a test: the first where it is met, else that after the wait
+-- of two tables or histories that which there is after a test: the first if it is met, else that after the wait
 abbrev pub if_waited : {A : Type 0} → Bool → (before after : A) → A
 if_waited met before after = if met then before else after
 
 -- a wait that was open and has finished so, and what another wait is answered: only after 0 there is another test, and
--- another wait where that is not met
+-- another wait if that is not met
 abbrev pub resumed_by : Bool → Seen → Seen → Awaited
 resumed_by met (Answered a) again = if a == 0 then awaited_by met again else Not (Answered a)
 resumed_by met seen again = Not seen

@@ -36,9 +36,9 @@ fn locked_by(seen: Seen) -> Result<Held, Seen>
     }
 }
 
-/// A thread locks a mutex, by a whole call (pthread_mutex_lock of POSIX). Where it answers `Ok`, the thread holds the
-/// mutex once more than before, and no other thread does. `Err` has what the call was answered otherwise; after
-/// `Waits` the lock stays open, and `finish_lock` goes on with it.
+/// A thread locks a mutex, by a whole call (pthread_mutex_lock of POSIX). If it answers `Ok`, the thread holds the
+/// mutex once more than before, and no other thread does. `Err` has what the call was answered otherwise; after `Waits`
+/// the lock stays open, and `finish_lock` goes on with it.
 pub fn lock_and_hold(core: &mut Core, thread: Tid, mutex: MutexId) -> Result<Held, Seen>
     ensures answer { result ≡ locked_by (call_outcome thread (Lock mutex) core.old).seen }
     ensures after { core.new ≡ (call_outcome thread (Lock mutex) core.old).after }
@@ -50,10 +50,10 @@ pub fn lock_and_hold(core: &mut Core, thread: Tid, mutex: MutexId) -> Result<Hel
     locked_by(core.call(thread, Request::Lock(mutex)))
 }
 
-/// A thread goes on with a lock of a mutex that waited, with a deadline or none. Where it answers `Ok`, the thread
-/// holds the mutex once more than before, and no other thread does. `Err` has what the lock was answered otherwise:
-/// ETIMEDOUT (110) if its deadline was reached. After `Waits` it stays open, and this is called again once others have
-/// had their turns.
+/// A thread goes on with a lock of a mutex that waited, with a deadline or none. If it answers `Ok`, the thread holds
+/// the mutex once more than before, and no other thread does. `Err` has what the lock was answered otherwise: ETIMEDOUT
+/// (110) if its deadline was reached. After `Waits` it stays open, and this is called again once others have had their
+/// turns.
 pub fn finish_lock(core: &mut Core, thread: Tid, mutex: MutexId) -> Result<Held, Seen>
     ensures answer { result ≡ locked_by (finish_outcome thread core.old).seen }
     ensures after { core.new ≡ (finish_outcome thread core.old).after }
@@ -97,13 +97,13 @@ pub fn add_under(
     Ok(core.call(thread, Request::Unlock(mutex)))
 }
 
-/// A thread locks a robust mutex that protects a value. Where its last owner has ended, the value is made this fresh
-/// one, and the mutex consistent (pthread_mutex_consistent of POSIX), so that it stays usable. Where this answers
-/// `Ok`, the thread holds the mutex once more than before, and no other thread does; the mutex is then fine, unless
-/// the thread was its owner before. `Err` has what the lock was answered if it has not taken the mutex: nothing was
-/// done but that lock, and the value is unchanged. After `Waits` the lock stays open; after ENOTRECOVERABLE nobody will
-/// hold the mutex again, and the thread gives up. Where the mutex was taken after its owner and `consistent` is not
-/// answered 0, `Err` has that answer, and the value is the fresh one.
+/// A thread locks a robust mutex that protects a value. If its last owner has ended, the value is made this fresh one,
+/// and the mutex consistent (pthread_mutex_consistent of POSIX), so that it stays usable. If this answers `Ok`, the
+/// thread holds the mutex once more than before, and no other thread does; the mutex is then fine, unless the thread
+/// was its owner before. `Err` has what the lock was answered if it has not taken the mutex: nothing was done but that
+/// lock, and the value is unchanged. After `Waits` the lock stays open, and `finish_lock` goes on with it; after its
+/// `OwnerDied` the caller repairs. After ENOTRECOVERABLE nobody will hold the mutex again, and the thread gives up. If
+/// its last owner has ended and `consistent` is not answered 0, `Err` has that answer, and the value is the fresh one.
 pub fn lock_and_repair(
     core: &mut Core,
     thread: Tid,

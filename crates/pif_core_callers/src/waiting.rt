@@ -13,15 +13,17 @@ use pif_types::{CondId, MutexId, Request, Tid};
 /// How far a thread has come that waits until something is so.
 #[derive(Clone, Copy, Debug, PartialEq, Eq)]
 pub enum Awaited {
-    /// It is so, and the thread holds the mutex.
+    /// It is so. After `resume_wait` the thread holds the mutex too, if it had that wait open.
     Met,
-    /// The wait was answered so: after `Waits` it is open, and `resume_wait` goes on with it; after `Answered(0)` the
-    /// thread holds the mutex and tests again.
+    /// The wait was answered so. After `Waits` it is open, and `resume_wait` goes on with it. After 0 the thread holds
+    /// the mutex and tests again. After EOWNERDEAD or ETIMEDOUT it holds the mutex too; after EDEADLK or
+    /// ENOTRECOVERABLE it doesn't.
     Not(Seen),
 }
 
-/// One round of the loop that pthread_cond_wait asks for: a thread that holds the mutex tests what it waits for, and
-/// if that is not so it waits on the variable. If it is so, nothing has changed.
+/// One round of the loop that pthread_cond_wait asks for: a thread that holds the mutex tests what it waits for, and if
+/// that is not so it waits on the variable. If it is so, nothing has changed, and whether the thread holds the mutex is
+/// not looked at.
 pub fn wait_unless(
     core: &mut Core,
     thread: Tid,
@@ -42,9 +44,11 @@ pub fn wait_unless(
 }
 
 /// A thread goes on with a wait that waited. Once the wait is answered 0, the thread holds the mutex again, and tests
-/// what it waits for again: it may have been woken for nothing, or another thread may have come between. `Met` says
-/// that it is so now. `Not` has what the wait was answered otherwise, and then nothing more was done; or what another
-/// wait is answered, which was begun since the test failed.
+/// what it waits for again: it may have been woken for nothing, or another thread may have come between. `is_met` is
+/// what that test will say. It is there before the wait is answered, which is right only since this call has the core
+/// alone. Among real threads, test after the wait, with the mutex held. `Met` says that it is so now. `Not` has what
+/// the wait was answered otherwise, and then nothing more was done; or what another wait is answered, which was begun
+/// since the test failed.
 pub fn resume_wait(
     core: &mut Core,
     thread: Tid,

@@ -14,7 +14,7 @@ use std::sync::Wait;
 use std::thread::Threads;
 use std::{env, io};
 
-/// The status where the words name no demonstration.
+/// The status if the words name no demonstration.
 const REFUSED: u8 = 1;
 
 /// What was printed, or the error with which the program ends.
@@ -76,7 +76,7 @@ fn refuse(rt: &impl Eprint, name: &str) -> io::Result<()> {
     eprintln!(rt; "no demonstration {name}; there are first, boost and tally")
 }
 
-/// Ends with this status where all was shown or said.
+/// Ends with this status if all was shown or said.
 fn ends(done: Result<()>, status: u8) -> Result<u8> {
     match done {
         Ok(()) => Ok(status),

@@ -61,7 +61,7 @@ fn sum_by_two<R: Threads + Wait + Sync>(
     sum
 }
 
-/// The sum by the last two of these passes, or 0 where there are not two.
+/// The sum by the last two of these passes, or 0 if there are not two.
 fn sum_by<R: Threads + Wait + Sync>(rt: &R, quick: &Quick<u64>, passes: Vec<Pass<u64>>) -> u64
     requires own { All (IsPassOf quick.now) passes.items × (0 < word_count quick.now) }
     requires idle { All IsIdle passes.items }
@@ -73,7 +73,7 @@ fn sum_by<R: Threads + Wait + Sync>(rt: &R, quick: &Quick<u64>, passes: Vec<Pass
     }
 }
 
-/// Runs the threads. Answers the sum, or `None` where memory is refused.
+/// Runs the threads. Answers the sum, or `None` if memory is refused.
 fn sum<R: Threads + Wait + Sync>(rt: &R, alloc: Global) -> Option<u64> {
     let values = [0].to_vec(alloc).ok()?;
     match Quick::open(alloc, values, 2) {

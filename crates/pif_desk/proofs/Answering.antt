@@ -39,7 +39,7 @@ quiet : (b : Bool) (at : ℕ) (l : Log) → log_after (if b then Nothing else No
 quiet true at l = refl
 quiet false at l = refl
 
--- where a call is open by a history, the last one in its thread's log is, after one more entry
+-- if a call is open by a history, the last one in its thread's log is, after one more entry
 open_on : (t : ℕ) (e : Entry) (at : ℕ) (l : Log) (before : Option Request)
     → (is_some before ≡ true → is_last_open l.calls ≡ true)
     → is_some (open_after t e before) ≡ true → is_last_open (log_after (mark_in t e) at l).calls ≡ true
@@ -72,7 +72,7 @@ open_on t (Happened (End u) seen) at l before ih o =
     ap (λ (k : Log). is_last_open k.calls) (quiet (u == t) at l) ∙ ih o
 open_on t (Happened (Tick n) seen) at l before ih o = ih o
 
--- where a call is open by a history, the last one in its thread's log is
+-- if a call is open by a history, the last one in its thread's log is
 open_in_log : (t : ℕ) (h : List Entry) → is_some (open_call t h) ≡ true → is_last_open (calls_of t h).calls ≡ true
 open_in_log t [] o = absurd (true≢false (sym o))
 open_in_log t (e ∷ h) o = open_on t e (length h) (calls_of t h) (open_call t h) (open_in_log t h) o
@@ -222,7 +222,7 @@ open_request : (o : Option MachineCall) → is_some o ≡ true → (q : Request)
 open_request None e = absurd (true≢false (sym e))
 open_request (Some c) e = (c.request, refl)
 
--- the answers of a run are the answered calls of all clients, where each thread that was added has just one
+-- the answers of a run are the answered calls of all clients, if each thread that was added has just one
 pub answers_of_run : (l : Bounds) (cs : List ClientState) {h : List Entry} {r : List World} {w : World} → IsRun l h r w
     → ((t : ℕ) → list_any (adds t) h ≡ true → count_by (λ c. c.thread == t) cs ≡ 1) → count_by is_answer h ≡ total h cs
 answers_of_run l cs (start e) once = sym (total-nil cs)

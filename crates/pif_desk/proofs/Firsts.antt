@@ -5,7 +5,7 @@ use Rattle.std.specs.List.{All}
 use Rattle.std.proofs.lemmas.List.Elements.{All-weaker}
 use Rattle.pif_desk.specs.Settling.{IsFirst}
 
--- where Q holds of all elements before this one, and no element has both P and Q
+-- if Q holds of all elements before this one, and no element has both P and Q
 pub first_at : {A : Type 0} (P Q : A → Type 0) → ((y : A) → Q y → P y → ⊥) → (xs : List A) (i : ℕ) (x : A)
     → i < length xs
     → x ≡ get_or xs i x → P x → All Q (take i xs) → IsFirst P xs x

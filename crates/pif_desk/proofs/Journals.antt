@@ -28,7 +28,7 @@ use Rattle.pif_desk.specs.Rooms.{ClientState, history_of, IsExact, StandsAfter}
 pub history-more : (j : List Entry) (e : Entry) → history_of (j ++ e ∷ []) ≡ e ∷ history_of j
 history-more j e = reverse-append j (e ∷ [])
 
--- a core that stood after a journal stands after it with one entry more, where it stands on after each history
+-- a core that stood after a journal stands after it with one entry more, if it stands on after each history
 pub stands_on : (s v : Table) (j k : List Entry) (e : Entry) → k ≡ j ++ e ∷ []
     → ((h : List Entry) (r : List World) (w : World) → Stands s h r w → (u : World) × Stands v (e ∷ h) (w ∷ r) u)
     → StandsAfter s j → StandsAfter v k

@@ -13,7 +13,7 @@ use Rattle.pif_desk.specs.Settling.{adds_thread, adds, is_stranger, AreAsManyAsT
 
 -- HOW OFTEN A NUMBER STANDS IN A LIST
 
--- 1 where two numbers are the same
+-- 1 if two numbers are the same
 abbrev one_if : Bool → ℕ
 one_if true = 1
 one_if false = 0

@@ -82,7 +82,7 @@ module _ (t : ℕ) (j : List Entry) (at : ℕ) (x : Entry) (m : Mark) (some : 0 
 pub neither : {P Q : Type 0} → (P → ⊥) → (Q → ⊥) → P ↔ Q
 neither p q = (λ x. absurd (p x), λ y. absurd (q y))
 
--- no log is left where calls are left
+-- no log is left if calls are left
 pub some_left : (calls : List Call) (e : Bool) (left : ℕ) (reply : Option Reply) (seen : Bool) → left ≤ length calls
     → left ≢ 0 → IsRestOfLog calls e left reply seen no_calls → ⊥
 some_left calls e left reply seen within some h = some ((none_left calls e left reply seen within).0 h).0

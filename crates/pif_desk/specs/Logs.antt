@@ -67,7 +67,7 @@ last_open (c ∷ cs) = if is_some c.reply then None else Some c.request
 abbrev pub has_open_call : Log → Bool
 has_open_call l = is_last_open l.calls
 
--- what is told of a thread's log where it did this and was answered so
+-- what is told of a thread's log if it did this and was answered so
 abbrev pub mark_of : Act → Seen → Mark
 mark_of (Begins q) Begun = MarkBegun q
 mark_of Go (Answered a) = MarkAnswered a

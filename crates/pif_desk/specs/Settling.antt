@@ -92,7 +92,7 @@ answered_calls l = count_by (λ c. is_some c.reply) l.calls
 
 -- A WALK OVER THE JOURNAL, FROM ITS END
 
--- calls of which the last has this reply where it is open, if a reply is there
+-- calls of which the last has this reply if it is open and a reply is there
 abbrev pub with_reply_if_any : Option Reply → List Call → List Call
 with_reply_if_any None cs = cs
 with_reply_if_any (Some r) cs = with_reply r cs

@@ -38,8 +38,8 @@ impl Client {
         Ok(made)
     }
 
-    /// Takes steps of the open call until it is answered: the answer, and the position of its entry. `NoMemory` where
-    /// the journal can't grow, and refused as the core refuses a step; the call stays open then.
+    /// Takes steps of the open call until it is answered: the answer, and the position of its entry. `NoMemory` if the
+    /// journal can't grow, and refused as the core refuses a step; the call stays open then.
     fn finish<P: Pause + Drop, R: Wait>(
         &mut self,
         rt: &R,
@@ -65,8 +65,8 @@ impl Client {
     /// has looked a few times, until an event of another after which the thread rests no longer. The log has one
     /// answered call more.
     ///
-    /// At `NoMemory` the event that needed memory didn't happen, and at a refusal nothing has changed. Where that was
-    /// the beginning of the call the log is as it was; else the call is open, and `resume` goes on with it.
+    /// At `NoMemory` the event that needed memory didn't happen, and at a refusal nothing has changed. If that was the
+    /// beginning of the call, the log is as it was; else the call is open, and `resume` goes on with it.
     pub fn call<P: Pause + Drop, R: Wait>(
         &mut self,
         rt: &R,
@@ -108,8 +108,8 @@ impl Client {
         }
     }
 
-    /// Goes on with the open call until it is answered. Where none is open it makes no event, and is refused: `Dead`
-    /// after `quit`, else `Idle`. At any fault the log is as it was, and an open call stays open.
+    /// Goes on with the open call until it is answered. If none is open it makes no event, and is refused: `Dead` after
+    /// `quit`, else `Idle`. At any fault the log is as it was, and an open call stays open.
     pub fn resume<P: Pause + Drop, R: Wait>(
         &mut self,
         rt: &R,
@@ -138,7 +138,7 @@ impl Client {
         })
     }
 
-    /// Ends the thread, with a call open or not, and marks the log. At `NoMemory` and where the core refuses it the log
+    /// Ends the thread, with a call open or not, and marks the log. At `NoMemory`, and if the core refuses it, the log
     /// is as it was.
     pub fn quit<P: Pause + Drop, R: Wait>(
         &mut self,

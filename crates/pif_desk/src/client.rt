@@ -6,7 +6,9 @@ use pif_types::{Request, Tid};
 use std::alloc::Global;
 use std::marker::Model;
 
-/// The one who acts for a thread, with the log of its calls.
+/// The one who acts for a thread, with the log of its calls. It goes with the desk that it entered, and nothing checks
+/// that. At another desk it acts for the thread of the same number there. `Room::settle` finds such calls, since a log
+/// then isn't just the calls of its thread (`Why::Differs`).
 #[derive(Drop)]
 pub struct Client {
     pub(crate) t: Tid,

@@ -50,7 +50,7 @@ pub struct Desk<P: Pause + Drop> {
 }
 
 impl<P: Pause + Drop> Desk<P> {
-    /// A desk under these limits to which nothing was added. It fails where memory is refused, that of the core or that
+    /// A desk under these limits to which nothing was added. `NoMemory` if memory is refused, that of the core or that
     /// by which clients sleep.
     pub fn new(alloc: Global, limits: Limits, pause: P) -> Result<Desk<P>, NoMemory>
         ensures bells { IfOk result (λ d. bells_of d ≡ limits.threads) }
@@ -67,8 +67,9 @@ impl<P: Pause + Drop> Desk<P> {
         })
     }
 
-    /// Adds a thread of this base priority, and gives its client, whose log is empty. Nothing has changed where the
-    /// core refuses it, or by `NoMemory` where the journal can't grow.
+    /// Adds a thread of base priority `prio`, 1 to 99, and gives its client, whose log is empty. `NoMemory` if the
+    /// journal can't grow, which is tried first. Else `NotAdded(BadPrio)` if `prio` is outside its range, and
+    /// `NotAdded(TooMany)` at the limit. Nothing has changed then.
     pub fn enter<R: Wait>(&self, rt: &R, prio: u32) -> Result<Client, DeskFault>
         ensures { IfOk result (λ c. c.log ≡ no_calls) }
     {
@@ -76,8 +77,8 @@ impl<P: Pause + Drop> Desk<P> {
         Ok(Client::new(self.alloc, t))
     }
 
-    /// Adds a mutex of this kind. Nothing has changed where the core refuses it, or by `NoMemory` where the journal
-    /// can't grow.
+    /// Adds a mutex of this kind, robust or stalled. `NoMemory` if the journal can't grow, which is tried first, else
+    /// `NotAdded(TooMany)` at the limit. Nothing has changed then.
     pub fn make_mutex<R: Wait>(
         &self,
         rt: &R,
@@ -87,8 +88,9 @@ impl<P: Pause + Drop> Desk<P> {
         self.shared.lock(rt).room.add_mutex(kind, robust)
     }
 
-    /// Adds a condition variable that is bound to this mutex. Nothing has changed where the core refuses it, or by
-    /// `NoMemory` where the journal can't grow.
+    /// Adds a condition variable that is bound to this mutex. `NoMemory` if the journal can't grow, which is tried
+    /// first. Else `NotAdded(NoSuch)` if the mutex was never added, and `NotAdded(TooMany)` at the limit. Nothing has
+    /// changed then.
     pub fn make_cond<R: Wait>(&self, rt: &R, mutex: MutexId) -> Result<CondId, DeskFault> {
         self.shared.lock(rt).room.add_cond(mutex)
     }
@@ -96,8 +98,8 @@ impl<P: Pause + Drop> Desk<P> {
     /// Hands in the time, in one acquisition of the lock: the journal has one entry more, which is an event of no
     /// thread. Time is 0 at first; its unit is the caller's, as that of deadlines. Those clients go on that sleep in a
     /// timed lock or a timed wait whose deadline this time has reached (pthread_mutex_timedlock and
-    /// pthread_cond_timedwait of POSIX), and no others. `Refused(Past)` where it is below the present time: the time
-    /// has not changed, and the journal has that answer. `NoMemory` where the journal can't grow: nothing has changed.
+    /// pthread_cond_timedwait of POSIX), and no others. `Refused(Past)` if it is below the present time: the time has
+    /// not changed, and the journal has that answer. `NoMemory` if the journal can't grow: nothing has changed.
     pub fn tick<R: Wait>(&self, rt: &R, time: u32) -> Result<(), DeskFault>
         ensures fault { IfErr result IsTickFault }
     {
@@ -121,7 +123,7 @@ impl<P: Pause + Drop> Desk<P> {
         self.shared.lock(rt).room.entries()
     }
 
-    /// How many entries more the journal has room for. Where that is none, the next event or addition asks for memory.
+    /// How many entries more the journal has room for. If that is none, the next event or addition asks for memory.
     pub fn spare_entries<R: Wait>(&self, rt: &R) -> usize {
         self.shared.lock(rt).room.spare_entries()
     }
@@ -141,7 +143,7 @@ impl<P: Pause + Drop> Desk<P> {
         self.shared.lock(rt).sleepers.has(t)
     }
 
-    /// How often events have woken the client of this thread. `None` where the limits allow no thread of that number.
+    /// How often events have woken the client of this thread. `None` if the limits allow no thread of that number.
     pub fn rings(&self, t: Tid) -> Option<u64>
         ensures { IsSome result ↔ (t ≤ bells_of self.now) }
     {

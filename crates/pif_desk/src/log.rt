@@ -46,7 +46,7 @@ pub enum Mark {
 }
 
 impl Mark {
-    /// What is told of a thread's log where it did this and was answered so.
+    /// What is told of a thread's log if it did this and was answered so.
     pub(crate) fn of(act: &Act, seen: &Seen) -> Mark
         ensures { result ≡ mark_of act.now seen.now }
     {
@@ -58,7 +58,7 @@ impl Mark {
         }
     }
 
-    /// What is told of a thread's log where a thread did this and was answered so: nothing, if it is another one's.
+    /// What is told of a thread's log if a thread did this and was answered so: nothing, if it is another one's.
     fn if_own(is_own: bool, act: &Act, seen: &Seen) -> Mark
         ensures { result ≡ (if is_own then mark_of act.now seen.now else Nothing) }
     {

@@ -40,7 +40,7 @@ impl Model for Room {
     ghost invariant = { λ r. (1 ≤ r.growth) × StandsAfter r.core r.journal.items };
 }
 
-/// Makes room for one item more, or, where the list is full, for so many, and changes none.
+/// Makes room for one item more, or, if the list is full, for so many, and changes none.
 fn make_room<T: Drop>(items: &mut Vec<T>, growth: usize) -> Result<(), NoMemory>
     requires { 1 ≤ growth }
     ensures items { items.new.items ≡ items.old.items }
@@ -133,8 +133,8 @@ impl Room {
         }
     }
 
-    /// One event, and what it was answered: the core makes that step, also where it refuses the event, and the journal
-    /// has one entry more. `NoMemory`, with nothing changed, where the journal can't grow.
+    /// One event, and what it was answered: the core makes that step, also if it refuses the event, and the journal has
+    /// one entry more. `NoMemory`, with nothing changed, if the journal can't grow.
     pub fn turn(&mut self, event: Event) -> Result<Seen, NoMemory>
         ensures turned { IfOk result (λ seen. Turns event seen self.old self.new) }
         ensures fits { IfOk result (λ seen. is_answer_of event seen ≡ true) }
@@ -144,8 +144,9 @@ impl Room {
         Ok(step(&mut self.core, &mut self.journal, event))
     }
 
-    /// Adds a thread as `Core::add_thread` does, and the journal has one entry more. Nothing has changed where the core
-    /// refuses it, or by `NoMemory` where the journal can't grow.
+    /// Adds a thread of base priority `prio`, 1 to 99, as `Core::add_thread` does, and the journal has one entry more.
+    /// `NoMemory` if the journal can't grow, which is tried first. Else `NotAdded(BadPrio)` if `prio` is outside its
+    /// range, and `NotAdded(TooMany)` at the limit. Nothing has changed then.
     pub fn add_thread(&mut self, prio: u32) -> Result<Tid, DeskFault>
         ensures added { IfOk result (λ t. (add_thread_answer prio self.old.core ≡ Ok t)
             × Adds (thread_added prio self.old.core) (Entry.Thread t prio) self.old self.new) }
@@ -167,8 +168,8 @@ impl Room {
         }
     }
 
-    /// Adds a mutex as `Core::add_mutex` does, and the journal has one entry more. Nothing has changed where the core
-    /// refuses it, or by `NoMemory` where the journal can't grow.
+    /// Adds a mutex as `Core::add_mutex` does, and the journal has one entry more. `NoMemory` if the journal can't
+    /// grow, which is tried first, else `NotAdded(TooMany)` at the limit. Nothing has changed then.
     pub fn add_mutex(&mut self, kind: Kind, robust: bool) -> Result<MutexId, DeskFault>
         ensures added { IfOk result (λ m. (add_mutex_answer self.old.core ≡ Ok m)
             × Adds (mutex_added kind robust self.old.core) (Entry.Mutex m kind robust) self.old self.new) }
@@ -188,7 +189,8 @@ impl Room {
     }
 
     /// Adds a condition variable that is bound to a mutex, as `Core::add_cond` does, and the journal has one entry
-    /// more. Nothing has changed where the core refuses it, or by `NoMemory` where the journal can't grow.
+    /// more. `NoMemory` if the journal can't grow, which is tried first. Else `NotAdded(NoSuch)` if the mutex was never
+    /// added, and `NotAdded(TooMany)` at the limit. Nothing has changed then.
     pub fn add_cond(&mut self, mutex: MutexId) -> Result<CondId, DeskFault>
         ensures added { IfOk result (λ c. (add_cond_answer mutex self.old.core ≡ Ok c)
             × Adds (cond_added mutex self.old.core) (Entry.Cond c mutex) self.old self.new) }
@@ -209,8 +211,8 @@ impl Room {
 
     /// One event of a client's thread, as `turn` makes it. The client's log has it: a call that has begun is an open
     /// entry more, an answer closes the last entry, if it is open, with the position that it has in the journal, and an
-    /// end marks the log. All else leaves the log. `NoMemory`, with nothing changed, where the journal can't grow, or
-    /// the log at a beginning. A log that was just the calls of its thread in the journal is so afterwards.
+    /// end marks the log. All else leaves the log. `NoMemory`, with nothing changed, if the journal can't grow, or the
+    /// log at a beginning. A log that was just the calls of its thread in the journal is so afterwards.
     pub fn play(&mut self, client: &mut Client, act: Act) -> Result<Seen, NoMemory>
         ensures turned { IfOk result (λ seen. Turns (event_of act client.old.thread) seen self.old self.new) }
         ensures fits { IfOk result (λ seen. is_answer_to act seen ≡ true) }
@@ -250,7 +252,7 @@ impl Room {
         self.journal.len()
     }
 
-    /// Whether a thread rests: false also where it has ended or no call open, or was never added.
+    /// Whether a thread rests: false also if it has ended, has no call open, or was never added.
     pub(crate) fn is_resting(&self, t: Tid) -> bool
         ensures rests { result ≡ rests_in self.now.core t }
         ensures number { result ≡ true → t ≤ 1024 }

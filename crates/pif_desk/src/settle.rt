@@ -122,7 +122,7 @@ fn is_answer(entry: &Entry) -> bool
 }
 
 impl Room {
-    /// Compares the journal with the clients, and gives the book where there are as many clients as threads, each of
+    /// Compares the journal with the clients, and gives the book if there are as many clients as threads, each of
     /// another thread that was added, and each client's log is just the calls of its thread in the journal. Else room
     /// and clients come back as they were, with the first of these that doesn't hold. It takes no memory.
     pub fn settle(self, clients: Vec<Client>) -> Result<Book, Unsettled>

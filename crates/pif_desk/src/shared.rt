@@ -54,7 +54,7 @@ impl Shared {
     }
 
     /// The time is this from now on, by one event as `Room::turn` makes it. It wakes the clients that sleep and whose
-    /// threads rest no longer, since their calls are due, and no others. `NoMemory`, with nothing changed, where the
+    /// threads rest no longer, since their calls are due, and no others. `NoMemory`, with nothing changed, if the
     /// journal can't grow. A log that was just the calls of its thread in the journal is so afterwards.
     pub(crate) fn tick(&mut self, time: u32, bells: &Bells) -> Result<Seen, NoMemory>
         ensures turned { IfOk result (λ seen. Turns (Event.Tick time) seen self.old.room self.new.room) }

@@ -39,7 +39,7 @@ impl Bells {
         Ok(Bells { bells })
     }
 
-    /// The bell of a thread; `None` where the limits allow no thread of that number.
+    /// The bell of a thread; `None` if the limits allow no thread of that number.
     pub(crate) fn of(&self, t: Tid) -> Option<&Condvar>
         ensures { IsSome result ↔ (t ≤ vec_len self.now.bells) }
     {

@@ -25,7 +25,7 @@ fn is_call(call: &Call, request: &Request, reply: &Option<Reply>) -> bool
 }
 
 impl Walk {
-    /// Goes back over what an entry at this position tells. False where the log can't have what is told.
+    /// Goes back over what an entry at this position tells. False if the log can't have what is told.
     fn back(&mut self, mark: &Mark, at: usize, calls: &[Call]) -> bool
         requires { self.old.left ≤ length calls.now }
         ensures within { self.new.left ≤ length calls.now }
@@ -51,7 +51,7 @@ impl Walk {
         }
     }
 
-    /// Goes back over a call that has begun. False where the log has no such call there.
+    /// Goes back over a call that has begun. False if the log has no such call there.
     fn back_over_call(&mut self, request: &Request, calls: &[Call]) -> bool
         requires { self.old.left ≤ length calls.now }
         ensures within { self.new.left ≤ length calls.now }

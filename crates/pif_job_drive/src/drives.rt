@@ -70,7 +70,7 @@ pub struct Served {
 pub enum Ending {
     /// The client was answered each of its calls.
     Served(Served),
-    /// The client was not answered, and has ended where it could.
+    /// The client was not answered, and has ended if it could.
     Fault(DriveFault),
 }
 
@@ -172,7 +172,7 @@ fn join_all<R: Threads>(
     Ok(endings)
 }
 
-/// Each client runs in a thread of its own: how they ended. Where a thread can't be started, those that were end first.
+/// Each client runs in a thread of its own: how they ended. If a thread can't be started, those that were end first.
 fn run_all<P: Pause + Drop + Sync, R: Threads + Wait + Sync>(
     rt: &R,
     alloc: Global,
@@ -200,7 +200,7 @@ fn run_all<P: Pause + Drop + Sync, R: Threads + Wait + Sync>(
     )
 }
 
-/// The clients, where each was answered all of its calls; else the fault of the first that was not.
+/// The clients, if each was answered all of its calls; else the fault of the first that was not.
 fn gather(alloc: Global, endings: Vec<Ending>) -> Result<Vec<Client>, DriveFault>
     ensures len { IfOk result (λ v. length v.items ≡ length endings.items) }
     ensures served { IfOk result (λ v. All (λ c. (m : ℕ) × IsServed m c.log) v.items) }
@@ -250,8 +250,8 @@ fn drive_desk<P: Pause + Drop + Sync, R: Threads + Wait + Sync>(
 /// # Errors
 ///
 /// `NoMemory` if memory was refused; a client that meets that ends, so that the others go on. `Threads` if a thread
-/// could not be started. `Unsettled` if there are not 1 to 1,024 clients, if one was refused, or if the desk didn't
-/// settle. All threads have ended then too, and the desk and its clients are gone.
+/// could not be started. `Unsettled` if there are not 1 to 99 clients, as client i has priority i; if one was refused;
+/// or if the desk didn't settle. All threads have ended then too, and the desk and its clients are gone.
 pub fn drive_book<P: Pause + Drop + Sync, R: Threads + Wait + Sync>(
     alloc: Global,
     rt: &R,

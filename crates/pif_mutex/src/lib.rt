@@ -14,8 +14,8 @@
 //!
 //! | Place | The step | Then |
 //! |---|---|---|
-//! | `Load`, of a lock | loads the word | another owner or none: `NamePending`, stalled `Exchange`; own NORMAL: `Stop`; own ERRORCHECK: EDEADLK; own RECURSIVE: held once more, 0, or EAGAIN where it is held 255 times |
-//! | `Load`, of a trylock | loads the word | another owner or none: `NamePending`, stalled `Exchange`; own RECURSIVE: held once more, 0, or EAGAIN where it is held 255 times; any other of its own: EBUSY |
+//! | `Load`, of a lock | loads the word | another owner or none: `NamePending`, stalled `Exchange`; own NORMAL: `Stop`; own ERRORCHECK: EDEADLK; own RECURSIVE: held once more, 0, or EAGAIN if it is held 255 times |
+//! | `Load`, of a trylock | loads the word | another owner or none: `NamePending`, stalled `Exchange`; own RECURSIVE: held once more, 0, or EAGAIN if it is held 255 times; any other of its own: EBUSY |
 //! | `Load`, of an unlock | loads the word | not the owner: EPERM; held more than once: held once less, 0; else `Give(SetPending)`, stalled `Give(Release)` |
 //! | `Load`, of a consistent | robust: loads the word; else no access | stalled: EINVAL; not the owner: EPERM; else `Repair(CheckHealth)` |
 //! | `NamePending` | names the mutex in the pending field | `Exchange` |
@@ -45,10 +45,10 @@
 //! | `SetPriority` | set_prio | 0, or its error |
 //!
 //! A call that is begun with a deadline is the call without one, and a timer of its thread, which has the deadline.
-//! Such a call is due where its deadline is reached and counts: that of a lock while it is queued or stopped, that of a
+//! Such a call is due if its deadline is reached and counts: that of a lock while it is queued or stopped, that of a
 //! wait while it is parked. Its next step is then its expiry, and nothing else: a row with 'due', or of a parked wait
 //! that of `pif_cond`. A thread that was handed its mutex, or taken off its variable, is due no more. A wait that
-//! expired is answered ETIMEDOUT where its lock would be answered 0; its timer says so, and no place does.
+//! expired is answered ETIMEDOUT if its lock would be answered 0; its timer says so, and no place does.
 //!
 //! `lock`, `try_lock`, `unlock`, `consistent` and `set_priority` have the lines of each call; `taking` and `linking`
 //! what lock, trylock and wait share; `giving` how a mutex is given up, by whichever call; `lists` the robust lists;

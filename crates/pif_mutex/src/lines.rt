@@ -20,8 +20,8 @@ pub trait Lines {
     /// Which lines these are.
     ghost include: { Line → Bool };
 
-    /// One line: the step of the open call of `t`, which lives, where the call is this request at this place. A call
-    /// that is due expires, and does nothing else. The state is sound before and after it, and not in between.
+    /// One line: a step of `t`, which lives, and whose open call is this request at this place. A call that is due
+    /// expires, and does nothing else. The state is sound before and after it, and not in between.
     fn take<K: PiKernel + Drop>(
         state: &mut State<K>,
         request: Request,

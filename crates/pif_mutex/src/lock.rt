@@ -33,8 +33,8 @@ impl<K: PiKernel + Drop> State<K> {
         }
     }
 
-    /// The kernel call lock_pi. A stalled mutex that it took is answered, and a robust one is taken over next. Where
-    /// the owner has ended, the thread goes on to stop.
+    /// The kernel call lock_pi. A stalled mutex that it took is answered, and a robust one is taken over next. If the
+    /// owner has ended, the thread goes on to stop.
     #[cold]
     #[inline(never)]
     #[tactic(auto, unfolding(pif_model::specs::Lines::lock_kernel, pif_model::specs::Lines::lock_by), using(pif_model_simulation::proofs::events::KernelLeaves::lock_keeps_threads))]
@@ -80,7 +80,7 @@ impl<K: PiKernel + Drop> State<K> {
         }
     }
 
-    /// A lock that is queued, or was handed the mutex: where it is due it expires, else it goes on as it was queued.
+    /// A lock that is queued, or was handed the mutex: if it is due it expires, else it goes on as it was queued.
     #[inline(never)]
     #[tactic(auto, using(crate::proofs::Locking::due_lock_goes))]
     pub(crate) fn lock_stay_queued(&mut self, request: Request, t: Tid, m: MutexId) -> Progress
@@ -97,7 +97,7 @@ impl<K: PiKernel + Drop> State<K> {
         }
     }
 
-    /// A lock that has stopped for good: where it is due it expires, else it waits.
+    /// A lock that has stopped for good: if it is due it expires, else it waits.
     #[inline(never)]
     #[tactic(auto, using(crate::proofs::Locking::due_lock_goes))]
     pub(crate) fn lock_stay_stopped(&mut self, request: Request, t: Tid, m: MutexId) -> Progress

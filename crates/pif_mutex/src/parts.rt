@@ -48,8 +48,8 @@ impl<K: PiKernel + Drop> Model for Parts<K> {
 
 impl<K: PiKernel + Drop> Parts<K> {
     /// Parts under these limits to which nothing was added, over a kernel under the same limits to which nothing was
-    /// added. It takes all the memory that it will ever need beside the kernel's, in eight pieces at most, and fails
-    /// where one of them is refused.
+    /// added. It takes all the memory that it will ever need beside the kernel's, in nine pieces at most. `NoMemory` if
+    /// one of them is refused.
     pub fn new(alloc: Global, limits: Limits, kernel: K) -> Result<Parts<K>, NoMemory>
         requires new { K.meaning kernel ≡ new_kernel limits }
         requires kept { IsKernel (K.meaning kernel) }
@@ -152,7 +152,7 @@ impl<K: PiKernel + Drop> Parts<K> {
         self.state.line(t)
     }
 
-    /// The open call of a thread, which was added, as it was made. `None` where it has none.
+    /// The open call of a thread, which was added, as it was made. `None` if it has none.
     pub fn open_call(&self, t: Tid) -> Option<Request>
         requires { has_thread self.now t ≡ true }
         ensures { result ≡ option_map (with_deadline_if_any (timer_at self.now t).deadline) (request_at (line_at self.now t)) }
@@ -167,7 +167,7 @@ impl<K: PiKernel + Drop> Parts<K> {
     }
 
     /// Whether the open call of a thread, which was added, is due: its deadline counts, and is reached. Its next step
-    /// is its expiry then. False where it has none.
+    /// is its expiry then. False if it has none.
     pub fn is_due(&self, t: Tid) -> bool
         requires { has_thread self.now t ≡ true }
         ensures { result ≡ is_due_in self.now t }
@@ -222,14 +222,14 @@ impl<K: PiKernel + Drop> Parts<K> {
     }
 
     /// The effective priority of a thread: the greatest base priority of it and of all that wait for it through any
-    /// chain. `None` where no living thread has that number.
+    /// chain. `None` if no living thread has that number.
     pub fn effective(&self, t: Tid) -> Option<Prio>
         ensures { result ≡ effective_answer t self.now }
     {
         self.state.effective(t)
     }
 
-    /// The base priority of a thread. `None` where no living thread has that number.
+    /// The base priority of a thread. `None` if no living thread has that number.
     pub fn base(&self, t: Tid) -> Option<Prio>
         ensures { result ≡ base_answer t self.now }
     {
@@ -249,8 +249,8 @@ impl<K: PiKernel + Drop> Parts<K> {
         self.state.status(t)
     }
 
-    /// The owner of a mutex, by its word, and how often that one holds it. `None` where the mutex was never added, or
-    /// where its word has no number.
+    /// The owner of a mutex, by its word, and how often that one holds it. `None` if the mutex was never added, or if
+    /// its word has no number.
     pub fn owner(&self, m: MutexId) -> Option<(Tid, u32)>
         ensures { result ≡ owner_answer m self.now }
     {
@@ -262,7 +262,7 @@ impl<K: PiKernel + Drop> Parts<K> {
         }
     }
 
-    /// The kind of a mutex, and whether it is robust. `None` where it was never added.
+    /// The kind of a mutex, and whether it is robust. `None` if it was never added.
     pub fn kind(&self, m: MutexId) -> Option<(Kind, bool)>
         ensures { result ≡ kind_answer m self.now }
     {
@@ -273,7 +273,7 @@ impl<K: PiKernel + Drop> Parts<K> {
         }
     }
 
-    /// The mutex to which a variable is bound. `None` where the variable was never added.
+    /// The mutex to which a variable is bound. `None` if the variable was never added.
     pub fn bound(&self, c: CondId) -> Option<MutexId>
         ensures { result ≡ bound_answer c self.now }
     {
@@ -285,7 +285,7 @@ impl<K: PiKernel + Drop> Parts<K> {
     }
 
     /// The waiter of a mutex before which `place` others get it, as long as no priority changes and nobody comes or
-    /// goes. `None` where so few wait for it.
+    /// goes. `None` if so few wait for it.
     pub fn waiter(&self, m: MutexId, place: u32) -> Option<Tid>
         ensures { result ≡ waiter_answer m place self.now }
     {
@@ -293,14 +293,14 @@ impl<K: PiKernel + Drop> Parts<K> {
     }
 
     /// The thread that is parked on a variable and before which `place` others are taken from it, as long as no
-    /// priority changes and nobody comes or goes. `None` where so few are parked on it.
+    /// priority changes and nobody comes or goes. `None` if so few are parked on it.
     pub fn parked(&self, c: CondId, place: u32) -> Option<Tid>
         ensures { result ≡ parked_answer c place self.now }
     {
         self.state.kernel.parked(c, place)
     }
 
-    /// The ready thread before which `place` others run, as long as none comes or goes. `None` where so few are ready.
+    /// The ready thread before which `place` others run, as long as none comes or goes. `None` if so few are ready.
     pub fn ready(&self, place: u32) -> Option<Tid>
         ensures { result ≡ ready_answer place self.now }
     {
@@ -308,14 +308,14 @@ impl<K: PiKernel + Drop> Parts<K> {
     }
 
     /// The threads from a living one on along whom each waits for, in order: the thread, the owner of the mutex on
-    /// which it is queued, and so on, up to the one that waits for nobody. None where no living thread has that number.
+    /// which it is queued, and so on, up to the one that waits for nobody. None if no living thread has that number.
     pub fn path(&self, t: Tid) -> ArrayVec<Tid, 1024>
         ensures { IsPathAnswer t self.now result.items }
     {
         self.state.kernel.path(t)
     }
 
-    /// The 32 bits of the word of a mutex. `None` where it was never added.
+    /// The 32 bits of the word of a mutex. `None` if it was never added.
     pub fn word(&self, m: MutexId) -> Option<u32>
         ensures value { result ≡ word_answer m self.now }
         ensures parts { IfSome result (λ bits. word_of bits ≡ (cell_at self.now m).word) }
@@ -327,7 +327,7 @@ impl<K: PiKernel + Drop> Parts<K> {
         }
     }
 
-    /// The health of a mutex, by its health word; that of a stalled mutex is `Health::Fine`. `None` where it was never
+    /// The health of a mutex, by its health word; that of a stalled mutex is `Health::Fine`. `None` if it was never
     /// added.
     pub fn health(&self, m: MutexId) -> Option<Health>
         ensures value { result ≡ health_answer m self.now }
@@ -339,7 +339,7 @@ impl<K: PiKernel + Drop> Parts<K> {
         }
     }
 
-    /// How often a condition variable was used, by its word: its signals and broadcasts together. `None` where it was
+    /// How often a condition variable was used, by its word: its signals and broadcasts together. `None` if it was
     /// never added.
     pub fn cond_word(&self, c: CondId) -> Option<u32>
         ensures { result ≡ cond_word_answer c self.now }
@@ -352,7 +352,7 @@ impl<K: PiKernel + Drop> Parts<K> {
     }
 
     /// The thread that runs next: of the ready threads of greatest effective priority the first that joined them.
-    /// `None` where no thread is ready.
+    /// `None` if no thread is ready.
     pub fn pick(&self) -> Option<Tid>
         ensures { result ≡ pick_answer self.now }
     {

@@ -203,14 +203,14 @@ impl<K: PiKernel + Drop> State<K> {
         self.kernel.effective(t).is_some()
     }
 
-    /// The effective priority of a thread. `None` where no living thread has that number.
+    /// The effective priority of a thread. `None` if no living thread has that number.
     pub(crate) fn effective(&self, t: Tid) -> Option<Prio>
         ensures { result ≡ (if is_living self.now.kernel t then Some (effective_in self.now.kernel t) else None) }
     {
         self.kernel.effective(t)
     }
 
-    /// The thread that runs next. `None` where none is ready.
+    /// The thread that runs next. `None` if none is ready.
     pub(crate) fn pick(&self) -> Option<Tid>
         ensures { result ≡ (if pick_in self.now.kernel == 0 then None else Some (pick_in self.now.kernel)) }
     {

@@ -43,7 +43,7 @@ impl<K: PiKernel + Drop> State<K> {
         }
     }
 
-    /// One step of a lock, or its expiry, if it is due. It is due only where it waits.
+    /// One step of a lock, or its expiry, if it is due. It is due only if it waits.
     #[inline(always)]
     #[tactic(auto, unfolding(pif_model::specs::Lines::line_of), using(crate::proofs::Locking::lock_goes))]
     fn lock_step(&mut self, request: Request, place: Place, t: Tid, m: MutexId) -> Progress

@@ -16,7 +16,7 @@ const MOST: u32 = 255;
 
 /// What lock, trylock and wait have in common: the exchange, and taking over a robust mutex up to its links.
 impl<K: PiKernel + Drop> State<K> {
-    /// The owner of a recursive mutex holds it once more, or is answered EAGAIN where it holds it as often as it may.
+    /// The owner of a recursive mutex holds it once more, or is answered EAGAIN if it holds it as often as it may.
     #[tactic(auto, unfolding(pif_model::specs::Lines::relocks))]
     pub(crate) fn lock_again(&mut self, t: Tid, m: MutexId) -> Progress
         requires known { has_thread self.old t ≡ true }
@@ -33,7 +33,7 @@ impl<K: PiKernel + Drop> State<K> {
     }
 
     /// Compare-exchange of the word from 0 to the number of the thread. Done, a stalled mutex is answered, and of a
-    /// robust one the health word is next. Where it fails the request goes on with its kernel call.
+    /// robust one the health word is next. If it fails, the request goes on with its kernel call.
     #[inline(always)]
     pub fn own_exchange(&mut self, request: Request, t: Tid, m: MutexId) -> Progress
         requires known { has_thread self.old t ≡ true }

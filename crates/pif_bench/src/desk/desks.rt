@@ -10,10 +10,10 @@ use std::thread;
 use std::thread::Threads;
 use std::time::Duration;
 
-/// How many pairs of a lock and an unlock all threads make together where none contends.
+/// How many pairs of a lock and an unlock all threads make together if none contends.
 pub const PAIRS: u32 = 48_000;
 
-/// How many they make together where all contend for one mutex.
+/// How many they make together if all contend for one mutex.
 const CONTENDED_PAIRS: u32 = 48_000;
 
 /// Which mutexes the threads lock.
@@ -43,7 +43,7 @@ fn is_answered<R: Wait>(
     client.call(rt, desk, request).is_ok()
 }
 
-/// Locks and unlocks the mutex, so many times. Where a call meets a fault, it makes no more.
+/// Locks and unlocks the mutex, so many times. If a call meets a fault, it makes no more.
 fn make_pairs<R: Wait>(
     rt: &R,
     desk: &Desk<NoPause>,
@@ -123,8 +123,8 @@ fn enter_all<R: Wait>(
     Some(())
 }
 
-/// Each player runs in a thread of its own, and gives its client back. `None` where memory is refused or a thread can't
-/// be started.
+/// Each player runs in a thread of its own, and gives its client back. `None` if memory is refused or a thread can't be
+/// started.
 fn play_all<R: Threads + Wait + Sync>(
     rt: &R,
     desk: &Desk<NoPause>,
@@ -162,7 +162,7 @@ fn run_at<R: Clock + Threads + Wait + Sync>(
     }
 }
 
-/// How many entries the journal of a desk has, once it has settled with these clients. `None` where it doesn't settle.
+/// How many entries the journal of a desk has, once it has settled with these clients. `None` if it doesn't settle.
 fn settled_entries(desk: Desk<NoPause>, clients: Vec<Client>) -> Option<usize> {
     match desk.into_room().settle(clients) {
         Ok(book) => Some(book.entries.len()),

@@ -75,7 +75,7 @@ pub fn make_chain(core: &mut Core, depth: u32) -> Option<()> {
     Some(())
 }
 
-/// How many threads and mutexes there are where threads join a chain of so many.
+/// How many threads and mutexes there are if threads join a chain of so many.
 pub fn size_of_joins(before: u32) -> (u32, u32) {
     (before.saturating_add(JOINS), before)
 }

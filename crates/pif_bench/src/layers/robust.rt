@@ -29,8 +29,8 @@ fn holders_of(held: u32) -> u32 {
     most.max(1).min(MOST_ENDS)
 }
 
-/// How many threads and mutexes there are where threads end that hold so many each. For each mutex another thread
-/// waits, or none does.
+/// How many threads and mutexes there are if threads end that hold so many each. For each mutex another thread waits,
+/// or none does.
 pub fn size_of_ends(held: u32, contended: bool) -> (u32, u32) {
     let holders = holders_of(held);
     let mutexes = holders.saturating_mul(held);

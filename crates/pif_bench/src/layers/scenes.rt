@@ -109,7 +109,7 @@ fn fill(core: &mut Core, scene: Scene) -> Option<()> {
     add_mutexes(core, mutexes, is_robust(scene))
 }
 
-/// Does what comes before what is measured. `None` where a number is 0.
+/// Does what comes before what is measured. `None` if a number is 0.
 fn prepare(core: &mut Core, scene: Scene) -> Option<()> {
     match scene {
         Scene::HandOver => hand_overs::lock_by_all(core),
@@ -126,7 +126,7 @@ fn prepare(core: &mut Core, scene: Scene) -> Option<()> {
     }
 }
 
-/// Does what is measured. Answers how many times. `None` where a number is 0, and for a broadcast, of which each is
+/// Does what is measured. Answers how many times. `None` if a number is 0, and for a broadcast, of which each is
 /// measured alone.
 fn play(core: &mut Core, scene: Scene) -> Option<u32> {
     match scene {
@@ -174,7 +174,7 @@ pub fn nanoseconds_on_core(
     }
 }
 
-/// Makes a core, which ends. False where memory is refused.
+/// Makes a core, which ends. False if memory is refused.
 fn makes_core(alloc: Global, limits: Limits) -> bool {
     Core::new(alloc, limits).is_ok()
 }
@@ -202,7 +202,7 @@ pub fn step(core: &mut Core, event: Event) {
     core.step(event);
 }
 
-/// The thread of this number locks the mutex of that number. `None` where a number is 0.
+/// The thread of this number locks the mutex of that number. `None` if a number is 0.
 pub fn lock(core: &mut Core, thread: u32, mutex: u32) -> Option<()> {
     let mutex = MutexId::new(mutex)?;
     call(core, Tid::new(thread)?, Request::Lock(mutex));

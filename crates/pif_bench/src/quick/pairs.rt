@@ -115,7 +115,7 @@ pub struct BarePairs {
     pub added: u64,
 }
 
-/// Measures pairs of bare compare-exchanges. `None` where the clock has a fault.
+/// Measures pairs of bare compare-exchanges. `None` if the clock has a fault.
 pub fn measure_bare(rt: &impl Clock) -> Option<BarePairs> {
     let mut bare = Figures::new();
     let word = AtomicU64::new(0);
@@ -137,7 +137,7 @@ pub struct Pairs {
     pub added: u64,
 }
 
-/// Measures the three ways in turn. `None` where memory is refused or the clock has a fault.
+/// Measures the three ways in turn. `None` if memory is refused or the clock has a fault.
 pub fn measure_pairs<R: Clock + Wait + AllocGlobal>(rt: &R) -> Option<Pairs> {
     let values = [0u64].to_vec(rt.alloc()).ok()?;
     match Quick::open(rt.alloc(), values, 1) {

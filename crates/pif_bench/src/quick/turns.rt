@@ -97,7 +97,7 @@ fn mutex_turns<R: Wait>(rt: &R, apart: &Apart) {
     }
 }
 
-/// Each pass takes its turns in a thread of its own. False where memory is refused or a thread can't be started.
+/// Each pass takes its turns in a thread of its own. False if memory is refused or a thread can't be started.
 fn quick_run<R: Threads + Wait + Sync>(
     rt: &R,
     quick: &Quick<u64>,
@@ -120,7 +120,7 @@ fn quick_run<R: Threads + Wait + Sync>(
     .is_ok()
 }
 
-/// So many threads take their turns. False where memory is refused or a thread can't be started.
+/// So many threads take their turns. False if memory is refused or a thread can't be started.
 fn mutex_run<R: Threads + Wait + Sync>(
     rt: &R,
     alloc: Global,
@@ -230,8 +230,8 @@ fn mutex_round<R: Clock + Threads + Wait + Sync + AllocGlobal>(
     }
 }
 
-/// Measures the turns of some threads by the quick path and by std's `Mutex`, in turn. `None` where memory is refused,
-/// a thread can't be started, or the clock has a fault.
+/// Measures the turns of some threads by the quick path and by std's `Mutex`, in turn. `None` if memory is refused, a
+/// thread can't be started, or the clock has a fault.
 pub fn measure_turns<R: Clock + Threads + Wait + Sync + AllocGlobal>(
     rt: &R,
     words: Words,

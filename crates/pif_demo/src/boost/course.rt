@@ -59,22 +59,22 @@ impl Course {
         self.done.fetch_add(1, Ordering::SeqCst);
     }
 
-    /// Waits until low holds the mutex in this round; false where the threads are to end.
+    /// Waits until low holds the mutex in this round; false if the threads are to end.
     pub fn is_held<R: Wait>(&self, rt: &R, round: u32) -> bool {
         self.comes_to(rt, &self.held, u64::from(round) + 1)
     }
 
-    /// Waits until high waits in this round; false where the threads are to end.
+    /// Waits until high waits in this round; false if the threads are to end.
     pub fn is_waited_for<R: Wait>(&self, rt: &R, round: u32) -> bool {
         self.comes_to(rt, &self.waited, u64::from(round) + 1)
     }
 
-    /// Waits until middle and high have done all rounds before this one; false where the threads are to end.
+    /// Waits until middle and high have done all rounds before this one; false if the threads are to end.
     pub fn is_ready<R: Wait>(&self, rt: &R, round: u32) -> bool {
         self.comes_to(rt, &self.done, 2 * u64::from(round))
     }
 
-    /// Waits until a counter has come so far; false where the threads are to end.
+    /// Waits until a counter has come so far; false if the threads are to end.
     fn comes_to<R: Wait>(&self, rt: &R, counter: &AtomicU64, count: u64) -> bool {
         for _ in rt.forever() {
             if counter.load(Ordering::SeqCst) >= count {

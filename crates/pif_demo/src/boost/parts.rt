@@ -112,7 +112,7 @@ fn play_part<R: Wait>(
     }
 }
 
-/// Plays a part to its end. Where it meets a fault its thread ends, and all are to end.
+/// Plays a part to its end. If it meets a fault, its thread ends, and all are to end.
 fn play<R: Wait>(
     rt: &R,
     course: &Course,

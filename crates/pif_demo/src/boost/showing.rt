@@ -11,7 +11,7 @@ const LOW: u32 = 1;
 const MIDDLE: u32 = 2;
 
 /// A moment that comes in each round: the priority with which low ran when it came first, and the number of the thread
-/// that ran next, each 0 where there was none; how often it came, and how often the same was shown.
+/// that ran next, each 0 if there was none; how often it came, and how often the same was shown.
 #[derive(Clone, Copy)]
 pub struct Moment {
     pub low: u32,
@@ -124,7 +124,7 @@ fn is_step_of_low(event: &Event) -> bool {
     }
 }
 
-/// The priority with which low runs; 0 where there is none.
+/// The priority with which low runs; 0 if there is none.
 fn level_of(core: &Core, low: Tid) -> u32 {
     match core.effective(low) {
         Some(prio) => prio.get(),
@@ -132,7 +132,7 @@ fn level_of(core: &Core, low: Tid) -> u32 {
     }
 }
 
-/// The number of the thread that runs next; 0 where there is none.
+/// The number of the thread that runs next; 0 if there is none.
 fn next_of(core: &Core) -> u32 {
     match core.pick() {
         Some(thread) => thread.get(),
@@ -145,14 +145,14 @@ fn answers(core: &mut Core, event: &Event, seen: &Seen) -> bool {
     core.step(*event) == *seen
 }
 
-/// The core makes this event, and what it then shows is noted. False where it answers otherwise.
+/// The core makes this event, and what it then shows is noted. False if it answers otherwise.
 fn show_step(core: &mut Core, event: &Event, seen: &Seen, low: Tid, shown: &mut Shown) -> bool {
     let same = answers(core, event, seen);
     shown.note(event, seen, level_of(core, low), next_of(core));
     same
 }
 
-/// The core does an entry of a journal again. False where it answers otherwise.
+/// The core does an entry of a journal again. False if it answers otherwise.
 fn show_entry(core: &mut Core, entry: &Entry, low: Tid, shown: &mut Shown) -> bool {
     match entry {
         Entry::Thread(thread, prio) => core.add_thread(prio.get()) == Ok(*thread),

@@ -1,5 +1,5 @@
--- A loose core may cross to another thread: where it holds a core, it owns what the box of a core owns, which may
--- cross; where it holds none, it owns nothing.
+-- A loose core may cross to another thread: if it holds a core, it owns what the box of a core owns, which may cross;
+-- if it holds none, it owns nothing.
 use mathlib.Core.List.{[]}
 use base.Shift.{Keyless}
 use denote.RawPtr.{Ptr}

@@ -1,4 +1,4 @@
--- A living thread with a call open rests where it may not run.
+-- A living thread with a call open rests if it may not run.
 use Rattle.pif_core.proofs.StandsAfter.{waiting_answered, waiting_is_some}
 use Rattle.pif_core.proofs.cores.Core.waiting.Goals as goal
 
