@@ -108,8 +108,8 @@ fn fault_of_form(alloc: Global, bytes: &[u8], notice: &mut Notice) -> Result<Opt
 ///
 /// # Errors
 ///
-/// `Read`, where the reader fails, and `NoMemory`; nothing was written then, and they come before any fault of form.
-/// `Script` with the first fault of form, whose line was written then; and `Write`, where the writer fails or takes no
+/// `Read` if the reader fails, and `NoMemory`; nothing was written then, and they come before any fault of form.
+/// `Script` with the first fault of form, whose line was written then; and `Write` if the writer fails or takes no
 /// byte.
 pub fn migrate<R: Read, W: Write>(
     alloc: Global,
@@ -121,8 +121,8 @@ pub fn migrate<R: Read, W: Write>(
     migrate_noting(alloc, reader, writer, &mut Notice::new())
 }
 
-/// Migrates a trace as `migrate` does, and has `notice` keep the line of the fault; where there is none, `notice` is
-/// left as it is.
+/// Migrates a trace as `migrate` does, and has `notice` keep the line of the fault; if there is none, `notice` is left
+/// as it is.
 ///
 /// # Errors
 ///

@@ -43,7 +43,7 @@ pub fn traced_of(version: Version, line: &[u8]) -> Option<(Command, &[u8])>
 ///
 /// # Errors
 ///
-/// The fault `command`, where it names none.
+/// The fault `command` if it names none.
 pub fn open_header<L>(line: &[u8]) -> Result<Option<L>, OpenFault>
     ensures { MatchOption (version_in line.now) (result ≡ Err (OpenFault.Ended (Ending.Fault Cause.Command)))
         (λ version. result ≡ Ok None) }
@@ -58,7 +58,7 @@ pub fn open_header<L>(line: &[u8]) -> Result<Option<L>, OpenFault>
 ///
 /// # Errors
 ///
-/// `Differs` where they are not the same.
+/// `Differs` if they are not the same.
 fn compare(reply: Reply, recorded: &[u8]) -> Result<(), Ending>
     ensures { result ≡ (if bytes_eq (text_of reply) recorded.now then Ok tt else Err (Ending.Differs reply)) }
 {
@@ -130,8 +130,8 @@ impl Listener for Replayed {
 /// # Errors
 ///
 /// `Script` with the first fault of the trace, and `Differs` with the line of the first difference, which were written
-/// then; `Read`, where the reader fails, and nothing was written; `Write`, where the writer fails or takes no byte; and
-/// `NoMemory`, where the core cannot be made, and nothing was written.
+/// then. `Read` if the reader fails; nothing was written. `Write` if the writer fails or takes no byte. `NoMemory` if
+/// the core cannot be made; nothing was written.
 pub fn replay<R: Read, W: Write>(
     alloc: Global,
     reader: &mut R,
@@ -142,7 +142,7 @@ pub fn replay<R: Read, W: Write>(
     replay_noting(alloc, reader, writer, &mut Notice::new())
 }
 
-/// Replays a trace as `replay` does, and has `notice` keep the line of the fault or of the difference; where there is
+/// Replays a trace as `replay` does, and has `notice` keep the line of the fault or of the difference; if there is
 /// none, `notice` is left as it is.
 ///
 /// # Errors

@@ -9,14 +9,14 @@ use std::io::{Read, Write};
 /// header, the line of the limits, and a line for each entry that the script makes, in their order, with what the core
 /// answered. Those are the additions that were made, and each event, also a refused one; `call` and `finish` make the
 /// events of which they consist. Refused additions and questions make none. The line of a fault is not written: the
-/// trace is that of the lines before it. Where no core was made, nothing is written. `replay` finds the trace the same,
-/// up to the size that a trace may have: `script_trace_is_the_same`.
+/// trace is that of the lines before it. If no core was made, nothing is written. `replay` finds the trace the same, up
+/// to the size that a trace may have: `script_trace_is_the_same`.
 ///
 /// # Errors
 ///
-/// Those of `run`: `Script` with the first fault of the script; `Read`, where the reader fails, and the trace of the
-/// whole lines read so far was written; `Write`, where the writer fails or takes no byte; and `NoMemory`, where the
-/// core cannot be made, and nothing was written.
+/// Those of `run`: `Script` with the first fault of the script. `Read` if the reader fails; the trace of the whole
+/// lines read so far was written. `Write` if the writer fails or takes no byte. `NoMemory` if the core cannot be made;
+/// nothing was written.
 pub fn trace<R: Read, W: Write>(
     alloc: Global,
     reader: &mut R,
@@ -27,7 +27,7 @@ pub fn trace<R: Read, W: Write>(
     trace_noting(alloc, reader, writer, &mut Notice::new())
 }
 
-/// Writes the trace of a script as `trace` does, and has `notice` keep the line of the fault; where there is none,
+/// Writes the trace of a script as `trace` does, and has `notice` keep the line of the fault; if there is none,
 /// `notice` is left as it is.
 ///
 /// # Errors

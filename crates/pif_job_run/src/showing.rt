@@ -111,7 +111,7 @@ fn tell_line(line: &[u8], output: &mut Output)
     output.push(b'\n');
 }
 
-/// The byte, or what stands for it where it is not printable.
+/// The byte, or what stands for it if it is not printable.
 fn printable(byte: u8) -> u8
     ensures { result ≡ printable byte }
 {

@@ -93,7 +93,7 @@ fn entry_line(entry: Entry) -> Text
 ///
 /// # Errors
 ///
-/// `Write` alone, where the writer fails or takes no byte; a proper part of the trace is written then.
+/// `Write` alone, if the writer fails or takes no byte; a proper part of the trace is written then.
 pub fn write_trace<W: Write>(
     limits: Limits,
     entries: &[Entry],

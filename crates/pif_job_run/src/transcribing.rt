@@ -97,7 +97,7 @@ fn call(core: &mut Core, thread: Tid, request: Request, output: &mut Output) -> 
     }
 }
 
-/// A thread that goes on, in a whole call where a request is given, with a line for each event.
+/// A thread that goes on, in a whole call if a request is given, with a line for each event.
 fn run(core: &mut Core, thread: Tid, request: Option<Request>, output: &mut Output) -> Seen
     requires { array_vec_len output.old + LINES_ROOM ≤ OUTPUT_ROOM }
     ensures seen { result ≡ (run_outcome thread request core.old).seen }

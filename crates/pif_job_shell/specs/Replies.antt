@@ -19,7 +19,7 @@ IsBehindNumber number name =
     (((errno : Errno) → (number_of errno ≡ number) → ⊥) × (name ≡ []))
     ⊎ ((errno : Errno) × (number_of errno ≡ number) × (name ≡ 32 ∷ errno_name errno))
 
--- the same; nothing stands where there is no number
+-- the same; nothing stands there if there is no number
 abbrev pub IsBehindAnswer : Option ℕ → List ℕ → Type 0
 IsBehindAnswer (Some number) name = IsBehindNumber number name
 IsBehindAnswer None name = name ≡ []

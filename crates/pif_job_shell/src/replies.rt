@@ -47,7 +47,7 @@ fn errno_bytes(errno: Errno) -> &'static [u8]
     errno_name(errno).as_bytes()
 }
 
-/// Appends the name of an error behind its number, and nothing behind another number or where there is none.
+/// Appends the name of an error behind its number, and nothing behind another number or if there is none.
 fn append_name(number: Option<u32>, text: &mut Text)
     requires { array_vec_len text.old ≤ 100 }
     ensures text { AddsSome (IsBehindAnswer number) text.old.items text.new.items }

@@ -25,10 +25,10 @@ struct Talk {
     prompt: bool,
 }
 
-/// What is said first where there is a prompt.
+/// What is said first if there is a prompt.
 const GREETING: &[u8] = b"'help' names the commands; Ctrl-D ends\n";
 
-/// What stands before each line where there is a prompt.
+/// What stands before each line if there is a prompt.
 const PROMPT: &[u8] = b"> ";
 
 /// Does what was found asks for.
@@ -71,7 +71,7 @@ fn hear_and_keep<S: Shelf, W: Write>(
     }
 }
 
-/// Writes a text where there is a prompt.
+/// Writes a text if there is a prompt.
 fn prompt_with<W: Write>(prompt: bool, text: &[u8], writer: &mut W) -> Result<(), Unwritten>
     ensures { Stays (W.contents writer.old) (W.contents writer.new) }
 {
@@ -126,7 +126,7 @@ fn part_or_go_on<S: Shelf, W: Write>(
     }
 }
 
-/// Greets where there is a prompt, and has the session kept there.
+/// Greets if there is a prompt, and has the session kept then.
 fn greet<S: Shelf, W: Write>(shelf: &S, talk: &mut Talk, writer: &mut W) -> Result<(), Unwritten>
     ensures { Stays (W.contents writer.old) (W.contents writer.new) }
 {
@@ -139,8 +139,8 @@ fn greet<S: Shelf, W: Write>(shelf: &S, talk: &mut Talk, writer: &mut W) -> Resu
     tell(remark, writer)
 }
 
-/// Greets where there is a prompt, and reads a line after the other and does what it asks for, up to the end of the
-/// input, or until the person leaves.
+/// Greets if there is a prompt, and reads a line after the other and does what it asks for, up to the end of the input,
+/// or until the person leaves.
 fn converse<S: Shelf, R: Read, W: Write>(
     alloc: Global,
     shelf: &S,

@@ -75,12 +75,12 @@ pub trait Listener: Sized {
     // How this listener hears a script.
     ghost hearing: { Hearing Self };
 
-    /// The listener that a line makes while there is none, or `None` where the line is passed over. `version` is the
-    /// one that the first line named, if that line was passed over. The answer to the line is appended to `output`.
+    /// The listener that a line makes while there is none, or `None` if the line is passed over. `version` is the one
+    /// that the first line named, if that line was passed over. The answer to the line is appended to `output`.
     ///
     /// # Errors
     ///
-    /// `Ended` where the line ends the script, and `NoMemory`; `output` is then unchanged.
+    /// `Ended` if the line ends the script, and `NoMemory`; `output` is then unchanged.
     fn open(
         alloc: Global,
         version: Option<Version>,
@@ -105,7 +105,7 @@ pub trait Listener: Sized {
     ///
     /// # Errors
     ///
-    /// The cause, where the end is a fault; `output` is then unchanged.
+    /// The cause if the end is a fault; `output` is then unchanged.
     fn close(number: u64, output: &mut Output) -> Result<(), Cause>
         requires { array_vec_len output.old + END_ROOM ≤ OUTPUT_ROOM }
         ensures { Tells (hearing.end_text number) output.old.items output.new.items result };

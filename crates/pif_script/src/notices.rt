@@ -30,7 +30,7 @@ impl Notice {
         split_answer(self.line.as_slice())
     }
 
-    /// What the core gives where the line that was kept differs from it; no byte where it does not.
+    /// What the core gives if the line that was kept differs from it; no byte if it does not.
     pub fn given(&self) -> &[u8] {
         self.given.as_slice()
     }

@@ -16,7 +16,7 @@ pub const MOST_BYTES: u32 = 16_777_216;
 /// The most bytes of a line before its LF.
 pub const MOST_LINE: usize = 120;
 
-/// How many bytes stand before the first LF, or all of them, where there is none.
+/// How many bytes stand before the first LF, or all of them if there is none.
 #[inline(always)]
 fn before_feed(bytes: &[u8]) -> usize
     ensures within { result ≤ length bytes.now }
@@ -73,7 +73,7 @@ impl<L: Listener + Drop> Scanner<L> {
         }
     }
 
-    /// Appends to `output` what is said where the script ends here.
+    /// Appends to `output` what is said if the script ends here.
     ///
     /// # Errors
     ///
@@ -101,11 +101,11 @@ impl<L: Listener + Drop> Scanner<L> {
         }
     }
 
-    /// Reads one byte. Where it ends a line, what that is answered is appended to `output`.
+    /// Reads one byte. If it ends a line, what that is answered is appended to `output`.
     ///
     /// # Errors
     ///
-    /// `Ended` with the line, where the byte ends the script, and `NoMemory`, where no line was answered yet.
+    /// `Ended` with the line, if the byte ends the script, and `NoMemory`, with no line answered yet.
     pub fn take(&mut self, alloc: Global, byte: u8, output: &mut Output) -> Result<(), Stop>
         requires { array_vec_len output.old + ANSWER_ROOM ≤ OUTPUT_ROOM }
         ensures answer { Takes L.hearing (scan_of self.old) byte output.old.items output.new.items (scan_of self.new) result }
@@ -145,7 +145,7 @@ impl<L: Listener + Drop> Scanner<L> {
     ///
     /// # Errors
     ///
-    /// `Ended` with the line, where one of the bytes ends the script, and `NoMemory`, where no line was answered yet.
+    /// `Ended` with the line, if one of the bytes ends the script, and `NoMemory`, with no line answered yet.
     #[inline(always)]
     pub fn take_some(
         &mut self,
@@ -176,7 +176,7 @@ impl<L: Listener + Drop> Scanner<L> {
         count <= MOST_LINE + 1 && count <= (MOST_BYTES - self.taken) as usize
     }
 
-    /// Reads the line of the first `plain` bytes and the LF behind them, where nothing of that line was read before.
+    /// Reads the line of the first `plain` bytes and the LF behind them; nothing of that line was read before.
     #[inline(always)]
     fn take_line(
         &mut self,
@@ -216,7 +216,7 @@ impl<L: Listener + Drop> Scanner<L> {
         Ok(plain + 1)
     }
 
-    /// Reads the first `plain` bytes, which end no line, where there is room for them, and else one byte.
+    /// Reads the first `plain` bytes, which end no line, if there is room for them, and else one byte.
     #[inline(never)]
     fn take_part(
         &mut self,
@@ -255,7 +255,7 @@ fn keep(bytes: &[u8], line: &mut ArrayVec<u8, MOST_LINE>)
     let _ = line.try_extend_from_slice(bytes);
 }
 
-/// The version that the first line names, where a line of this number has ended.
+/// The version that the first line names, once a line of this number has ended.
 #[inline(always)]
 fn named(version: Option<Version>, number: u64, line: &[u8]) -> Option<Version>
     ensures { result ≡ (if number == 1 then version_in line.now else version) }
@@ -267,7 +267,7 @@ fn named(version: Option<Version>, number: u64, line: &[u8]) -> Option<Version>
     }
 }
 
-/// Has a line of this number answered by the listener, or where there is none, as one of the first lines.
+/// Has a line of this number answered by the listener, or if there is none, as one of the first lines.
 #[inline(always)]
 fn answer<L: Listener + Drop>(
     alloc: Global,

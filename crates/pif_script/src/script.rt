@@ -19,8 +19,8 @@ use std::io::{Read, Write};
 ///
 /// # Errors
 ///
-/// `Script` and `Differs` with the line that ends it; `Read` and `Write`, where the reader or the writer fails; and
-/// `NoMemory`, where nothing was written.
+/// `Script` and `Differs` with the line that ends it; `Read` and `Write` if the reader or the writer fails; and
+/// `NoMemory`, with nothing written.
 pub fn read_script<L: Listener + Drop, R: Read, W: Write>(
     alloc: Global,
     reader: &mut R,
@@ -96,7 +96,7 @@ pub fn feed<L: Listener + Drop, W: Write>(
     write_whole(writer, output.as_slice())
 }
 
-/// Writes the output where there may be no room for one more answer in it.
+/// Writes the output if there may be no room for one more answer in it.
 fn make_room<W: Write>(output: &mut Output, writer: &mut W) -> Result<(), CliFault>
     ensures answer { Flushes (W.contents writer.old) (W.contents writer.new) output.old.items output.new.items result }
     ensures room { OnOk result (array_vec_len output.new + ANSWER_ROOM + END_ROOM ≤ OUTPUT_ROOM) }

@@ -32,7 +32,7 @@ fn read_more<R: Read>(
 ///
 /// # Errors
 ///
-/// `Read`, where the reader fails, and `NoMemory`.
+/// `Read` if the reader fails, and `NoMemory`.
 pub fn read_all<R: Read>(alloc: Global, reader: &mut R) -> Result<Vec<u8>, CliFault>
     ensures read { IfOk result (λ bytes. ReadsTo (R.remaining reader.old) (R.remaining reader.new) bytes.items) }
     ensures failed { IfErr result (λ fault. FailsToRead (R.remaining reader.old) (R.remaining reader.new) fault) }

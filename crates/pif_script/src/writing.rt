@@ -7,7 +7,7 @@ use std::io::Write;
 ///
 /// # Errors
 ///
-/// `Write`, where the writer fails or takes no byte; some of the bytes may be written then.
+/// `Write` if the writer fails or takes no byte; some of the bytes may be written then.
 pub fn write_whole<W: Write>(writer: &mut W, bytes: &[u8]) -> Result<(), CliFault>
     ensures { Writes (W.contents writer.old) (W.contents writer.new) bytes.now result }
 {

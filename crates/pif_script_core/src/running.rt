@@ -158,7 +158,7 @@ pub fn default_limits() -> Limits
     Limits::new(1024, 1024, 256, 4_294_967_295).unwrap()
 }
 
-/// The limits of the core that a first command makes; `None` where it names one that is out of its range.
+/// The limits of the core that a first command makes; `None` if it names one that is out of its range.
 #[tactic(auto, unfolding(pif_script_model::specs::Transcripts::first_limits, pif_script_model::specs::Running::limits_in))]
 pub fn first_limits(command: Command) -> Option<Limits>
     ensures { result ≡ first_limits command }
@@ -202,7 +202,7 @@ fn open_default(alloc: Global, command: Command) -> Result<(Core, Reply), OpenFa
 ///
 /// # Errors
 ///
-/// The cause, where the command is a fault as the first one, and `NoMemory`.
+/// The cause if the command is a fault as the first one, and `NoMemory`.
 #[tactic(auto, unfolding(pif_script_model::specs::Running::first_answer, pif_script_model::specs::Running::limits_in))]
 pub fn open_core(alloc: Global, command: Command) -> Result<(Core, Reply), OpenFault>
     ensures { Makes (first_answer command) result }

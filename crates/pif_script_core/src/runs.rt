@@ -10,17 +10,17 @@ use std::io::{Read, Write};
 ///
 /// # Errors
 ///
-/// `Script` with the first fault of the script, whose line was written then; `Read`, where the reader fails, and the
-/// whole lines read so far were answered; `Write`, where the writer fails or takes no byte; and `NoMemory`, where the
-/// core cannot be made, and nothing was written.
+/// `Script` with the first fault of the script, whose line was written then. `Read` if the reader fails; the whole
+/// lines read so far were answered. `Write` if the writer fails or takes no byte. `NoMemory` if the core cannot be
+/// made; nothing was written.
 pub fn run<R: Read, W: Write>(alloc: Global, reader: &mut R, writer: &mut W) -> Result<(), CliFault>
     ensures { RunsTo (R.remaining reader.old) (R.remaining reader.new) (W.contents writer.old) (W.contents writer.new) result }
 {
     run_noting(alloc, reader, writer, &mut Notice::new())
 }
 
-/// Runs a script as `run` does, and has `notice` keep the line of the fault; where there is none, `notice` is left as
-/// it is.
+/// Runs a script as `run` does, and has `notice` keep the line of the fault; if there is none, `notice` is left as it
+/// is.
 ///
 /// # Errors
 ///

@@ -74,7 +74,7 @@ number-small TimedOut = omega arith
 number-small OwnerDead = omega arith
 number-small NotRecoverable = omega arith
 
--- no line keeps anything where nothing is open
+-- no line keeps anything if nothing is open
 pub none-small : AreSmall (Idle ∷ [])
 none-small zero = tt
 none-small (suc u) = tt

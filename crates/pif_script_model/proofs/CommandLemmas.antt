@@ -38,7 +38,7 @@ first_answered (command.Event e) h = refl
 first_answered (command.Run t q) h = refl
 first_answered (command.Ask q) h = refl
 
--- a line that names such a command is answered, by a core and where there is none
+-- a line that names such a command is answered, by a core, and also if there is none
 later_by : (o : Option Command) (c : Command) (s : Table) (a : Answer) → o ≡ Some c → command_answer c s ≡ Some a
     → ◌≡◌ {A = Meaning Table}
     (elim o [ None ↦ Err (Fault NoCommand) | Some x ↦ answer_line (answer_or_fault (command_answer x s)) ])

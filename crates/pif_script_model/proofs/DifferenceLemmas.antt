@@ -1,4 +1,4 @@
--- Where no line is a difference, a run ends with none; and a run of a script has none.
+-- If no line is a difference, a run ends with none; and a run of a script has none.
 use Rattle.std.proofs.Common.{◌≡◌, ℕ, ◌==◌, Bool, cond, length, true, false, List, [], ◌∷◌, Option, Some, None, Result, Ok, Err, refl, sym, ap, ◌∙◌, subst, inl, inr}
 use Rattle.pif_model.specs.Table.{Table}
 use Rattle.pif_text_model.specs.declared.commands.Command.{Command}

@@ -22,7 +22,7 @@ module _ {S : Type 0} (hearing : Hearing S) where
   abbrev pub with_bytes : Scan S → List ℕ → Scan S
   with_bytes s bs = record s { line = s.line ++ bs; taken = s.taken + length bs }
 
-  -- such bytes are answered nothing, where the line and the script have room for them
+  -- such bytes are answered nothing, if the line and the script have room for them
   plain-read : (bs : List ℕ) (s : Scan S) → ((k : ℕ) → k < length bs → get_or bs k 0 ≡ 10 → ⊥)
       → length s.line + length bs ≤ 120 → s.taken + length bs ≤ 16777216
       → ((reading_of hearing s bs).text ≡ []) × ((reading_of hearing s bs).stands ≡ Ok (with_bytes s bs))

@@ -230,7 +230,7 @@ line-alike s line m e =
       )
     ]
 
--- the second line, where it has its form
+-- the second line, if it has its form
 second_line-alike : (line : List ℕ) (m : List ℕ × Option Version) → answered_first (second_line_form One line) ≡ Ok m
     → (m ≡ ([], Some One))
     × Alike (answered_first (second_line_meaning One line)) (answered_first (second_line_meaning Two line))

@@ -117,7 +117,7 @@ Opens-done line old shown front new c b t r e f g h w =
 
 -- ---- beside a run
 
--- a line of a script leaves no one who hears it only where it ends it
+-- a line of a script leaves no one who hears it only if it ends it
 made-heard : (m : Meaning Table) → made_by m ≡ Ok None → ⊥
 made-heard (Ok m) e = cc
 made-heard (Err x) e = cc

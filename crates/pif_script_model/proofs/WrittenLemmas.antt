@@ -151,13 +151,13 @@ script-asked (b ∷ bs) s =
 abbrev IsTold : Entry → Type 0
 IsTold e = IsTraced (entry_reply e)
 
--- an addition was made where there was room, with the next number
+-- an addition that was made had room, and has the next number
 added : (b : Bool) (n t : ℕ) (f : AddFault) → ◌≡◌ {A = Result ℕ AddFault} (if b then Ok n else Err f) (Ok t)
     → (b ≡ true) × (n ≡ t)
 added true n t f e = (refl, cc)
 added false n t f e = cc
 
--- and where another test passed
+-- and another test passed
 added-by : (a b : Bool) (n t : ℕ) (f g : AddFault)
     → ◌≡◌ {A = Result ℕ AddFault} (if a then (if b then Ok n else Err f) else Err g) (Ok t)
     → (a ≡ true) × (b ≡ true) × (n ≡ t)

@@ -120,8 +120,7 @@ are_limits b =
 abbrev pub default_limits : Bounds
 default_limits = record { threads = 1024; mutexes = 1024; conds = 256; signals = 4294967295 }
 
--- what `limits` is answered as the first command: these limits, or the fault `limits` where a number is out of its
--- range
+-- what `limits` is answered as the first command: these limits, or the fault `limits` if a number is out of its range
 abbrev pub limited_answer : Option Bounds → Result Answer Cause
 limited_answer (Some b) = Ok (reply.Done, new_table b)
 limited_answer None = Err cause.Limits

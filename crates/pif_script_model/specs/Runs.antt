@@ -75,7 +75,7 @@ abbrev pub RunsFrom : {S : Type 0} → Hearing S → Scan S → (before after he
 RunsFrom h s before after held holds result =
     (read : List ℕ) × Consumes before after read × EndsAfter h s read after held holds result
 
--- a part of a run, which leaves the script at t and goes on where the answer is true
+-- a part of a run, which leaves the script at t and goes on if the answer is true
 abbrev pub RunsPart : {S : Type 0} → Hearing S → (s t : Scan S) → (before after held holds : Option (List ℕ))
     → Result Bool CliFault → Type 0
 RunsPart h s t before after held holds (Ok true) =

@@ -52,7 +52,7 @@ abbrev pub Hears : {S : Type 0} → Meaning S → (old new : List ℕ) → S →
 Hears meant old new s (Ok x) = (text : List ℕ) × (meant ≡ Ok (text, s)) × (new ≡ old ++ text)
 Hears meant old new s (Err e) = (meant ≡ Err e) × (new ≡ old)
 
--- a text was appended, or nothing where there is none to tell
+-- a text was appended, or nothing if there is none to tell
 abbrev pub Tells : {E : Type 0} → Result (List ℕ) E → (old new : List ℕ) → Result (Unit {0}) E → Type 0
 Tells told old new (Ok x) = (text : List ℕ) × (told ≡ Ok text) × (new ≡ old ++ text)
 Tells told old new (Err e) = (told ≡ Err e) × (new ≡ old)
@@ -162,7 +162,7 @@ Answers h l version line number old new m (Err (StopEnded e)) =
 Answers h l version line number old new m (Err StopNoMemory) =
     (l ≡ None) × NeedsListener (h.first_meaning version line) × (new ≡ old)
 
--- this byte ends a line that needs a listener, where there is none
+-- this byte ends a line that needs a listener, and there is none
 abbrev pub NeedsAt : {S : Type 0} → Hearing S → Scan S → ℕ → Type 0
 NeedsAt h s b = (s.listener ≡ None) × NeedsListener (h.first_meaning s.version s.line) × (b ≡ 10) × (s.taken < 16777216)
 

@@ -33,14 +33,14 @@ OrUnwritten ends (Err NoMemory) = ends (Err NoMemory)
 OrUnwritten ends (Err (Script line cause)) = ends (Err (Script line cause))
 OrUnwritten ends (Err (Differs line)) = ends (Err (Differs line))
 
--- a script that is shown, by what the reader had and has left, and what the writer held and holds: where no write fails
--- it ends as a run over the same bytes does, what that writes aside; the text stands behind what the writer held; and
--- out of memory nothing was written
+-- a script that is shown, by what the reader had and has left, and what the writer held and holds: if no write fails it
+-- ends as a run over the same bytes does, what that writes aside; the text stands behind what the writer held; and out
+-- of memory nothing was written
 abbrev pub ShowsTo : (before after held holds : Option (List ℕ)) → Result (Unit {0}) CliFault → Type 0
 ShowsTo before after held holds result =
     OrUnwritten (RunsTo before after None None) result × Stays held holds × (result ≡ Err NoMemory → Keeps held holds)
 
--- a fault that is out of memory comes where nobody answers yet and nothing was written
+-- a fault that is out of memory comes when nobody answers yet and nothing was written
 abbrev pub SilentAt : {S : Type 0} → Scan S → (held holds : Option (List ℕ)) → CliFault → Type 0
 SilentAt s held holds Read = Unit {0}
 SilentAt s held holds Write = Unit {0}
@@ -48,7 +48,7 @@ SilentAt s held holds NoMemory = (s.listener ≡ None) × Keeps held holds
 SilentAt s held holds (Script line cause) = Unit {0}
 SilentAt s held holds (Differs line) = Unit {0}
 
--- a part of it, which leaves the script at t, wrote nothing while nobody answers, which is so where memory ran out
+-- a part of it, which leaves the script at t, wrote nothing while nobody answers, which is so if it ran out of memory
 abbrev pub Silent : {S A : Type 0} → (s t : Scan S) → (held holds : Option (List ℕ)) → Result A CliFault → Type 0
 Silent s t held holds (Ok x) = t.listener ≡ None → (s.listener ≡ None) × Keeps held holds
 Silent s t held holds (Err e) = SilentAt s held holds e

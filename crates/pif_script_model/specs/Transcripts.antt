@@ -111,7 +111,7 @@ script_entries s (b ∷ bs) =
       | Err e ↦ []
     ]
 
--- the limits of the core that a script makes that stands at s, with no core, and goes on so; none where it makes none
+-- the limits of the core that a script makes that stands at s, with no core, and goes on so; none if it makes none
 unfoldable pub script_limits : Scan Table → List ℕ → Option Bounds
 script_limits s [] = None
 script_limits s (b ∷ bs) =
@@ -123,8 +123,7 @@ script_limits s (b ∷ bs) =
       | Err e ↦ None
     ]
 
--- what is written of a script of these bytes: the trace of the entries that it makes, and nothing where it makes no
--- core
+-- what is written of a script of these bytes: the trace of the entries that it makes, and nothing if it makes no core
 unfoldable pub script_trace : List ℕ → List ℕ
 script_trace bytes = elim (script_limits start bytes) [ None ↦ [] | Some b ↦ trace b (script_entries start bytes) ]
 

@@ -127,8 +127,8 @@ asked_priority (command.Event e) = None
 asked_priority (command.Run t q) = None
 asked_priority (command.Ask q) = None
 
--- what is noted of a command that is answered so: where it names something that is not there, the first name that nobody
--- has; where a priority is out of range, that priority
+-- what is noted of a command that is answered so: if it names something that is not there, the first name that nobody
+-- has; if a priority is out of range, that priority
 unfoldable pub noted : Known → Command → (given : List ℕ) → Option Missing
 noted known c given =
     if bytes_eq given (codes "refused nosuch") then missing_in known c

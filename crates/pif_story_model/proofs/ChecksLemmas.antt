@@ -22,7 +22,7 @@ same_output : {S : Type 0} (hearing : Hearing S) (f g : Reading S) → g.text �
     → output_of hearing g ≡ output_of hearing f
 same_output hearing f g t s = rw (t, s) refl
 
--- what was read stands for all, where what is left stands behind a line that ends the script, or is nothing
+-- what was read stands for all, if what is left stands behind a line that ends the script, or is nothing
 whole : {S : Type 0} (hearing : Hearing S) (s : Scan S) (bytes read left : List ℕ) → bytes ≡ read ++ left
     → (is_ok (reading_of hearing s read).stands ≡ true → left ≡ [])
     → ((reading_of hearing s bytes).text ≡ (reading_of hearing s read).text)

@@ -122,7 +122,7 @@ at-place strict (first ∷ before) behind row (x ∷ xs) more s t a e =
       here.2,
     )
 
--- where all that is given for a command stands, none has a flaw
+-- if all that is given for a command stands, none has a flaw
 none-flawed : (strict : Bool) (rows : List NumberedRow) (answers more : List (List ℕ)) (s t : Scan Table)
     → AreAnswered s rows answers t
     → ((before behind : List NumberedRow) (row : NumberedRow) (answer : List ℕ) → rows ≡ before ++ row ∷ behind

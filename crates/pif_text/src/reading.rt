@@ -206,8 +206,8 @@ fn of_named(name: &[u8], rest: &[u8]) -> Option<Command>
     }
 }
 
-/// The command of a line, given as its bytes without the line feed, or `None` where the line is no command. Any bytes
-/// and any length may be given.
+/// The command of a line, given as its bytes without the line feed, or `None` if the line is no command. Any bytes and
+/// any length may be given.
 #[tactic(auto, unfolding(pif_text_model::specs::Commands::command_in))]
 pub fn command_of(line: &[u8]) -> Option<Command>
     ensures { result ≡ command_in line.now }

@@ -19,7 +19,7 @@ pub const RECORDED_ROOM: usize = REPLY_ROOM + 3;
 pub const VERDICT_ROOM: usize = REPLY_ROOM + 30;
 
 /// Cuts a line of a trace, given as its bytes without the line feed, at its first ` = `: what stands before it, the
-/// command, and what stands behind it, the answer. `None` where it has no ` = `. Any bytes and any length may be given.
+/// command, and what stands behind it, the answer. `None` if it has no ` = `. Any bytes and any length may be given.
 pub fn split_answer(line: &[u8]) -> Option<(&[u8], &[u8])>
     ensures { option_map (λ parts. (parts.0.now, parts.1.now)) result ≡ parts_of line.now }
 {
@@ -31,7 +31,7 @@ pub fn split_answer(line: &[u8]) -> Option<(&[u8], &[u8])>
     None
 }
 
-/// The version of a trace that begins with this line, given as its bytes without the line feed; `None` where no trace
+/// The version of a trace that begins with this line, given as its bytes without the line feed; `None` if no trace
 /// begins so. Any bytes and any length may be given.
 #[tactic(auto, unfolding(pif_text_model::specs::Traces::version_in))]
 pub fn version_of(line: &[u8]) -> Option<Version>
@@ -118,8 +118,8 @@ pub fn recorded_text(reply: Reply, out: &mut Text)
     reply_text(reply, out);
 }
 
-/// Appends `same N`, what a trace of so many lines behind the first comes to where each answer is the recorded one,
-/// with no line feed, at most `VERDICT_ROOM` bytes. What stands in `out` stays.
+/// Appends `same N`, what a trace of so many lines behind the first comes to if each answer is the recorded one, with
+/// no line feed, at most `VERDICT_ROOM` bytes. What stands in `out` stays.
 #[tactic(auto, unfolding(pif_text_model::specs::Traces::same_of))]
 pub fn same_text(lines: u64, out: &mut Text)
     requires { array_vec_len out.old + VERDICT_ROOM ≤ TEXT_ROOM }

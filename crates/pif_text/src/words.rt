@@ -1,7 +1,7 @@
 ghost use Rattle.std.specs.Prelude.{◌≡◌, ℕ, ◌<◌, ◌≤◌, ◌≢◌, ◌∷◌, length, slice_index, option_copied, bytes_eq};
 ghost use Rattle.pif_text_model.specs.Words.{words, words_behind};
 
-/// The place of the first space of a line, or the line's length where it has none.
+/// The place of the first space of a line, or the line's length if it has none.
 fn first_space(line: &[u8]) -> usize
     ensures within { result ≤ length line.now }
     ensures before { (k : ℕ) → k < result → slice_index line.now k ≢ 32 }
@@ -15,7 +15,7 @@ fn first_space(line: &[u8]) -> usize
     line.len()
 }
 
-/// The first word of a line, and what stands behind the space after it, or `None` where no space stands there.
+/// The first word of a line, and what stands behind the space after it, or `None` if no space stands there.
 #[tactic(auto, using(pif_text_model::proofs::Splits::split_at_space, pif_text_model::proofs::Splits::split_nowhere))]
 pub fn split_first(line: &[u8]) -> (&[u8], Option<&[u8]>)
     ensures { words line.now ≡ result.0.now ∷ words_behind (option_copied result.1) }

@@ -65,7 +65,7 @@ pub Appends-take : (bytes : List ℕ) (i n : ℕ) (a b c : Option (List ℕ)) �
     → Appends b c (take n (drop i bytes)) → Appends a c (take (i + n) bytes)
 Appends-take bytes i n a b c p q = rw (take-add i n bytes) (Appends-trans a b c _ _ p q)
 
--- what is so where all went well
+-- what is so if all went well
 pub on_ok : {P Q : Type 0} {E : Type 0} (r : Result (Unit {0}) E) → (P → Q) → OnOk r P → OnOk r Q
 on_ok (Ok x) f p = f p
 on_ok (Err e) f p = p

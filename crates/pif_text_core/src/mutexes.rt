@@ -213,7 +213,7 @@ fn show_bit<W: Write>(is_set: bool, words: &str, page: &mut Page, writer: &mut W
     }
 }
 
-/// Writes the owner of a mutex, and how often it holds the mutex; nothing where nobody owns it.
+/// Writes the owner of a mutex, and how often it holds the mutex; nothing if nobody owns it.
 fn show_ownership<W: Write>(
     names: &Names<'_>,
     core: &Core,

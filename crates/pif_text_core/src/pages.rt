@@ -100,7 +100,7 @@ impl Page {
     ///
     /// # Errors
     ///
-    /// `Unwritten`, where a write failed, this one or an earlier one.
+    /// `Unwritten` if a write failed, this one or an earlier one.
     pub fn finish<W: Write>(&mut self, writer: &mut W) -> Result<(), Unwritten>
         ensures told { Tells self.old self.new (W.contents writer.old) (W.contents writer.new) [] }
         ensures all { OnOk result (self.new ≡ record { kept = []; failed = false }) }
@@ -148,7 +148,7 @@ impl Page {
     }
 }
 
-/// Writes all of `bytes`. Where it fails, some of them may be written.
+/// Writes all of `bytes`. If it fails, some of them may be written.
 fn write_whole<W: Write>(writer: &mut W, bytes: &[u8]) -> Result<(), Unwritten>
     ensures stays { Stays (W.contents writer.old) (W.contents writer.new) }
     ensures written { OnOk result (Appends (W.contents writer.old) (W.contents writer.new) bytes.now) }

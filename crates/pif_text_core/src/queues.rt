@@ -12,7 +12,7 @@ use pif_core::{Core, Order};
 use pif_types::Tid;
 use std::io::Write;
 
-/// Writes the threads of an order with `head` before the first; nothing where there is none.
+/// Writes the threads of an order with `head` before the first; nothing if there is none.
 pub fn show_queue<W: Write>(
     names: &Names<'_>,
     core: &Core,

@@ -21,7 +21,7 @@ use std::io::Write;
 ///
 /// # Errors
 ///
-/// `Unwritten`, where the writer fails or takes no byte; a part of the text may be written then.
+/// `Unwritten` if the writer fails or takes no byte; a part of the text may be written then.
 pub fn write_state<W: Write>(names: &[&str], core: &Core, writer: &mut W) -> Result<(), Unwritten>
     ensures stays { Stays (W.contents writer.old) (W.contents writer.new) }
     ensures told { OnOk result (Appends (W.contents writer.old) (W.contents writer.new) (state_text (map (λ name. name.now) names.now) core.now)) }

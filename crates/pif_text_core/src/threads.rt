@@ -74,7 +74,7 @@ fn show_thread<W: Write>(
     page.words("\n", writer);
 }
 
-/// Writes the effective priority of a thread, and its base priority where that differs; nothing where it has ended.
+/// Writes the effective priority of a thread, and its base priority if that differs; nothing if it has ended.
 fn show_priority<W: Write>(core: &Core, thread: Tid, page: &mut Page, writer: &mut W)
     ensures { Tells page.old page.new (W.contents writer.old) (W.contents writer.new) (priority_by (effective_answer thread core.now) (base_answer thread core.now)) }
 {
@@ -114,7 +114,7 @@ fn show_doing<W: Write>(
     }
 }
 
-/// Writes the call that a thread has open; nothing where it has none.
+/// Writes the call that a thread has open; nothing if it has none.
 fn show_open_call<W: Write>(core: &Core, thread: Tid, page: &mut Page, writer: &mut W)
     ensures { Tells page.old page.new (W.contents writer.old) (W.contents writer.new) (if_some call_text (open_call_answer thread core.now)) }
 {
@@ -173,7 +173,7 @@ pub fn show_bound<W: Write>(words: &str, core: &Core, cond: CondId, page: &mut P
     }
 }
 
-/// Writes the owner of a mutex behind these words; nothing where nobody owns it.
+/// Writes the owner of a mutex behind these words; nothing if nobody owns it.
 pub fn show_owner<W: Write>(
     words: &str,
     names: &Names<'_>,
@@ -205,7 +205,7 @@ pub fn show_holder<W: Write>(
     }
 }
 
-/// Writes which mutexes a thread holds; nothing where it holds none.
+/// Writes which mutexes a thread holds; nothing if it holds none.
 fn show_held<W: Write>(core: &Core, thread: Tid, page: &mut Page, writer: &mut W)
     ensures { Tells page.old page.new (W.contents writer.old) (W.contents writer.new) (held_text thread core.now (mutexes_added core.now)) }
 {

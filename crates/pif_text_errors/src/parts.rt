@@ -19,7 +19,7 @@ fn number_of(word: &[u8]) -> Option<u32> {
     Some(value)
 }
 
-/// What is wrong with a word where a name with this letter is wanted; `other` where it is another word.
+/// What is wrong with a word where a name with this letter is wanted; `other` if it is another word.
 fn wrong_with_name(word: &[u8], letter: u8, other: Wrong) -> Option<Wrong> {
     let [first, digits @ ..] = word else {
         return Some(other);
@@ -37,7 +37,7 @@ fn wrong_with_name(word: &[u8], letter: u8, other: Wrong) -> Option<Wrong> {
     }
 }
 
-/// What is wrong with a word that is no name of this table; `other` where it would be none in small letters either.
+/// What is wrong with a word that is no name of this table; `other` if it would be none in small letters either.
 pub fn wrong_with_word(word: &[u8], forms: &'static [Form], other: Wrong) -> Wrong {
     match name_in_capitals(word, forms) {
         Some(_) => Wrong::Capitals,
@@ -45,7 +45,7 @@ pub fn wrong_with_word(word: &[u8], forms: &'static [Form], other: Wrong) -> Wro
     }
 }
 
-/// What is wrong with a word where this part is wanted, or `None` where it is right.
+/// What is wrong with a word where this part is wanted, or `None` if it is right.
 pub fn wrong_with_part(word: &[u8], part: Part) -> Option<Wrong> {
     match part {
         Part::Thread => wrong_with_name(word, b't', Wrong::NotThread),

@@ -8,8 +8,8 @@ use crate::Wrong;
 pub struct SyntaxError<'a> {
     /// What is wrong.
     pub wrong: Wrong,
-    /// The column where it is wrong: that of the byte, from 1. One more than the line has bytes, where the line ends
-    /// too early.
+    /// The column where it is wrong: that of the byte, from 1. One more than the line has bytes, if the line ends too
+    /// early.
     pub column: usize,
     /// What stands there, up to the next space or the end of the line; nothing, if a space stands there. A tab is a
     /// part of it.

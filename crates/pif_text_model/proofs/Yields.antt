@@ -17,7 +17,7 @@ pub if_yields : {A : Type 0} (P : A → Type 0) (b : Bool) (x y : Option A) → 
 if_yields P true x y f g = f
 if_yields P false x y f g = g
 
--- where a test passes
+-- if a test passes
 pub test_yields : {A : Type 0} (P : A → Type 0) (b : Bool) (x : A) → (b ≡ true → P x) → Yields P (if b then Some x else None)
 test_yields P true x f = f refl
 test_yields P false x f = tt

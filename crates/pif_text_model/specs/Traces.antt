@@ -22,7 +22,7 @@ abbrev pub header_text : Version → List ℕ
 header_text One = codes "pif-trace 1"
 header_text Two = codes "pif-trace 2"
 
--- The version of a trace that begins with this line; none where no trace begins so.
+-- The version of a trace that begins with this line; none if no trace begins so.
 unfoldable pub version_in : List ℕ → Option Version
 version_in line =
     if bytes_eq line (header_text One) then Some One

@@ -28,7 +28,7 @@ pub enum Addition {
     /// `thread P`: a thread of priority `P`, which may be out of range.
     Thread(u32),
     /// `mutex normal`, `mutex default`, which is the same, `mutex errorcheck` or `mutex recursive`, each with ` robust`
-    /// behind it or not: a mutex of that type, robust where the second value is true.
+    /// behind it or not: a mutex of that type, robust if the second value is true.
     Mutex(Kind, bool),
     /// `cond mN`: a condition variable that is bound to this mutex.
     Cond(MutexId),

@@ -9,8 +9,8 @@ pub enum Reply {
     /// What an addition is answered.
     Added(Added),
     /// What an event is answered, or the last event of a thread that goes on: `begun`, `went`, `waits`, `answer A`,
-    /// `ended` or `ticked`; or `refused nosuch`, `refused dead`, `refused busy`, `refused idle` or `refused past`,
-    /// where nothing has changed.
+    /// `ended` or `ticked`; or `refused nosuch`, `refused dead`, `refused busy`, `refused idle` or `refused past`, and
+    /// nothing has changed then.
     Seen(Seen),
     /// What a question is answered.
     Told(Fact),
