@@ -1,12 +1,9 @@
 -- What is said at the first place from one on, of the places at which calls of a thread are over, is what is known of
 -- the thread's open call from there on.
-use Rattle.std.proofs.Common.{ℕ, zero, suc, ◌≡◌, ◌≤◌, ◌<◌, ◌+◌, ◌∙◌, Bool, true, false, nat_lt, List, [], ◌∷◌, ◌++◌, length, take, drop, max, get_or, slice_get, Option, Some, None, inl, inr, refl, sym, ap, subst, arith, if◌then◌else◌}
+use Rattle.std.proofs.Common.{ℕ, zero, suc, ◌≡◌, ◌≤◌, ◌<◌, ◌+◌, ◌∙◌, Bool, true, false, nat_lt, List, [], ◌∷◌, ◌++◌, length, drop, get_or, slice_get, Option, Some, None, inl, inr, refl, sym, ap, subst, arith, if◌then◌else◌}
 use Rattle.std.specs.Global.{Vec}
-use Rattle.std.specs.List.{All}
 use Rattle.std.proofs.lemmas.Bool.{lt-ltb, le-ltb, cases_lt}
-use Rattle.std.proofs.lemmas.List.{length_push, take_more}
-use Rattle.std.proofs.lemmas.List.Elements.{All-head, All-tail, All-weaker, All-push}
-use Rattle.std.proofs.lemmas.Option.{slice_get_past}
+use Rattle.std.proofs.lemmas.List.{length_push}
 use Rattle.pif_model_lemmas.proofs.Waiting.{by_test}
 use Rattle.pif_history_model.specs.declared.lines.Line.{Line}
 use Rattle.pif_known_model.specs.Known.{is_over, answer_of, known_answer}
@@ -106,15 +103,6 @@ found_is_known t n r lines os is within point =
 
 -- THE TABLE
 
--- nothing is said of a thread of which no line speaks
-pub none_over : (t k : ℕ) (lines : List Line) → All (λ x. is_over t x ≡ false) lines → places_over t k lines ≡ []
-none_over t k [] h = refl
-none_over t k (x ∷ xs) h =
-    let P : Line → Type 0 = λ y. is_over t y ≡ false in
-    let rest = places_over t (suc k) xs in
-    ap (λ (b : Bool). if b then record { place = k; answer = answer_of x } ∷ rest else rest) (All-head P x xs h)
-    ∙ none_over t (suc k) xs (All-tail P x xs h)
-
 -- the rows of the threads below n
 pub record IsTableBelow (lines : List Line) (rows : List (Vec Over)) (n : ℕ) : Type 0 where
   pub size : length rows ≡ n
@@ -150,27 +138,5 @@ one_row_more lines rows all row n e r b =
     pushed_size : length (rows ++ row ∷ []) ≡ length rows + 1
     pushed_size = length_push rows row
 
-pub whole_table : (lines : List Line) (rows : List (Vec Over)) (n : ℕ) → All (λ x. (t : ℕ) → n ≤ t → is_over t x ≡ false) lines
-    → IsTableBelow lines rows n → IsTable lines rows
-whole_table lines rows n none b t = elim (cases_lt t n) [
-  | inl below ↦ b.each t below
-  | inr past ↦
-      ap row_at (slice_get_past rows t (omega (arith, past, b.size)))
-      ∙ sym (none_over t 0 lines (All-weaker (λ (x : Line). (u : ℕ) → n ≤ u → is_over u x ≡ false) (λ (x : Line). is_over t x ≡ false) (λ x h. h t past) lines none))
-]
-
--- nothing is known of a thread without a row
-pub none_known : (lines : List Line) (rows : List (Vec Over)) (t n : ℕ) → IsTable lines rows → slice_get rows t ≡ None
-    → None ≡ known_answer t (drop n lines)
-none_known lines rows t n h e =
-    ap (first_from n) (sym (sym (h t) ∙ ap row_at e)) ∙ first_is_known t 0 n n lines (omega arith)
-
--- one line more than those whose threads' numbers are smaller
-pub beyond_more : (lines : List Line) (at : ℕ) (line : Line) (end beyond new : ℕ) → at < length lines → line ≡ get_or lines at line → new ≡ max end beyond
-    → ((t : ℕ) → beyond ≤ t → is_over t line ≡ false)
-    → All (λ x. (t : ℕ) → end ≤ t → is_over t x ≡ false) (take at lines) → All (λ x. (t : ℕ) → new ≤ t → is_over t x ≡ false) (take (at + 1) lines)
-beyond_more lines at line end beyond new lt is e here before =
-    let Below : ℕ → Line → Type 0 = λ n x. (t : ℕ) → n ≤ t → is_over t x ≡ false in
-    let more : take (at + 1) lines ≡ take at lines ++ line ∷ [] = take_more lines at line lt ∙ ap (λ (x : Line). take at lines ++ x ∷ []) (sym is) in
-    let old : All (Below new) (take at lines) = All-weaker (Below end) (Below new) (λ x f t le. f t (omega (arith, e, le))) (take at lines) before in
-    subst (λ (xs : List Line). All (Below new) xs) (sym more) (All-push (Below new) (take at lines) line old (λ t le. here t (omega (arith, e, le))))
+pub whole_table : (lines : List Line) (rows : List (Vec Over)) (n : ℕ) → IsTableBelow lines rows n → IsTable lines rows
+whole_table lines rows n b t lt = b.each t (omega (arith, lt, b.size))

@@ -1,5 +1,5 @@
 -- Where the lines of a history say that calls are over.
-use Rattle.std.specs.Prelude.{ℕ, suc, ◌≡◌, List, [], ◌∷◌, Option, Some, None, slice_get, if◌then◌else◌}
+use Rattle.std.specs.Prelude.{ℕ, suc, ◌≡◌, ◌<◌, length, List, [], ◌∷◌, Option, Some, None, slice_get, if◌then◌else◌}
 use Rattle.std.specs.Global.{Vec}
 use Rattle.pif_history_model.specs.declared.lines.Line.{Line}
 use Rattle.pif_known_model.specs.Known.{is_over, answer_of}
@@ -16,6 +16,6 @@ abbrev pub row_at : Option (Vec Over) → List Over
 row_at None = []
 row_at (Some row) = row.items
 
--- these rows say for each thread where its calls are over
+-- these rows say where the calls of their threads are over
 abbrev pub IsTable : List Line → List (Vec Over) → Type 0
-IsTable lines rows = (t : ℕ) → row_at (slice_get rows t) ≡ places_over t 0 lines
+IsTable lines rows = (t : ℕ) → t < length rows → row_at (slice_get rows t) ≡ places_over t 0 lines

@@ -1,6 +1,6 @@
 //! The lines of a history that all stand, and where they say that calls are over. What an open call is answered is asked
 //! of each state of a search, so it is found fast.
-ghost use Rattle.std.specs.Prelude.{◌≡◌, ◌≤◌, ◌↔◌, ◌∷◌, ◌+◌, [], ℕ, true, false, List, Some, None, drop, nat_lt, All, IfOk};
+ghost use Rattle.std.specs.Prelude.{◌≡◌, ◌↔◌, ◌∷◌, ◌+◌, [], ℕ, true, false, List, Some, None, drop, nat_lt, IfOk};
 ghost use Rattle.pif_history_model.specs.declared.lines.Line.{Line};
 ghost use Rattle.pif_known_model.specs.Known.{is_over, answer_of, known_answer};
 ghost use Rattle.pif_history_lines.specs.Overs.{places_over, IsTable};
@@ -72,35 +72,41 @@ fn answer_from(overs: &[Over], from: usize) -> Option<Answer>
     }
 }
 
-/// A number that is greater than that of the thread of which a line says that its call is over.
-fn beyond(line: &Line) -> usize
-    ensures { (t : ℕ) → result ≤ t → is_over t line.now ≡ false }
+/// What the open call of the thread of this number is answered by the lines from a place on, if they say so. Each is
+/// looked at.
+fn answer_by_lines(lines: &[Line], from: usize, thread: usize) -> Option<Answer>
+    ensures { result ≡ known_answer thread (drop from lines.now) }
 {
-    match *line {
-        Line::Answer(thread, _) | Line::Dying(thread) | Line::End(thread) => {
-            thread.get() as usize + 1
+    for place in from..lines.len() {
+        let line = &lines[place];
+        if is_over(thread, line) {
+            return answer_of(line);
         }
-        _ => 0,
     }
+    None
 }
 
-/// A number that is greater than that of each thread of which a line says that its call is over.
-fn beyond_all(lines: &[Line]) -> usize
-    ensures { All (λ line. (t : ℕ) → result ≤ t → is_over t line ≡ false) lines.now }
-{
-    let mut end = 0_usize;
+/// The most rows of a table: threads are numbered from 1, and a history has at most 1,024.
+const MOST_ROWS: usize = 1_025;
+
+/// How many rows a table of these lines has: one for each number up to that of the last thread that they add. A line may
+/// name any other number, and no row is made for that.
+fn row_count(lines: &[Line]) -> usize {
+    let mut rows = 1_usize;
     for line in lines {
-        end = usize::max(end, beyond(line));
+        if let Line::Thread(_) = *line {
+            rows = rows.saturating_add(1);
+        }
     }
-    end
+    usize::min(rows, MOST_ROWS)
 }
 
-/// Where these lines say that calls are over, by the number of the thread.
+/// Where these lines say that calls are over, by the number of the thread, for those that have a row.
 fn table(alloc: Global, lines: &[Line]) -> Result<Vec<Vec<Over>>, Stop>
     ensures { IfOk result (λ v. IsTable lines.now v.items) }
 {
     let mut rows = Vec::new(alloc);
-    for thread in 0..beyond_all(lines) {
+    for thread in 0..row_count(lines) {
         let row = places_over(alloc, lines, thread)?;
         push(&mut rows, row)?;
     }
@@ -154,7 +160,7 @@ impl KnownLines {
     {
         match self.overs.as_slice().get(thread) {
             Some(row) => answer_from(row.as_slice(), from),
-            None => None,
+            None => answer_by_lines(self.lines.as_slice(), from, thread),
         }
     }
 

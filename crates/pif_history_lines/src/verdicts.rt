@@ -8,6 +8,6 @@ pub enum Verdict {
     Legal(Vec<Label>),
     /// No run shows the first so many lines, from 1, and some run shows one less.
     Illegal(usize),
-    /// More states than were allowed were made for this line, from 1. It claims nothing.
+    /// More states than were allowed were made for this line, from 1, or the watch ended the search. It claims nothing.
     Undecided(usize),
 }

@@ -1,5 +1,4 @@
-use Rattle.std.proofs.Common.{◌≡◌, subst, arith}
-use Rattle.pif_history_lines.proofs.Places.{IsTableBelow, no_row_yet, one_row_more, whole_table}
+use Rattle.pif_history_lines.proofs.Places.{no_row_yet, one_row_more, whole_table}
 use Rattle.pif_history_lines.proofs.overs.table.Goals as goal
 
 pub loop-thread-init : goal.loop-thread-init
@@ -11,7 +10,4 @@ loop-thread-preserved c =
     c.loop-thread.invariant
 
 pub returns : goal.returns
-returns c =
-    let end : c.loop-thread.thread ≡ c.beyond_all-thread-end.result = omega (arith, c.loop-thread.auto.thread-end, c.loop-thread-test.false) in
-    whole_table c.args.lines.now c.loop-thread.rows.items _ c.beyond_all-thread-end.ensures
-    (subst (λ n. IsTableBelow c.args.lines.now c.loop-thread.rows.items n) end c.loop-thread.invariant)
+returns c = whole_table c.args.lines.now c.loop-thread.rows.items _ c.loop-thread.invariant
