@@ -4,6 +4,8 @@
     cd the top of a clean clone && python3 bench/gate_sample.py [LOG]      LOG is where the gate's own output goes (gate.log)
     python3 bench/gate_sample.py --below PID     samples what PID starts until SIGTERM comes; .ci/run does this beside `rt ci`
     python3 bench/gate_sample.py --jobs          prints how many crates `rt ci` is to check side by side; .ci/run asks for it
+    python3 bench/gate_sample.py --temporary     makes a folder in memory for its temporary files, and prints it; prints
+                                                 nothing if there is no room. .ci/run asks for it, and removes it
 
 Once a second it reads what each process of the prover has spent so far, and adds it to the crate and part that the
 process works for; what a process spends in its last second is lost, and so are linking and the runs of programs. Last
@@ -12,19 +14,25 @@ the last. It judges nothing; the status is that of `rt ci`. `--below` prints the
 bench/gate_cost.py measures one part after the other, which takes hours.
 
 `rt ci` runs with RT_JOBS set: one check for each processor, in one process each. Without that it gives idle processors to
-a check that has begun, which then loads its libraries several times: half as many processor seconds more.
+a check that has begun, which then loads its libraries several times: half as many processor seconds more. TMPDIR is in
+memory, since a check writes each module that it loads to a file of its own, some thousands in all.
 """
 
 import os
 import re
+import shutil
 import signal
 import subprocess
 import sys
+import tempfile
 import time
 
 TICKS = os.sysconf("SC_CLK_TCK")
 CRATE = re.compile(r"--crate-name (\w+) ")
 PARTS = ("proof", "tests", "edits")
+# Where Linux keeps files in memory, and the bytes that the temporary files of the gate and each check of it may take.
+MEMORY = "/dev/shm"
+TEMPORARY, EACH = 3_000_000_000, 5_000_000_000
 
 
 def read(path):
@@ -117,10 +125,31 @@ class Sums:
         return f"processor minutes: {each}, together {sum(minutes.values()):.1f}; wall {wall:.1f} minutes"
 
 
+def memory():
+    """The bytes of memory that this machine has."""
+    return os.sysconf("SC_PAGE_SIZE") * os.sysconf("SC_PHYS_PAGES")
+
+
 def jobs():
     """How many checks run side by side: one for each processor, and 5 GB of memory for each. RT_JOBS overrides it."""
-    gigabytes = os.sysconf("SC_PAGE_SIZE") * os.sysconf("SC_PHYS_PAGES") // 1_000_000_000
-    return os.environ.get("RT_JOBS") or str(max(1, min(len(os.sched_getaffinity(0)), gigabytes // 5)))
+    return os.environ.get("RT_JOBS") or str(max(1, min(len(os.sched_getaffinity(0)), memory() // EACH)))
+
+
+def temporary():
+    """A new folder in memory for temporary files, or None if memory lacks room for them beside the checks, or such a folder
+    can't be made or run from. TMPDIR overrides it."""
+    if os.environ.get("TMPDIR") or memory() < TEMPORARY + EACH * int(jobs()):
+        return None
+    try:
+        found = os.statvfs(MEMORY)
+        if found.f_bavail * found.f_frsize < TEMPORARY or found.f_flag & os.ST_NOEXEC:
+            return None
+        folder = tempfile.mkdtemp(prefix="pif-gate-", dir=MEMORY)
+        # As /tmp: `rt` runs tests as somebody who owns nothing.
+        os.chmod(folder, 0o1777)
+        return folder
+    except OSError:
+        return None
 
 
 def watch(root):
@@ -128,7 +157,7 @@ def watch(root):
     ended = []
     signal.signal(signal.SIGTERM, lambda *_: ended.append(True))
     sums = Sums()
-    while not ended:
+    while not ended and os.path.exists(f"/proc/{root}"):
         sums.sample(root)
         time.sleep(1)
     dearest = sorted(sums.each().items(), key=lambda it: -it[1])[:10]
@@ -140,12 +169,17 @@ def watch(root):
 
 def gate(log):
     """Runs `rt ci`, its output to this file, and prints what each crate cost. The status is that of `rt ci`."""
-    sums = Sums()
-    with open(log, "w", encoding="utf-8") as output:
-        run = subprocess.Popen(["rt", "ci"], env={**os.environ, "RT_JOBS": jobs()}, stdout=output, stderr=subprocess.STDOUT)
-        while run.poll() is None:
-            sums.sample(run.pid)
-            time.sleep(1)
+    sums, folder = Sums(), temporary()
+    settings = {**os.environ, "RT_JOBS": jobs(), **({"TMPDIR": folder} if folder else {})}
+    try:
+        with open(log, "w", encoding="utf-8") as output:
+            run = subprocess.Popen(["rt", "ci"], env=settings, stdout=output, stderr=subprocess.STDOUT)
+            while run.poll() is None:
+                sums.sample(run.pid)
+                time.sleep(1)
+    finally:
+        if folder:
+            shutil.rmtree(folder, ignore_errors=True)
     each = sums.each()
     for crate in dict.fromkeys(crate for crate, _ in each):
         print(f"{crate}: " + ", ".join(f"{part} {each.get((crate, part), 0):.0f} s" for part in PARTS))
@@ -155,15 +189,22 @@ def gate(log):
 
 
 def main():
-    if sys.argv[1:] in (["-h"], ["--help"]):
+    words = sys.argv[1:]
+    if words in (["-h"], ["--help"]):
         print(__doc__, end="")
         return 0
-    if sys.argv[1:] == ["--jobs"]:
+    if words == ["--jobs"]:
         print(jobs())
         return 0
-    if sys.argv[1:2] == ["--below"]:
-        return watch(int(sys.argv[2]))
-    return gate(sys.argv[1] if len(sys.argv) > 1 else "gate.log")
+    if words == ["--temporary"]:
+        print(temporary() or "")
+        return 0
+    if len(words) == 2 and words[0] == "--below" and words[1].isdigit():
+        return watch(int(words[1]))
+    if len(words) > 1 or words and words[0].startswith("-"):
+        print(__doc__, end="", file=sys.stderr)
+        return 2
+    return gate(words[0] if words else "gate.log")
 
 
 if __name__ == "__main__":
