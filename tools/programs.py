@@ -66,18 +66,19 @@ def commit():
     return found + (", with changes" if changed else "")
 
 
-def version_text(how, program):
-    """What is said of a program of these sources; None if it can't be run."""
+def version_text(how, program, made_of):
+    """What is said of a program of the sources with this sum; None if it can't be run."""
     name = said_by(str(program), "--version")
     if name is None:
         return None
     kit = said_by("rt", "version") or "unknown"
-    return "%s, %s\ncommit %s\nkit %s\nsources %s\n" % (name, HOW[how], commit(), kit, sum_of_sources())
+    return "%s, %s\ncommit %s\nkit %s\nsources %s\n" % (name, HOW[how], commit(), kit, made_of)
 
 
-def keep(how, program):
-    """Keeps a program of these sources as the one that `./pif` runs; whether it could."""
-    text = version_text(how, program)
+def keep(how, program, made_of):
+    """Keeps a program as the one that `./pif` runs; whether it could. `made_of` is the sum that its sources had before
+    they were read. If they have another one now, `./pif` asks again, however new the file is that says what it is."""
+    text = version_text(how, program, made_of)
     if text is None:
         return False
     PROGRAM.parent.mkdir(exist_ok=True)
@@ -92,6 +93,8 @@ def keep(how, program):
             beside.replace(path)
         finally:
             beside.unlink(missing_ok=True)
+    if sum_of_sources() != made_of:
+        os.utime(VERSION, (0, 0))
     return True
 
 
@@ -112,13 +115,30 @@ def is_proved(text):
     return text.splitlines()[0].endswith(", " + HOW["proved"])
 
 
+def made_at(name):
+    """When `rt` made the library of a crate, or took over one that another folder had of the same sources; None if there
+    is no library. Of that it leaves a stamp beside the library."""
+    folder = TOP / "crates" / name / "out" / "rlib"
+    made = [path.stat().st_mtime_ns for path in (folder / (name + ".rlib"), folder / "stamp") if path.exists()]
+    return max(made, default=None)
+
+
+def is_made_of_all():
+    """Whether each source is older than the library of its crate, and than the program. What is changed while the
+    others are proved is newer than that library, and may be older than the program."""
+    program = PROVED.stat().st_mtime_ns
+    made = {name: min(made_at(name) or program, program) for name in crates()}
+    return all(path.stat().st_mtime_ns < made.get("".join(path.relative_to(TOP).parts[1:2]), program)
+               for path in sources())
+
+
 def take_proved():
-    """Keeps the program that `rt ci` or `rt run` has left, if it is newer than what is kept and than every source;
-    whether it did."""
+    """Keeps the program that `rt ci` or `rt run` has left, if it is newer than what is kept and was made of all sources
+    as they are; whether it did."""
     try:
-        made = PROVED.stat().st_mtime_ns
-        if VERSION.exists() and VERSION.stat().st_mtime_ns > made:
+        if VERSION.exists() and VERSION.stat().st_mtime_ns > PROVED.stat().st_mtime_ns:
             return False
-        return all(path.stat().st_mtime_ns < made for path in sources()) and keep("proved", PROVED)
+        made_of = sum_of_sources()
+        return is_made_of_all() and keep("proved", PROVED, made_of)
     except OSError:
         return False
