@@ -60,7 +60,7 @@ static int compare(const void *one, const void *other)
     return (first > second) - (first < second);
 }
 
-/* Measures so many rounds on a core of one thread and one mutex. False where there is no core. */
+/* Measures so many rounds on a core of one thread and one mutex. False if there is no core. */
 static bool measure(const char *name, round_of *round, bool robust, long rounds)
 {
     static double took[MOST_ROUNDS];
@@ -80,9 +80,10 @@ static bool measure(const char *name, round_of *round, bool robust, long rounds)
 
 int main(int count, char **words)
 {
-    long rounds = count > 1 ? strtol(words[1], NULL, 10) : ROUNDS;
+    char *end = "";
+    long rounds = count > 1 ? strtol(words[1], &end, 10) : ROUNDS;
 
-    if (rounds < 1 || rounds > MOST_ROUNDS)
+    if (*end != '\0' || rounds < 1 || rounds > MOST_ROUNDS)
         return 1;
     return measure("event", event, false, rounds) && measure("stalled_pair", pair, false, rounds)
                    && measure("robust_pair", pair, true, rounds)

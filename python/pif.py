@@ -27,6 +27,21 @@ A number that names nothing is told so, and nothing has changed:
     Traceback (most recent call last):
     pif.Refused: bad priority
 
+A number that the core can't be given, and a name of nothing, are refused before it is asked:
+
+    >>> core.call(low, "timedlock", mutex, -1)
+    Traceback (most recent call last):
+    OverflowError: -1 is not in 0 to 4294967295
+    >>> core.word(2**32 + 1)
+    Traceback (most recent call last):
+    OverflowError: 4294967297 is not in 0 to 4294967295
+    >>> core.begin(low, "lok", mutex)  # doctest: +ELLIPSIS
+    Traceback (most recent call last):
+    ValueError: there is no call 'lok', but lock, trylock, ...
+    >>> core.add_mutex("nromal")
+    Traceback (most recent call last):
+    ValueError: there is no kind 'nromal', but normal, recursive, errorcheck
+
 Texts go in and come out:
 
     >>> print(run("thread 10\\nmutex normal\\ncall t1 lock m1\\n"), end="")
@@ -46,15 +61,18 @@ Texts go in and come out:
     thread 10
     prio t1 10
 
-The exceptions are Refused and MemoryError. A core is freed when nobody has it any more.
-`python3 -m doctest pif.py` tries the lines above.
+Refused and MemoryError are the core's. Of wrong arguments there is a TypeError, a ValueError or an OverflowError, and
+nothing has changed. Give a core to one thread at a time: ctypes lets other threads run during a call. A core is freed
+when nobody has it any more. `python3 -m doctest pif.py` tries the lines above.
 """
 
 import ctypes
 import ctypes.util
+import operator
 import os
 from collections import namedtuple
 from pathlib import Path
+from types import SimpleNamespace
 
 __all__ = ["Core", "Refused", "Seen", "check", "judge", "replay", "run"]
 
@@ -88,6 +106,21 @@ Seen.__doc__ = "What became of an event: begun, went, waits, answer, ended, tick
 
 class Refused(Exception):
     """An addition, a core or a text was refused, and nothing has changed."""
+
+
+def fitting(number):
+    """A number of 32 bits. Of any other ctypes would take the low bits."""
+    number = operator.index(number)
+    if not 0 <= number <= 0xFFFFFFFF:
+        raise OverflowError("%d is not in 0 to 4294967295" % number)
+    return number
+
+
+def named(what, name, numbers):
+    """What stands for a name."""
+    if name not in numbers:
+        raise ValueError("there is no %s %r, but %s" % (what, name, ", ".join(numbers)))
+    return numbers[name]
 
 
 def words(name, *fields):
@@ -144,15 +177,23 @@ SIGNATURES = {
 }
 
 
+def checked(function, takes):
+    """A function that is called only if each number fits."""
+    def call(*arguments):
+        return function(*(fitting(given) if kind is U32 else given for kind, given in zip(takes, arguments)))
+    return call
+
+
 def load():
-    """The library, with the signatures of its functions."""
+    """The functions of the library by their names."""
     beside = Path(__file__).resolve().parent.parent / "c" / "out" / "libpif.so"
     found = os.environ.get("PIF_LIBRARY") or (str(beside) if beside.exists() else ctypes.util.find_library("pif"))
-    library = ctypes.CDLL(found or "libpif.so")
+    library, functions = ctypes.CDLL(found or "libpif.so"), {}
     for name, (answers, *takes) in SIGNATURES.items():
         function = getattr(library, name)
         function.restype, function.argtypes = answers, takes
-    return library
+        functions[name] = checked(function, takes)
+    return SimpleNamespace(**functions)
 
 
 LIBRARY = load()
@@ -188,10 +229,10 @@ def seen(told):
 
 def request(call, arguments):
     """A call by its name, as lock, with what it names."""
-    number, names = CALLS[call]
+    number, names = named("call", call, CALLS)
     if len(arguments) != len(names):
         raise TypeError("%s takes %s" % (call, ", ".join(names)))
-    return Request(call=number, **dict(zip(names, arguments)))
+    return Request(call=number, **dict(zip(names, map(fitting, arguments))))
 
 
 class Core:
@@ -210,7 +251,7 @@ class Core:
 
     def add_mutex(self, kind="normal", robust=False):
         """Adds a mutex, normal, recursive or errorcheck: its number."""
-        return added(LIBRARY.pif_add_mutex(self.handle, KINDS[kind], robust))
+        return added(LIBRARY.pif_add_mutex(self.handle, named("kind", kind, KINDS), robust))
 
     def add_cond(self, mutex):
         """Adds a condition variable that is bound to this mutex: its number."""
@@ -245,7 +286,7 @@ class Core:
         return shown(LIBRARY.pif_effective(self.handle, thread))
 
     def waiting(self, thread):
-        """Whether a thread rests, or None where it has no call open."""
+        """Whether a thread rests, or None if it has no call open."""
         rests = shown(LIBRARY.pif_waiting(self.handle, thread))
         return None if rests is None else rests == 1
 

@@ -1,5 +1,19 @@
-/* Each function once as it should be, and each of its refusals. */
+/* Each function once as it should be, and each of its refusals; and the header's numbers, as this system has them. */
+#define _POSIX_C_SOURCE 200809L
+#include <errno.h>
+#include <pthread.h>
+
 #include "expect.h"
+
+static void numbers_are_those_of_this_system(void)
+{
+    TRUE(PIF_EPERM == EPERM && PIF_ESRCH == ESRCH && PIF_EAGAIN == EAGAIN && PIF_EBUSY == EBUSY);
+    TRUE(PIF_EINVAL == EINVAL && PIF_EDEADLK == EDEADLK && PIF_EOVERFLOW == EOVERFLOW);
+    TRUE(PIF_ETIMEDOUT == ETIMEDOUT && PIF_EOWNERDEAD == EOWNERDEAD && PIF_ENOTRECOVERABLE == ENOTRECOVERABLE);
+    TRUE((int)PIF_NORMAL == (int)PTHREAD_MUTEX_NORMAL);
+    TRUE((int)PIF_RECURSIVE == (int)PTHREAD_MUTEX_RECURSIVE);
+    TRUE((int)PIF_ERRORCHECK == (int)PTHREAD_MUTEX_ERRORCHECK);
+}
 
 /* A handle with no core answers so, whatever is asked. */
 static void nothing_is_answered(pif_core *core)
@@ -138,6 +152,7 @@ static void holder_is_boosted_until_it_unlocks(void)
 
 int main(void)
 {
+    numbers_are_those_of_this_system();
     limits_are_held();
     events_are_refused();
     holder_is_boosted_until_it_unlocks();

@@ -48,8 +48,10 @@ static void what_was_never_added(pif_core *core)
 
 static void waits(pif_core *core)
 {
+    DOES(1, PIF_OK, PIF_READY, 0);
     SEEN(pif_call(core, 1, pif_lock(1)), PIF_ANSWERED, PIF_DONE);
     SEEN(pif_call(core, 1, pif_trylock(1)), PIF_ANSWERED, PIF_DONE);
+    DOES(1, PIF_OK, PIF_READY, 0);
     OWNER(1, PIF_OK, 1, 2);
     SEEN(pif_call(core, 1, pif_wait(1, 1)), PIF_ANSWERED, PIF_EINVAL);
     SEEN(pif_call(core, 1, pif_unlock(1)), PIF_ANSWERED, PIF_DONE);
@@ -63,6 +65,24 @@ static void waits(pif_core *core)
     SEEN(pif_call(core, 2, pif_broadcast(1)), PIF_ANSWERED, PIF_EOVERFLOW);
     SEEN(pif_call(core, 2, pif_unlock(1)), PIF_ANSWERED, PIF_DONE);
     SEEN(pif_finish(core, 1), PIF_ANSWERED, PIF_DONE);
+}
+
+/* A robust mutex whose owner ended, and that the next owner gives up as it is: nobody can lock it again. */
+static void is_given_up(pif_core *core)
+{
+    NUMBER(pif_add_mutex(core, PIF_NORMAL, true), PIF_OK, 3);
+    NUMBER(pif_add_thread(core, 5), PIF_OK, 3);
+    NUMBER(pif_add_thread(core, 6), PIF_OK, 4);
+    SEEN(pif_call(core, 3, pif_lock(3)), PIF_ANSWERED, PIF_DONE);
+    SEEN(pif_call(core, 4, pif_trylock(3)), PIF_ANSWERED, PIF_EBUSY);
+    SEEN(pif_call(core, 4, pif_unlock(3)), PIF_ANSWERED, PIF_EPERM);
+    SEEN(pif_end(core, 3), PIF_ENDED, 0);
+    SEEN(pif_call(core, 4, pif_lock(3)), PIF_ANSWERED, PIF_EOWNERDEAD);
+    SEEN(pif_call(core, 4, pif_unlock(3)), PIF_ANSWERED, PIF_DONE);
+    NUMBER(pif_health(core, 3), PIF_OK, PIF_UNUSABLE);
+    SEEN(pif_call(core, 4, pif_lock(3)), PIF_ANSWERED, PIF_ENOTRECOVERABLE);
+    DOES(4, PIF_OK, PIF_READY, 0);
+    SEEN(pif_end(core, 4), PIF_ENDED, 0);
 }
 
 static void ends(pif_core *core)
@@ -93,6 +113,7 @@ int main(void)
     add_all(&core);
     what_was_never_added(&core);
     waits(&core);
+    is_given_up(&core);
     ends(&core);
     pif_core_free(&core);
     return outcome();
