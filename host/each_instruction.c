@@ -222,6 +222,14 @@ static void run_scene(const Scene *scene)
     print_range(scene, first, length, before);
 }
 
+static int end_of_output(void)
+{
+    if (fflush(stdout) == 0 && !ferror(stdout))
+        return DONE;
+    fputs("each_instruction: the output can't be written\n", stderr);
+    return FAILED;
+}
+
 static int print_help(void)
 {
     puts("usage: each_instruction [--help]\n\n"
@@ -229,7 +237,7 @@ static int print_help(void)
          "prints what the next thread that locks is answered. If that is 130 (EOWNERDEAD) it calls consistent, unlock\n"
          "and lock, and their answers stand behind it.\n\n"
          "Statuses: 0 done; 1 wrong words; 6 it failed; 7 this machine can't be asked.");
-    return DONE;
+    return end_of_output();
 }
 
 int main(int count, char **words)
@@ -258,5 +266,5 @@ int main(int count, char **words)
     printf("%-11s %-13s %-14s %s\n", "call", "mutex", "ended after", "the next lock");
     for (size_t i = 0; i < sizeof scenes / sizeof *scenes; i++)
         run_scene(&scenes[i]);
-    return DONE;
+    return end_of_output();
 }

@@ -1,4 +1,5 @@
 /* pif-host: asks this machine's own mutexes what a script or a story asks. */
+#include <errno.h>
 #include <getopt.h>
 #include <stdlib.h>
 #include <string.h>
@@ -18,9 +19,10 @@ static const char help[] =
     "  glibc   the pthread calls of glibc: whole calls\n"
     "  raw     the steps of the calls one by one, on the kernel's futex calls and a robust list\n"
     "\n"
-    "  --seconds N   ends a script that takes longer; 20 if it isn't named. If the machine is too slow for the\n"
-    "                deadlines, the script runs again at a quarter of the pace, with four times the seconds\n"
-    "  --most N      takes N threads and mutexes at most, also more than `pif run` does; 1024 if it isn't named\n"
+    "  --seconds N   ends a script that takes longer, 1 to 86400; 20 if it isn't named. If the machine is too slow\n"
+    "                for the deadlines, the script runs again at a quarter of the pace, with four times the seconds\n"
+    "  --most N      takes N threads and mutexes at most, 1024 to 8192, also more than `pif run` does; 1024 if it\n"
+    "                isn't named\n"
     "  --late        who made a step keeps the processor until another thread has to run: who was woken by it is\n"
     "                late, unless its priority is greater. `pick` isn't asked then\n"
     "  --versions    prints the kernel and the library that are asked\n"
@@ -44,6 +46,18 @@ static int fail(int status, const char *why)
     return status;
 }
 
+/* Whether all that was printed is written. Of a text longer than the buffer an earlier write may have failed. */
+static bool is_written(void) { return fflush(stdout) == 0 && !ferror(stdout); }
+
+static int fail_to_write(void) { return fail(STATUS_INPUT_OUTPUT, "the output can't be written"); }
+
+/* What isn't read, and why; standard input has no name. */
+static int fail_to_read(const char *name)
+{
+    fprintf(stderr, "pif-host: %s: %s\n", name == NULL ? "standard input" : name, strerror(errno));
+    return STATUS_INPUT_OUTPUT;
+}
+
 static char *read_input(FILE *file, size_t *length)
 {
     char *text = malloc((size_t)MOST_BYTES + 1);
@@ -60,13 +74,12 @@ static int read_commands(const char *name, Script *script)
     size_t length = 0;
 
     if (file == NULL)
-        return fail(STATUS_INPUT_OUTPUT, "the file can't be opened");
+        return fail_to_read(name);
     char *text = read_input(file, &length);
-    bool failed = text != NULL && ferror(file);
+    if (text != NULL && ferror(file))
+        return fail_to_read(name);
     if (file != stdin)
         fclose(file);
-    if (failed)
-        return fail(STATUS_INPUT_OUTPUT, "the input can't be read");
     if (text != NULL && length > MOST_BYTES)
         return fail(STATUS_FAULT, "the input has more than 16777216 bytes");
     bool done = text != NULL && read_script(text, length, script);
@@ -98,8 +111,8 @@ static int print_answers(const Script *script, const Result *result)
     }
     if (script->fault != NULL)
         printf("fault %zu %s\n", script->fault_line, script->fault);
-    if (fflush(stdout) != 0)
-        return fail(STATUS_INPUT_OUTPUT, "the output can't be written");
+    if (!is_written())
+        return fail_to_write();
     return script->fault == NULL ? STATUS_DONE : fail(STATUS_FAULT, "the script has a fault");
 }
 
@@ -176,9 +189,9 @@ static int read_options(int count, char **texts, Choice *choice)
     opterr = 0;
     while ((option = getopt_long(count, texts, "hv", options, NULL)) != -1) {
         if (option == 'h')
-            return printf("%s%s", usage, help) < 0 ? STATUS_INPUT_OUTPUT : STATUS_DONE;
+            return printf("%s%s", usage, help), is_written() ? STATUS_DONE : fail_to_write();
         if (option == 'v')
-            return print_versions(stdout), STATUS_DONE;
+            return print_versions(stdout), is_written() ? STATUS_DONE : fail_to_write();
         if (option == 'l')
             choice->late = true;
         if (option == '?')

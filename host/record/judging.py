@@ -50,6 +50,11 @@ def first_lines(history, count):
     history.write_bytes(b"".join(lines))
 
 
+def get_ready(pif=None):
+    """Has ./pif build the program, if it has to, and say so: while a history is judged nobody sees what it says."""
+    subprocess.run([str(pif or TOP / "pif"), "run"], stdin=subprocess.DEVNULL, stdout=subprocess.DEVNULL)
+
+
 def judge(history, pif=None, states=None, seconds=None):
     """The verdict on a history. It is undecided if it isn't there behind so many seconds."""
     words = [str(pif or TOP / "pif"), "judge", *(["--states", str(states)] if states else []), str(history)]

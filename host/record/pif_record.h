@@ -25,9 +25,10 @@
        PIF_FORGET();                               now every mutex is free and no call is open: start anew here
        lost = pif_dump(put);                       writes it, a character at a time, while nothing else is recorded
 
-   A line has up to four numbers, each by %u. Its text stays where it is and isn't copied. Where more lines than
-   PIF_RECORD_LINES came since the last PIF_FORGET, the first of them are lost. Then the dump is no whole history: it
-   says so in a comment, and answers how many lines are lost. */
+   A line has up to four numbers, each by %u. Its text stays where it is and isn't copied. If more lines than
+   PIF_RECORD_LINES came since the last PIF_FORGET, the first of them are lost. If more threads, mutexes and variables
+   than PIF_RECORD_ADDED (64) are added, the last of them are lost. Then the dump is no whole history: it says so in a
+   comment, and answers how many lines are lost. Define other numbers before the header is included. */
 #ifndef PIF_RECORD_H
 #define PIF_RECORD_H
 
@@ -86,6 +87,7 @@ typedef struct {
 
 static PifLine pif_lines[PIF_RECORD_LINES], pif_added[PIF_RECORD_ADDED];
 static unsigned pif_added_count;
+static unsigned long pif_not_added;
 static unsigned long pif_first = 1;
 
 static void pif_keep(PifLine *line, const char *format, va_list numbers)
@@ -102,8 +104,10 @@ void pif_add(const char *format, ...)
 {
     va_list numbers;
 
-    if (pif_added_count == PIF_RECORD_ADDED)
+    if (pif_added_count == PIF_RECORD_ADDED) {
+        pif_not_added++;
         return;
+    }
     va_start(numbers, format);
     pif_keep(&pif_added[pif_added_count++], format, numbers);
     va_end(numbers);
@@ -232,9 +236,11 @@ static void pif_put_lines(void (*put)(char), unsigned long first, unsigned long 
     }
 }
 
-static void pif_put_lost(void (*put)(char), unsigned long lost)
+static void pif_put_lost(void (*put)(char), const char *comment, unsigned long lost)
 {
-    pif_put_text(put, "# lost before this line: ");
+    if (lost == 0)
+        return;
+    pif_put_text(put, comment);
     pif_put_number(put, lost);
     put('\n');
 }
@@ -244,14 +250,14 @@ unsigned long pif_dump(void (*put)(char))
 {
     unsigned long last = pif_last(), lost = 0;
 
+    pif_put_lost(put, "# not added, PIF_RECORD_ADDED is too small: ", pif_not_added);
     for (unsigned at = 0; at < pif_added_count; at++)
         pif_put_line(put, &pif_added[at]);
     if (last >= pif_first && last - pif_first >= PIF_RECORD_LINES)
         lost = last - pif_first - PIF_RECORD_LINES + 1;
-    if (lost > 0)
-        pif_put_lost(put, lost);
+    pif_put_lost(put, "# lost before this line: ", lost);
     pif_put_lines(put, pif_first + lost, last);
-    return lost;
+    return lost + pif_not_added;
 }
 
 #endif

@@ -145,5 +145,5 @@ int main(int count, char **words)
     }
     add_all();
     use();
-    return pif_dump(put) == 0 ? 0 : 1;
+    return pif_dump(put) == 0 && fflush(stdout) == 0 && !ferror(stdout) ? 0 : 1;
 }

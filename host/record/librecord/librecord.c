@@ -94,7 +94,7 @@ static void in_child(void)
     forget_counts();
 }
 
-/* The program may go to another directory. */
+/* The program may go to another directory. None if the path is too long. */
 static const char *whole_path(const char *file)
 {
     static char path[2 * PATH_MAX];
@@ -108,18 +108,30 @@ static const char *whole_path(const char *file)
     return strcat(path, file);
 }
 
+/* The number that a whole text is; 0 if it is none, or 0. */
+static unsigned long long number_in(const char *text)
+{
+    char *end;
+    unsigned long long number = strtoull(text, &end, 10);
+
+    return text[0] >= '0' && text[0] <= '9' && *end == '\0' ? number : 0;
+}
+
 static void read_environment(void)
 {
     const char *file = getenv("RECORD_FILE"), *all = getenv("RECORD_ALL"), *most = getenv("RECORD_MAX");
 
     records_all = all != NULL && strcmp(all, "1") == 0;
-    unsigned long long number = most == NULL ? 0 : strtoull(most, NULL, 10);
+    unsigned long long number = most == NULL ? 0 : number_in(most);
     if (number > 0)
         most_records = number > UINT32_MAX ? UINT32_MAX : (uint32_t)number;
     else if (most != NULL && file != NULL)
         say("RECORD_MAX is no number, and is passed over", 0, NULL);
-    if (file != NULL && file[0] != '\0')
-        history_file = whole_path(file);
+    if (file == NULL || file[0] == '\0')
+        return;
+    history_file = whole_path(file);
+    if (history_file == NULL)
+        say("nothing is recorded: the path of RECORD_FILE is too long", 0, NULL);
 }
 
 static void start(void)

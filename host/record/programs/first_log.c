@@ -54,5 +54,5 @@ int main(void)
     pthread_create(&second, NULL, work, (void *)2);
     pthread_join(first, NULL);
     pthread_join(second, NULL);
-    return pif_dump(put) == 0 ? 0 : 1;
+    return pif_dump(put) == 0 && fflush(stdout) == 0 && !ferror(stdout) ? 0 : 1;
 }

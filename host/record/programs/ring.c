@@ -1,10 +1,12 @@
-/* pif_record.h with a ring of four lines: what is lost is said, and what is forgotten is gone. */
+/* pif_record.h with a ring of four lines, and room for two that add: what is lost is said, and what is forgotten is
+   gone. */
 #include <stdio.h>
 
 static unsigned long places;
 
 #define PIF_COUNTER() (++places)
 #define PIF_RECORD_LINES 4
+#define PIF_RECORD_ADDED 2
 #define PIF_RECORD_HERE
 #include "../pif_record.h"
 
@@ -29,6 +31,8 @@ int main(void)
     PIF_FORGET();
     printf("lost %lu\n", pif_dump(put));
     PIF_LINE("tick %u", 9u);
+    printf("lost %lu\n", pif_dump(put));
+    PIF_ADD("cond m%u", 1u);
     printf("lost %lu\n", pif_dump(put));
     return 0;
 }
