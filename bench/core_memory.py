@@ -4,6 +4,8 @@
 and judges nothing.
 
     bench/core_memory.py [PROGRAM]      PROGRAM is crates/pif_bench/out/pif_bench by default
+
+The status is 2 if there is no program.
 """
 
 import os
@@ -64,6 +66,10 @@ def main():
         print(__doc__, end="")
         return 0
     program = Path(sys.argv[1] if len(sys.argv) > 1 else TOP / "crates/pif_bench/out/pif_bench").resolve()
+    if not os.access(program, os.X_OK):
+        print("core_memory.py: there is no program %s; 'rt run' in crates/pif_bench builds it" % program,
+              file=sys.stderr)
+        return 2
     with tempfile.TemporaryDirectory() as folder:
         sizes = requests(Path(folder), program)
     # What a run asks for besides its cores is a few requests at its front.

@@ -4,8 +4,11 @@
 bare compare-exchanges of the same measurement the median is. It judges nothing.
 
     bench/layers.py [TIMES [PROGRAM]]     once `rt run` has built pif_bench; PROGRAM is crates/pif_bench/out/pif_bench
+
+The status is 2 if there is no program, or the words are wrong.
 """
 
+import os
 import re
 import statistics
 import subprocess
@@ -34,8 +37,21 @@ def main():
     if sys.argv[1:] in (["-h"], ["--help"]):
         print(__doc__, end="")
         return 0
-    times = int(sys.argv[1]) if len(sys.argv) > 1 else 41
-    program = sys.argv[2] if len(sys.argv) > 2 else TOP / "crates/pif_bench/out/pif_bench"
+    words = sys.argv[1:]
+    times = words[0] if words else "41"
+    program = Path(words[1] if len(words) > 1 else TOP / "crates/pif_bench/out/pif_bench").resolve()
+    if len(words) > 2 or not times.isdecimal() or int(times) < 1:
+        print(__doc__, end="", file=sys.stderr)
+        return 2
+    if not os.access(program, os.X_OK):
+        print("layers.py: there is no program %s; 'rt run' in crates/pif_bench builds it" % program, file=sys.stderr)
+        return 2
+    measure_all(int(times), program)
+    return 0
+
+
+def measure_all(times, program):
+    """Runs each benchmark so many times, and prints the table."""
     names = layers_of(program)
     found, bare = {name: [] for name in names}, []
     for _ in range(times):
@@ -50,7 +66,6 @@ def main():
     for name, each in found.items():
         middle = statistics.median(each)
         print(f"| `{name}` | {middle:,.0f} ({min(each):,} to {max(each):,}) | {middle / pair:.1f} |")
-    return 0
 
 
 if __name__ == "__main__":

@@ -4,8 +4,11 @@ and for pairs how many times that of the core the library's is. Where other prog
 something, and of ratios the one of two medians. It judges nothing.
 
     bench/library.py [TIMES]        once `make -C c bench` has built the one, and `rt run` in crates/pif_bench the other
+
+The status is 2 if one of them isn't there, or the words are wrong.
 """
 
+import os
 import re
 import statistics
 import subprocess
@@ -36,9 +39,16 @@ def main():
     if sys.argv[1:] in (["-h"], ["--help"]):
         print(__doc__, end="")
         return 0
-    times = int(sys.argv[1]) if len(sys.argv) > 1 else 21
+    times, *more = sys.argv[1:] or ["21"]
+    if more or not times.isdecimal() or int(times) < 1:
+        print(__doc__, end="", file=sys.stderr)
+        return 2
+    for program in (LIBRARY, CORE):
+        if not os.access(program, os.X_OK):
+            print("library.py: there is no program %s; see --help" % program, file=sys.stderr)
+            return 2
     library, core = [], []
-    for _ in range(times):
+    for _ in range(int(times)):
         library.append(figures(LIBRARY, ROUNDS))
         core.append({name: figure for pair in PAIRS for name, figure in figures(CORE, pair).items()})
     print("event, library: %s" % shown([run["event"] for run in library]))

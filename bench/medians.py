@@ -3,6 +3,8 @@
 brackets the least and the greatest. docs/COSTS.md has what it printed. It judges nothing.
 
     bench/medians.py [TIMES]        once ./pif --prove has built the program
+
+The status is 2 if bench/run.sh doesn't come to its end, which says why, or the words are wrong.
 """
 
 import re
@@ -42,10 +44,16 @@ def main():
     if sys.argv[1:] in (["-h"], ["--help"]):
         print(__doc__, end="")
         return 0
-    times = int(sys.argv[1]) if len(sys.argv) > 1 else 11
+    times, *more = sys.argv[1:] or ["11"]
+    if more or not times.isdecimal() or int(times) < 1:
+        print(__doc__, end="", file=sys.stderr)
+        return 2
     runs = []
-    for _ in range(times):
-        done = subprocess.run([RUN], stdout=subprocess.PIPE, stderr=subprocess.STDOUT, text=True, check=True)
+    for _ in range(int(times)):
+        done = subprocess.run([RUN], stdout=subprocess.PIPE, stderr=subprocess.STDOUT, text=True, check=False)
+        if done.returncode:
+            print(done.stdout, end="", file=sys.stderr)
+            return 2
         runs.append(figures(done.stdout))
     for key in runs[0]:
         columns = zip(*(run[key] for run in runs if key in run))

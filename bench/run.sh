@@ -2,13 +2,18 @@
 # Prints, for a script of 16 MB of `pick` lines, one of uncontended `call` lines and a trace of 16 MB of uncontended
 # calls: lines a second, nanoseconds a line and peak memory, through a pipe. Then the benchmarks of single layers, of the
 # quick path, and of a desk: events a second with 1 to 8 threads, on mutexes of their own and all on one, beside the same
-# calls on a core without a desk; and the seconds of `drive 64`. It is a benchmark, never a test: nothing here passes or
-# fails.
+# calls on a core without a desk; and the seconds of `drive 64`. What the program is stands above. It has to be the
+# proved one of these sources, which `./pif --prove` makes; else the status is 2. It is a benchmark, never a test:
+# nothing here passes or fails.
 set -euo pipefail
 case "${1-}" in -h | --help) sed -n '2,/^set /s/^# //p' "$0"; exit ;; esac
 here="$(cd "$(dirname "$0")/.." && pwd)"
-program="$here/crates/pif/out/pif"
-[ -x "$program" ] || "$here/pif" --prove
+program="$here/out/pif"
+if ! "$here/tools/kept" look || ! head -1 "$here/out/pif.version" | grep -q ', proved$'; then
+  echo "run.sh: there is no proved program of these sources; './pif --prove' makes it" >&2
+  exit 2
+fi
+head -2 "$here/out/pif.version"
 python3 - "$program" <<'PYTHON'
 import subprocess, sys, tempfile, time
 
@@ -73,7 +78,8 @@ PYTHON
 
 bench="$here/crates/pif_bench/out/pif_bench"
 [ -x "$bench" ] || (cd "$here/crates/pif_bench" && rt run > /dev/null)
-for name in $("$bench"); do
+names="$("$bench")"
+for name in $names; do
   "$bench" "$name"
 done
 TIMEFORMAT='drive 64: %R s, of which %U s in the program and %S s in the system'
