@@ -6,15 +6,15 @@ use Rattle.pif_script_model.specs.Runs.{WritesPart}
 use Rattle.pif_cli_messages.specs.declared.statuses.JobFault.{JobFault}
 use Rattle.pif_cli_messages.specs.declared.statuses.JobFault.TheVariants.{Cli, Threads, Unsettled, Undecided}
 
--- the line where all clients were answered: each made 100 locks and 100 unlocks
+-- the line if all clients were answered: each made 100 locks and 100 unlocks
 abbrev pub answered_text : ℕ → List ℕ
 answered_text clients = codes "answered " ++ decimal (200 * clients) ++ 10 ∷ []
 
--- the line where a thread could not be started
+-- the line if a thread could not be started
 abbrev pub threads_text : List ℕ
 threads_text = codes "fault threads\n"
 
--- the line where the desk didn't settle
+-- the line if the desk didn't settle
 abbrev pub unsettled_text : List ℕ
 unsettled_text = codes "unsettled\n"
 

@@ -38,7 +38,7 @@ use Rattle.pif_cli.specs.Random.{WritesRandom}
 use Rattle.pif_cli_messages.specs.Statuses.{job_status}
 use Rattle.pif_cli.specs.Driving.{Drives}
 
--- a text was shown, which has this status where all of it was written, or else a write failed after a proper part of it
+-- a text was shown, which has this status if all of it was written, or else a write failed after a proper part of it
 abbrev pub Shows : (held holds : Option (List ℕ)) → (text : List ℕ) → (shown status : ℕ) → Type 0
 Shows held holds text shown status = ((status ≡ shown) × Appends held holds text) ⊎ ((status ≡ 3) × WritesPart held holds text)
 
@@ -172,7 +172,7 @@ RefusedFor DisplayHelp held holds errors_held errors_hold status = ShowedHelp he
 RefusedFor DisplayVersion held holds errors_held errors_hold status = ShowedHelp held holds errors_held errors_hold status
 RefusedFor k held holds errors_held errors_hold status = Refused held holds errors_held errors_hold status
 
--- words of these refusals end the program so: where there is none they ask for what was done, else nothing is read and
+-- words of these refusals end the program so: if there is none they ask for what was done, else nothing is read and
 -- they are refused for one of them; and memory may run out
 abbrev pub EndsIf : Kinds → (done : Type 0) → (before after held holds errors_held errors_hold : Option (List ℕ)) → ℕ
     → Type 0

@@ -28,7 +28,7 @@ fn answered_line(answered: u64) -> ArrayVec<u8, LINE_ROOM>
     line
 }
 
-/// Writes a line, and answers `fault`; or `Write` where the line can't be written.
+/// Writes a line, and answers `fault`; or `Write` if the line can't be written.
 fn say<W: Write>(output: &mut W, line: &str, fault: JobFault) -> Result<(), JobFault>
     ensures { SaysSo (W.contents output.old) (W.contents output.new) line.now fault result }
 {
@@ -44,9 +44,9 @@ fn say<W: Write>(output: &mut W, line: &str, fault: JobFault) -> Result<(), JobF
 ///
 /// # Errors
 ///
-/// `Threads` where a thread could not be started, and `Unsettled` where the desk didn't settle, each written in a line;
-/// `Cli(NoMemory)`, with nothing written, where memory was refused; a client that meets that ends, so that the others
-/// go on. `Cli(Write)` where the line can't be written.
+/// `Threads` if a thread could not be started, and `Unsettled` if the desk didn't settle, each written in a line.
+/// `Cli(NoMemory)`, with nothing written, if memory was refused; a client that meets that ends, so that the others go
+/// on. `Cli(Write)` if the line can't be written.
 pub fn drive<R: Threads + Wait + Sync, W: Write>(
     alloc: Global,
     rt: &R,

@@ -15,7 +15,7 @@ impl<P: Threads + Wait + Clock> Runtime for P {}
 pub struct Host<'p, 's, 'o, 'e, 'v, P, S, W, E, V> {
     /// Where memory comes from.
     pub alloc: Global,
-    /// What starts threads and, where words name files, opens them.
+    /// What starts threads and, if words name files, opens them.
     pub process: &'p P,
     /// Where a shell saves its stories.
     pub shelf: &'s S,

@@ -20,7 +20,7 @@ fn as_judged(done: Result<(), JudgeFault>) -> Result<(), JobFault>
     }
 }
 
-/// The name that is told of a history, where there are several.
+/// The name that is told of a history, if there are several.
 fn told_name(several: bool, name: &str) -> Option<&[u8]>
     ensures { option_copied result ≡ if several then Some name.now else None }
 {

@@ -29,9 +29,9 @@ const NO_TEXT: &str = "error: a word is not UTF-8\n";
 /// each line of `pif random` and each command of `pif draw` it is told that it is made. What it tells a person is no
 /// part of what `errors` is told.
 ///
-/// Where the words cannot be had, nothing is read. The status is then 1 where one of them is not UTF-8, which `errors`
-/// is told; 4 if it is out of memory; and 3 if they cannot be read, or if `errors` cannot be told of such a word. At
-/// 4, and where the words cannot be read, `errors` is told so in one line, as by `command`.
+/// If the words cannot be had, nothing is read. The status is then 1 if one of them is not UTF-8, which `errors` is
+/// told; 4 if it is out of memory; and 3 if they cannot be read, or if `errors` cannot be told of such a word. At 4,
+/// and if the words cannot be read, `errors` is told so in one line, as by `command`.
 pub fn command_of_process<
     P: Env + AllocGlobal + Files + Runtime + Sync,
     R: Read,
@@ -73,7 +73,7 @@ fn words_of<P: Env + AllocGlobal>(process: &P) -> io::Result<Vec<String>> {
     Ok(env::args(process)?.collect(process.alloc())?)
 }
 
-/// The status where the words cannot be had, of which `errors` is told.
+/// The status if the words cannot be had, of which `errors` is told.
 fn refuse<E: Write>(kind: ErrorKind, errors: &mut E) -> u8
     ensures { HadNoWords kind (E.contents errors.old) (E.contents errors.new) result }
 {

@@ -214,7 +214,7 @@ pub fn do_and_tell<P: Runtime + Sync, S: Shelf, R: Read, W: Write, E: Write, V: 
     tell_end(done, &given, &told, host)
 }
 
-/// Tells `errors` of a fault by its own text. Answers the status of the fault, also where `errors` fails.
+/// Tells `errors` of a fault by its own text. Answers the status of the fault, also if `errors` fails.
 pub fn fail<E: Write>(fault: CliFault, errors: &mut E) -> u8
     ensures status { result ≡ fault_status fault }
     ensures told { TellsLine (E.contents errors.old) (E.contents errors.new) }
@@ -223,7 +223,7 @@ pub fn fail<E: Write>(fault: CliFault, errors: &mut E) -> u8
     fault_status(fault)
 }
 
-/// Shows a text of help. Answers 0, or 3 where the output fails, of which `errors` is told.
+/// Shows a text of help. Answers 0, or 3 if the output fails, of which `errors` is told.
 fn show_help<W: Write, E: Write>(text: &str, output: &mut W, errors: &mut E) -> u8
     ensures { ShowsHelp (W.contents output.old) (W.contents output.new) (E.contents errors.old) (E.contents errors.new) text.now result }
 {
@@ -233,7 +233,7 @@ fn show_help<W: Write, E: Write>(text: &str, output: &mut W, errors: &mut E) -> 
     }
 }
 
-/// Shows a text. Answers `shown`, or 3 where the writer fails.
+/// Shows a text. Answers `shown`, or 3 if the writer fails.
 pub fn show<W: Write>(text: &str, shown: u8, writer: &mut W) -> u8
     ensures { Shows (W.contents writer.old) (W.contents writer.new) text.now shown result }
 {

@@ -14,7 +14,7 @@ is_printable b = nat_le 32 b && nat_le b 126
 abbrev pub is_shown : List ℕ → Bool
 is_shown text = list_all is_printable text
 
--- one line was told: printable bytes, and the one LF behind them; or a proper part of it, where a write failed
+-- one line was told: printable bytes, and the one LF behind them; or a proper part of it, if a write failed
 abbrev pub TellsLine : (held holds : Option (List ℕ)) → Type 0
 TellsLine held holds =
     (text : List ℕ) × (is_shown text ≡ true)
@@ -33,17 +33,18 @@ abbrev pub notes_text : Option (List ℕ) → List ℕ
 notes_text None = no_notes_text
 notes_text (Some notes) = notes
 
--- notes were told, all of them and nothing else; or a proper part of them, where a write failed
+-- notes were told, all of them and nothing else; or a proper part of them, if a write failed
 abbrev pub TellsNotes : (notes : List ℕ) → (held holds : Option (List ℕ)) → Type 0
 TellsNotes notes held holds = Appends held holds notes ⊎ WritesPart held holds notes
 
--- what is told of a job that ended so: its notes where it was done, else what is told of its fault
+-- what is told of a job that ended so: its notes if it was done, else what is told of its fault
 abbrev pub TellsOf : (notes : List ℕ) → Result (Unit {0}) JobFault → (held holds : Option (List ℕ)) → Type 0
 TellsOf notes (Ok x) held holds = TellsNotes notes held holds
 TellsOf notes (Err e) held holds = TellsFault e held holds
 
--- what is told at a status of the program: at 0 the notes of what was done; a text at 1; one line at 2 to 7; and at 3,
--- where the text of 1 could not be written, a proper part of that, and nothing of an output that nobody reads any more
+-- what is told at a status of the program: at 0 the notes of what was done; a text at 1; one line at 2 to 7. At 3 it is
+-- also a proper part of the text of 1, if that could not be written, and nothing of an output that nobody reads any
+-- more
 abbrev pub TellsAt : ℕ → (held holds : Option (List ℕ)) → Type 0
 TellsAt status held holds =
     ((status ≡ 0) × ((notes : List ℕ) × TellsNotes notes held holds))

@@ -5,8 +5,8 @@ use Rattle.pif_cli_messages.specs.declared.statuses.JobFault.{JobFault}
 use Rattle.pif_cli_messages.specs.declared.statuses.JobFault.TheVariants.{Cli, Threads, Unsettled, Undecided}
 use Rattle.pif_script_model.specs.declared.faults.CliFault.TheVariants.{Read, Write, NoMemory, Script, Differs}
 
--- the status of a fault: 2 for one of the script or trace, 3 where a read or a write failed, 4 for out of memory, 5
--- for a difference
+-- the status of a fault: 2 for one of the script or trace, 3 if a read or a write failed, 4 for out of memory, 5 for a
+-- difference
 abbrev pub fault_status : CliFault → ℕ
 fault_status (Script line cause) = 2
 fault_status Read = 3
@@ -14,15 +14,15 @@ fault_status Write = 3
 fault_status NoMemory = 4
 fault_status (Differs line) = 5
 
--- the status where a job was not done: 6 where a thread could not be started, or the desk didn't settle, and 7 where a
--- history was not decided
+-- the status if a job was not done: 6 if a thread could not be started, or the desk didn't settle, and 7 if a history
+-- was not decided
 abbrev pub job_fault_status : JobFault → ℕ
 job_fault_status (Cli fault) = fault_status fault
 job_fault_status Threads = 6
 job_fault_status Unsettled = 6
 job_fault_status (Undecided line) = 7
 
--- the status of a job: 0 where it was done
+-- the status of a job: 0 if it was done
 abbrev pub job_status : Result (Unit {0}) JobFault → ℕ
 job_status (Ok x) = 0
 job_status (Err e) = job_fault_status e

@@ -51,7 +51,7 @@ pub fn message_of(job: Job, name: &str, fault: JobFault, notice: &Notice) -> Mes
     given.message(fault, notice)
 }
 
-/// Whether a job reads a story, and shows no line of it where its form is at fault.
+/// Whether a job reads a story, and shows no line of it if its form is at fault.
 fn is_of_story(job: Job) -> bool {
     match job {
         Job::Check | Job::Strict | Job::Fill | Job::FillSeveral => true,
@@ -181,7 +181,7 @@ pub fn unwritten_message(name: &str, why: Unwritten) -> Message {
         Unwritten::NoMemory => plain_message(CliFault::NoMemory),
         Unwritten::NoPlainFile => file_message(name, "is no plain file"),
         Unwritten::Taken => {
-            let words = "stays as it is, since a file of its name with '.new' behind it is there";
+            let words = "stays as it is, since there is a file of its name with '.new' after it";
             file_message(name, words)
         }
         Unwritten::Refused => file_message(name, "cannot be written"),
@@ -209,7 +209,7 @@ fn story_difference(notice: &Notice) -> &'static str {
     if notice.line().is_empty() {
         "the core gives another answer"
     } else {
-        "a call is refused, and no answer stands beside it"
+        "a refused command has no answer beside it"
     }
 }
 
@@ -266,8 +266,9 @@ fn explore_column(cause: Cause) -> usize {
 fn explore_cause(cause: Cause) -> &'static str {
     match cause {
         Cause::Long => "the line has more than 500 bytes",
-        Cause::Limits => "a number is out of its range",
-        Cause::Command => "no line of a program, or it names what is not there",
+        Cause::Limits => "there is no room left for it, or a number is out of its range",
+        Cause::Command =>
+            "not a line of a program, or one that stands too late or twice, or names what is not there",
         _ => plain_cause(cause),
     }
 }
@@ -277,7 +278,7 @@ fn history_cause(cause: Cause) -> &'static str {
     match cause {
         Cause::Size => "the input has more than 268435456 bytes",
         Cause::Limits => "the number of recursion is 256 to 4294967295",
-        Cause::Command => "no line of a history, or one that stands too late or twice",
+        Cause::Command => "not a line of a history, or one that stands too late or twice",
         _ => plain_cause(cause),
     }
 }
@@ -331,7 +332,7 @@ fn plain_cause(cause: Cause) -> &'static str {
     match cause {
         Cause::Size => "the input has more than 16777216 bytes",
         Cause::Long => "the line has more than 120 bytes",
-        Cause::Cut => "the input ends inside the line, with no LF behind it",
+        Cause::Cut => "the input ends inside the line, with no LF after it",
         Cause::Limits => {
             "a limit is out of range (threads 1 to 1024, mutexes 0 to 1024, variables 0 to 256, \
             signals 1 to 4294967295)"
@@ -416,9 +417,9 @@ fn wrong_mark(line: &[u8]) -> Option<&'static str> {
     if line.starts_with(b"= ") || line == b"=".as_slice() {
         Some("no command stands in front of '='")
     } else if line.ends_with(b" =") {
-        Some("no answer stands behind '='; without '=' none is compared")
+        Some("no answer stands after '='; without '=' none is compared")
     } else if line.contains(&b'=') {
-        Some("an answer stands behind ' = ', with a blank on both sides of '='")
+        Some("an answer stands after ' = ', with a blank on both sides of '='")
     } else {
         None
     }
@@ -483,7 +484,7 @@ fn no_traced(place: &Place<'_, '_>, number: u64, notice: &Notice, message: &mut 
         return say_line(place, 1, no_header(line), line, message);
     }
     let Some((command, _)) = notice.parts() else {
-        let words = "no ' = ' with an answer behind it";
+        let words = "no ' = ' with an answer after it";
         return say_line(place, line.len().saturating_add(1), words, line, message);
     };
     match read_command(command) {

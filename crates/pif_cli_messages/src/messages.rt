@@ -36,7 +36,7 @@ impl Message {
         }
     }
 
-    /// Appends a byte, where it is printable.
+    /// Appends a byte if it is printable.
     fn put(&mut self, byte: u8) {
         if byte >= b' ' && byte <= b'~' && self.bytes.len() < MESSAGE_ROOM - 1 {
             self.bytes.push(byte);
@@ -50,7 +50,7 @@ impl Message {
         }
     }
 
-    /// Appends a byte, or what stands for it where it is not printable.
+    /// Appends a byte, or what stands for it if it is not printable.
     fn show_byte(&mut self, byte: u8) {
         match byte {
             b'\r' => self.say("\\r"),

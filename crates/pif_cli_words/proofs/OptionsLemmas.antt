@@ -7,12 +7,12 @@ use Rattle.clap.specs.declared.builder.value_parser.ValueParser.TheVariants.{Uns
 use Rattle.clap.proofs.ValueTestLemmas.{Accepts-accepts, accepts-Accepts}
 use Rattle.pif_cli_words.specs.Options.{number_between}
 
--- a number where a test says so
+-- a number if a test says so
 taken : (b : Bool) (v : ℕ) → b ≡ true → v ≡ (if b then v else 0)
 taken true v e = refl
 taken false v e = cc
 
--- no number where a test says so
+-- no number if a test says so
 left_out : (b : Bool) (v : ℕ) → (b ≡ true → ⊥) → 0 ≡ (if b then v else 0)
 left_out true v h = absurd (h refl)
 left_out false v h = refl

@@ -194,7 +194,7 @@ clash_by None = None
 abbrev pub command_of : List (List ℕ) → Option (Text × List Row)
 command_of words = subcommand_of program (completed words)
 
--- why the words are refused, the program's name first; none where they ask for a job
+-- why the words are refused, the program's name first; none if they ask for a job
 abbrev pub refusals_of : List (List ℕ) → Kinds
 refusals_of words = or_else (fault_of program (completed words)) (clash_kinds (clash_by (command_of words)))
 
@@ -276,7 +276,7 @@ first_name (file ∷ files) = file
 abbrev pub name_of : List (List ℕ) → Text
 name_of words = first_name (files_of words)
 
--- the inputs of a command: its files, or the standard input where it has none
+-- the inputs of a command: its files, or the standard input if it has none
 abbrev pub inputs_of : List Text → List Text
 inputs_of [] = standard_name ∷ []
 inputs_of (file ∷ files) = file ∷ files

@@ -40,7 +40,10 @@ impl Clash {
             Clash::Least => "'judge --least' takes none of '--json', '--html' and '--witness'",
             Clash::Forms => "'judge --html' takes neither '--json' nor '--witness'",
             Clash::Files => "'judge --html' makes a page of one file",
-            Clash::Rules => "'judge --allow' takes a rule, as 'steal' or 'recursion=300', or 'all'",
+            Clash::Rules => {
+                "'judge --allow' takes a rule: steal, any_waiter, spurious, recursion=N (256 to \
+                4294967295), own_errorcheck, any_consistent, held_wait, lost_signal, revives, all"
+            }
         }
     }
 

@@ -59,7 +59,7 @@ pub fn with_arg<'a>(alloc: Global, made: Made<'a>, arg: clap::Arg<'a>) -> Made<'
     match made {
         Ok(command) => boxed(alloc, Box::into_inner(command).arg(arg)),
         Err(error) => {
-            // One call, where a drop at the end of the arm is a call for each part of the argument.
+            // One call; a drop at the end of the arm is a call for each part of the argument.
             drop(arg);
             Err(error)
         }

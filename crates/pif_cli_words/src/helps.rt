@@ -25,7 +25,7 @@ pub const ABOUT_SHOW: &str = "Reads a story or a script, and shows each answer a
 pub const ABOUT_DRAW: &str = "Reads a story or a script, and draws it as an SVG image";
 
 /// What the flag of `draw` for a page does.
-pub const ABOUT_HTML: &str = "Writes a page with the state behind each command";
+pub const ABOUT_HTML: &str = "Writes a page with the state after each command";
 
 /// What the first line of `draw` is.
 pub const ABOUT_FROM: &str = "The first line of the story that is drawn";
@@ -34,13 +34,13 @@ pub const ABOUT_FROM: &str = "The first line of the story that is drawn";
 pub const ABOUT_TO: &str = "The last line of the story that is drawn";
 
 /// What the flag of `show` for all there is does.
-pub const ABOUT_ALL: &str = "Prints all there is behind each line, not just what has changed";
+pub const ABOUT_ALL: &str = "Prints all there is after each line, not just what has changed";
 
 /// What `shell` does.
 pub const ABOUT_SHELL: &str = "Answers a script line by line while a person types it";
 
 /// What the flag of `show` for JSON does.
-pub const ABOUT_JSON: &str = "Writes the state behind each command as a line of JSON";
+pub const ABOUT_JSON: &str = "Writes the state after each command as a line of JSON";
 
 /// What the flag of `show` for Graphviz does.
 pub const ABOUT_DOT: &str = "Writes who waits for whom at the end, for Graphviz";
@@ -68,7 +68,7 @@ pub const ABOUT_LEAST: &str = "Says which of the rules of --allow a history need
 pub const ABOUT_STATES: &str = "Most states for a line, 1 to 16777216";
 
 /// What the option of `judge` for a time does.
-pub const ABOUT_SECONDS: &str = "Most seconds for a history, 0 to 86400; 0 is no limit";
+pub const ABOUT_SECONDS: &str = "Searches no line after N seconds, 0 to 86400; 0: no limit";
 
 /// What the option of `judge` for several histories does.
 pub const ABOUT_JOBS: &str = "Most histories judged side by side, 1 to 64";
@@ -218,7 +218,7 @@ Standard error says what went wrong, and in which line.";
 /// The end of the help of `replay`.
 pub const MORE_REPLAY: &str =
     "A trace comes from FILE, or from the standard input. Its first line is
-'pif-trace 2', or 'pif-trace 1' of an older one; each line behind it is a
+'pif-trace 2', or 'pif-trace 1' of an older one; each line after it is a
 command, ' = ' and the answer that was recorded, as in 'thread 10 = t1'.
 
 The commands of traces:
@@ -235,7 +235,7 @@ The commands of traces:
 
 It prints 'same N', with the number of answers; or 'differs L X', with the first
 line that differs and what the core gives there; or 'fault L cause', with the
-first line that is no line of a trace.
+first line that is not a line of a trace.
 
 Status: 0 the same, 1 wrong words, 2 a fault of the trace, 3 a read or write
 failed, 4 out of memory, 5 a difference.
@@ -247,7 +247,7 @@ pub const MORE_TRACE: &str =
 or 'pif run' takes it; 'pif run --help' names the commands. All is read first.
 Answers that stand in it are not compared.
 
-Its trace begins with 'pif-trace 2' and the line of the limits. Behind them
+Its trace begins with 'pif-trace 2' and the line of the limits. After them
 stand the threads, mutexes and variables that were added, and each begin, go,
 end and tick, all with what the core answered, as in 'go t1 = went'. 'call' and
 'finish' stand there as the begin and the go of which they are made. What was
@@ -255,8 +255,7 @@ not added, and what only asks, leaves no line; nor does a fault.
 
 Status: 0 done, 1 wrong words, 2 a fault, 3 a read or write failed, 4 out of
 memory.
-Standard error says what went wrong, and in which line. Only commands are
-counted as lines, from 1.";
+Standard error says what went wrong, and in which line.";
 
 /// The end of the help of `migrate`.
 pub const MORE_MIGRATE: &str =
@@ -264,7 +263,7 @@ pub const MORE_MIGRATE: &str =
 'pif replay' takes it.
 
 It is read to its end. Then it is written with 'pif-trace 2' as its first line,
-and all behind that as it is. Nothing is run and no answer is compared:
+and all after that as it is. Nothing is run and no answer is compared:
 'pif replay' prints the same of both. The form of each line is checked; of a
 fault 'fault L cause' is printed, and nothing of the trace.
 
@@ -278,8 +277,8 @@ pub const MORE_SHOW: &str =
 or 'pif run' takes it; 'pif run --help' names the commands. All is read first.
 Answers that stand in it are not compared.
 
-For each command it prints the command behind '> ', what 'pif run' answers it,
-with the name of an error behind its number, and those of these lines that it
+For each command it prints the command after '> ', what 'pif run' answers it,
+with the name of an error after its number, and those of these lines that it
 has changed; with --all, all of them:
   time N         the time, once one was handed in
   tN             its effective priority, and its base priority if that differs;
@@ -295,7 +294,7 @@ has changed; with --all, all of them:
                  waits
 What is empty is left out; if a line has emptied the run queue, or ended the
 last chain, 'none' stands there. A comment '# t1: low' gives t1 the name low,
-which then stands behind it. This text is for reading, and may change; 'pif run'
+which then stands after it. This text is for reading, and may change; 'pif run'
 prints for programs.
 
 With --json or --dot it prints nothing of a story with a fault. docs/FORMATS.md
@@ -305,8 +304,8 @@ counts.
 Status: 0 done, 1 wrong words, 2 a fault, 3 a read or write failed, 4 out of
 memory.
 Standard error says what went wrong, and in which line; without --json and
---dot, at status 0, which names nobody has. Without --json and --dot only
-commands are counted as lines, from 1.
+--dot, at status 0, which names nobody has. 'fault N' counts commands alone;
+standard error has the line of the file.
 
 Example:
   pif show --json examples/unusable_mutex.story | tools/perfetto > trace.json";
@@ -320,7 +319,7 @@ The image has a column for each command and a lane for each thread: whether it
 runs, is ready, waits or is parked; its priority, with a boost filled in; and
 the mutexes that it holds. Arrows are hand-overs and signals. It has no scripts,
 and a browser shows what each part is under the pointer. With --html it stands
-in a page, which needs nothing else, above the state behind a command that one
+in a page, which needs nothing else, above the state after a command that one
 chooses. A comment '# t1: low' gives t1 the name low.
 
 At most 5000 commands are drawn, since browsers open no wider image. Of a longer
@@ -337,7 +336,7 @@ Example:
 /// The end of the help of `shell`.
 pub const MORE_SHELL: &str =
     "It reads one command a line, as 'pif run --help' names them, and answers each at
-once, with the name of an error behind its number. A line that begins with '#',
+once, with the name of an error after its number. A line that begins with '#',
 and an empty one, are passed over. A line that is no command is told so, and
 changes nothing.
 
@@ -354,7 +353,7 @@ Besides, it knows
 
 At a terminal each line has '> ' before it. The session is kept as one goes on,
 in a story that is named at the beginning and at the end. 'exit' removes it if
-nothing came behind the last 'save'. The end of input, Ctrl-D, ends too.
+nothing came after the last 'save'. The end of input, Ctrl-D, ends too.
 
 Status: 0 at the end, 1 wrong words, 3 a read or write failed.
 Standard error says what went wrong.";
@@ -387,15 +386,15 @@ For each history it prints:
     answered
   undecided at L
     more states than --states were made for line L, or the time of --seconds was
-    over before it; 'no witness found from M on' says that no run was found for
-    the lines up to M, and 'found there: A ..' with which answers in it one was:
-    they claim nothing of others
+    over before it; within it no clock is asked. 'no witness found from M on'
+    says that no run was found for the lines up to M, and 'found there: A ..'
+    with which answers in it one was: they claim nothing of others
   fault L CAUSE
     line L is the first that is a fault
 With --json it prints an object for the verdict, and one for each line of a run
 with the moves before it: of a run that shows the history, or the lines before
 line L. With --html they stand in a page, which needs nothing from elsewhere: a
-lane for each thread, and a click on a step shows the state behind it. A fault
+lane for each thread, and a click on a step shows the state after it. A fault
 has no object and no page.
 With --least it looks among the rules of --allow for the fewest with which the
 history is legal: 'legal N with steal spurious', or 'legal N' if it needs none.
@@ -450,7 +449,7 @@ It begins with 'undecided: ' if there are more states than --states. The first
 line that is a fault is told by 'fault L CAUSE', alone. With --core a line for
 each outcome follows, 'outcome K: seen on the core' or 'not seen on the core',
 one for each claim, and 'N schedules on the core', where N is 10000 if no number
-stands behind --core.
+stands after --core.
 
 Example:
   printf 'thread 10\\nmutex normal\\ndo t1: lock m1\\n' | pif explore
@@ -463,18 +462,18 @@ wrong.";
 /// The end of the help of `check`.
 pub const MORE_CHECK: &str =
     "A story is a script for people. A line of it is a command, as 'pif run' takes
-it, with ' = ' and its answer behind it or without, as in 'thread 10   = t1'; or
+it, with ' = ' and its answer after it or without, as in 'thread 10   = t1'; or
 it is empty. More blanks, and tabs, do as one, and '#' begins a comment. The
 answer of an error may name it, as 'answer EDEADLK' or 'answer 35 EDEADLK'.
 
-For a story that is ok it prints one line, else one for each flaw; behind the
+For a story that is ok it prints one line, else one for each flaw; after the
 20th, one for all others:
   ok NAME N
     it has N commands, and each answer that stands in it is the core's
   NAME: differs L: C = W, but the core gives G
-    line L has another answer, behind the command C
+    line L has another answer, after the command C
   NAME: refused L: C: R
-    with --strict: line L has no answer behind the command C, and the core
+    with --strict: line L has no answer after the command C, and the core
     refuses it by R
   NAME: fault L CAUSE: C
     line L is the first that is a fault, with the command C
@@ -483,7 +482,7 @@ For a story that is ok it prints one line, else one for each flaw; behind the
 
 With --print it prints each story with the answers of all its commands, in one
 column, and in the form that they have there. Of several stories each stands
-behind a line '# NAME'.
+after a line '# NAME'.
 
 With --write it does so in the file of each story: a new file, whose name ends
 in '.new', takes its place and has its mode. A story with a fault stays as it

@@ -105,7 +105,7 @@ pub enum Job {
 pub struct Asked<'a> {
     /// The job.
     pub job: Job,
-    /// The files over which it is to be done, in their order; none where it is the standard input.
+    /// The files over which it is to be done, in their order; none if it is the standard input.
     pub files: Vec<&'a str>,
     /// Whether what is made of each file is to take its place.
     pub rewrites: bool,

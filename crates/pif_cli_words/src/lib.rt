@@ -11,7 +11,7 @@
 //! | `rules` | the rules that `judge` is told to allow |
 //! | `clashes` | words that ask for what cannot be had together |
 //! | `helps` | the texts of help |
-//! | `near` | the command that is meant where there is none of its name |
+//! | `near` | the command that is meant if there is none of its name |
 //! | `laws` | which words ask for which job |
 #![tactic(auto)]
 

@@ -1,4 +1,4 @@
-//! The command that is meant where the words name none.
+//! The command that is meant if the words name none.
 use pif_text_errors::nearest_name;
 use std::convert::AsStr;
 

@@ -41,7 +41,7 @@ fn with_needed<'a>(
     with_arg(alloc, made, number.required(true))
 }
 
-/// A command with one more option, whose number is `default` where none is given.
+/// A command with one more option, whose number is `default` if none is given.
 pub fn with_chosen<'a>(
     alloc: Global,
     made: Made<'a>,

@@ -25,7 +25,7 @@ unfolding sets_of_size
 of_none a zero held rules e = refl
 of_none a (suc k) held rules e = absurd (cc)
 
--- the sets of some rules where there is none
+-- the sets of some rules if there is none
 of_some : (a : Rules) (size : ℕ) (held : Rules) → 0 < size → sets_of_size a size held [] ≡ []
 unfolding sets_of_size
 of_some a zero held some = absurd (omega (arith, some))

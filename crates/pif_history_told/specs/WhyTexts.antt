@@ -19,7 +19,7 @@ abbrev pub began_text : Option Began → List ℕ
 began_text (Some b) = began_line b.number b.thread b.request
 began_text None = []
 
--- What is told of a line by what is known of it, and by the open call of its thread, which is left out where the line
+-- What is told of a line by what is known of it, and by the open call of its thread. The call is left out if the line
 -- is refused.
 abbrev pub why_text : Known → Option Began → List ℕ
 why_text (Refused why) began = refused_line why

@@ -89,7 +89,7 @@ impl Listed for Conds<'_> {
     }
 }
 
-/// The number of the last thing, where they have so many places with that of nothing.
+/// The number of the last thing, if they have so many places with that of nothing.
 fn last(count: usize) -> Result<u32, Stop>
     ensures { IfOk result (λ n. n ≡ count - 1) }
 {

@@ -62,7 +62,7 @@ fn add_by(
 ///
 /// # Errors
 ///
-/// Memory ran out, or a number got too great for a state.
+/// Out of memory, or a number got too great for a state.
 pub fn steps(
     alloc: Global,
     rules: &Rules,

@@ -287,7 +287,7 @@ function go(by) {
 
 function tell() {
   const says = {legal: () => 'legal: a run shows all lines', illegal: () => 'illegal at ' + verdict.line + ': ' + verdict.text,
-    undecided: () => 'undecided at ' + verdict.line + ': too many states'};
+    undecided: () => 'undecided at ' + verdict.line + ': too many states, or the time was over'};
   at('verdict').textContent = says[verdict.verdict]();
   at('verdict').className = verdict.verdict;
   const why = [];

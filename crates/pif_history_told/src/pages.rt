@@ -34,7 +34,7 @@ fn append_parts(
 ///
 /// # Errors
 ///
-/// A growth of memory was refused.
+/// Out of memory.
 pub fn append_page(lines: &[u8], out: &mut Vec<u8>) -> Result<(), AllocError>
     ensures { OnOk result (IsPageOf lines.now out.old.items out.new.items) }
 {

@@ -49,7 +49,7 @@ fn take_step(
 ///
 /// # Errors
 ///
-/// Memory ran out, or a number of a state got too great for it.
+/// Out of memory, or a number got too great for a state.
 pub fn run_text(
     alloc: Global,
     rules: &Rules,

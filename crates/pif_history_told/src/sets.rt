@@ -65,6 +65,10 @@ fn push_sets(
 
 /// The sets of rules that are tried, but for that of all, in the order in which they are: those of fewer rules come
 /// first. Each has the rules that hold in any case.
+///
+/// # Errors
+///
+/// Out of memory.
 pub fn sets_but_all(alloc: Global, base: &Rules, asked: &Rules) -> Result<Vec<Rules>, Stop>
     ensures { IfOk result (λ v. v.items ≡ sets_but_all base.now asked.now) }
 {

@@ -113,7 +113,7 @@ fn tell_known(known: &Known, out: &mut Vec<u8>) -> Result<(), AllocError>
 ///
 /// # Errors
 ///
-/// A growth of memory was refused.
+/// Out of memory.
 pub fn tell_why(known: &Known, began: Option<Began>, out: &mut Vec<u8>) -> Result<(), AllocError>
     ensures { OnOk result (out.new.items ≡ out.old.items ++ why_text known.now began) }
 {
@@ -131,7 +131,7 @@ pub fn tell_why(known: &Known, began: Option<Began>, out: &mut Vec<u8>) -> Resul
 ///
 /// # Errors
 ///
-/// A growth of memory was refused.
+/// Out of memory.
 pub fn tell_legal(lines: u32, witness: &[u8], out: &mut Vec<u8>) -> Result<(), AllocError>
     ensures { OnOk result (out.new.items ≡ out.old.items ++ (legal_line lines ++ witness.now)) }
 {
@@ -154,7 +154,7 @@ fn tell_unfound_line(number: u32, out: &mut Vec<u8>) -> Result<(), AllocError>
 ///
 /// # Errors
 ///
-/// A growth of memory was refused.
+/// Out of memory.
 pub fn tell_unfound(unfound: &Unfound, out: &mut Vec<u8>) -> Result<(), AllocError>
     ensures { OnOk result (out.new.items ≡ out.old.items ++ unfound_text unfound.now) }
 {

@@ -1,4 +1,4 @@
-//! Verdicts as lines of JSON. Each is appended to `out`; where memory is refused, a part of it may be.
+//! Verdicts as lines of JSON. Each is appended to `out`; if out of memory, a part of it may be.
 ghost use Rattle.std.specs.Prelude.{◌≡◌, ◌++◌, OnOk, codes, decimal, drop, flat_map};
 ghost use Rattle.pif_text_model.specs.Replies.{text_of};
 ghost use Rattle.pif_history_text.specs.Verdicts.{line_refusal_word};
@@ -192,7 +192,7 @@ fn append_end(known: &Known, began: Option<Began>, out: &mut Vec<u8>) -> Result<
 ///
 /// # Errors
 ///
-/// A growth of memory was refused.
+/// Out of memory.
 pub fn append_illegal(
     number: u32,
     line: &Line,
@@ -211,7 +211,7 @@ pub fn append_illegal(
 ///
 /// # Errors
 ///
-/// A growth of memory was refused.
+/// Out of memory.
 pub fn append_legal(lines: u32, left_out: u32, out: &mut Vec<u8>) -> Result<(), AllocError>
     ensures { OnOk result (out.new.items ≡ out.old.items ++ legal_object lines left_out) }
 {
@@ -253,7 +253,7 @@ fn append_found_at(
 ///
 /// # Errors
 ///
-/// A growth of memory was refused.
+/// Out of memory.
 pub fn append_undecided(
     number: u32,
     unfound: &Unfound,
