@@ -49,6 +49,7 @@ fn append_lines<V: WatchSteps>(
     for line in 0..lines {
         watch.step(line as usize, lines as usize);
         let command = player.next_command();
+        // For the prover: each use has a value of its own.
         let played = command;
         player.play(played);
         append_line(command, script)?;

@@ -95,6 +95,7 @@ fn tell_named(reply: Reply, output: &mut Output)
     ensures told { output.new.items ≡ output.old.items ++ (named_text reply ++ 10 ∷ []) }
     ensures room { array_vec_len output.new ≤ array_vec_len output.old + NAMED_ROOM }
 {
+    // For the prover: each use has a value of its own.
     let answered = reply;
     reply_text(reply, output);
     tell_error(error_in(answered), output);

@@ -67,6 +67,7 @@ fn append_name(number: Option<u32>, text: &mut Text)
 pub fn reply_line(reply: Reply) -> Text
     ensures { IsLineOf reply result.items }
 {
+    // For the prover: each use has a value of its own.
     let shown = reply;
     let number = number_of_reply(reply);
     let mut text = Text::new();

@@ -3,11 +3,11 @@ use Rattle.std.proofs.Common.{◌≡◌, ◌≢◌, ◌⊎◌, ℕ, ◌+◌, ◌
 use Rattle.std.proofs.lemmas.Bool.{false≢true, cases_eq, cases_lt}
 use Rattle.std.proofs.lemmas.List.{get_or-set_same, get_or-set_other, get_or-replicate, get_or_past, set_past, length-set, length-replicate}
 use Rattle.std.specs.Ordering.{nat_cmp}
-use Rattle.std.specs.FinMap.{FinMap, empty, get, insert, remove, len-empty}
+use Rattle.std.specs.FinMap.{FinMap, empty, get, insert, remove}
 use Rattle.pif_nodes_model.specs.declared.keys.Key.{Key}
 use Rattle.pif_model.specs.Graph.{Reaches}
-use Rattle.pif_kernel_model.specs.Owners.{Wait, Task, Owners, no_task, no_owners, task_at, owner_at, count, state_of, waits_on, waits_for, WaitsFor, IsAcyclic, HasNoWaiter, with_task, with_wait, with_owner, without_state, IsSeat, AreSoundOwners}
-use Rattle.pif_model_lemmas.proofs.Cycles.{NoCycle-fewer, NoCycle-hop, NoCycle-still, reaches-alone}
+use Rattle.pif_kernel_model.specs.Owners.{Wait, Task, Owners, no_task, no_owners, task_at, owner_at, state_of, waits_on, waits_for, WaitsFor, IsAcyclic, HasNoWaiter, with_task, with_wait, with_owner, without_state, IsSeat, AreSoundOwners}
+use Rattle.pif_model_lemmas.proofs.Cycles.{NoCycle-fewer, NoCycle-hop, NoCycle-still}
 use Rattle.pif_kernel_model.proofs.MapLemmas.{get-insert_same, get-insert_other, get-remove_other}
 
 -- after a write of a seat, a thread has that one, or the seat that it had
@@ -260,20 +260,6 @@ sound-ended k v free s = sound-owners (remove v.owners k) v kept (NoCycle-fewer 
     fewer a b h =
         let p : (w : Wait) × ((task_at v a).wait ≡ Some w) × (owner_at (without_state k v) w.state ≡ Some b) = WaitsFor-some (without_state k v) a b h in
         WaitsFor-from v a b p.0 p.1 (sym (owner_at-without_state_other k v p.0.state (apart a p.0 p.1)) ∙ p.2) h.1
-
--- who isn't the owner of a state can be queued on it if the owner waits for nothing
-pub no_cycle-idle_owner : (v : Owners) (k owner t : ℕ) → owner_at v k ≡ Some owner → waits_on v owner ≡ None → owner ≢ t
-    → (n : ℕ) → owner_at v k ≡ Some n → Reaches (WaitsFor v) n t → ⊥
-no_cycle-idle_owner v k owner t e idle other n is r =
-    let same : n ≡ owner = ap (λ (o : Option ℕ). unwrap_or o 0) (sym is ∙ e) in
-    other (sym (reaches-alone owner still same r))
-  where
-    still : (b : ℕ) → WaitsFor v owner b → ⊥
-    still b h = h.1 (sym h.0 ∙ ap (λ (o : Option ℕ). unwrap_or (option_and_then (owner_at v) o) 0) idle)
-
--- at first there is no state
-pub count-no_owners : (threads : ℕ) → count (no_owners threads) ≡ 0
-count-no_owners threads = len-empty nat_cmp ℕ
 
 -- and every seat is empty
 pub task_at-no_owners : (threads t : ℕ) → task_at (no_owners threads) t ≡ no_task

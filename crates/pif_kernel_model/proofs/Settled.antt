@@ -1,10 +1,9 @@
--- After a walk nothing is left to repair, and a wait that comes or goes leaves that to one thread.
-use Rattle.std.proofs.Common.{◌≡◌, ◌≢◌, ◌⊎◌, ℕ, ◌<◌, ◌≤◌, ◌+◌, max, Bool, true, false, ◌==◌, List, length, Option, Some, None, refl, sym, ap, ◌∙◌, inl, inr, arith, length-set}
-use Rattle.std.specs.Prelude.{option_map, option_and_then, unwrap_or}
+-- After a walk nothing is left to repair.
+use Rattle.std.proofs.Common.{◌≡◌, ◌⊎◌, ℕ, ◌<◌, ◌≤◌, ◌+◌, max, true, false, ◌==◌, List, length, Option, Some, None, refl, sym, ap, ◌∙◌, inl, inr, arith}
+use Rattle.std.specs.Prelude.{option_map, unwrap_or}
 use Rattle.std.specs.List.{filter}
 use Rattle.std.specs.Option.{is_some}
-use Rattle.std.proofs.Math.Path.{fun_ext}
-use Rattle.std.proofs.lemmas.Bool.{cases_eq, cases_lt, eqb-true, ne_eqb, or_cases, and_parts}
+use Rattle.std.proofs.lemmas.Bool.{cases_lt, eqb-true, or_cases, and_parts}
 use Rattle.std.proofs.lemmas.Bool.Decides.{nat_tests}
 use Rattle.std.proofs.lemmas.List.{get_or_past}
 use Rattle.pif_nodes_model.specs.declared.keys.Key.{Key}
@@ -12,12 +11,10 @@ use Rattle.pif_nodes_model.specs.Lists.{has}
 use Rattle.pif_nodes_model.specs.Table.{NodeLists}
 use Rattle.pif_nodes_model.proofs.ListLemmas.{has-append}
 use Rattle.pif_nodes_model.specs.Order.{comes_before}
-use Rattle.pif_model.specs.Graph.{greatest_where}
 use Rattle.pif_model_lemmas.proofs.Greatest.{effective_step, greatest_where_same}
-use Rattle.pif_model_lemmas.proofs.Places.{kept_at}
 use Rattle.pif_nodes_model.specs.Levels.{Queue, IsLevel, level_of, level_with, Holds, IsQueued}
-use Rattle.pif_kernel_model.specs.Owners.{Owners, Task, Wait, no_task, task_at, owner_at, waits_for, rank_of, with_wait, IsTop}
-use Rattle.pif_kernel_model.proofs.OwnersLemmas.{task_at-with_task, task_at-with_task_other, some_rank}
+use Rattle.pif_kernel_model.specs.Owners.{Owners, Task, Wait, no_task, task_at, waits_for, rank_of, IsTop}
+use Rattle.pif_kernel_model.proofs.OwnersLemmas.{some_rank}
 use Rattle.pif_kernel_model.specs.Boosts.{IsThread, base_of, local_of, greatest_base, greatest_waiting, with_rank_priority, with_effective, is_other, joins, level_after_walk, threads_of, IsRepaired, IsRepairedBut, IsNext}
 use Rattle.pif_kernel_model.proofs.Greatest.{out_waits}
 use Rattle.pif_kernel_model.proofs.BoostLevels.{has-filter}
@@ -77,56 +74,6 @@ top_is_next v k t repaired top =
   where
     local : (u : ℕ) (rank : Key) → rank_of v u ≡ Some rank → rank.prio ≡ local_of v u
     local u rank e = (repaired 0).ranks u rank e
-
--- A WAIT THAT COMES OR GOES
-
--- what is 0 or this thread is no other one
-off : (a start u : ℕ) → (a ≡ 0) ⊎ (a ≡ start) → 1 ≤ u → u ≢ start → a ≢ u
-off a start u (inl z) one ne e = absurd (omega arith)
-off a start u (inr s) one ne e = ne (sym e ∙ s)
-
--- if a thread waits otherwise than before, and waited and waits for nobody or for `start`, that one alone is left
-pub rewaited : (v : Owners) (t start : ℕ) (w : Option Wait) → ((s : ℕ) → IsRepairedBut s v)
-    → (waits_for v t ≡ 0) ⊎ (waits_for v t ≡ start) → (waits_for (with_wait t w v) t ≡ 0) ⊎ (waits_for (with_wait t w v) t ≡ start)
-    → ((rank : Key) → option_map (λ (x : Wait). x.rank) w ≡ Some rank → rank.prio ≡ local_of v t) → IsRepairedBut start (with_wait t w v)
-rewaited v t start w repaired was now rank =
-    record {
-      locals = λ u th ne. local u ∙ (repaired start).locals u (th.0, omega (arith, th.1, long)) ne ∙ sym (λ i. max (base u i) (waiting u th.0 ne i));
-      ranks = λ u k e. by_seat u k e (task_at-with_task t x v u);
-    }
-  where
-    x : Task
-    x = record (task_at v t) { wait = w }
-
-    long : length (with_wait t w v).seats ≡ length v.seats
-    long = length-set v.seats t x
-
-    local : (u : ℕ) → local_of (with_wait t w v) u ≡ local_of v u
-    local u = kept_at (λ (s : Task). s.local) v.seats t x no_task refl u
-
-    base : (u : ℕ) → base_of (with_wait t w v) u ≡ base_of v u
-    base u = kept_at (λ (s : Task). s.base) v.seats t x no_task refl u
-
-    test : (u : ℕ) → 1 ≤ u → u ≢ start → (y : ℕ) → ((y ≡ t) ⊎ (y ≡ t → ⊥)) → (waits_for (with_wait t w v) y == u) ≡ (waits_for v y == u)
-    test u one ne y (inl e) =
-        ap (λ (z : ℕ). waits_for (with_wait t w v) z == u) e ∙ ne_eqb (waits_for (with_wait t w v) t) u (off (waits_for (with_wait t w v) t) start u now one ne)
-        ∙ sym (ap (λ (z : ℕ). waits_for v z == u) e ∙ ne_eqb (waits_for v t) u (off (waits_for v t) start u was one ne))
-    test u one ne y (inr d) =
-        ap (λ (s : Task). unwrap_or (option_and_then (owner_at v) (option_map (λ (k : Wait). k.state) s.wait)) 0 == u) (task_at-with_task_other t x v y d)
-
-    waiting : (u : ℕ) → 1 ≤ u → u ≢ start → greatest_waiting (with_wait t w v) u ≡ greatest_waiting v u
-    waiting u one ne =
-        let tests : ◌≡◌ {A = ℕ → Bool} (λ y. waits_for (with_wait t w v) y == u) (λ y. waits_for v y == u) = fun_ext (λ y. test u one ne y (cases_eq y t)) in
-        let locals : ◌≡◌ {A = ℕ → ℕ} (local_of (with_wait t w v)) (local_of v) = fun_ext local in
-        λ i. greatest_where (tests i) (locals i) (long i)
-
-    by_seat : (u : ℕ) (k : Key) → rank_of (with_wait t w v) u ≡ Some k
-        → ((u ≡ t) × (task_at (with_wait t w v) u ≡ x)) ⊎ (task_at (with_wait t w v) u ≡ task_at v u) → k.prio ≡ local_of (with_wait t w v) u
-    by_seat u k e (inl s) =
-        rank k (ap (λ (y : Task). option_map (λ (z : Wait). z.rank) y.wait) (sym s.1) ∙ e) ∙ ap (local_of v) (sym s.0) ∙ sym (local u)
-    by_seat u k e (inr s) =
-        (repaired start).ranks u k (ap (λ (y : Task). option_map (λ (z : Wait). z.rank) y.wait) (sym s) ∙ e)
-        ∙ sym (local u)
 
 -- THE RUN QUEUE
 

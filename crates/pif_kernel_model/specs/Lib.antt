@@ -1,6 +1,5 @@
 pub mod Owners
 pub mod OwnerMaps
-pub mod Examples
 pub mod Arrivals
 pub mod States
 pub mod Frames

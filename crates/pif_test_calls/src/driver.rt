@@ -5,12 +5,10 @@ ghost use Rattle.pif_model.specs.Table.{has_thread, has_mutex, has_cond, line_at
 ghost use Rattle.pif_model.specs.Lines.{is_open};
 ghost use Rattle.pif_model.specs.Posix.{names_known};
 
-use pif_chains_linked::LinkedChains;
 use pif_kernel::{Chains, KernelOn, PiKernel, Status, Woken};
 use pif_model::Line;
 use pif_mutex::{Parts, Progress};
-use pif_plain::PlainChains;
-use pif_types::{CondId, Errno, Health, Kind, Limits, MutexId, Prio, Request, Tid};
+use pif_types::{CondId, Errno, Kind, Limits, MutexId, Prio, Request, Tid};
 use std::alloc::Global;
 use std::process::Abort;
 use std::test::Fail;
@@ -26,26 +24,16 @@ pub enum Ask {
     Go(u32),
     // A thread begins a call, and goes on up to the first step that isn't `Went`.
     Call(u32, Wish),
-    // A thread goes on up to the first such step.
-    Finish(u32),
     End(u32),
     Tick(u32),
     Word(u32),
-    Health(u32),
-    Uses(u32),
     Effective(u32),
-    Base(u32),
     Status(u32),
     // The waiter of a mutex, the thread that is parked on a variable, and the ready thread, at a place.
     Waiter(u32, u32),
     Parked(u32, u32),
     Ready(u32),
     Pick,
-    // The limits, and how many threads, mutexes and variables were added.
-    Limits,
-    Counts,
-    // Whether this call of a thread is open.
-    IsOpen(u32, Wish),
 }
 
 /// The request of a call, by numbers.
@@ -78,7 +66,6 @@ pub enum Reply {
     // The number of the last step, and what it came to.
     Ended(u32, Progress),
     Bits(u32),
-    Is(Health),
     // What a thread does.
     Ready(Woken),
     QueuedOn(u32),
@@ -87,17 +74,9 @@ pub enum Reply {
     HasEnded,
     Prio(u32),
     Thread(u32),
-    Limits(u32, u32, u32, u32),
-    Counts(u32, u32, u32),
     // There is nothing to be read.
     Nobody,
 }
-
-/// What is asked, and what is answered.
-pub type Steps = &'static [(Ask, Reply)];
-
-/// What new parts are asked: the name of that, and the steps, table after table.
-pub type Story = (&'static str, [Steps; 3]);
 
 /// Parts on a kernel of these chains, under these limits and with this first ticket, to which nothing was added.
 pub fn new_parts<C: Chains + Drop>(
@@ -111,8 +90,8 @@ pub fn new_parts<C: Chains + Drop>(
     Ok(Parts::new(alloc, limits, kernel)?)
 }
 
-/// Adds a thread, a mutex or a variable, where there is room for it and the mutex of the variable was added. Answers
-/// its number.
+/// Adds a thread, a mutex or a variable, if there is room for it and the mutex of the variable was added. Answers its
+/// number.
 fn add<K: PiKernel + Drop>(parts: &mut Parts<K>, ask: Ask) -> Option<u32> {
     let limits = parts.limits();
     match ask {
@@ -156,7 +135,7 @@ fn names_known<K: PiKernel + Drop>(parts: &Parts<K>, request: &Request) -> bool
     }
 }
 
-/// A thread begins a call, where that is not refused.
+/// A thread begins a call, if that is not refused.
 fn begin<K: PiKernel + Drop>(parts: &mut Parts<K>, t: Tid, request: Request) -> Option<()> {
     if may_act(parts, t, false) && names_known(parts, &request) {
         parts.begin(t, request);
@@ -166,7 +145,7 @@ fn begin<K: PiKernel + Drop>(parts: &mut Parts<K>, t: Tid, request: Request) -> 
     }
 }
 
-/// A thread takes one step of its open call. `None` where it has none.
+/// A thread takes one step of its open call. `None` if it has none.
 fn go<K: PiKernel + Drop>(parts: &mut Parts<K>, t: Tid) -> Option<Progress> {
     if !may_act(parts, t, true) {
         return None;
@@ -220,7 +199,7 @@ pub fn doing(status: Status) -> Reply {
 }
 
 /// The answer to what is asked. `None` if it can't be asked: a number is nobody's, there is no room, or the thread of a
-/// step has no call open, or has one where it begins one.
+/// step has no call open, or has one when it begins one.
 pub fn answer<K: PiKernel + Drop>(parts: &mut Parts<K>, ask: Ask) -> Option<Reply> {
     Some(match ask {
         Ask::AddThread(_) | Ask::AddMutex(_, _) | Ask::AddCond(_) => Reply::Added(add(parts, ask)?),
@@ -234,7 +213,6 @@ pub fn answer<K: PiKernel + Drop>(parts: &mut Parts<K>, ask: Ask) -> Option<Repl
             begin(parts, t, request(wish)?)?;
             finish(parts, t)?
         }
-        Ask::Finish(t) => finish(parts, Tid::new(t)?)?,
         Ask::End(t) => {
             end(parts, Tid::new(t)?)?;
             Reply::Done
@@ -269,38 +247,14 @@ fn tick<K: PiKernel + Drop>(parts: &mut Parts<K>, time: u32) -> Option<()> {
 fn read<K: PiKernel + Drop>(parts: &Parts<K>, ask: Ask) -> Option<Reply> {
     Some(match ask {
         Ask::Word(m) => Reply::Bits(parts.word(MutexId::new(m)?)?),
-        Ask::Health(m) => Reply::Is(parts.health(MutexId::new(m)?)?),
-        Ask::Uses(c) => Reply::Bits(parts.cond_word(CondId::new(c)?)?),
         Ask::Effective(t) => Reply::Prio(parts.effective(Tid::new(t)?)?.get()),
-        Ask::Base(t) => Reply::Prio(parts.base(Tid::new(t)?)?.get()),
         Ask::Waiter(m, place) => Reply::Thread(parts.waiter(MutexId::new(m)?, place)?.get()),
         Ask::Parked(c, place) => Reply::Thread(parts.parked(CondId::new(c)?, place)?.get()),
         Ask::Ready(place) => Reply::Thread(parts.ready(place)?.get()),
         Ask::Pick => Reply::Thread(parts.pick()?.get()),
-        Ask::Counts => Reply::Counts(parts.threads(), parts.mutexes(), parts.conds()),
-        other => read_more(parts, other)?,
+        Ask::Status(t) if t <= parts.threads() => doing(parts.status(Tid::new(t)?)),
+        _ => return None,
     })
-}
-
-/// The same of limits, and of a thread that was added.
-fn read_more<K: PiKernel + Drop>(parts: &Parts<K>, ask: Ask) -> Option<Reply> {
-    match ask {
-        Ask::Limits => {
-            let limits = parts.limits();
-            Some(Reply::Limits(
-                limits.threads(),
-                limits.mutexes(),
-                limits.conds(),
-                limits.signals(),
-            ))
-        }
-        Ask::Status(t) if t <= parts.threads() => Some(doing(parts.status(Tid::new(t)?))),
-        Ask::IsOpen(t, wish) if t <= parts.threads() => {
-            let open = parts.open_call(Tid::new(t)?) == Some(request(wish)?);
-            if open { Some(Reply::Done) } else { None }
-        }
-        _ => None,
-    }
 }
 
 /// Sees that what was answered at this place is this.
@@ -308,52 +262,11 @@ pub fn see(rt: &impl Abort, read: Option<Reply>, reply: Option<Reply>, name: &st
     assert!(rt; read == reply, "{name}, at place {place}");
 }
 
-/// Asks all that stands in a table in turn, and sees that each answer is the one beside it. Answers the place behind it.
-fn check_steps<K: PiKernel + Drop>(
-    rt: &impl Abort,
-    parts: &mut Parts<K>,
-    steps: &[(Ask, Reply)],
-    name: &str,
-    first: u32,
-) -> u32 {
-    let mut place = first;
-    for (ask, reply) in steps {
-        see(rt, answer(parts, *ask), Some(*reply), name, place);
-        place = place.saturating_add(1);
-    }
-    place
-}
+/// The seed of a random list, and a place in it.
+pub type At = (u32, u32);
 
-/// The same of each of the tables of a story.
-fn check<K: PiKernel + Drop>(rt: &impl Abort, parts: &mut Parts<K>, story: &Story) {
-    let (name, tables) = *story;
-    let mut place = 0_u32;
-    for steps in tables {
-        place = check_steps(rt, parts, steps, name, place);
-    }
-}
-
-/// Does so with each of these stories, each time on new parts under these limits, with either kernel.
-pub fn play<R: Abort>(
-    rt: &R,
-    alloc: Global,
-    limits: Limits,
-    stories: &[Story],
-) -> Result<(), Fail> {
-    for story in stories {
-        play_on::<PlainChains, R>(rt, alloc, limits, story)?;
-        play_on::<LinkedChains, R>(rt, alloc, limits, story)?;
-    }
-    Ok(())
-}
-
-fn play_on<C: Chains + Drop, R: Abort>(
-    rt: &R,
-    alloc: Global,
-    limits: Limits,
-    story: &Story,
-) -> Result<(), Fail> {
-    let mut parts = new_parts::<C>(alloc, limits, 1)?;
-    check(rt, &mut parts, story);
-    Ok(())
+/// The same in the random list of a seed.
+pub fn see_at(rt: &impl Abort, read: Option<Reply>, reply: Option<Reply>, at: At) {
+    let (seed, place) = at;
+    assert!(rt; read == reply, "seed {seed}, at place {place}");
 }

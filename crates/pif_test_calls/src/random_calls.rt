@@ -3,7 +3,7 @@
 //! orders.
 ghost use Rattle.std.specs.Prelude.{◌≤◌};
 
-use super::driver::{Ask, Reply, Wish, answer, new_parts, see};
+use super::driver::{Ask, At, Reply, Wish, answer, new_parts, see_at};
 use pif_chains_linked::LinkedChains;
 use pif_kernel::{Chains, KernelOn, PiKernel};
 use pif_mutex::Parts;
@@ -29,10 +29,11 @@ fn ask<A: PiKernel + Drop, B: PiKernel + Drop>(
     rt: &impl Abort,
     plain: &mut Parts<A>,
     linked: &mut Parts<B>,
+    at: At,
     ask: Ask,
 ) -> bool {
     let reply = answer(plain, ask);
-    see(rt, answer(linked, ask), reply, "random events", 0);
+    see_at(rt, answer(linked, ask), reply, at);
     reply.is_some()
 }
 
@@ -41,17 +42,18 @@ fn fill<A: PiKernel + Drop, B: PiKernel + Drop>(
     rt: &impl Abort,
     plain: &mut Parts<A>,
     linked: &mut Parts<B>,
+    at: At,
     rng: &mut SplitMix64,
 ) {
     for _ in 0..66 {
         let robust = rng.next_u32() % 2 == 0;
-        ask(rt, plain, linked, Ask::AddMutex(kind(rng), robust));
+        ask(rt, plain, linked, at, Ask::AddMutex(kind(rng), robust));
     }
-    ask(rt, plain, linked, Ask::AddCond(1));
-    ask(rt, plain, linked, Ask::AddCond(65));
+    ask(rt, plain, linked, at, Ask::AddCond(1));
+    ask(rt, plain, linked, at, Ask::AddCond(65));
     for _ in 0..THREADS {
         let level = 1 + rng.next_u32() % 6 * 15;
-        ask(rt, plain, linked, Ask::AddThread(level));
+        ask(rt, plain, linked, at, Ask::AddThread(level));
     }
 }
 
@@ -82,11 +84,12 @@ fn compare<A: PiKernel + Drop, B: PiKernel + Drop>(
     rt: &impl Abort,
     plain: &mut Parts<A>,
     linked: &mut Parts<B>,
+    at: At,
 ) {
-    ask(rt, plain, linked, Ask::Pick);
+    ask(rt, plain, linked, at, Ask::Pick);
     for m in LOCKED {
         for read in [Ask::Word(m), Ask::Waiter(m, 0), Ask::Waiter(m, 1)] {
-            ask(rt, plain, linked, read);
+            ask(rt, plain, linked, at, read);
         }
     }
     for place in 0..THREADS {
@@ -97,7 +100,7 @@ fn compare<A: PiKernel + Drop, B: PiKernel + Drop>(
             Ask::Parked(1, place),
             Ask::Parked(2, place),
         ] {
-            ask(rt, plain, linked, read);
+            ask(rt, plain, linked, at, read);
         }
     }
 }
@@ -131,24 +134,26 @@ fn wish(rng: &mut SplitMix64, m: u32, time: u32) -> Wish {
     }
 }
 
-/// Plays a random list of events on new parts, and counts those that could happen. The first ticket is so late that
-/// tickets are renumbered.
+/// Plays the random list of events of a seed on new parts, and counts those that could happen. The first ticket is so
+/// late that tickets are renumbered.
 fn play_list<A: Chains + Drop, B: Chains + Drop, R: Abort>(
     rt: &R,
     alloc: Global,
-    rng: &mut SplitMix64,
+    seed: u32,
     events: &mut u32,
 ) -> Result<(), Fail> {
+    let mut rng = SplitMix64::seed_from_u64(u64::from(seed));
     let limits = Limits::new(THREADS, 66, 2, 100).ok_or("limits")?;
     let first = u64::MAX - u64::from(rng.next_u32() % 64);
     let mut plain = new_parts::<A>(alloc, limits, first)?;
-    play_beside::<KernelOn<A>, B, R>(rt, alloc, rng, &mut plain, first, events)
+    play_beside::<KernelOn<A>, B, R>(rt, alloc, seed, &mut rng, &mut plain, first, events)
 }
 
 /// The same with the parts on the plain kernel, which has this first ticket.
 fn play_beside<A: PiKernel + Drop, B: Chains + Drop, R: Abort>(
     rt: &R,
     alloc: Global,
+    seed: u32,
     rng: &mut SplitMix64,
     plain: &mut Parts<A>,
     first: u64,
@@ -157,39 +162,34 @@ fn play_beside<A: PiKernel + Drop, B: Chains + Drop, R: Abort>(
     requires { 1 ≤ first }
 {
     let mut linked = new_parts::<B>(alloc, plain.limits(), first)?;
-    play_events(rt, rng, plain, &mut linked, events);
+    play_events(rt, seed, rng, plain, &mut linked, events);
     Ok(())
 }
 
 fn play_events<A: PiKernel + Drop, B: PiKernel + Drop>(
     rt: &impl Abort,
+    seed: u32,
     rng: &mut SplitMix64,
     plain: &mut Parts<A>,
     linked: &mut Parts<B>,
     events: &mut u32,
 ) {
     let mut time = 0;
-    fill(rt, plain, linked, rng);
-    for _ in 0..EVENTS {
+    fill(rt, plain, linked, (seed, 0), rng);
+    for number in 0..EVENTS {
         let event = event(rng, plain, &mut time);
-        if ask(rt, plain, linked, event) {
+        if ask(rt, plain, linked, (seed, number), event) {
             *events = events.saturating_add(1);
         }
-        compare(rt, plain, linked);
+        compare(rt, plain, linked, (seed, number));
     }
 }
 
 #[test]
 fn kernels_agree_on_random_events(rt: HostRuntime) -> Result<(), Fail> {
-    let mut rng = SplitMix64::seed_from_u64(1);
     let mut events = 0;
-    for _ in 0..LISTS {
-        play_list::<PlainChains, LinkedChains, HostRuntime>(
-            &rt,
-            rt.alloc(),
-            &mut rng,
-            &mut events,
-        )?;
+    for seed in 0..LISTS {
+        play_list::<PlainChains, LinkedChains, HostRuntime>(&rt, rt.alloc(), seed, &mut events)?;
     }
     assert!(rt; events >= 30_000, "{events} events");
     Ok(())

@@ -12,7 +12,7 @@ module _ {T : Type 0} where
   pub unchanged_idle : (p p' : Pass T) → IsUnchanged p p' → IsIdle p → IsIdle p'
   unchanged_idle p p' u i m = ap (λ (l : List (Record T)). (get_or l m (fresh None)).found) u.1 ∙ i m
 
-  -- what is held stays the open turn where nothing changed
+  -- what is held stays the open turn if nothing changed
   pub same_turn : (q : Quick T) (p p' : Pass T) (h h' : Held T) → h' ≡ h → IsUnchanged p p' → IsTurnOf q p h
       → IsTurnOf q p' h'
   same_turn q p p' h h' e u t = subst (λ (k : Held T). IsTurnOf q p' k) (sym e) (

@@ -64,7 +64,7 @@ pub enum Turn {
     FinishLock(u32, Result<Held, Seen>),
     /// It adds 3 to the value, which is this then.
     Add(u32, Result<Seen, Seen>, u64),
-    /// It makes the value this fresh one, where that is needed, and the value is the last of these then.
+    /// It makes the value this fresh one, if that is needed, and the value is the last of these then.
     Repair(u32, u64, Result<Held, Seen>, u64),
     /// Thread 1 waits unless this is so, or goes on with that wait.
     Wait(bool, Awaited),

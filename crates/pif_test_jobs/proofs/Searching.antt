@@ -15,7 +15,7 @@ counter n x = record { count = n; lamp = x }
 same_counter : (a b : Counter) → a.count ≡ b.count → a.lamp ≡ b.lamp → a ≡ b
 same_counter a b e f = ap (λ (n : ℕ). counter n a.lamp) e ∙ ap (λ (x : Bool). counter b.count x) f
 
--- where the switch and the rise are made
+-- if the switch and the rise are made
 pub whole_both : (top : ℕ) (s w r t : Counter) (l : Label) (items : List (Label × Counter)) → items ≡ (Switch, w) ∷ (Rise, r) ∷ []
     → w.count ≡ s.count → w.lamp ≡ not s.lamp → r.count ≡ s.count + 1 → r.lamp ≡ s.lamp
     → is_hidden l ≡ true → Counts top s l t → HasCover (λ (a b : Counter). a ≡ b) items t
@@ -23,7 +23,7 @@ whole_both top s w r t l items e wc wl rc rl h (rises a lt b d) = record { place
 whole_both top s w r t l items e wc wl rc rl h (switches a b d) = record { place = 0; label = Switch; state = w; there = rw e refl; covers = same_counter w t (wc ∙ sym b) (wl ∙ sym d) }
 whole_both top s w r t l items e wc wl rc rl h (says a b) = absurd (let f : is_hidden (Say s.count) ≡ true = rw a at h in cc)
 
--- where only the switch is made, at the top
+-- if only the switch is made, at the top
 pub whole_switch : (top : ℕ) (s w t : Counter) (l : Label) (items : List (Label × Counter)) → items ≡ (Switch, w) ∷ []
     → w.count ≡ s.count → w.lamp ≡ not s.lamp → (s.count < top → ⊥)
     → is_hidden l ≡ true → Counts top s l t → HasCover (λ (a b : Counter). a ≡ b) items t

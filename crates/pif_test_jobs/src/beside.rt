@@ -1,7 +1,7 @@
 //! The POSIX machine beside a core, on random events: calls in any interleaving, ends at any point, and time that goes
 //! on. After each event the machine may be in a state in which the answers are those of the core, and so are the
-//! effective priority of each thread and whether it rests. Where calls come one after the other, each answer is the
-//! only one that the machine allows.
+//! effective priority of each thread and whether it rests. If calls come one after the other, each answer is the only
+//! one that the machine allows.
 use super::cloud::{Cloud, Sight};
 use pif_core::{Core, Entry, Event, Seen};
 use pif_posix_model::HistoryLimits;
@@ -51,6 +51,7 @@ struct Scene {
 }
 
 fn new_scene(alloc: Global, seed: u64, mode: Mode) -> Result<Scene, Stop> {
+    // The check has to be told of the type of events, which entries hold.
     let _event: Option<Event> = None;
     let cloud = Cloud::new(alloc, LIMITS)?;
     let limits = Limits::new(LIMITS.threads, LIMITS.mutexes, LIMITS.conds, LIMITS.signals);
@@ -248,6 +249,7 @@ fn is_late(core: &Core, thread: Tid) -> bool {
 
 /// What the core says of a thread, the machine says too.
 fn compare(scene: &mut Scene, thread: Tid) {
+    // The check has to be told of the type of events, which entries hold.
     let _event: Option<Event> = None;
     if let Some(prio) = scene.core.effective(thread) {
         let sight = Sight::Effective(thread.get(), prio.get());

@@ -4,13 +4,11 @@
 //!
 //! | Module | Tests of |
 //! |---|---|
-//! | `lines` | `pif_text`: the texts of commands, and the names of errors |
-//! | `places` | `pif_text_errors`: the word of a syntax error, where it stands in a story, and which name is near |
 //! | `sizes` | `pif_script` and `pif_job_replay`: scripts and traces that are too large, and the longest chain |
 //! | `reading` | `pif_script` and `pif_job_run`: when is read and written |
-//! | `traces` | `pif_job_run`: traces of scripts and of histories |
+//! | `traces` | `pif_job_run`: traces of scripts |
 //! | `notices` | what a notice keeps of a script, a trace or a story, by each job |
-//! | `random` | `pif_job_random`: scripts by a seed |
+//! | `random` | `pif_job_random`: what follows an end in a random script |
 //! | `streams` | none: the stream, which moves few bytes a call or fails once where it is told to |
 //! | `searches` | `pif_search`: verdicts and numbers of states that were worked out by hand |
 //! | `counters` | none: the machine of `searches`, a counter with a lamp |
@@ -27,11 +25,7 @@ mod beside;
 mod cloud;
 pub mod counters;
 #[cfg(test)]
-mod lines;
-#[cfg(test)]
 mod notices;
-#[cfg(test)]
-mod places;
 #[cfg(test)]
 mod plays;
 #[cfg(test)]

@@ -205,6 +205,7 @@ fn line_of(thread: u32, seen: Seen) -> Option<Line> {
 
 /// Adds the lines that tell this.
 fn tell(lines: &mut Vec<Line>, sights: &[Sight]) -> Result<(), Stop> {
+    // The check has to be told of the type of requests, which lines hold.
     let _no_request: Option<Request> = None;
     for (thread, seen) in sights {
         let line = line_of(*thread, *seen).ok_or(Stop::Range)?;
@@ -215,6 +216,7 @@ fn tell(lines: &mut Vec<Line>, sights: &[Sight]) -> Result<(), Stop> {
 
 /// The threads, a mutex, and a variable that is bound to it.
 fn additions(alloc: Global) -> Result<Vec<Line>, Stop> {
+    // The check has to be told of the type of requests, which lines hold.
     let _no_request: Option<Request> = None;
     let mut lines = Vec::new(alloc);
     for _ in 0..THREADS {

@@ -1,20 +1,9 @@
-//! Random scripts, by a seed.
+//! Random scripts: what follows an end.
 use pif_job_random::{Shape, random_script};
-use pif_types::NoMemory;
 use pif_watch::Unwatched;
-use std::alloc::Global;
 use std::process::Abort;
 use std::str::from_utf8;
 use std::test::Fail;
-
-const ALL: Shape = Shape {
-    threads: 5,
-    mutexes: 4,
-    conds: 2,
-    robust: true,
-    ends: true,
-    times: true,
-};
 
 const ENDING: Shape = Shape {
     threads: 4,
@@ -24,21 +13,6 @@ const ENDING: Shape = Shape {
     ends: true,
     times: false,
 };
-
-/// Whether a seed gives this script.
-fn gives(alloc: Global, seed: u64, script: &[u8]) -> Result<bool, NoMemory> {
-    let given = random_script(alloc, seed, 300, ALL, &mut Unwatched)?;
-    Ok(given.as_slice() == script)
-}
-
-#[test]
-fn a_seed_gives_one_script(rt: HostRuntime) -> Result<(), Fail> {
-    let script = random_script(rt.alloc(), 7, 300, ALL, &mut Unwatched)?;
-    let same = gives(rt.alloc(), 7, script.as_slice());
-    let other = gives(rt.alloc(), 9, script.as_slice());
-    assert!(rt; same == Ok(true) && other == Ok(false));
-    Ok(())
-}
 
 /// How many mutexes and variables are added; how many ends there are before the last line, and how many of them another
 /// thread follows.

@@ -1,15 +1,12 @@
-//! Traces of scripts that are read from a stream, and of histories.
+//! Traces of scripts that are read from a stream.
 
 use crate::streams::Stream;
-use pif_core::{Entry, Event, Seen};
-use pif_job_run::{trace, write_trace, written_trace_is_the_same};
+use pif_job_run::trace;
 use pif_script::CliFault;
 use pif_text::Cause;
-use pif_types::{CondId, Kind, Limits, MutexId, Prio, Request, Tid};
 use std::alloc::Global;
 use std::io::ErrorKind;
 use std::process::Abort;
-use std::test::Fail;
 
 /// Each command once, additions and events that are refused, and each question.
 const SCRIPT: &str =
@@ -136,51 +133,4 @@ fn failing_reader_and_writer_of_a_trace(rt: HostRuntime) {
         check_traced(&rt, rt.alloc(), row, asked, 4096);
         check_traced(&rt, rt.alloc(), row, asked, 1);
     }
-}
-
-/// The entries of t7 with priority 99, m3 and c256, and of a lock by t7.
-fn entries() -> Option<[Entry; 6]> {
-    let _no_request: Option<Request> = None;
-    let (thread, mutex) = (Tid::new(7)?, MutexId::new(3)?);
-    Some([
-        Entry::Thread(thread, Prio::new(99)?),
-        Entry::Mutex(mutex, Kind::Normal, true),
-        Entry::Cond(CondId::new(256)?, mutex),
-        Entry::Step(Event::Begin(thread, Request::Lock(mutex)), Seen::Begun),
-        Entry::Step(Event::Go(thread), Seen::Went),
-        Entry::Step(Event::Go(thread), Seen::Answered(0)),
-    ])
-}
-
-const HISTORY: &str =
-    "pif-trace 2\nlimits 1024 1024 256 4294967295 = ok\nthread 99 = t7\nmutex normal robust = m3\n\
-    cond m3 = c256\nbegin t7 lock m3 = begun\ngo t7 = went\ngo t7 = answer 0\n";
-
-/// Writes the trace of entries to a writer that takes so many bytes, and so many a call.
-fn check_written(rt: &impl Abort, entries: &[Entry], limits: Limits, room: usize, each: usize) {
-    let parts = [(HISTORY, 1)];
-    let mut output = Stream::failing(&parts, room, Some(ErrorKind::BrokenPipe));
-    output.pace(each, 0, each);
-    let ended = write_trace(limits, entries, &mut output);
-    let wanted = if room < HISTORY.len() {
-        Err(CliFault::Write)
-    } else {
-        Ok(())
-    };
-    assert!(rt;
-        ended == wanted && output.is_met(),
-        "{room} by {each}: {ended:?}"
-    );
-}
-
-#[test]
-fn trace_names_each_entry(rt: HostRuntime) -> Result<(), Fail> {
-    let limits = Limits::new(1024, 1024, 256, u32::MAX).ok_or("limits")?;
-    let entries = entries().ok_or("entries")?;
-    for room in [4096, 0, 4, 12, 40, 100] {
-        check_written(&rt, &entries, limits, room, 4096);
-        check_written(&rt, &entries, limits, room, 1);
-    }
-    written_trace_is_the_same();
-    Ok(())
 }

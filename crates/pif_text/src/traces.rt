@@ -84,6 +84,7 @@ pub fn if_traced(version: Version, command: Command) -> Option<Command>
 {
     match command {
         Command::Event(event) => {
+            // For the prover: each use has a value of its own.
             let traced = event;
             if knows(version, event) {
                 Some(Command::Event(traced))

@@ -28,8 +28,8 @@ static REFUSALS: [(Ask, Reply); 17] = [
     (Ask::Pick, Reply::Thread(2)),
 ];
 
-// It is to be taken, also for mutex 2, and where the variable or the mutex isn't there, the count isn't 1, or the word
-// of the variable is another.
+// It is to be taken, also for mutex 2; also if the variable or the mutex isn't there, if the count isn't 1, or if the
+// word of the variable is another.
 static REQUEUES: [(Ask, Reply); 6] = [
     (Ask::Requeue(3, 1, 1, 2, 0), Reply::Refused(Errno::Fault)),
     (Ask::Requeue(1, 0, 3, 2, 0), Reply::Refused(Errno::Fault)),

@@ -2,7 +2,7 @@
 //! both, and leaves the same words, statuses, priorities and pick.
 ghost use Rattle.std.specs.Prelude.{◌≤◌};
 
-use super::super::driver::{Reply, see};
+use super::super::driver::{At, Reply, see_at};
 use super::{Ask, Scene, answer, new_scene, read};
 use pif_chains_linked::LinkedChains;
 use pif_kernel::{Chains, KernelOn, PiKernel};
@@ -26,10 +26,11 @@ fn ask<A: PiKernel + Drop, B: PiKernel + Drop>(
     rt: &impl Abort,
     plain: &mut Scene<A>,
     linked: &mut Scene<B>,
+    at: At,
     ask: Ask,
 ) -> bool {
     let reply = answer(plain, ask);
-    see(rt, answer(linked, ask), reply, "random calls", 0);
+    see_at(rt, answer(linked, ask), reply, at);
     reply.is_some()
 }
 
@@ -38,15 +39,16 @@ fn compare<A: PiKernel + Drop, B: PiKernel + Drop>(
     rt: &impl Abort,
     plain: &mut Scene<A>,
     linked: &mut Scene<B>,
+    at: At,
 ) {
-    ask(rt, plain, linked, Ask::Pick);
+    ask(rt, plain, linked, at, Ask::Pick);
     for number in 1..THREADS + 1 {
         for read in [
             Ask::Status(number),
             Ask::Effective(number),
             Ask::Word(number),
         ] {
-            ask(rt, plain, linked, read);
+            ask(rt, plain, linked, at, read);
         }
     }
 }
@@ -92,26 +94,28 @@ fn word(rng: &mut SplitMix64, t: u32) -> u32 {
     }
 }
 
-// Makes a random list of calls on new kernels, and counts those that could be made. Many threads have equal priorities,
-// and the first ticket is so late that tickets are renumbered.
+// Makes the random list of calls of a seed on new kernels, and counts those that could be made. Many threads have equal
+// priorities, and the first ticket is so late that tickets are renumbered.
 fn play_list<A: Chains + Drop, B: Chains + Drop, R: Abort>(
     rt: &R,
     alloc: Global,
-    rng: &mut SplitMix64,
+    seed: u32,
     calls: &mut u32,
 ) -> Result<(), Fail> {
+    let mut rng = SplitMix64::seed_from_u64(u64::from(seed));
     let mut levels = [0; 9];
     for place in 0..9 {
         levels[place] = 1 + rng.next_u32() % 6 * 15;
     }
     let first = u64::MAX - u64::from(rng.next_u32() % 64);
     let mut plain: Scene<KernelOn<A>> = new_scene(alloc, &levels, MUTEXES, first)?;
-    play_beside::<KernelOn<A>, B, R>(rt, rng, &mut plain, &levels, first, calls)
+    play_beside::<KernelOn<A>, B, R>(rt, seed, &mut rng, &mut plain, &levels, first, calls)
 }
 
 // The same with the scene on the plain kernel, which has these priorities and this first ticket.
 fn play_beside<A: PiKernel + Drop, B: Chains + Drop, R: Abort>(
     rt: &R,
+    seed: u32,
     rng: &mut SplitMix64,
     plain: &mut Scene<A>,
     levels: &[u32],
@@ -121,32 +125,32 @@ fn play_beside<A: PiKernel + Drop, B: Chains + Drop, R: Abort>(
     requires { 1 ≤ first }
 {
     let mut linked: Scene<KernelOn<B>> = new_scene(plain.alloc, levels, MUTEXES, first)?;
-    play_calls(rt, rng, plain, &mut linked, calls);
+    play_calls(rt, seed, rng, plain, &mut linked, calls);
     Ok(())
 }
 
 fn play_calls<A: PiKernel + Drop, B: PiKernel + Drop>(
     rt: &impl Abort,
+    seed: u32,
     rng: &mut SplitMix64,
     plain: &mut Scene<A>,
     linked: &mut Scene<B>,
     calls: &mut u32,
 ) {
-    for _ in 0..ASKED {
+    for number in 0..ASKED {
         let call = random(rng, plain);
-        if ask(rt, plain, linked, call) {
+        if ask(rt, plain, linked, (seed, number), call) {
             *calls = calls.saturating_add(1);
         }
-        compare(rt, plain, linked);
+        compare(rt, plain, linked, (seed, number));
     }
 }
 
 #[test]
 fn kernels_agree_on_random_calls(rt: HostRuntime) -> Result<(), Fail> {
-    let mut rng = SplitMix64::seed_from_u64(1);
     let mut calls = 0;
-    for _ in 0..LISTS {
-        play_list::<PlainChains, LinkedChains, HostRuntime>(&rt, rt.alloc(), &mut rng, &mut calls)?;
+    for seed in 0..LISTS {
+        play_list::<PlainChains, LinkedChains, HostRuntime>(&rt, rt.alloc(), seed, &mut calls)?;
     }
     assert!(rt; calls >= 100_000, "{calls} calls");
     Ok(())

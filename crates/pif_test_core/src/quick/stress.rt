@@ -42,7 +42,7 @@ fn turn_of(seed: u64) -> Turn {
     }
 }
 
-/// Locks the word of a turn, by a try first where that is asked.
+/// Locks the word of a turn, by a try first if that is asked.
 fn lock_by<R: Wait>(rt: &R, quick: &Quick<u64>, pass: &mut Pass<u64>, turn: Turn) -> Held<u64>
     requires own { IsPassOf quick.now pass.old × IsIdle pass.old × (turn.word < word_count quick.now) }
     ensures own { IsPassOf quick.now pass.new }
@@ -56,7 +56,7 @@ fn lock_by<R: Wait>(rt: &R, quick: &Quick<u64>, pass: &mut Pass<u64>, turn: Turn
     quick.lock(rt, pass, turn.word)
 }
 
-/// Unlocks what is held, quietly first where that is asked.
+/// Unlocks what is held, quietly first if that is asked.
 fn unlock_by<R: Wait>(rt: &R, quick: &Quick<u64>, pass: &mut Pass<u64>, held: Held<u64>, turn: Turn)
     requires own { IsPassOf quick.now pass.old }
     requires held { IsTurnOf quick.now pass.old held × (held_word held ≡ turn.word) × IsIdleBut turn.word pass.old }

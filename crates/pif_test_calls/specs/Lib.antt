@@ -1,3 +1,0 @@
-pub mod Together
-pub mod WalkExamples
-pub mod ChainExamples
