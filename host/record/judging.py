@@ -55,9 +55,10 @@ def get_ready(pif=None):
     subprocess.run([str(pif or TOP / "pif"), "run"], stdin=subprocess.DEVNULL, stdout=subprocess.DEVNULL)
 
 
-def judge(history, pif=None, states=None, seconds=None):
-    """The verdict on a history. It is undecided if it isn't there behind so many seconds."""
-    words = [str(pif or TOP / "pif"), "judge", *(["--states", str(states)] if states else []), str(history)]
+def judge(history, pif=None, states=None, seconds=None, rules=()):
+    """The verdict on a history, with what these rules allow; undecided if it isn't there after so many seconds."""
+    allowed = [word for rule in rules for word in ("--allow", rule)]
+    words = [str(pif or TOP / "pif"), "judge", *allowed, *(["--states", str(states)] if states else []), str(history)]
     try:
         done = subprocess.run(words, stdin=subprocess.DEVNULL, capture_output=True, text=True, timeout=seconds)
     except subprocess.TimeoutExpired:
