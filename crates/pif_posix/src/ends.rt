@@ -1,10 +1,22 @@
-ghost use Rattle.std.specs.Prelude.{◌≡◌, ◌<◌, ◌++◌, ℕ, length, IfOk, OnOk};
-ghost use Rattle.pif_posix_model.specs.Doing.{owns_robust, robust_of, passed_on_by_death, inherited, ended};
+ghost use Rattle.std.specs.Prelude.{◌≡◌, ◌==◌, ◌<◌, ◌++◌, ℕ, length, IfOk, OnOk};
+ghost use Rattle.std.specs.List.{list_all};
+ghost use Rattle.pif_model.specs.Graph.{waited_by};
+ghost use Rattle.pif_posix_model.specs.Doing.{owns_robust, robust_of, passed_on_by_death, inherited, inherited_below, is_orderly, all_inherited, ended};
 
 use crate::state::State;
-use pif_search::{Stop, push};
+use crate::waiting::waited;
+use pif_search::{Stop, one, push};
 use pif_types::Health;
 use std::alloc::Global;
+
+/// Whether each waiter is among the waiters of one mutex alone.
+fn are_apart(waiters: &[(u32, u32)]) -> bool
+    ensures { result ≡ list_all (λ (x : ℕ × ℕ). waited_by waiters.now x.0 == x.1) waiters.now }
+{
+    waiters
+        .iter()
+        .all(|pair| waited(waiters, pair.0 as usize) == pair.1 as usize)
+}
 
 /// The end of a thread.
 impl State {
@@ -39,20 +51,50 @@ impl State {
         }
     }
 
+    /// A mutex, whose owner has ended, passes on.
+    fn pass_on_by_death(&mut self, mutex: u32) -> Result<(), Stop>
+        requires { mutex < length self.old.mutexes }
+        ensures { OnOk result (self.new ≡ passed_on_by_death mutex self.old) }
+    {
+        let health = match self.health(mutex as usize) {
+            Health::Fine => Health::Inconsistent,
+            Health::Inconsistent => Health::Inconsistent,
+            Health::Unusable => Health::Unusable,
+        };
+        self.set_health(mutex as usize, health);
+        self.pass_on(mutex)
+    }
+
     /// The state once a mutex, whose owner has ended, passes on.
     fn passed_on_by_death(&self, alloc: Global, mutex: u32) -> Result<State, Stop>
         requires { mutex < length self.now.mutexes }
         ensures { IfOk result (λ s. s ≡ passed_on_by_death mutex self.now) }
     {
         let mut next = self.copied(alloc)?;
-        let health = match self.health(mutex as usize) {
-            Health::Fine => Health::Inconsistent,
-            Health::Inconsistent => Health::Inconsistent,
-            Health::Unusable => Health::Unusable,
-        };
-        next.set_health(mutex as usize, health);
-        next.pass_on(mutex)?;
+        next.pass_on_by_death(mutex)?;
         Ok(next)
+    }
+
+    /// Whether each waiter is among the waiters of one mutex alone, and place 0, which is no mutex, has no owner. Once a
+    /// thread has left all waiters, the order in which its robust mutexes pass on doesn't matter then.
+    fn is_orderly(&self) -> bool
+        ensures { result ≡ is_orderly self.now }
+    {
+        let waiters = self.waiters();
+        self.owner_or_none(0) == 0 && are_apart(waiters)
+    }
+
+    /// All robust mutexes of a thread, which has ended, pass on, the one of the greatest number first.
+    fn inherit_in_order(&mut self, thread: u32) -> Result<(), Stop>
+        ensures { OnOk result (self.new ≡ inherited_below (length self.old.mutexes) thread self.old) }
+    {
+        let count = self.mutexes_end()?;
+        for mutex in (0..count).rev() {
+            if self.owns_robust(thread, mutex as usize) {
+                self.pass_on_by_death(mutex)?;
+            }
+        }
+        Ok(())
     }
 
     /// The states once so many robust mutexes of a thread, which has ended, pass on in any order.
@@ -80,8 +122,8 @@ impl State {
         Ok(())
     }
 
-    /// The states once a thread has ended, for each order in which its robust mutexes pass on; none if the end is
-    /// refused.
+    /// The states once a thread has ended and its robust mutexes have passed on: one, if the state is orderly, as in a
+    /// run; else one for each order. None if the end is refused.
     ///
     /// # Errors
     ///
@@ -89,15 +131,19 @@ impl State {
     pub fn ended(&self, alloc: Global, thread: u32) -> Result<Vec<State>, Stop>
         ensures { IfOk result (λ v. v.items ≡ ended thread self.now) }
     {
-        let mut all = Vec::new(alloc);
         if self.end_refusal(thread).is_some() {
-            return Ok(all);
+            return Ok(Vec::new(alloc));
         }
         if thread as usize >= self.thread_count() {
             return Err(Stop::Range);
         }
         let mut next = self.copied(alloc)?;
         next.leave_all(thread);
+        if next.is_orderly() {
+            next.inherit_in_order(thread)?;
+            return one(alloc, next);
+        }
+        let mut all = Vec::new(alloc);
         next.inherit(alloc, next.robust_count(thread), thread, &mut all)?;
         Ok(all)
     }

@@ -1,18 +1,21 @@
 -- The end of a thread, as a list of results, is what the rules allow.
-use Rattle.std.proofs.Common.{ℕ, zero, suc, ◌≡◌, ◌≢◌, ◌<◌, ◌≤◌, ◌⊎◌, ◌∙◌, ◌==◌, true, false, List, length, length-set, get_or, set, refl, sym, ap, subst, inl, inr, arith, if◌then◌else◌, Contains, get_or-set_other, get_or-set_same}
-use Rattle.std.proofs.lemmas.Bool.{eqb-true, eq-eqb, cases_Bool, cases_eq, cases_lt, both_ways, false_from_ne_true}
+use Rattle.std.proofs.Common.{ℕ, zero, suc, ◌≡◌, ◌≢◌, ◌<◌, ◌≤◌, ◌⊎◌, ◌∙◌, ◌==◌, Bool, true, false, List, [], ◌∷◌, length, length-set, get_or, set, refl, sym, ap, subst, inl, inr, arith, if◌then◌else◌, Contains, get_or-set_other, get_or-set_same}
+use Rattle.std.proofs.lemmas.Bool.{eqb-true, eq-eqb, and_from, and_parts, cases_Bool, cases_eq, cases_lt, both_ways, false_from_ne_true}
 use Rattle.std.proofs.lemmas.List.{get_or_past, nil_from_length}
 use Rattle.pif_model.specs.declared.events.Event.TheVariants.{End}
-use Rattle.pif_model.specs.Graph.{without}
-use Rattle.pif_model.specs.Posix.{World, Mutex, no_mutex, mutex_at, next_of, effective_of, after_end, after_owner_death, on_death, IsOwner, IsNotStalled, OwnsNoneRobust, Releases, Ends}
+use Rattle.std.specs.List.{list_all}
+use Rattle.pif_model.specs.Graph.{without, waited_by}
+use Rattle.pif_model.specs.Posix.{World, Mutex, no_mutex, mutex_at, next_of, effective_of, after_end, after_owner_death, on_death, IsOwner, IsNotStalled, IsAllowed, OwnsNoneRobust, Releases, Ends}
 use Rattle.pif_model.specs.Posix.Releases.{none_left, one_more}
-use Rattle.pif_model_lemmas.proofs.Among.{is_among, next_is_among}
+use Rattle.pif_model_lemmas.proofs.Among.{is_among, is_among_cons, is_among_here, is_among_there, next_is_among}
 use Rattle.pif_model_lemmas.proofs.Waiting.{names, named-from_pair, named-without_other, named-without_same}
-use Rattle.pif_posix_model.specs.Doing.{passing, owns_robust, robust_of, passed_on_by_death, inherited, is_allowed, ended}
+use Rattle.pif_posix_model.specs.Doing.{passing, owns_robust, robust_of, passed_on_by_death, inherited, inherited_below, is_orderly, all_inherited, is_allowed, ended}
 use Rattle.pif_posix_model.proofs.DoingCases.{choose_then, choose_else}
 use Rattle.pif_posix_model.proofs.DoingLists.{not_in_none, in_one, in_one_from, in_then, in_then_from, in_flat_map, in_flat_map_from, passing_to, passing_from, passing-none, passing-one_less}
 use Rattle.pif_posix_model.proofs.DoingReleases.{passed-nobody, passed-next, passed_from, passed_to}
 use Rattle.pif_posix_model.proofs.DoingMoves.{allowed_from, allowed_to, end_is_of_somebody}
+use Rattle.pif_posix_model.proofs.Reaching.{waited-from_single}
+use Rattle.pif_posix_model.proofs.Ending.{HasLeft, one_release}
 
 -- ROBUST MUTEXES
 
@@ -164,21 +167,159 @@ inherited_to (suc n) t w v s h e k =
     one_more c.0 x.1 x.0 (passed_to c.0 (after_owner_death c.0 w))
     (inherited_to n t (passed_on_by_death c.0 w) v s (stays_unnamed t c.0 w h) less c.2)
 
+-- IN ONE ORDER
+
+-- t owns no robust mutex of number n or above
+abbrev OwnsNoneFrom : ℕ → ℕ → World → Type 0
+OwnsNoneFrom n t w = (i : ℕ) → n ≤ i → owns_robust w t i ≡ false
+
+-- m passes on: then t owns no robust mutex of its number or above, if it owned none above
+none_from_it : (t m : ℕ) (w : World) → t ≢ 0 → names t w.waiters ≡ false → owns_robust w t m ≡ true
+    → OwnsNoneFrom (suc m) t w → OwnsNoneFrom m t (passed_on_by_death m w)
+none_from_it t m w n h own above i le =
+    let c = new_owner t m w n h in
+    at c.0 c.1 c.2
+  where
+    at : (x : ℕ) → x ≢ t
+        → (passed_on_by_death m w).mutexes ≡ set (after_owner_death m w).mutexes m (record (mutex_at (after_owner_death m w) m) { owner = x; count = 1 })
+        → owns_robust (passed_on_by_death m w) t i ≡ false
+    at x k e = by_place (cases_eq i m)
+      where
+        y : Mutex
+        y = record (mutex_at w m) { health = on_death (mutex_at w m).health }
+
+        z : Mutex
+        z = record (mutex_at (after_owner_death m w) m) { owner = x; count = 1 }
+
+        by_place : (i ≡ m) ⊎ (i ≡ m → ⊥) → owns_robust (passed_on_by_death m w) t i ≡ false
+        by_place (inl f) =
+            ap (owns_robust (passed_on_by_death m w) t) f
+            ∙ orphaned_it t m w (passed_on_by_death m w) y z e (robust_is_added w t m (owns_robust_to w t m own).0) k
+        by_place (inr d) =
+            sym (others_same t m w (passed_on_by_death m w) y z e i d) ∙ above i (omega (arith, le, d))
+
+-- the robust mutexes of t below n pass on, if it owns no others
+below_releases : (n t : ℕ) (w : World) → t ≢ 0 → names t w.waiters ≡ false → OwnsNoneFrom n t w
+    → Releases t w (inherited_below n t w)
+below_releases zero t w s h none = none_left (λ m o. false_from_ne_true (mutex_at w m).robust
+    (λ r. both_ways (owns_robust w t m) (none m (omega arith)) (owns_robust_from w t m r o))) refl
+below_releases (suc n) t w s h none = by_owner (below_releases n t) (cases_Bool (owns_robust w t n))
+  where
+    Rest : Type 0
+    Rest = (x : World) → t ≢ 0 → names t x.waiters ≡ false → OwnsNoneFrom n t x → Releases t x (inherited_below n t x)
+
+    after : Bool → World
+    after b = inherited_below n t (if b then passed_on_by_death n w else w)
+
+    by_owner : Rest → (owns_robust w t n ≡ true) ⊎ (owns_robust w t n ≡ false) → Releases t w (after (owns_robust w t n))
+    by_owner rest (inl own) =
+        let x = owns_robust_to w t n own in
+        subst (λ (b : Bool). Releases t w (after b)) (sym own)
+        (one_more n x.1 x.0 (passed_to n (after_owner_death n w))
+        (rest (passed_on_by_death n w) s (stays_unnamed t n w h) (none_from_it t n w s h own none)))
+    by_owner rest (inr other) =
+        subst (λ (b : Bool). Releases t w (after b)) (sym other) (rest w s h (λ i le. by_place i le (cases_eq i n)))
+      where
+        by_place : (i : ℕ) → n ≤ i → (i ≡ n) ⊎ (i ≡ n → ⊥) → owns_robust w t i ≡ false
+        by_place i le (inl e) = ap (owns_robust w t) e ∙ other
+        by_place i le (inr d) = none i (omega (arith, le, d))
+
+-- in an orderly state nobody is among the waiters of two mutexes
+waits_for_it : (ws vs : List (ℕ × ℕ)) → list_all (λ (x : ℕ × ℕ). waited_by ws x.0 == x.1) vs ≡ true → (u m : ℕ)
+    → is_among vs u m ≡ true → waited_by ws u ≡ m
+waits_for_it ws [] h u m k = absurd (both_ways false refl k)
+waits_for_it ws (x ∷ vs) h u m k =
+    let a = and_parts (waited_by ws x.0 == x.1) (list_all (λ (y : ℕ × ℕ). waited_by ws y.0 == y.1) vs) h in
+    elim (is_among_cons x vs u m k) [
+      | inl e ↦ ap (waited_by ws) (sym e.0) ∙ eqb-true (waited_by ws x.0) x.1 a.0 ∙ e.1
+      | inr r ↦ waits_for_it ws vs a.1 u m r
+    ]
+
+both_hold : (b c : Bool) → (if b then c else false) ≡ true → (b ≡ true) × (c ≡ true)
+both_hold true c e = (refl, e)
+both_hold false c e = absurd (both_ways false refl e)
+
+has_left : (t : ℕ) (w : World) → t ≢ 0 → names t w.waiters ≡ false → is_orderly w ≡ true → HasLeft t w
+has_left t w s h e =
+    let c = both_hold ((mutex_at w 0).owner == 0) (list_all (λ (x : ℕ × ℕ). waited_by w.waiters x.0 == x.1) w.waiters) e in
+    record {
+      somebody = s;
+      no_mutex = eqb-true (mutex_at w 0).owner 0 c.0;
+      gone = h;
+      single = λ u m k y z. sym (waits_for_it w.waiters w.waiters c.1 u m y) ∙ waits_for_it w.waiters w.waiters c.1 u k z;
+    }
+
+-- and back
+each_waits : (ws vs : List (ℕ × ℕ)) → ((u m : ℕ) → is_among vs u m ≡ true → waited_by ws u ≡ m)
+    → list_all (λ (x : ℕ × ℕ). waited_by ws x.0 == x.1) vs ≡ true
+each_waits ws [] h = refl
+each_waits ws (x ∷ vs) h =
+    and_from (waited_by ws x.0 == x.1) (list_all (λ (y : ℕ × ℕ). waited_by ws y.0 == y.1) vs)
+    (eq-eqb (waited_by ws x.0) x.1 (h x.0 x.1 (is_among_here x vs x.0 x.1 refl refl)))
+    (each_waits ws vs (λ u m k. h u m (is_among_there x vs u m k)))
+
+orderly_from : (t : ℕ) (w : World) → HasLeft t w → is_orderly w ≡ true
+orderly_from t w h =
+    choose_then ((mutex_at w 0).owner == 0) _ _ (eq-eqb (mutex_at w 0).owner 0 h.no_mutex)
+    ∙ each_waits w.waiters w.waiters
+    (λ u m k. waited-from_single w.waiters u m k (λ n y. h.single u n m y k))
+
+-- ALL OF THEM
+
+module _ (t : ℕ) (w : World) (s : t ≢ 0) (h : names t w.waiters ≡ false) where
+  in_order_releases : Releases t w (inherited_below (length w.mutexes) t w)
+  in_order_releases = below_releases (length w.mutexes) t w s h (λ i le. false_from_ne_true (owns_robust w t i)
+      (λ e. absurd (omega (arith, le, robust_is_added w t i (owns_robust_to w t i e).0))))
+
+  all_inherited_from : (v : World) → Releases t w v → Contains (all_inherited t w) v
+  all_inherited_from v x = by_order (cases_Bool (is_orderly w))
+    where
+      by_order : (is_orderly w ≡ true) ⊎ (is_orderly w ≡ false) → Contains (all_inherited t w) v
+      by_order (inl e) =
+          subst (λ (xs : List World). Contains xs v) (sym (choose_then (is_orderly w) _ _ e))
+          (in_one_from (inherited_below (length w.mutexes) t w) v (one_release x (has_left t w s h e) in_order_releases))
+      by_order (inr e) =
+          subst (λ (xs : List World). Contains xs v) (sym (choose_else (is_orderly w) _ _ e)) (inherited_from t w v s h x)
+
+  all_inherited_to : (v : World) → Contains (all_inherited t w) v → Releases t w v
+  all_inherited_to v k = by_order (cases_Bool (is_orderly w))
+    where
+      by_order : (is_orderly w ≡ true) ⊎ (is_orderly w ≡ false) → Releases t w v
+      by_order (inl e) =
+          subst (Releases t w)
+          (in_one (inherited_below (length w.mutexes) t w) v
+          (subst (λ (xs : List World). Contains xs v) (choose_then (is_orderly w) _ _ e) k))
+          in_order_releases
+      by_order (inr e) =
+          inherited_to (length (robust_of w t)) t w v s h refl
+          (subst (λ (xs : List World). Contains xs v) (choose_else (is_orderly w) _ _ e) k)
+
 module _ (t : ℕ) (w : World) where
   unnamed_at_end : names t (after_end t w).waiters ≡ false
   unnamed_at_end = named-without_same w.waiters t
 
   pub ended_from : (v : World) → Ends t w v → Contains (ended t w) v
   ended_from v x =
-      in_then_from (is_allowed w (End t)) (inherited (length (robust_of (after_end t w) t)) t (after_end t w)) v
+      in_then_from (is_allowed w (End t)) (all_inherited t (after_end t w)) v
       (allowed_from w (End t) x.allowed)
-      (inherited_from t (after_end t w) v (end_is_of_somebody w t x.allowed) unnamed_at_end x.releases)
+      (all_inherited_from t (after_end t w) (end_is_of_somebody w t x.allowed) unnamed_at_end v x.releases)
 
   pub ended_to : (v : World) → Contains (ended t w) v → Ends t w v
   ended_to v k =
-      let c = in_then (is_allowed w (End t)) (inherited (length (robust_of (after_end t w) t)) t (after_end t w)) v k in
+      let c = in_then (is_allowed w (End t)) (all_inherited t (after_end t w)) v k in
       let a = allowed_to w (End t) c.0 in
       record {
         allowed = a;
-        releases = inherited_to (length (robust_of (after_end t w) t)) t (after_end t w) v (end_is_of_somebody w t a) unnamed_at_end refl c.1;
+        releases = all_inherited_to t (after_end t w) (end_is_of_somebody w t a) unnamed_at_end v c.1;
       }
+
+  -- there is one result at most, if nobody is among the waiters of two mutexes
+  pub ended_once : (IsAllowed w (End t) → HasLeft t (after_end t w)) → length (ended t w) ≤ 1
+  ended_once h = by_test (cases_Bool (is_allowed w (End t)))
+    where
+      by_test : (is_allowed w (End t) ≡ true) ⊎ (is_allowed w (End t) ≡ false) → length (ended t w) ≤ 1
+      by_test (inl e) =
+          let is : all_inherited t (after_end t w) ≡ inherited_below (length w.mutexes) t (after_end t w) ∷ [] =
+          choose_then (is_orderly (after_end t w)) _ _ (orderly_from t (after_end t w) (h (allowed_to w (End t) e))) in
+          subst (λ (xs : List World). length xs ≤ 1) (sym (choose_then (is_allowed w (End t)) _ _ e ∙ is)) (omega arith)
+      by_test (inr e) = subst (λ (xs : List World). length xs ≤ 1) (sym (choose_else (is_allowed w (End t)) _ _ e)) (omega arith)

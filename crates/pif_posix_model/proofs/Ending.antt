@@ -8,7 +8,8 @@ use Rattle.pif_types.specs.Bounds.{Bounds}
 use Rattle.pif_model.specs.declared.events.Entry.{Entry}
 use Rattle.pif_model.specs.Graph.{waited_by, without, next_waiter}
 use Rattle.pif_model.specs.Soundness.{waited_in}
-use Rattle.pif_model.specs.Posix.{World, Thread, Mutex, Ends, Releases, IsRun, IsOwner, IsNotStalled, nobody, no_mutex, thread_at, mutex_at, waits_for, effective_of, next_of, after_end}
+use Rattle.pif_model.specs.declared.events.Event.TheVariants.{End}
+use Rattle.pif_model.specs.Posix.{World, Thread, Mutex, Ends, Releases, IsRun, IsAllowed, IsOwner, IsNotStalled, nobody, no_mutex, thread_at, mutex_at, waits_for, effective_of, next_of, after_end}
 use Rattle.pif_model.specs.Posix.Releases.{none_left, one_more}
 use Rattle.pif_model_lemmas.proofs.Among.{is_among, is_among-without, next_is_among}
 use Rattle.pif_model_lemmas.proofs.Numbers.{within}
@@ -23,11 +24,11 @@ use Rattle.pif_posix_model.proofs.Passing.{passed_mutex, passed_thread, passed_t
 -- A THREAD THAT HAS LEFT
 
 -- t has left all waiters, and nobody is among those of two mutexes
-record HasLeft (t : ℕ) (w : World) : Type 0 where
-  somebody : t ≢ 0
-  no_mutex : owner_of w 0 ≡ 0
-  gone : names t w.waiters ≡ false
-  single : (u m k : ℕ) → is_among w.waiters u m ≡ true → is_among w.waiters u k ≡ true → m ≡ k
+pub record HasLeft (t : ℕ) (w : World) : Type 0 where
+  pub somebody : t ≢ 0
+  pub no_mutex : owner_of w 0 ≡ 0
+  pub gone : names t w.waiters ≡ false
+  pub single : (u m k : ℕ) → is_among w.waiters u m ≡ true → is_among w.waiters u k ≡ true → m ≡ k
 
 module _ {t : ℕ} {w : World} (h : HasLeft t w) where
   -- a mutex of t is none at place 0, and was added
@@ -251,7 +252,7 @@ any_first {t} {w} {v} (one_more {u = u} n also alike passes more) h m own robust
         (ap (passed m) is ∙ sym (passed_comm h m n own also d)) rest)
 
 -- all orders lead to the same state
-one_release : {t : ℕ} {w u v : World} → Releases t w u → HasLeft t w → Releases t w v → u ≡ v
+pub one_release : {t : ℕ} {w u v : World} → Releases t w u → HasLeft t w → Releases t w v → u ≡ v
 one_release {t} {w} {u} {v} (none_left none e) h y = by_rest y
   where
     by_rest : Releases t w v → u ≡ v
@@ -262,20 +263,22 @@ one_release {t} {w} {u} {v} (one_more {u = x} m own robust passes more) h y =
     one_release more (subst (HasLeft t) (sym is) (passed-left h m own))
     (subst (λ (z : World). Releases t z v) (sym is) (any_first y h m own robust))
 
+-- in a run a thread that ends has left so
+pub left_at_end : (l : Bounds) (h : List Entry) (r : List World) (w : World) → IsRun l h r w → (t : ℕ)
+    → IsAllowed w (End t) → HasLeft t (after_end t w)
+left_at_end l h r w run t allowed =
+    let held = IsHeld-IsRun l run in
+    record {
+      somebody = (within t (length w.threads) (end_allowed w t allowed).0).0;
+      no_mutex = held.orderly.no_mutex;
+      gone = named-without_same w.waiters t;
+      single = λ x m k y z.
+          let i = (held.each x).waiting m (is_among-without w.waiters t x m y).0 in
+          let j = (held.each x).waiting k (is_among-without w.waiters t x k z).0 in
+          sym i.waits ∙ ap waited_in (same_request i.call j.call) ∙ j.waits;
+    }
+
 -- from a state of a run, the end of a thread leads to one state
 pub ends_in_one_state : (l : Bounds) (h : List Entry) (r : List World) (w : World) → IsRun l h r w → (t : ℕ)
     (u v : World) → Ends t w u → Ends t w v → u ≡ v
-ends_in_one_state l h r w run t u v a b = one_release a.releases left b.releases
-  where
-    left : HasLeft t (after_end t w)
-    left =
-        let held = IsHeld-IsRun l run in
-        record {
-          somebody = (within t (length w.threads) (end_allowed w t a.allowed).0).0;
-          no_mutex = held.orderly.no_mutex;
-          gone = named-without_same w.waiters t;
-          single = λ x m k y z.
-              let i = (held.each x).waiting m (is_among-without w.waiters t x m y).0 in
-              let j = (held.each x).waiting k (is_among-without w.waiters t x k z).0 in
-              sym i.waits ∙ ap waited_in (same_request i.call j.call) ∙ j.waits;
-        }
+ends_in_one_state l h r w run t u v a b = one_release a.releases (left_at_end l h r w run t a.allowed) b.releases

@@ -17,7 +17,7 @@ use Rattle.pif_model.specs.declared.events.Seen.TheVariants.{Begun, Answered, En
 use Rattle.pif_model.specs.declared.events.Entry.{Entry}
 use Rattle.pif_model.specs.declared.events.Entry.TheVariants.{Thread as AddThread, Mutex as AddMutex, Cond as AddCond, Step as Happened}
 use Rattle.pif_model.specs.Kinds.{relock_of}
-use Rattle.pif_model.specs.Graph.{is_priority}
+use Rattle.pif_model.specs.Graph.{is_priority, waited_by}
 use Rattle.pif_model.specs.Deadlines.{reported_result}
 use Rattle.pif_model.specs.NamedNumbers.{EPERM, ESRCH, EAGAIN, EBUSY, EINVAL, EDEADLK, EOVERFLOW, ETIMEDOUT, ENOTRECOVERABLE, most_holds}
 use Rattle.pif_model.specs.World.Health.{Fine, Inconsistent, Unusable}
@@ -359,10 +359,25 @@ abbrev pub inherited : ℕ → ℕ → World → List World
 inherited zero t w = w ∷ []
 inherited (suc n) t w = flat_map (λ m. inherited n t (passed_on_by_death m w)) (robust_of w t)
 
+-- the robust mutexes of numbers below n that t owns pass on, the one of the greatest number first
+abbrev pub inherited_below : ℕ → ℕ → World → World
+inherited_below zero t w = w
+inherited_below (suc n) t w = inherited_below n t (if owns_robust w t n then passed_on_by_death n w else w)
+
+-- whether each waiter is among the waiters of one mutex alone, and place 0, which is no mutex, has no owner. Each state
+-- of a run is so. Once a thread has left all waiters, the order in which its robust mutexes pass on doesn't matter then
+abbrev pub is_orderly : World → Bool
+is_orderly w =
+    if (mutex_at w 0).owner == 0 then list_all (λ (x : ℕ × ℕ). waited_by w.waiters x.0 == x.1) w.waiters else false
+
+-- all robust mutexes of t, which has left all waiters, pass on: all results
+abbrev pub all_inherited : ℕ → World → List World
+all_inherited t w =
+    if is_orderly w then inherited_below (length w.mutexes) t w ∷ [] else inherited (length (robust_of w t)) t w
+
 -- t ends: all results
 abbrev pub ended : ℕ → World → List World
-ended t w =
-    if is_allowed w (End t) then inherited (length (robust_of (after_end t w) t)) t (after_end t w) else []
+ended t w = if is_allowed w (End t) then all_inherited t (after_end t w) else []
 
 -- an event happens, and this is seen: all results
 abbrev pub happened : Event → Seen → World → List World

@@ -15,4 +15,6 @@ pub use laws::{
     shown_steps_are_moves_and_an_entry, single_moves_are_steps,
 };
 pub use limits::HistoryLimits;
-pub use listed::{entries_lead_to_those_listed, moves_lead_to_those_listed};
+pub use listed::{
+    ends_of_runs_are_listed_once, entries_lead_to_those_listed, moves_lead_to_those_listed,
+};
