@@ -4,10 +4,10 @@ ghost use Rattle.pif_model.specs.Table.{has_thread, has_mutex, with_health_word}
 ghost use Rattle.pif_mutex.specs.Outcomes.{outcome_of};
 
 use crate::progress::Progress;
-use crate::state::{FINE, INCONSISTENT, State};
+use crate::state::State;
 use pif_kernel_calls::PiKernel;
 use pif_model::{Place, RepairStep};
-use pif_types::{Errno, MutexId, Request, Tid};
+use pif_types::{Errno, Health, MutexId, Request, Tid};
 use pif_word::number;
 
 /// The lines of a consistent.
@@ -38,7 +38,7 @@ impl<K: PiKernel + Drop> State<K> {
         requires mutex { has_mutex self.old m ≡ true }
         ensures { outcome_of result self.new ≡ consistent_health t m self.old }
     {
-        if self.health(m) == INCONSISTENT {
+        if self.health(m) == Health::Inconsistent {
             self.go_on(request, Place::Repair(RepairStep::StoreFine), t)
         } else {
             self.answer(t, Errno::Invalid.number())
@@ -51,7 +51,7 @@ impl<K: PiKernel + Drop> State<K> {
         requires mutex { has_mutex self.old m ≡ true }
         ensures { outcome_of result self.new ≡ answers t 0 (with_health_word m 0 self.old) }
     {
-        self.set_health(m, FINE);
+        self.set_health(m, Health::Fine);
         self.answer(t, 0)
     }
 }

@@ -7,10 +7,10 @@ ghost use Rattle.pif_model.specs.Lines.{given_up, give_health, give_exchange, gi
 ghost use Rattle.pif_mutex.specs.Outcomes.{outcome_of};
 
 use crate::progress::Progress;
-use crate::state::{INCONSISTENT, State, UNUSABLE};
+use crate::state::State;
 use pif_kernel_calls::PiKernel;
 use pif_model::{Footing, GiveStep, Place, Purpose};
-use pif_types::{Errno, MutexId, Request, Tid};
+use pif_types::{Errno, Health, MutexId, Request, Tid};
 
 /// The lines by which a mutex that is held once is given up: by an unlock, by a wait, and by who leaves a mutex that it
 /// took and found unusable. `purpose` says which, and so what comes after.
@@ -47,7 +47,7 @@ impl<K: PiKernel + Drop> State<K> {
         requires mutex { has_mutex self.old m ≡ true }
         ensures { outcome_of result self.new ≡ give_health request purpose t m self.old }
     {
-        if self.health(m) == INCONSISTENT {
+        if self.health(m) == Health::Inconsistent {
             self.go_on(request, Place::Give(GiveStep::StoreUnusable, purpose), t)
         } else {
             self.go_on(request, Place::Give(GiveStep::Unlink, purpose), t)
@@ -69,7 +69,7 @@ impl<K: PiKernel + Drop> State<K> {
         requires mutex { has_mutex self.old m ≡ true }
         ensures { outcome_of result self.new ≡ give_line request GiveStep.StoreUnusable purpose t m self.old }
     {
-        self.set_health(m, UNUSABLE);
+        self.set_health(m, Health::Unusable);
         self.go_on(request, Place::Give(GiveStep::Unlink, purpose), t)
     }
 

@@ -17,7 +17,7 @@ use arrayvec::ArrayVec;
 use pif_kernel_calls::PiKernel;
 use pif_model::{Event, Line, Place, Status, WakeStep};
 use pif_types::{CondId, Health, Kind, Limits, MutexId, NoMemory, Prio, Request, Tid};
-use pif_word::{health_in, number};
+use pif_word::number;
 use std::alloc::Global;
 use std::marker::Model;
 
@@ -333,7 +333,7 @@ impl<K: PiKernel + Drop> Parts<K> {
         ensures value { result ≡ health_answer m self.now }
     {
         if m.get() < self.state.mutex_count() {
-            Some(health_in(self.state.health(m)))
+            Some(self.state.health(m))
         } else {
             None
         }

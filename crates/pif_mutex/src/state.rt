@@ -1,6 +1,6 @@
 ghost use Rattle.std.specs.Prelude.{◌≡◌, ◌<◌, ◌≤◌, ◌+◌, ◌^◌, ◌==◌, true, false, [], ◌∷◌, IfOk, Ok, Err, length, vec_capacity, if◌then◌else◌, Some, None};
 ghost use Rattle.pif_types.specs.Bounds.{IsWithin};
-ghost use Rattle.pif_model.specs.Word.{word_of, is_bare};
+ghost use Rattle.pif_model.specs.Word.{word_of, is_bare, health_in, health_word};
 ghost use Rattle.pif_model.specs.PiKernel.{IsKernel, new_kernel, seat_at, is_living, effective_in, pick_in};
 ghost use Rattle.pif_model.specs.Table.{new_table, line_at, timer_at, status_at, cell_at, bound_to, uses_of, with_line, with_timer, with_count, with_word, with_health_word, with_cond_word, has_thread, has_mutex, has_cond, has_thread_room, has_mutex_room, has_cond_room, thread_added, mutex_added, cond_added};
 ghost use Rattle.pif_model.specs.Lines.{is_robust};
@@ -10,8 +10,10 @@ use crate::mutex::Mutex;
 use pif_kernel_calls::PiKernel;
 use pif_model::{Line, Status, Timer};
 use pif_robust::RobustLists;
-use pif_types::{CondId, Kind, Limits, MutexId, NoMemory, Prio, Tid, push_within, with_room};
-use pif_word::{Cell, OWNER_DIED, Words};
+use pif_types::{
+    CondId, Health, Kind, Limits, MutexId, NoMemory, Prio, Tid, push_within, with_room,
+};
+use pif_word::{Cell, OWNER_DIED, Words, health_in, health_word};
 use std::alloc::Global;
 use std::marker::Model;
 
@@ -20,15 +22,6 @@ const NO_TIMER: Timer = Timer {
     deadline: None,
     expired: false,
 };
-
-/// The health word of a robust mutex that is fine.
-pub(crate) const FINE: u32 = 0;
-
-/// The health word of a robust mutex that is inconsistent.
-pub(crate) const INCONSISTENT: u32 = 1;
-
-/// The health word of a robust mutex that is unusable.
-pub(crate) const UNUSABLE: u32 = 2;
 
 /// A list with room for `count` items, at least 1, which begins with this one.
 fn begun_with<T: Drop>(alloc: Global, count: usize, first: T) -> Result<Vec<T>, NoMemory>
@@ -287,20 +280,20 @@ impl<K: PiKernel + Drop> State<K> {
         self.words.fetch_and(Cell::Mutex(m), !OWNER_DIED);
     }
 
-    /// The health word of a mutex that was added: 0 fine, 1 inconsistent, 2 unusable.
-    pub(crate) fn health(&self, m: MutexId) -> u32
+    /// What the health word of a mutex that was added says.
+    pub(crate) fn health(&self, m: MutexId) -> Health
         requires { has_mutex self.now m ≡ true }
-        ensures { result ≡ (cell_at self.now m).health }
+        ensures { result ≡ health_in (cell_at self.now m).health }
     {
-        self.words.load(Cell::Health(m))
+        health_in(self.words.load(Cell::Health(m)))
     }
 
-    /// Makes `health` the health word of a mutex that was added.
-    pub(crate) fn set_health(&mut self, m: MutexId, health: u32)
+    /// Makes the health word of a mutex that was added say `health`.
+    pub(crate) fn set_health(&mut self, m: MutexId, health: Health)
         requires { has_mutex self.old m ≡ true }
-        ensures { self.new ≡ with_health_word m health self.old }
+        ensures { self.new ≡ with_health_word m (health_word health) self.old }
     {
-        self.words.store(Cell::Health(m), health);
+        self.words.store(Cell::Health(m), health_word(health));
     }
 
     /// The mutex to which a variable that was added is bound.

@@ -5,10 +5,10 @@ ghost use Rattle.pif_model.specs.declared.lines.TakeStep;
 ghost use Rattle.pif_mutex.specs.Outcomes.{outcome_of};
 
 use crate::progress::Progress;
-use crate::state::{INCONSISTENT, State, UNUSABLE};
+use crate::state::State;
 use pif_kernel_calls::PiKernel;
 use pif_model::{GiveStep, LinkStep, Place, Purpose, TakeStep};
-use pif_types::{Errno, MutexId, Request, Tid};
+use pif_types::{Errno, Health, MutexId, Request, Tid};
 use pif_word::owner_died;
 
 /// The most often that an owner holds a recursive mutex.
@@ -76,7 +76,7 @@ impl<K: PiKernel + Drop> State<K> {
         requires mutex { has_mutex self.old m ≡ true }
         ensures { outcome_of result self.new ≡ take_health request died t m self.old }
     {
-        if self.health(m) == UNUSABLE {
+        if self.health(m) == Health::Unusable {
             self.go_on(request, Place::Give(GiveStep::Release, Purpose::ToLeave), t)
         } else if died {
             self.go_on(request, Place::Take(TakeStep::StoreInconsistent), t)
@@ -94,7 +94,7 @@ impl<K: PiKernel + Drop> State<K> {
         requires mutex { has_mutex self.old m ≡ true }
         ensures { outcome_of result self.new ≡ take_line request TakeStep.StoreInconsistent t m self.old }
     {
-        self.set_health(m, INCONSISTENT);
+        self.set_health(m, Health::Inconsistent);
         self.go_on(request, Place::Take(TakeStep::ClearDied), t)
     }
 

@@ -104,3 +104,14 @@ pub fn health_in(w: u32) -> Health
         _ => Health::Fine,
     }
 }
+
+/// The health word that says `health`: 0 fine, 1 inconsistent, 2 unusable.
+pub fn health_word(health: Health) -> u32
+    ensures { result ≡ model.health_word health }
+{
+    match health {
+        Health::Fine => 0,
+        Health::Inconsistent => 1,
+        Health::Unusable => 2,
+    }
+}

@@ -32,8 +32,8 @@ mod cells;
 mod words;
 
 pub use bits::{
-    OWNER_DIED, TID_MASK, WAITERS, hand_word, has_waiters, health_in, inherit_word, mark_word,
-    number, orphan_word, owner_died, release_word, take_word, taken_word,
+    OWNER_DIED, TID_MASK, WAITERS, hand_word, has_waiters, health_in, health_word, inherit_word,
+    mark_word, number, orphan_word, owner_died, release_word, take_word, taken_word,
 };
 pub use cells::Cell;
 pub use words::Words;
