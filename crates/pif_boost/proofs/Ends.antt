@@ -8,11 +8,11 @@ use Rattle.std.proofs.lemmas.Option.{same_Some}
 use Rattle.pif_nodes_model.specs.Lists.{has, list_without}
 use Rattle.pif_nodes_model.specs.Table.{NodeLists}
 use Rattle.pif_nodes_model.proofs.ListLemmas.{has-head}
-use Rattle.pif_nodes_model.specs.Levels.{Queue, IsLevel, level_of, level_with, Holds, level_after_move}
+use Rattle.pif_nodes_model.specs.Levels.{Queue, IsLevel, level_of, level_with, Holds, level_after_move, level_after_move_if_queued}
 use Rattle.pif_nodes_model.proofs.LevelLemmas.{queued_on}
 use Rattle.pif_nodes_model.proofs.LevelWithLemmas.{level_with-from_listed, listed-from_level_with}
 use Rattle.pif_kernel_model.specs.Owners.{Owners}
-use Rattle.pif_kernel_model.specs.Boosts.{IsThread, greatest_base, is_other, joins, threads_of, level_after_walk, level_after_move_if_queued}
+use Rattle.pif_kernel_model.specs.Boosts.{IsThread, greatest_base, is_other, joins, threads_of, level_after_walk}
 use Rattle.pif_kernel_model.proofs.BoostLevels.{filter_on, has-range}
 
 -- a test that all numbers of a list pass keeps them all, and one that none passes keeps none

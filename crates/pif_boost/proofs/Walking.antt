@@ -6,7 +6,7 @@ use Rattle.std.proofs.lemmas.Bool.{eqb-true, cases_eq}
 use Rattle.pif_nodes_model.specs.declared.keys.Key.{Key}
 use Rattle.pif_nodes_model.specs.Lists.{has}
 use Rattle.pif_nodes_model.specs.Table.{NodeLists, holder}
-use Rattle.pif_nodes_model.specs.Levels.{Queue, IsLevel, level_of, level_with, level_for, node_for, level_after_move, Holds, IsQueued, SameOutside}
+use Rattle.pif_nodes_model.specs.Levels.{Queue, IsLevel, level_of, level_with, level_for, node_for, level_after_move, Holds, IsQueued, SameOutside, level_after_move_if_queued}
 use Rattle.pif_nodes_model.proofs.KeptLemmas.{levels-framed, queue-framed}
 use Rattle.pif_kernel_model.specs.Owners.{Owners, Task, Wait, task_at, owner_at, waits_on, waits_for, with_task, AreSoundOwners}
 use Rattle.pif_kernel_model.proofs.OwnersLemmas.{task_at-with_task_same}
@@ -17,7 +17,7 @@ use Rattle.pif_kernel_model.specs.Frames.{SameOutsideStates}
 use Rattle.pif_rtmutex.specs.Maximum.{rank_priority, maximum_of}
 use Rattle.pif_kernel_model.proofs.ViewLemmas.{length-seats}
 use Rattle.pif_kernel_model.proofs.FrameLemmas.{holds-framed, owners-framed}
-use Rattle.pif_kernel_model.specs.Boosts.{IsThread, base_of, local_of, greatest_base, greatest_waiting, with_effective, IsRepaired, IsRepairedBut, level_after_move_if_queued, level_after_walk}
+use Rattle.pif_kernel_model.specs.Boosts.{IsThread, base_of, local_of, greatest_base, greatest_waiting, with_effective, IsRepaired, IsRepairedBut, level_after_walk}
 use Rattle.pif_kernel_model.specs.BoostFrames.{StandsBefore, SameBeyond}
 use Rattle.pif_boost.specs.Done.{IsDone}
 use Rattle.pif_boost.specs.Hops.{after_hops, IsHopCount}

@@ -24,7 +24,7 @@ ghost use Rattle.pif_kernel_model.specs.Owners.{task_at, waits_on, waits_for, Wa
 ghost use Rattle.pif_kernel_model.specs.States.{owners_in};
 ghost use Rattle.pif_kernel_model.specs.Holds.{HoldsStates};
 ghost use Rattle.pif_kernel_model.specs.Frames.{SameOutsideStates};
-ghost use Rattle.pif_kernel_model.specs.Boosts.{IsThread, base_of, local_of, greatest_base, greatest_waiting, with_effective, IsRepaired, IsRepairedBut, IsNext, joins, level_after_move_if_queued, level_after_walk};
+ghost use Rattle.pif_kernel_model.specs.Boosts.{IsThread, base_of, local_of, greatest_base, greatest_waiting, with_effective, IsRepaired, IsRepairedBut, IsNext, joins, level_after_walk};
 ghost use Rattle.pif_kernel_model.specs.BoostFrames.{StandsBefore};
 ghost use Rattle.pif_boost.specs.Done.{IsDone};
 ghost use Rattle.pif_boost.specs.Hops.{after_hops, IsHopCount};
@@ -97,7 +97,7 @@ pub fn walk_to(
         match owners.waits_on(table, at) {
             Some(state) => at = owners.owner(table, state),
             None => {
-                move_if_queued(queue, table, at, prio);
+                queue.move_if_queued(table, at, prio);
                 return (hop + 1, at);
             }
         }
@@ -128,19 +128,5 @@ fn boost(owners: &mut RtMutexes, table: &mut NodeTable, t: Tid, prio: Prio)
     owners.set_local(table, t, prio);
     if let Some(state) = owners.waits_on(table, t) {
         owners.rekey(table, state, t, prio);
-    }
-}
-
-/// Moves the thread `t` to the level `prio` of the run queue, if it is on one. On its own level it keeps its place.
-fn move_if_queued(queue: &mut RunQueue, table: &mut NodeTable, t: Tid, prio: Prio)
-    requires { Holds queue.old table.old }
-    ensures levels { (p : ℕ) → IsLevel p
-        → level_of queue.new table.new p ≡ level_after_move_if_queued queue.old table.old t prio p }
-    ensures outside { SameOutside queue.old table.old table.new }
-    ensures place { queue.new ≡ record queue.old { mask = queue.new.mask } }
-    ensures holds { Holds queue.new table.new }
-{
-    if queue.level(table, t).is_some() {
-        queue.move_to(table, t, prio);
     }
 }

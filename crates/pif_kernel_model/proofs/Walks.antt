@@ -6,11 +6,11 @@ use Rattle.std.proofs.lemmas.List.{get_or_past}
 use Rattle.pif_nodes_model.specs.Lists.{has}
 use Rattle.pif_nodes_model.specs.Table.{NodeLists}
 use Rattle.pif_model.specs.Graph.{IsEffective}
-use Rattle.pif_nodes_model.specs.Levels.{Queue, IsLevel, level_of, level_with, Holds, IsQueued, level_after_move, SameOutside}
+use Rattle.pif_nodes_model.specs.Levels.{Queue, IsLevel, level_of, level_with, Holds, IsQueued, level_after_move, SameOutside, level_after_move_if_queued}
 use Rattle.pif_nodes_model.proofs.LevelLemmas.{queued_on}
 use Rattle.pif_nodes_model.proofs.LevelWithLemmas.{queued_found}
 use Rattle.pif_kernel_model.specs.Owners.{Owners, Task, no_task, task_at, WaitsFor, with_task, AreSoundOwners}
-use Rattle.pif_kernel_model.specs.Boosts.{IsThread, base_of, local_of, greatest_base, with_effective, IsRepaired, IsRepairedBut, level_after_move_if_queued, level_after_walk}
+use Rattle.pif_kernel_model.specs.Boosts.{IsThread, base_of, local_of, greatest_base, with_effective, IsRepaired, IsRepairedBut, level_after_walk}
 use Rattle.pif_kernel_model.proofs.Greatest.{greatest_base-least, greatest_base-IsEffective, idle}
 use Rattle.pif_kernel_model.proofs.BoostLevels.{leveled_to, leveled-start, leveled-more, leveled-all, next_level, stage-has}
 use Rattle.pif_kernel_model.proofs.Repairs.{IsRepairedTo, repaired-start, repaired-more, repaired-all}

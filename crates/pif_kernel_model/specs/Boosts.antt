@@ -1,10 +1,10 @@
 -- Priority inheritance over chains of owner states: what the effective priority of each thread is to be, and what a
 -- walk leaves of the owner states and of the run queue. (RT-mutex design, the priority chain walk.)
-use Rattle.std.specs.Prelude.{◌≡◌, ◌≢◌, ℕ, ◌-◌, ◌<◌, ◌≤◌, max, Bool, false, ◌==◌, not, ◌&&◌, List, ◌++◌, length, get_or, if◌then◌else◌, Option, Some, None, option_map, unwrap_or, is_some}
+use Rattle.std.specs.Prelude.{◌≡◌, ◌≢◌, ℕ, ◌-◌, ◌<◌, ◌≤◌, max, Bool, false, ◌==◌, not, ◌&&◌, List, ◌++◌, length, get_or, if◌then◌else◌, Option, Some, None, option_map, unwrap_or}
 use Rattle.std.specs.List.{filter, range_with_len}
 use Rattle.pif_nodes_model.specs.declared.keys.Key.{Key}
 use Rattle.pif_nodes_model.specs.Table.{NodeLists}
-use Rattle.pif_nodes_model.specs.Levels.{Queue, level_of, level_with, level_after_move}
+use Rattle.pif_nodes_model.specs.Levels.{Queue, level_of, level_with}
 use Rattle.pif_model.specs.Graph.{reaches_within, effective_among, greatest_where}
 use Rattle.pif_kernel_model.specs.Owners.{Owners, Task, Wait, task_at, waits_on, rank_of, waits_for}
 
@@ -64,11 +64,6 @@ greatest_waiting v t = greatest_where (λ u. waits_for v u == t) (local_of v) (l
 pub record IsRepairedBut (start : ℕ) (v : Owners) : Type 0 where
   pub locals : (t : ℕ) → IsThread v t → t ≢ start → local_of v t ≡ max (base_of v t) (greatest_waiting v t)
   pub ranks : (t : ℕ) (rank : Key) → rank_of v t ≡ Some rank → rank.prio ≡ local_of v t
-
--- the threads of level p of a run queue once u, if it is on some level, was moved to level `to`
-abbrev pub level_after_move_if_queued : Queue → NodeLists → ℕ → ℕ → ℕ → List ℕ
-level_after_move_if_queued q t u to p = if is_some (level_with q t u) then level_after_move u to p (level_of q t p)
-    else level_of q t p
 
 -- whether a level is there and is another one than p
 abbrev pub is_other : ℕ → Option ℕ → Bool

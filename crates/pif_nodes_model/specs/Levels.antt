@@ -1,6 +1,6 @@
 -- A run queue: the threads that are ready, by level, as sched(7) has them for SCHED_FIFO. Each level is a list of a
 -- node table, in which each thread has a node.
-use Rattle.std.specs.Prelude.{◌≡◌, ℕ, zero, suc, ◌+◌, ◌-◌, ◌<◌, ◌≤◌, ◌↔◌, ◌&&◌, true, nat_eq, nat_lt, nat_le, if◌then◌else◌, List, [], ◌∷◌, ◌++◌, length, map, Option, Some, None, option_and_then}
+use Rattle.std.specs.Prelude.{◌≡◌, ℕ, zero, suc, ◌+◌, ◌-◌, ◌<◌, ◌≤◌, ◌↔◌, ◌&&◌, true, nat_eq, nat_lt, nat_le, if◌then◌else◌, List, [], ◌∷◌, ◌++◌, length, map, Option, Some, None, is_some, option_and_then}
 use Rattle.std.specs.Int.{bit_at}
 use Rattle.pif_nodes_model.specs.Lists.{has, first_of, list_without}
 use Rattle.pif_nodes_model.specs.Table.{NodeLists, list_at, holder, IsApart}
@@ -116,6 +116,11 @@ level_after_add u to p ts = if nat_eq p to then ts ++ u ∷ [] else ts
 -- place, and else it joins the end (sched(7))
 abbrev pub level_after_move : ℕ → ℕ → ℕ → List ℕ → List ℕ
 level_after_move u to p ts = if nat_eq p to then (if has u ts then ts else ts ++ u ∷ []) else list_without u ts
+
+-- the threads of level p once u, if it is on some level, was moved to level `to`
+abbrev pub level_after_move_if_queued : Queue → NodeLists → ℕ → ℕ → ℕ → List ℕ
+level_after_move_if_queued q t u to p = if is_some (level_with q t u) then level_after_move u to p (level_of q t p)
+    else level_of q t p
 
 -- all that is no level of the queue is as it was: the other lists, and all keys
 pub record SameOutside (q : Queue) (was now : NodeLists) : Type 0 where

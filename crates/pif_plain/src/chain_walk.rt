@@ -19,10 +19,10 @@
 //! 3. The answer is how many threads got another priority: 2.
 ghost use Rattle.std.specs.Prelude.{◌≡◌, ℕ, ◌<◌, ◌≤◌, ◌==◌, not, length, None, true, unwrap_or};
 ghost use Rattle.pif_nodes_model.specs.Lists.{has};
-ghost use Rattle.pif_nodes_model.specs.Levels.{IsLevel, level_of, Holds, IsQueued, SameOutside};
+ghost use Rattle.pif_nodes_model.specs.Levels.{IsLevel, level_of, Holds, IsQueued, SameOutside, level_after_move_if_queued};
 ghost use Rattle.pif_model.specs.Graph.{IsEffective};
 ghost use Rattle.pif_kernel_model.specs.Owners.{task_at, waits_on, WaitsFor, with_task, IsTop};
-ghost use Rattle.pif_kernel_model.specs.Boosts.{IsThread, base_of, local_of, greatest_base, with_effective, IsRepaired, IsRepairedBut, IsNext, joins, level_after_move_if_queued, level_after_walk};
+ghost use Rattle.pif_kernel_model.specs.Boosts.{IsThread, base_of, local_of, greatest_base, with_effective, IsRepaired, IsRepairedBut, IsNext, joins, level_after_walk};
 
 use crate::propagate::{PLACES, priority_of, propagate_all};
 use crate::rt_mutexes::RtMutexes;
@@ -99,7 +99,7 @@ fn repair(
 {
     match priority {
         Some(prio) => {
-            move_if_queued(queue, table, t, prio);
+            queue.move_if_queued(table, t, prio);
             boost(owners, t, prio)
         }
         None => false,
@@ -118,18 +118,4 @@ fn boost(owners: &mut RtMutexes, t: Tid, prio: Prio) -> bool
         owners.rekey(state, t, prio);
     }
     before != Some(prio)
-}
-
-/// Moves the thread `t` to the level `prio` of the run queue, if it is on one. On its own level it keeps its place.
-fn move_if_queued(queue: &mut RunQueue, table: &mut NodeTable, t: Tid, prio: Prio)
-    requires { Holds queue.old table.old }
-    ensures levels { (p : ℕ) → IsLevel p
-        → level_of queue.new table.new p ≡ level_after_move_if_queued queue.old table.old t prio p }
-    ensures outside { SameOutside queue.old table.old table.new }
-    ensures place { queue.new ≡ record queue.old { mask = queue.new.mask } }
-    ensures holds { Holds queue.new table.new }
-{
-    if queue.level(table, t).is_some() {
-        queue.move_to(table, t, prio);
-    }
 }

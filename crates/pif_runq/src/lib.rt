@@ -12,8 +12,9 @@
 //! | Call | From the picture |
 //! |---|---|
 //! | `add` t4 at 10 | level 10 has t1, t2, t4: it joins the end |
-//! | `move_to` t1 at 20 | level 20 has t1, level 10 has t2 |
-//! | `move_to` t1 at 10 | nothing changes: on its own level a thread keeps its place |
+//! | `move_if_queued` t1 at 20 | level 20 has t1, level 10 has t2 |
+//! | `move_if_queued` t1 at 10 | nothing changes: on its own level a thread keeps its place |
+//! | `move_if_queued` t4 at 20 | nothing changes: t4 is on no level |
 //! | `take_out` t3 | level 99 is empty, its bit is clear, and `pick` is t1 |
 //!
 //! Level p is the list `first_list` + p - 1 of the table, and thread t the node `first_node` + t - 1.

@@ -3,7 +3,7 @@ ghost use Rattle.std.specs.Int.{bit_at};
 ghost use Rattle.std.specs.List.{slice_get};
 ghost use Rattle.pif_nodes_model.specs.Lists.{has, list_without};
 ghost use Rattle.pif_nodes_model.specs.Table.{NodeLists, holder, list_at};
-ghost use Rattle.pif_nodes_model.specs.Levels.{all_below, IsLevel, list_for, node_for, thread_for, IsThreadNode, level_of, level_with, HasRoom, Holds, IsQueued, IsOnLevel, IsFirstOfGreatest, IsEmpty, level_after_add, level_after_move, SameOutside};
+ghost use Rattle.pif_nodes_model.specs.Levels.{all_below, IsLevel, list_for, node_for, thread_for, IsThreadNode, level_of, level_with, HasRoom, Holds, IsQueued, IsOnLevel, IsFirstOfGreatest, IsEmpty, level_after_add, level_after_move, level_after_move_if_queued, SameOutside};
 ghost use Rattle.pif_nodes_model.specs.Masks.{ChangesBit, IsGreatestBit};
 
 use crate::masks::{greatest_bit, with_bit, without_bit};
@@ -91,7 +91,7 @@ impl RunQueue {
 
     /// Puts the thread `t` of a level at the end of the level `prio`, or leaves it where it is if that is its level.
     /// All other lists of the table and all keys stay as they were.
-    pub fn move_to(&mut self, table: &mut NodeTable, t: Tid, prio: Prio)
+    fn move_to(&mut self, table: &mut NodeTable, t: Tid, prio: Prio)
         requires holds { Holds self.old table.old }
         requires queued { IsQueued self.old table.old t }
         ensures levels { (p : ℕ) → IsLevel p → level_of self.new table.new p ≡ level_after_move t prio p (level_of self.old table.old p) }
@@ -103,6 +103,21 @@ impl RunQueue {
         if self.level_on(table, t) != prio.get() {
             self.take_out(table, t);
             self.add(table, t, prio);
+        }
+    }
+
+    /// Puts the thread `t`, if it is on a level, at the end of the level `prio`, or leaves it where it is if that is
+    /// its level. All other lists of the table and all keys stay as they were.
+    pub fn move_if_queued(&mut self, table: &mut NodeTable, t: Tid, prio: Prio)
+        requires { Holds self.old table.old }
+        ensures levels { (p : ℕ) → IsLevel p
+            → level_of self.new table.new p ≡ level_after_move_if_queued self.old table.old t prio p }
+        ensures outside { SameOutside self.old table.old table.new }
+        ensures place { self.new ≡ record self.old { mask = self.new.mask } }
+        ensures holds { Holds self.new table.new }
+    {
+        if self.level(table, t).is_some() {
+            self.move_to(table, t, prio);
         }
     }
 

@@ -33,20 +33,6 @@ fn take_out(queue: &mut RunQueue, table: &mut NodeTable, t: Tid) -> bool
     queued
 }
 
-// Moves a thread to a level, if it is on one. Answers whether it was.
-fn move_to(queue: &mut RunQueue, table: &mut NodeTable, t: Tid, level: u32) -> bool
-    requires holds { Holds queue.old table.old }
-    requires least { 1 ≤ level }
-    requires most { level ≤ 99 }
-    ensures { Holds queue.new table.new }
-{
-    let queued = queue.level(table, t).is_some();
-    if queued {
-        queue.move_to(table, t, priority(level));
-    }
-    queued
-}
-
 #[test]
 fn run_queue_picks_first_of_greatest(rt: HostRuntime) -> Result<(), Fail> {
     let mut table = NodeTable::new(rt.alloc(), 3, 99)?;
@@ -82,10 +68,12 @@ fn pick_first(rt: &impl Abort, queue: &mut RunQueue, table: &mut NodeTable)
 {
     let (t1, t2) = (thread(1), thread(2));
     for (level, picked) in [(10, t1), (20, t1), (10, t2)] {
-        see(rt, move_to(queue, table, t1, level), true, level);
+        queue.move_if_queued(table, t1, priority(level));
+        see(rt, queue.level(table, t1), Some(priority(level)), level);
         see(rt, queue.pick(table), Some(picked), level);
     }
     see(rt, take_out(queue, table, t2), true, 0);
     see(rt, take_out(queue, table, t1), true, 1);
+    queue.move_if_queued(table, t1, priority(20));
     see(rt, queue.pick(table), None, 2);
 }

@@ -1,11 +1,11 @@
 use Rattle.std.proofs.Common.{◌≡◌, ◌≢◌, ◌∙◌, ℕ, ◌+◌, refl, sym, ap, subst, eqb-true, arith}
 use Rattle.std.proofs.lemmas.Bool.{eq-eqb, true≢false}
 use Rattle.pif_nodes_model.specs.Table.{NodeLists}
-use Rattle.pif_nodes_model.specs.Levels.{Queue, IsLevel, level_of, Holds, SameOutside}
+use Rattle.pif_nodes_model.specs.Levels.{Queue, IsLevel, level_of, Holds, SameOutside, level_after_move_if_queued}
 use Rattle.pif_kernel_model.specs.States.{States, owners_in}
 use Rattle.pif_rtmutex.specs.Maximum.{maximum_of}
 use Rattle.pif_kernel_model.proofs.ViewLemmas.{length-seats}
-use Rattle.pif_kernel_model.specs.Boosts.{local_of, level_after_move_if_queued}
+use Rattle.pif_kernel_model.specs.Boosts.{local_of}
 use Rattle.pif_boost.specs.Done.{IsDone}
 use Rattle.pif_boost.proofs.Walking.{walking-start, walking-few, walking-row, walking-some, walking-last, walking-hop, walking-stopped, counted-stopped, ended_holds, counted-ended, walking-ended, ended_ends}
 use Rattle.pif_boost.proofs.chain_walk.walk_to.Goals as goal
@@ -103,19 +103,19 @@ returns-in-None-clause-done c =
     let t : NodeLists = c.loop-hop.table in
     let own : c.unwrap-prio.result ≡ maximum_of (owners_in m t) c.loop-hop.at = rw c.unwrap-prio.ensures at c.maximum.ensures in
     let at_queue : c.loop-hop.queue ≡ c.args.queue.now = c.loop-hop.invariant.queue in
-    let levels : (p : ℕ) → IsLevel p → level_of c.move_if_queued.new.queue c.move_if_queued.new.table p
+    let levels : (p : ℕ) → IsLevel p → level_of c.move_if_queued.new.self c.move_if_queued.new.table p
     ≡ level_after_move_if_queued c.args.queue.now c.boost.new.table c.loop-hop.at c.unwrap-prio.result p =
     λ p lp. c.move_if_queued.ensures.levels p lp
     ∙ ap (λ (x : Queue). level_after_move_if_queued x c.boost.new.table c.loop-hop.at c.unwrap-prio.result p) at_queue in
     let outside : SameOutside c.args.queue.now c.boost.new.table c.move_if_queued.new.table =
     subst (λ (x : Queue). SameOutside x c.boost.new.table c.move_if_queued.new.table) at_queue c.move_if_queued.ensures.outside in
-    let place : c.move_if_queued.new.queue ≡ record c.args.queue.now { mask = c.move_if_queued.new.queue.mask } =
-    c.move_if_queued.ensures.place ∙ ap (λ (x : Queue). record x { mask = c.move_if_queued.new.queue.mask }) at_queue in
+    let place : c.move_if_queued.new.self ≡ record c.args.queue.now { mask = c.move_if_queued.new.self.mask } =
+    c.move_if_queued.ensures.place ∙ ap (λ (x : Queue). record x { mask = c.move_if_queued.new.self.mask }) at_queue in
     walking-ended m0 t0 c.args.start c.requires.states c.requires.repaired c.requires.admitted c.loop-hop.hop c.loop-hop.at m t c.loop-hop.invariant.walking
     c.args.queue.now c.requires.apart c.requires.holds c.requires.ready c.requires.running c.requires.level
     c.unwrap-prio.result own c.boost.new.owners c.boost.new.table c.boost.ensures.owners
     c.boost.ensures.rows c.boost.ensures.outside c.boost.ensures.states
-    c.move_if_queued.new.queue c.move_if_queued.new.table (sym c.waits_on.ensures.value ∙ c.in-None.is) levels outside place
+    c.move_if_queued.new.self c.move_if_queued.new.table (sym c.waits_on.ensures.value ∙ c.in-None.is) levels outside place
     c.move_if_queued.ensures.holds
 
 pub returns-in-None-clause-counted : goal.returns-in-None-clause-counted
@@ -148,13 +148,13 @@ returns-in-None-clause-ends c =
     let at_queue : c.loop-hop.queue ≡ c.args.queue.now = c.loop-hop.invariant.queue in
     let outside : SameOutside c.args.queue.now c.boost.new.table c.move_if_queued.new.table =
     subst (λ (x : Queue). SameOutside x c.boost.new.table c.move_if_queued.new.table) at_queue c.move_if_queued.ensures.outside in
-    let place : c.move_if_queued.new.queue ≡ record c.args.queue.now { mask = c.move_if_queued.new.queue.mask } =
-    c.move_if_queued.ensures.place ∙ ap (λ (x : Queue). record x { mask = c.move_if_queued.new.queue.mask }) at_queue in
+    let place : c.move_if_queued.new.self ≡ record c.args.queue.now { mask = c.move_if_queued.new.self.mask } =
+    c.move_if_queued.ensures.place ∙ ap (λ (x : Queue). record x { mask = c.move_if_queued.new.self.mask }) at_queue in
     ended_ends m0 t0 c.args.start c.requires.states c.requires.repaired c.requires.admitted c.loop-hop.hop c.loop-hop.at m t c.loop-hop.invariant.walking
     c.args.queue.now c.requires.apart c.requires.holds c.requires.ready c.requires.running c.requires.level
     c.unwrap-prio.result own c.boost.new.owners c.boost.new.table c.boost.ensures.owners
     c.boost.ensures.rows c.boost.ensures.outside c.boost.ensures.states
-    c.move_if_queued.new.queue c.move_if_queued.new.table outside place c.move_if_queued.ensures.holds
+    c.move_if_queued.new.self c.move_if_queued.new.table outside place c.move_if_queued.ensures.holds
 
 pub loop-hop-preserved : goal.loop-hop-preserved
 loop-hop-preserved c =

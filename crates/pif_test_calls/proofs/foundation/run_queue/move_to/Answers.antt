@@ -1,9 +1,0 @@
-use Rattle.std.proofs.Common.{sym, ap, ◌∙◌}
-use Rattle.std.specs.Option.{is_some}
-use Rattle.pif_nodes_model.proofs.LevelWithLemmas.{queued_found}
-use Rattle.pif_test_calls.proofs.foundation.run_queue.move_to.Goals as goal
-
-pub move_to-requires-clause-queued : goal.move_to-requires-clause-queued
-move_to-requires-clause-queued c =
-    queued_found c.args.queue.now c.args.table.now c.args.t c.requires.holds
-    (sym (ap is_some c.level.ensures.level) ∙ sym c.is_some-queued.ensures ∙ c.if-queued.true)
