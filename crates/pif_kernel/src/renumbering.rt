@@ -1,10 +1,11 @@
-ghost use Rattle.std.specs.Prelude.{◌≡◌, ◌≤◌, ◌+◌, if◌then◌else◌, length, Some};
+ghost use Rattle.std.specs.Prelude.{◌≡◌, ◌≤◌, ◌+◌, ⊤, length};
 ghost use Rattle.pif_nodes_model.specs.Levels.{Holds};
-ghost use Rattle.pif_kernel_model.specs.Tickets.{IsRenumbered, IsRenumberable, IsNumbered, IsFirstFrom, is_sooner};
+ghost use Rattle.pif_kernel_model.specs.Tickets.{IsRenumbered, IsRenumberable, IsNumbered, HasFirstTicketFrom};
 ghost use Rattle.pif_kernel_model.specs.Chained.{KeepsLevels};
-ghost use Rattle.pif_kernel_model.specs.Inside.{arrivals_in};
+ghost use Rattle.pif_kernel_model.specs.Inside.{arrivals_in, ticket_of};
 
 use crate::chains::Chains;
+use pif_kernel_model::{Tickets, first_ticket_from};
 use pif_model::Status;
 use pif_types::Tid;
 
@@ -32,25 +33,23 @@ pub fn number_anew<C: Chains>(chains: &mut C, statuses: &[Status]) -> u64
 fn first_from<C: Chains>(chains: &C, count: u32, least: u64) -> Option<Tid>
     requires some { 1 ≤ count }
     requires least { 1 ≤ least }
-    ensures { IsFirstFrom (C.seen chains.now).owners least count result }
+    ensures { HasFirstTicketFrom (ticket_of (C.seen chains.now).owners) least count result }
 {
-    let mut first = None;
-    for number in 1..count {
-        first = sooner(chains, least, first, Tid::new(number).unwrap());
-    }
-    first
+    first_ticket_from(&WaiterTickets { chains }, count, least)
 }
 
-/// The thread `t`, if it waits with a ticket from `least` on, and with a lower one than the first so far; else that
-/// one.
-fn sooner<C: Chains>(chains: &C, least: u64, first: Option<Tid>, t: Tid) -> Option<Tid>
-    requires { 1 ≤ least }
-    ensures { result ≡ (if is_sooner (C.seen chains.now).owners least first t then Some t else first) }
-{
-    let ticket = chains.ticket(t).unwrap_or(0);
-    match first {
-        _ if ticket < least => first,
-        Some(u) if ticket >= chains.ticket(u).unwrap_or(0) => first,
-        _ => Some(t),
+/// The tickets of those that wait in some chains.
+#[derive(Drop)]
+struct WaiterTickets<'a, C> {
+    chains: &'a C,
+}
+
+impl<C: Chains> Tickets for WaiterTickets<'_, C> {
+    ghost sound = { λ waiters. ⊤ };
+
+    ghost tickets = { λ waiters. ticket_of (C.seen waiters.chains.now).owners };
+
+    fn ticket(&self, t: Tid) -> Option<u64> {
+        self.chains.ticket(t)
     }
 }

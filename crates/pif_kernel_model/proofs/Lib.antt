@@ -51,6 +51,7 @@ pub mod CallFacts
 pub mod TopLaws
 pub mod StillWaits
 pub mod WaiterOrder
+pub mod FirstTickets
 pub mod TicketTurns
 pub mod HandOverFacts
 pub mod HandOverSound

@@ -7,78 +7,10 @@ use Rattle.pif_kernel_model.specs.Owners.{Owners, Task, Wait, task_at}
 use Rattle.pif_model_lemmas.proofs.Waiting.{names}
 use Rattle.pif_kernel_model.specs.Inside.{Inside, IsSoundInside, ticket_of}
 use Rattle.pif_kernel_model.specs.Arrivals.{Rise}
-use Rattle.pif_kernel_model.specs.Tickets.{renumbered_ticket, seat_with_ticket, IsRenumbered, IsRenumberable, IsNumbered, IsFirstFrom, is_sooner}
+use Rattle.pif_kernel_model.specs.Tickets.{renumbered_ticket, seat_with_ticket, IsRenumbered, IsRenumberable, IsNumbered, HasFirstTicketFrom}
 use Rattle.pif_kernel_model.proofs.ArrivalLaws.{rise_once}
 use Rattle.pif_kernel_model.proofs.TicketLaws.{named_at, ticket_before, at_least, order, rise_renumbered}
 use Rattle.pif_kernel_model.proofs.Waiters.{waits_named, named_known}
-
--- ONE THREAD MORE
-
-pub sooner_none : (v : Owners) (least : ℕ) → IsFirstFrom v least 1 None
-sooner_none v least u some l = absurd (omega (arith, some, l))
-
-pub sooner_more : (v : Owners) (least k : ℕ) (first : Option ℕ) → IsFirstFrom v least k first
-    → IsFirstFrom v least (k + 1) (if is_sooner v least first k then Some k else first)
-sooner_more v least k None h = by_least (cases_lt (ticket_of v k) least)
-  where
-    by_least : ((ticket_of v k < least) ⊎ (least ≤ ticket_of v k))
-        → IsFirstFrom v least (k + 1) (if is_sooner v least None k then Some k else None)
-    by_least (inl low) =
-        let yes : nat_lt (ticket_of v k) least ≡ true = grind (arith, nat_tests) in
-        rw yes (λ u some l. by_place u some l (cases_eq u k))
-      where
-        by_place : (u : ℕ) → u ≢ 0 → u < k + 1 → ((u ≡ k) ⊎ (u ≡ k → ⊥)) → ticket_of v u < least
-        by_place u some l (inl same) = subst (λ (x : ℕ). ticket_of v x < least) (sym same) low
-        by_place u some l (inr ne) = h u some (omega (arith, l, ne))
-    by_least (inr high) =
-        let no : nat_lt (ticket_of v k) least ≡ false = grind (arith, nat_tests) in
-        rw no (omega arith, high, λ u some l from. by_place u some l from (cases_eq u k))
-      where
-        by_place : (u : ℕ) → u ≢ 0 → u < k + 1 → least ≤ ticket_of v u → ((u ≡ k) ⊎ (u ≡ k → ⊥))
-            → ticket_of v k ≤ ticket_of v u
-        by_place u some l from (inl same) = let at : ticket_of v u ≡ ticket_of v k = ap (ticket_of v) same in omega (arith, at)
-        by_place u some l from (inr ne) = absurd (omega (arith, from, h u some (omega (arith, l, ne))))
-sooner_more v least k (Some t) h = by_least (cases_lt (ticket_of v k) least)
-  where
-    by_least : ((ticket_of v k < least) ⊎ (least ≤ ticket_of v k))
-        → IsFirstFrom v least (k + 1) (if is_sooner v least (Some t) k then Some k else Some t)
-    by_least (inl low) =
-        let yes : nat_lt (ticket_of v k) least ≡ true = grind (arith, nat_tests) in
-        rw yes (omega (arith, h.0), h.1, λ u some l from. by_place u some l from (cases_eq u k))
-      where
-        by_place : (u : ℕ) → u ≢ 0 → u < k + 1 → least ≤ ticket_of v u → ((u ≡ k) ⊎ (u ≡ k → ⊥))
-            → ticket_of v t ≤ ticket_of v u
-        by_place u some l from (inl same) =
-            let at : ticket_of v u ≡ ticket_of v k = ap (ticket_of v) same in absurd (omega (arith, at, from, low))
-        by_place u some l from (inr ne) = h.2 u some (omega (arith, l, ne)) from
-    by_least (inr high) =
-        let no : nat_lt (ticket_of v k) least ≡ false = grind (arith, nat_tests) in
-        rw no (by_first (cases_lt (ticket_of v k) (ticket_of v t)))
-      where
-        by_first : ((ticket_of v k < ticket_of v t) ⊎ (ticket_of v t ≤ ticket_of v k))
-            → IsFirstFrom v least (k + 1) (if nat_lt (ticket_of v k) (ticket_of v t) then Some k else Some t)
-        by_first (inl sooner) =
-            let yes : nat_lt (ticket_of v k) (ticket_of v t) ≡ true = grind (arith, nat_tests) in
-            rw yes (omega arith, high, λ u some l from. by_place u some l from (cases_eq u k))
-          where
-            by_place : (u : ℕ) → u ≢ 0 → u < k + 1 → least ≤ ticket_of v u → ((u ≡ k) ⊎ (u ≡ k → ⊥))
-                → ticket_of v k ≤ ticket_of v u
-            by_place u some l from (inl same) =
-                let at : ticket_of v u ≡ ticket_of v k = ap (ticket_of v) same in omega (arith, at)
-            by_place u some l from (inr ne) =
-                let up : ticket_of v t ≤ ticket_of v u = h.2 u some (omega (arith, l, ne)) from in
-                omega (arith, up, sooner)
-        by_first (inr later) =
-            let no : nat_lt (ticket_of v k) (ticket_of v t) ≡ false = grind (arith, nat_tests) in
-            rw no (omega (arith, h.0), h.1, λ u some l from. by_place u some l from (cases_eq u k))
-          where
-            by_place : (u : ℕ) → u ≢ 0 → u < k + 1 → least ≤ ticket_of v u → ((u ≡ k) ⊎ (u ≡ k → ⊥))
-                → ticket_of v t ≤ ticket_of v u
-            by_place u some l from (inl same) =
-                let at : ticket_of v u ≡ ticket_of v k = ap (ticket_of v) same in omega (arith, at, later)
-            by_place u some l from (inr ne) = h.2 u some (omega (arith, l, ne)) from
-
--- WHOSE TURN IT IS
 
 rise_below : (f : ℕ → ℕ) (least : ℕ) (ws : List (ℕ × ℕ)) (next u : ℕ) → Rise f least ws next → names u ws ≡ true
     → (least ≤ next) × (f u < next)
@@ -166,7 +98,7 @@ module _ (v now : Owners) (n i : ℕ) (ws : List (ℕ × ℕ)) (d : IsNumbered v
         ∙ ticket_before (ticket_of v) 1 i ws t x (rise_once (ticket_of v) 1 ws d.next d.rises) l e,
   )
 
-  pub turn_none : IsFirstFrom now (i + 1) n None → i ≡ length ws
+  pub turn_none : HasFirstTicketFrom (ticket_of now) (i + 1) n None → i ≡ length ws
   turn_none none = by_place (cases_lt i (length ws))
     where
       by_place : ((i < length ws) ⊎ (length ws ≤ i)) → i ≡ length ws
@@ -175,14 +107,14 @@ module _ (v now : Owners) (n i : ℕ) (ws : List (ℕ × ℕ)) (d : IsNumbered v
           let t : ℕ = (get_or ws i (0, 0)).0 in
           let k = d.known t (named_at ws i t (0, 0) l refl) in
           let at = here t (0, 0) l refl in
-          absurd (omega (arith, none t k.0 k.1, at.0, at.1))
+          absurd (omega (arith, none t (omega (arith, k.0)) k.1, at.0, at.1))
 
-  pub turn_some : (t : ℕ) (x : ℕ × ℕ) → IsFirstFrom now (i + 1) n (Some t)
+  pub turn_some : (t : ℕ) (x : ℕ × ℕ) → HasFirstTicketFrom (ticket_of now) (i + 1) n (Some t)
       → (i < length ws) × ((get_or ws i x).0 ≡ t)
   turn_some t x f = by_place (cases_lt i (length ws))
     where
       named : names t ws ≡ true
-      named = high_named t f.1
+      named = high_named t f.2
 
       by_other : (i < length ws) → ((t ≡ (get_or ws i x).0) ⊎ (t ≡ (get_or ws i x).0 → ⊥)) → (get_or ws i x).0 ≡ t
       by_other l (inl same) = sym same
@@ -190,7 +122,7 @@ module _ (v now : Owners) (n i : ℕ) (ws : List (ℕ × ℕ)) (d : IsNumbered v
           let w : ℕ = (get_or ws i x).0 in
           let at = here w x l refl in
           let k = d.known w (named_at ws i w x l refl) in
-          let low : ticket_of now t ≤ ticket_of now w = f.2 w k.0 k.1 (omega (arith, at.0, at.1)) in
+          let low : ticket_of now t ≤ ticket_of now w = f.3 w (omega (arith, k.0)) k.1 (omega (arith, at.0, at.1)) in
           let s = order (ticket_of v) 1 i 1 ws d.next w t x (omega arith) d.rises l refl ne named in
           by_side s.1 low at.1
         where
@@ -200,7 +132,7 @@ module _ (v now : Owners) (n i : ℕ) (ws : List (ℕ × ℕ)) (d : IsNumbered v
               × (ticket_of v (get_or ws i x).0 < renumbered_ticket (ticket_of v) 1 i ws t))
               → ticket_of now t ≤ ticket_of now (get_or ws i x).0
               → ticket_of now (get_or ws i x).0 ≡ ticket_of v (get_or ws i x).0 → (get_or ws i x).0 ≡ t
-          by_side (inl a) low at = absurd (omega (arith, a.0, tag_named t named, f.1))
+          by_side (inl a) low at = absurd (omega (arith, a.0, tag_named t named, f.2))
           by_side (inr a) low at = absurd (omega (arith, a.1, tag_named t named, low, at))
 
       by_place : ((i < length ws) ⊎ (length ws ≤ i)) → (i < length ws) × ((get_or ws i x).0 ≡ t)
@@ -210,7 +142,7 @@ module _ (v now : Owners) (n i : ℕ) (ws : List (ℕ × ℕ)) (d : IsNumbered v
           let up : Rise (ticket_of now) 1 ws (1 + length ws)
           = rise_renumbered (ticket_of v) (ticket_of now) 1 ws (rise_once (ticket_of v) 1 ws d.next d.rises)
           (λ u e. tag_named u e ∙ ap (λ (j : ℕ). renumbered_ticket (ticket_of v) 1 j ws u) all) in
-          absurd (omega (arith, (rise_below (ticket_of now) 1 ws (1 + length ws) t up named).1, f.1, all))
+          absurd (omega (arith, (rise_below (ticket_of now) 1 ws (1 + length ws) t up named).1, f.2, all))
 
 -- what is kept soundly is numbered so
 pub numbered : (p : Inside) → IsSoundInside p → IsNumbered p.owners (length p.statuses) p.arrivals

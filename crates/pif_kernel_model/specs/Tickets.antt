@@ -48,14 +48,15 @@ pub record IsNumbered (v : Owners) (n : ℕ) (ws : List (ℕ × ℕ)) : Type 0 w
   pub known : (t : ℕ) → is_named t ws ≡ true → (t ≢ 0) × (t < n)
   pub others : (t : ℕ) → is_named t ws ≡ false → ticket_of v t ≡ 0
 
--- whether t waits with a ticket from `least` on, and with a lower one than the first so far
-abbrev pub is_sooner : Owners → ℕ → Option ℕ → ℕ → Bool
-is_sooner v least None t = if nat_lt (ticket_of v t) least then false else true
-is_sooner v least (Some u) t = if nat_lt (ticket_of v t) least then false else nat_lt (ticket_of v t) (ticket_of v u)
+-- whether u has a ticket from `least` on, and a lower one than the first so far
+abbrev pub has_sooner_ticket : (ℕ → ℕ) → ℕ → Option ℕ → ℕ → Bool
+has_sooner_ticket ticket least None u = if nat_lt (ticket u) least then false else true
+has_sooner_ticket ticket least (Some v) u = if nat_lt (ticket u) least then false else nat_lt (ticket u) (ticket v)
 
--- of the threads below n the first has the lowest ticket from `least` on, and is None if none has such a ticket
-abbrev pub IsFirstFrom : Owners → ℕ → ℕ → Option ℕ → Type 0
-IsFirstFrom v least n None = (u : ℕ) → u ≢ 0 → u < n → ticket_of v u < least
-IsFirstFrom v least n (Some t) =
-    (t < n) × (least ≤ ticket_of v t)
-    × ((u : ℕ) → u ≢ 0 → u < n → least ≤ ticket_of v u → ticket_of v t ≤ ticket_of v u)
+-- of the threads from 1 on and below n the first has the lowest ticket from `least` on, and is None if none has such a
+-- ticket
+abbrev pub HasFirstTicketFrom : (ℕ → ℕ) → ℕ → ℕ → Option ℕ → Type 0
+HasFirstTicketFrom ticket least n None = (u : ℕ) → 1 ≤ u → u < n → ticket u < least
+HasFirstTicketFrom ticket least n (Some v) =
+    (1 ≤ v) × (v < n) × (least ≤ ticket v)
+    × ((u : ℕ) → 1 ≤ u → u < n → least ≤ ticket u → ticket v ≤ ticket u)

@@ -1,6 +1,9 @@
 //! What a kernel keeps, as definitions and lemmas: owner states as every form of them is seen, and the state of a
 //! kernel over any chains. The crates that have the code cite all of it, so that none cites the proofs of another.
 //!
+//! `first_ticket_from` is the one function that does something: of threads with `Tickets` it finds which is numbered
+//! next.
+//!
 //! Owner states are a map from key to owner, and for each thread its base and effective priority and what it waits for.
 //! Nobody waits for itself through any chain (`AreSoundOwners` of `Owners.antt`). Each form names its states by a
 //! `Key`. How they stand in a node table is here too (`States.antt`, `Holds.antt`), with the words that lead to them
@@ -28,5 +31,7 @@
 #![tactic(auto)]
 
 mod keys;
+mod tickets;
 
 pub use keys::Key;
+pub use tickets::{Tickets, first_ticket_from};

@@ -1,5 +1,5 @@
 -- Parked threads whose tickets are renumbered, in the order in which they were.
-use Rattle.std.specs.Prelude.{◌≡◌, ℕ, ◌<◌, ◌≤◌, nat_lt, Bool, true, false, if◌then◌else◌, Option, Some, None}
+use Rattle.std.specs.Prelude.{◌≡◌, ℕ, ◌<◌, ◌≤◌, nat_lt, Option, Some, None}
 use Rattle.pif_kernel_model.specs.Parked.{Parked, parked_with_ticket}
 
 -- the ticket of a thread; 0 if it is not parked
@@ -23,16 +23,3 @@ pub record AreNumbered (at now : ℕ → Option Parked) (next : ℕ) : Type 0 wh
   pub least : (u : ℕ) (x : Parked) → now u ≡ Some x → 1 ≤ x.rank.ticket
   pub below : (u : ℕ) → ticket_by now u < next
   pub each : (k : ℕ) → 1 ≤ k → k < next → (u : ℕ) × (ticket_by now u ≡ k)
-
--- whether u has a ticket from `least` on, and a lower one than the first so far
-abbrev pub has_sooner_ticket : (ℕ → ℕ) → ℕ → Option ℕ → ℕ → Bool
-has_sooner_ticket ticket least None u = if nat_lt (ticket u) least then false else true
-has_sooner_ticket ticket least (Some v) u = if nat_lt (ticket u) least then false else nat_lt (ticket u) (ticket v)
-
--- of the threads from 1 on and below n the first has the lowest ticket from `least` on, and is None if none has such a
--- ticket
-abbrev pub HasFirstTicketFrom : (ℕ → ℕ) → ℕ → ℕ → Option ℕ → Type 0
-HasFirstTicketFrom ticket least n None = (u : ℕ) → 1 ≤ u → u < n → ticket u < least
-HasFirstTicketFrom ticket least n (Some v) =
-    (1 ≤ v) × (v < n) × (least ≤ ticket v)
-    × ((u : ℕ) → 1 ≤ u → u < n → least ≤ ticket u → ticket v ≤ ticket u)

@@ -7,8 +7,10 @@ ghost use Rattle.pif_nodes_model.specs.Order.{comes_before};
 ghost use Rattle.pif_kernel_model.specs.Differences.{step_between, differences, around, across};
 ghost use Rattle.pif_kernel_model.specs.QueueFrames.{KeepsOthers};
 ghost use Rattle.pif_kernel_model.specs.Parked.{Parked, no_parked, place_at, differing_at, IsThread, IsCond, variable_list, parking_node, thread_of_node, target_of, parked_at, parked_on, with_place_at, with_differing, parked_with_prio, parked_with_ticket, StandParked, IsCounted, HoldsParked, HasRoomForParked, IsTopParked, HasNoParked, HasTarget, KeepsParkedOrder, KeepsNodes, IsNodeOfThread};
-ghost use Rattle.pif_queue.specs.Numbered.{ticket_by, HaveTickets, AreNumbered, HasFirstTicketFrom, has_sooner_ticket};
+ghost use Rattle.pif_kernel_model.specs.Tickets.{HasFirstTicketFrom};
+ghost use Rattle.pif_queue.specs.Numbered.{ticket_by, HaveTickets, AreNumbered};
 
+use pif_kernel_model::{Tickets, first_ticket_from};
 use pif_nodes::{List, Node, NodeTable};
 use pif_plist::PList;
 use pif_types::{CondId, MutexId, NoMemory, Prio, Tid};
@@ -70,6 +72,23 @@ impl Model for ParkedLists {
       places : length p.places.items ≡ p.threads + 1;
       counts : length p.differing.items ≡ p.conds + 1;
     } };
+}
+
+/// The tickets of the threads that are parked in lists of a table.
+#[derive(Clone, Copy)]
+struct ParkedTickets<'a> {
+    lists: &'a ParkedLists,
+    table: &'a NodeTable,
+}
+
+impl Tickets for ParkedTickets<'_> {
+    ghost sound = { λ parked. HoldsParked parked.lists.now parked.table.now };
+
+    ghost tickets = { λ parked. ticket_by (parked_at parked.lists.now parked.table.now) };
+
+    fn ticket(&self, t: Tid) -> Option<u64> {
+        self.lists.ticket(self.table, t)
+    }
 }
 
 impl ParkedLists {
@@ -226,26 +245,8 @@ impl ParkedLists {
         requires least { 1 ≤ least }
         ensures { HasFirstTicketFrom (ticket_by (parked_at self.now table.now)) least (self.now.threads + 1) result }
     {
-        let mut first = None;
-        for number in 1..self.threads + 1 {
-            first = self.sooner(table, least, first, Tid::new(number).unwrap());
-        }
-        first
-    }
-
-    /// The thread `t`, if it is parked with a ticket from `least` on, and with a lower one than the first so far; else
-    /// that one.
-    fn sooner(&self, table: &NodeTable, least: u64, first: Option<Tid>, t: Tid) -> Option<Tid>
-        requires holds { HoldsParked self.now table.now }
-        requires least { 1 ≤ least }
-        ensures { result ≡ (if has_sooner_ticket (ticket_by (parked_at self.now table.now)) least first t then Some t else first) }
-    {
-        let ticket = self.ticket(table, t).unwrap_or(0);
-        match first {
-            _ if ticket < least => first,
-            Some(u) if ticket >= self.ticket(table, u).unwrap_or(0) => first,
-            _ => Some(t),
-        }
+        let parked = ParkedTickets { lists: self, table };
+        first_ticket_from(&parked, self.threads + 1, least)
     }
 
     /// The thread that is taken first of those that are parked on a variable: that of the highest priority as last

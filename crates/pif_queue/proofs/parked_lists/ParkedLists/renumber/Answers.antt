@@ -2,7 +2,8 @@ use Rattle.std.proofs.Common.{◌≡◌, ◌+◌, ◌-◌, ◌<◌, Some, None, 
 use Rattle.pif_nodes_model.specs.Table.{NodeLists, holder}
 use Rattle.pif_kernel_model.specs.QueueFrames.{KeepsOthers}
 use Rattle.pif_kernel_model.specs.Parked.{ParkedLists, IsThread, parking_node, parked_at, StandParked}
-use Rattle.pif_queue.specs.Numbered.{ticket_by, HasFirstTicketFrom}
+use Rattle.pif_kernel_model.specs.Tickets.{HasFirstTicketFrom}
+use Rattle.pif_queue.specs.Numbered.{ticket_by}
 use Rattle.pif_queue.proofs.Numbering.{IsNumbering, numbering-start, numbering-more, numbering-ends, numbering-keeps, nodes-stay, others-same, others-then, parked-known}
 use Rattle.pif_queue.proofs.parked_lists.ParkedLists.renumber.Goals as goal
 
