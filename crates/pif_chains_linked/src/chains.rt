@@ -12,18 +12,12 @@ use pif_boost::{path, walk_to, would_close};
 use pif_kernel::Chains;
 use pif_kernel_model::Key;
 use pif_nodes::NodeTable;
-use pif_queue::Buckets;
+use pif_queue::{BUCKETS, Buckets};
 use pif_rtmutex::RtMutexes;
-use pif_runq::RunQueue;
+use pif_runq::{LEVELS, RunQueue};
 use pif_types::{CondId, MutexId, NoMemory, Prio, Tid};
 use std::alloc::Global;
 use std::marker::Model;
-
-/// The lists of the run queue: one for each level.
-const LEVELS: u32 = 99;
-
-/// The buckets of words.
-const BUCKETS: u32 = 64;
 
 /// The lists of parked threads: one for each variable that can be.
 const CONDS: u32 = 256;

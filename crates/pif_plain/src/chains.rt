@@ -9,13 +9,10 @@ use arrayvec::ArrayVec;
 use pif_kernel::{Chains, KernelOn};
 use pif_kernel_model::Key;
 use pif_nodes::NodeTable;
-use pif_runq::RunQueue;
+use pif_runq::{LEVELS, RunQueue};
 use pif_types::{CondId, MutexId, NoMemory, Prio, Tid};
 use std::alloc::Global;
 use std::marker::Model;
-
-/// The lists of the run queue: one for each level.
-const LEVELS: u32 = 99;
 
 /// Chains whose calls look at every thread. Only the run queue stands in a table of nodes.
 #[derive(Drop)]

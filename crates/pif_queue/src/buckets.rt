@@ -8,16 +8,13 @@ ghost use Rattle.pif_kernel_model.specs.Parked.{Parked, no_parked, IsThread, IsC
 ghost use Rattle.pif_queue.specs.Numbered.{HaveTickets, AreNumbered};
 ghost use Rattle.pif_kernel_model.specs.Buckets.{HoldsBuckets, HasRoomForBuckets};
 
-use crate::entries::Entries;
+use crate::entries::{BUCKETS, Entries};
 use crate::parked_lists::ParkedLists;
 use pif_kernel_model::Key;
 use pif_nodes::NodeTable;
 use pif_types::{CondId, MutexId, NoMemory, Prio, Tid};
 use std::alloc::Global;
 use std::marker::Model;
-
-/// The number of buckets.
-const BUCKETS: u32 = 64;
 
 /// The owner states of words, by the number of the word, and the threads that are parked on condition variables.
 #[derive(Drop)]

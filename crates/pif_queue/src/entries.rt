@@ -9,8 +9,8 @@ use pif_types::NoMemory;
 use std::alloc::Global;
 use std::marker::Model;
 
-/// The number of buckets.
-const BUCKETS: u32 = 64;
+/// How many buckets of words there are. Each is a list of their table.
+pub const BUCKETS: u32 = 64;
 
 /// What is kept by row: the number of a word, and the key of its owner state.
 #[derive(Clone, Copy)]

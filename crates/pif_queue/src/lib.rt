@@ -23,3 +23,4 @@ mod entries;
 mod parked_lists;
 
 pub use buckets::Buckets;
+pub use entries::BUCKETS;

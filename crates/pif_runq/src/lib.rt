@@ -23,4 +23,4 @@
 mod masks;
 mod queue;
 
-pub use queue::RunQueue;
+pub use queue::{LEVELS, RunQueue};

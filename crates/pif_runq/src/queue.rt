@@ -11,6 +11,9 @@ use pif_nodes::{List, Node, NodeTable};
 use pif_types::{Prio, Tid};
 use std::marker::Model;
 
+/// How many levels a run queue has: one for each priority. Each is a list of its table.
+pub const LEVELS: u32 = 99;
+
 /// A run queue in a table of nodes: each level is a list of the table, and each thread that is ready is a node of the
 /// list of its level (sched(7), SCHED_FIFO). A level is a priority, 1 to 99.
 #[derive(Drop)]
@@ -140,8 +143,8 @@ impl RunQueue {
         ensures { result ≡ slice_get (all_below self.now table.now 100) place }
     {
         let mut before = place;
-        for above in 0..99 {
-            let list = self.list_for(99 - above);
+        for above in 0..LEVELS {
+            let list = self.list_for(LEVELS - above);
             if let Some(node) = nth_of_list(table, list, &mut before) {
                 return self.thread_for(node);
             }
@@ -223,7 +226,7 @@ impl RunQueue {
         }
         let list = table.list_of(self.node_for(t))?;
         let number = list.get();
-        if number < self.first_list || number - self.first_list >= 99 {
+        if number < self.first_list || number - self.first_list >= LEVELS {
             return None;
         }
         Prio::new(number - self.first_list + 1)
