@@ -14,7 +14,7 @@ use pif_allow_machine::{AllowingMachine, WidePosition};
 use pif_history::{efforts, find_run, judge_lines, possible_answers, possible_priorities, settled};
 use pif_history_lines::{Verdict, answers_of, labels_of, numbers_of, priorities_of};
 use pif_history_model::{HistoryLimits, Label, Line};
-use pif_rules_model::Rules;
+use pif_rules_model::{Rules, no_rules};
 use pif_search::{
     Effort, Found, Stop, Unwatched, Watch, find, judge, possible, searches_all_steps,
 };
@@ -22,23 +22,10 @@ use pif_types::{Answer, Tid};
 use std::alloc::Global;
 
 /// Whether none of the rules is allowed.
-pub fn are_none(rules: &Rules) -> bool
+fn are_none(rules: &Rules) -> bool
     ensures { result ≡ true → rules.now ≡ no_rules }
 {
-    match *rules {
-        Rules {
-            steal: false,
-            any_waiter: false,
-            spurious: false,
-            recursion: None,
-            own_errorcheck: false,
-            any_consistent: false,
-            held_wait: false,
-            lost_signal: false,
-            revives: false,
-        } => true,
-        _ => false,
-    }
+    *rules == no_rules()
 }
 
 /// A run with these rules that shows these lines, of which these are the labels, if the guided search finds one with

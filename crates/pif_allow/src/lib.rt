@@ -16,6 +16,5 @@ mod guide;
 mod judge;
 
 pub use judge::{
-    are_none, find_run_allowing, judge_allowing, possible_answers_allowing,
-    possible_priorities_allowing,
+    find_run_allowing, judge_allowing, possible_answers_allowing, possible_priorities_allowing,
 };

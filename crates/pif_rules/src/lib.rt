@@ -11,6 +11,7 @@ mod rules;
 mod sets;
 mod words;
 
+pub use pif_rules_model::no_rules;
 pub use rules::{RULES, Rule, name_of};
-pub use sets::{both, has, no_rules, only};
+pub use sets::{both, has, only};
 pub use words::{LEAST_RECURSION, all_rules, rule_in, rules_named};

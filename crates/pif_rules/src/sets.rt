@@ -1,26 +1,8 @@
 ghost use Rattle.std.specs.Prelude.{◌≡◌, ◌||◌};
 ghost use Rattle.pif_rules.specs.Sets.{both, greater, has, only};
-ghost use Rattle.pif_rules_model.specs.Rules.{no_rules};
 
 use crate::rules::Rule;
-use pif_rules_model::Rules;
-
-/// No rule.
-pub fn no_rules() -> Rules
-    ensures { result ≡ no_rules }
-{
-    Rules {
-        steal: false,
-        any_waiter: false,
-        spurious: false,
-        recursion: None,
-        own_errorcheck: false,
-        any_consistent: false,
-        held_wait: false,
-        lost_signal: false,
-        revives: false,
-    }
-}
+use pif_rules_model::{Rules, no_rules};
 
 /// Whether a rule is one of these.
 pub fn has(rules: &Rules, rule: Rule) -> bool

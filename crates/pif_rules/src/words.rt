@@ -2,8 +2,8 @@ ghost use Rattle.std.specs.Prelude.{◌≡◌};
 ghost use Rattle.pif_rules.specs.Words.{all_rules, in_range, recursion_in, rule_in, rules_named};
 
 use crate::rules::Rule;
-use crate::sets::{no_rules, only};
-use pif_rules_model::Rules;
+use crate::sets::only;
+use pif_rules_model::{Rules, no_rules};
 use pif_text::{is_word, number_of};
 
 /// The least number of `recursion`.

@@ -1,3 +1,6 @@
+ghost use Rattle.std.specs.Prelude.{◌≡◌};
+ghost use Rattle.pif_rules_model.specs.Rules.{no_rules};
+
 /// What may happen beside what POSIX and this project allow, as implementations do it. Each rule adds to what may
 /// happen, and takes nothing away.
 #[derive(Clone, Copy, PartialEq, Eq)]
@@ -20,4 +23,21 @@ pub struct Rules {
     pub lost_signal: bool,
     /// `revives`: an unusable mutex is inconsistent again if its owner ends before it has given the mutex up.
     pub revives: bool,
+}
+
+/// No rule.
+pub fn no_rules() -> Rules
+    ensures { result ≡ no_rules }
+{
+    Rules {
+        steal: false,
+        any_waiter: false,
+        spurious: false,
+        recursion: None,
+        own_errorcheck: false,
+        any_consistent: false,
+        held_wait: false,
+        lost_signal: false,
+        revives: false,
+    }
 }
