@@ -2,64 +2,73 @@
 use crate::leaving::Leaving;
 use pif_history_model::Line;
 use pif_search::{Stop, push};
-use pif_types::{Answer, Errno, Request, Tid};
+use pif_types::{Answer, CondId, Errno, Request, Tid};
 use std::alloc::Global;
 
-/// What the lines say of one thread, each with its place, rising.
+/// What the lines say of one thread. Places are rising.
 #[derive(Drop)]
 struct Told {
+    /// Where its calls are answered, and what.
     answers: Vec<(usize, Answer)>,
-    /// Before which of them no answer is looked for any more, if lines are passed.
-    passed: usize,
-    rests: Vec<(usize, Answer)>,
-    /// The variable for which its last call so far waits; 0 if it doesn't.
-    variable: usize,
-    /// Where that call began.
-    begun: usize,
+    /// How many of its answers were passed, if lines are passed.
+    passed: Option<usize>,
+    /// Where it rests.
+    rests: Vec<usize>,
+    /// If its last call so far is a wait: for which variable, and where it began.
+    wait: Option<(CondId, usize)>,
+}
+
+/// What the lines say of the waits for one variable. Places are rising.
+#[derive(Drop)]
+struct Waits {
+    /// Where those begin that don't run out of time.
+    begins: Vec<usize>,
+    /// Where the last is answered that runs out of time.
+    timeout: Option<usize>,
 }
 
 /// What the lines of a history say of the threads that it adds.
 #[derive(Drop)]
 pub struct Later {
+    /// Of nobody, and then of each thread.
     threads: Vec<Told>,
-    /// Of each variable the place behind the last at which a wait for it runs out of time.
-    timeouts: Vec<usize>,
-    /// Of each variable where the waits for it begin that don't run out of time, rising, with what they are answered.
-    waits: Vec<Vec<(usize, Answer)>>,
+    /// Of no variable, and then of each.
+    variables: Vec<Waits>,
     /// The threads whose open calls may fail at once, if lines are passed.
     hasty: Vec<usize>,
     /// Which waits are left blocked when their variable is used.
     pub leaving: Leaving,
 }
 
-/// The first of these that is at a place from `line` on. They stand in the order of their places.
-fn first_from(places: &[(usize, Answer)], line: usize) -> Option<(usize, Answer)> {
-    let mut low = 0;
-    let mut high = places.len();
-    for _ in 0..usize::BITS {
-        if low >= high {
-            break;
-        }
-        let middle = low + (high - low) / 2;
-        match places.get(middle) {
-            Some((place, _)) if *place < line => low = middle + 1,
-            Some(_) => high = middle,
-            None => return None,
-        }
-    }
-    match places.get(low) {
-        Some((place, answer)) => Some((*place, *answer)),
+/// The first of these places, which are rising, that is at `line` or behind it.
+fn first_from(places: &[usize], line: usize) -> Option<usize> {
+    let at = places.partition_point(|place: &usize| -> bool { *place < line });
+    match places.get(at) {
+        Some(place) => Some(*place),
         None => None,
     }
 }
 
 impl Told {
+    /// Nothing is said of a thread.
+    fn nothing(alloc: Global) -> Told {
+        Told {
+            answers: Vec::new(alloc),
+            passed: None,
+            rests: Vec::new(alloc),
+            wait: None,
+        }
+    }
+
     /// Where from `line` on a call of the thread is answered first, and what.
     fn answer(&self, line: usize) -> Option<(usize, Answer)> {
-        if self.passed == 0 {
-            return first_from(self.answers.as_slice(), line);
-        }
-        match self.answers.get(self.passed) {
+        let at = match self.passed {
+            Some(passed) => passed,
+            None => self
+                .answers
+                .partition_point(|told: &(usize, Answer)| -> bool { told.0 < line }),
+        };
+        match self.answers.get(at) {
             Some((place, answer)) => Some((*place, *answer)),
             None => None,
         }
@@ -81,34 +90,25 @@ fn additions_of(lines: &[Line]) -> (usize, usize) {
 }
 
 impl Later {
-    /// Nothing is said, of no threads and variables.
-    fn nothing(alloc: Global) -> Later {
-        Later {
+    /// Nothing is said, of so many threads and variables.
+    fn nothing(alloc: Global, threads: usize, variables: usize) -> Result<Later, Stop> {
+        let mut later = Later {
             threads: Vec::new(alloc),
-            timeouts: Vec::new(alloc),
-            waits: Vec::new(alloc),
+            variables: Vec::new(alloc),
             hasty: Vec::new(alloc),
             leaving: Leaving::for_search(alloc),
+        };
+        for _ in 0..=threads {
+            push(&mut later.threads, Told::nothing(alloc))?;
         }
-    }
-
-    /// Adds so many threads and variables, of which nothing is said.
-    fn add(&mut self, alloc: Global, threads: usize, variables: usize) -> Result<(), Stop> {
-        for _ in 0..threads {
-            let told = Told {
-                answers: Vec::new(alloc),
-                passed: 0,
-                rests: Vec::new(alloc),
-                variable: 0,
-                begun: 0,
+        for _ in 0..=variables {
+            let waits = Waits {
+                begins: Vec::new(alloc),
+                timeout: None,
             };
-            push(&mut self.threads, told)?;
+            push(&mut later.variables, waits)?;
         }
-        for _ in 0..variables {
-            push(&mut self.timeouts, 0)?;
-            push(&mut self.waits, Vec::new(alloc))?;
-        }
-        Ok(())
+        Ok(later)
     }
 
     /// What these lines say, oldest first.
@@ -118,8 +118,7 @@ impl Later {
     /// Out of memory.
     pub fn of(alloc: Global, lines: &[Line]) -> Result<Later, Stop> {
         let (threads, variables) = additions_of(lines);
-        let mut later = Later::nothing(alloc);
-        later.add(alloc, threads, variables)?;
+        let mut later = Later::nothing(alloc, threads, variables)?;
         later.hear_all(lines)?;
         Ok(later)
     }
@@ -129,8 +128,8 @@ impl Later {
         for place in 0..lines.len() {
             self.hear(&lines[place], place)?;
         }
-        for waits in self.waits.iter_mut() {
-            waits.sort()?;
+        for waits in self.variables.iter_mut() {
+            waits.begins.sort()?;
         }
         Ok(())
     }
@@ -148,52 +147,51 @@ impl Later {
 
     /// The thread begins a call at a place.
     fn hear_begin(&mut self, thread: Tid, place: usize, request: &Request) {
-        let variable = match *request {
-            Request::Wait(cond, _) | Request::TimedWait(cond, _, _) => cond.get() as usize,
-            _ => 0,
-        };
-        let at = thread.get() as usize;
-        if 1 <= at && at <= self.threads.len() {
-            self.threads[at - 1].variable = variable;
-            self.threads[at - 1].begun = place;
+        if let Some(told) = self.threads.get_mut(thread.get() as usize) {
+            told.wait = match *request {
+                Request::Wait(cond, _) | Request::TimedWait(cond, _, _) => Some((cond, place)),
+                _ => None,
+            };
         }
     }
 
     /// A wait for a variable, which began there, is answered at a place.
     fn hear_return(
         &mut self,
-        variable: usize,
+        variable: CondId,
         begun: usize,
         place: usize,
         answer: Answer,
     ) -> Result<(), Stop> {
-        if variable < 1 || self.timeouts.len() < variable || self.waits.len() < variable {
-            return Ok(());
+        if let Some(waits) = self.variables.get_mut(variable.get() as usize) {
+            if answer == Errno::TimedOut.number() {
+                waits.timeout = Some(place);
+            } else {
+                push(&mut waits.begins, begun)?;
+            }
         }
-        if answer == Errno::TimedOut.number() {
-            self.timeouts[variable - 1] = place.saturating_add(1);
-            return Ok(());
-        }
-        push(&mut self.waits[variable - 1], (begun, answer))
+        Ok(())
     }
 
     /// A call of the thread is answered at a place.
     fn hear_answer(&mut self, thread: Tid, place: usize, answer: Answer) -> Result<(), Stop> {
-        let at = thread.get() as usize;
-        if at < 1 || self.threads.len() < at {
-            return Ok(());
+        let wait = match self.threads.get_mut(thread.get() as usize) {
+            Some(told) => {
+                push(&mut told.answers, (place, answer))?;
+                told.wait
+            }
+            None => None,
+        };
+        match wait {
+            Some((variable, begun)) => self.hear_return(variable, begun, place, answer),
+            None => Ok(()),
         }
-        let variable = self.threads[at - 1].variable;
-        let begun = self.threads[at - 1].begun;
-        push(&mut self.threads[at - 1].answers, (place, answer))?;
-        self.hear_return(variable, begun, place, answer)
     }
 
     /// The thread rests at a place.
     fn hear_rest(&mut self, thread: Tid, place: usize) -> Result<(), Stop> {
-        let at = thread.get() as usize;
-        if 1 <= at && at <= self.threads.len() {
-            push(&mut self.threads[at - 1].rests, (place, 0))?;
+        if let Some(told) = self.threads.get_mut(thread.get() as usize) {
+            push(&mut told.rests, place)?;
         }
         Ok(())
     }
@@ -235,9 +233,8 @@ impl Later {
     /// The open call of the thread is answered.
     fn pass_answer(&mut self, thread: usize) {
         self.hasty.retain(|other| *other != thread);
-        if 1 <= thread && thread <= self.threads.len() {
-            let told = &mut self.threads[thread - 1];
-            told.passed = told.passed.saturating_add(1);
+        if let Some(told) = self.threads.get_mut(thread) {
+            told.passed = Some(told.passed.unwrap_or(0).saturating_add(1));
         }
     }
 
@@ -248,41 +245,39 @@ impl Later {
 
     /// Where from `line` on a call of the thread is answered first, and what.
     pub fn answer(&self, thread: usize, line: usize) -> Option<(usize, Answer)> {
-        if 1 <= thread && thread <= self.threads.len() {
-            let told = &self.threads[thread - 1];
-            told.answer(line)
-        } else {
-            None
+        match self.threads.get(thread) {
+            Some(told) => told.answer(line),
+            None => None,
         }
     }
 
     /// Where from `line` on the thread is seen to rest first.
     pub fn rest(&self, thread: usize, line: usize) -> Option<usize> {
-        if 1 <= thread && thread <= self.threads.len() {
-            match first_from(self.threads[thread - 1].rests.as_slice(), line) {
-                Some((place, _)) => Some(place),
-                None => None,
-            }
-        } else {
-            None
+        match self.threads.get(thread) {
+            Some(told) => first_from(told.rests.as_slice(), line),
+            None => None,
         }
     }
 
     /// Whether from `line` on, and before a place, a wait for a variable begins that doesn't run out of time.
     pub fn has_wait(&self, variable: u32, line: usize, before: usize) -> bool {
-        let at = variable as usize;
-        if at < 1 || self.waits.len() < at {
-            return false;
-        }
-        match first_from(self.waits[at - 1].as_slice(), line) {
-            Some((place, _)) => place < before,
+        match self.variables.get(variable as usize) {
+            Some(waits) => match first_from(waits.begins.as_slice(), line) {
+                Some(place) => place < before,
+                None => false,
+            },
             None => false,
         }
     }
 
     /// Whether from `line` on some wait for a variable runs out of time.
     pub fn has_timeout(&self, variable: u32, line: usize) -> bool {
-        let at = variable as usize;
-        1 <= at && at <= self.timeouts.len() && line < self.timeouts[at - 1]
+        match self.variables.get(variable as usize) {
+            Some(waits) => match waits.timeout {
+                Some(place) => line <= place,
+                None => false,
+            },
+            None => false,
+        }
     }
 }
