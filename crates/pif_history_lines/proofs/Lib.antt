@@ -1,3 +1,4 @@
 mod Telling
 mod Places
 mod Waking
+mod Errors

@@ -6,12 +6,23 @@ ghost use Rattle.pif_history_model.specs.Verdicts.{answers};
 ghost use Rattle.pif_history_model.specs.Numbers.{number_of, before_if, numbers_in, up_to};
 
 use pif_history_model::{Label, Line};
-use pif_search::{Stop, push};
-use pif_types::{Answer, Tid};
+use pif_search::{Stop, one, push};
+use pif_types::{Errno, Tid};
 use std::alloc::Global;
 
-/// What a call can answer: 0, or the number of an error, rising.
-const ANSWERS: [Answer; 11] = [0, 1, 3, 11, 16, 22, 35, 75, 110, 130, 131];
+/// The errors that a call can answer, in the order of their numbers.
+const ERRORS: [Errno; 10] = [
+    Errno::NotPermitted,
+    Errno::NoSuchThread,
+    Errno::Again,
+    Errno::Busy,
+    Errno::Invalid,
+    Errno::Deadlock,
+    Errno::Overflow,
+    Errno::TimedOut,
+    Errno::OwnerDead,
+    Errno::NotRecoverable,
+];
 
 /// The labels of these lines.
 ///
@@ -36,9 +47,12 @@ pub fn labels_of(alloc: Global, lines: &[Line]) -> Result<Vec<Label>, Stop>
 pub fn answers_of(alloc: Global, thread: Tid) -> Result<Vec<Label>, Stop>
     ensures { IfOk result (λ v. v.items ≡ map (λ a. Shown (AnswerLine thread a)) answers) }
 {
-    let mut labels = Vec::new(alloc);
-    for answer in ANSWERS.as_slice() {
-        push(&mut labels, Label::Shown(Line::Answer(thread, *answer)))?;
+    let mut labels = one(alloc, Label::Shown(Line::Answer(thread, 0)))?;
+    for error in ERRORS.as_slice() {
+        push(
+            &mut labels,
+            Label::Shown(Line::Answer(thread, error.number())),
+        )?;
     }
     Ok(labels)
 }

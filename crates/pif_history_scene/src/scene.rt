@@ -72,12 +72,14 @@ impl Scene<'_> {
 
     /// Whether the open call of a thread may be answered as one that owns its mutex then.
     pub fn may_own(&self, thread: usize) -> bool {
-        match self.known(thread) {
-            Some(0) | Some(130) => true,
-            Some(110) => self.has_expired(thread),
-            Some(_) => false,
-            None => true,
+        let known = match self.known(thread) {
+            Some(answer) => answer,
+            None => return true,
+        };
+        if known == Errno::TimedOut.number() {
+            return self.has_expired(thread);
         }
+        known == 0 || known == Errno::OwnerDead.number()
     }
 
     /// Whether a thread is seen to rest before its open call is answered.
