@@ -56,7 +56,7 @@ impl Allowed<'_> {
     /// Whether the open calls may all be answered yet as they will be.
     pub(crate) fn is_hopeful(&self) -> bool {
         for thread in 0..self.thread_count() {
-            if self.scene.is_orphaned(thread) && !self.may_be_robbed(thread) {
+            if self.scene.is_doomed(thread) && !self.may_be_robbed(thread) {
                 return false;
             }
         }
@@ -69,7 +69,7 @@ impl Allowed<'_> {
         let mut doomed = 0_usize;
         let mut restless = 0_usize;
         for thread in 0..self.thread_count() {
-            if self.scene.is_orphaned(thread) {
+            if self.scene.is_doomed(thread) {
                 doomed = doomed.saturating_add(1);
             }
             if let Need::Takes(_) = self.scene.need(thread)

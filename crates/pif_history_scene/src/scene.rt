@@ -173,7 +173,7 @@ impl Scene<'_> {
     }
 
     /// Whether the open call of a thread can't be answered any more as it will be.
-    pub fn is_orphaned(&self, thread: usize) -> bool {
+    pub fn is_doomed(&self, thread: usize) -> bool {
         let known = match self.known(thread) {
             Some(answer) => answer,
             None => return false,
@@ -202,7 +202,7 @@ impl Scene<'_> {
     /// Whether the open calls may all be answered yet as they will be.
     pub fn is_hopeful(&self) -> bool {
         for thread in 0..self.world.thread_count() {
-            if self.is_orphaned(thread) {
+            if self.is_doomed(thread) {
                 return false;
             }
         }
