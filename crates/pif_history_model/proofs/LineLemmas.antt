@@ -10,6 +10,7 @@ use Rattle.pif_model.specs.declared.events.Entry.TheVariants as entry
 use Rattle.pif_model.specs.Graph.{is_priority}
 use Rattle.pif_model.specs.Posix.{World, Step, is_living, rests, effective_of}
 use Rattle.pif_model.specs.Posix.Step.{thread_added, mutex_added, cond_added, refused, begun, went, waits, answered, ended, ticked}
+use Rattle.pif_model_lemmas.proofs.kernel.Settled.{priority-from_range}
 use Rattle.pif_posix_model.specs.Once.{Enters}
 use Rattle.pif_posix_model.specs.Once.Enters.{answered as by_answer, other}
 use Rattle.pif_history_model.specs.declared.lines.Line.{Line}
@@ -35,9 +36,6 @@ shows-entry_for w (Tick n) e h = cc
 shows-entry_for w (Dying t) e h = absurd (cc)
 shows-entry_for w (Rests t) e h = absurd (cc)
 shows-entry_for w (Prio t p) e h = absurd (cc)
-
-priority-from_range : (p : ℕ) → 1 ≤ p → p ≤ 99 → is_priority p ≡ true
-priority-from_range p a b = search (arith)
 
 -- what is added has the next number
 thread_step : (l : Bounds) (w v : World) (t p : ℕ) → Step l w (entry.Thread t p) v → (t ≡ length w.threads) × (1 ≤ p) × (p ≤ 99)
