@@ -1,2 +1,2 @@
-mod Guiding
+mod Halves
 mod Settling

@@ -1,2 +1,2 @@
 pub mod Verdicts
-pub mod Guided
+pub mod Led

@@ -1,6 +1,6 @@
 //! What rules add to the hidden steps that are worth trying before a line.
 use pif_history_model::Line;
-use pif_history_scene::{Need, Scene, Trial};
+use pif_history_scene::{Need, Scene};
 use pif_posix::named_by;
 use pif_rules_model::Rules;
 use pif_search::{Stop, push};
@@ -10,8 +10,10 @@ use std::alloc::Global;
 /// A hidden step that is worth trying since rules are allowed.
 #[derive(Clone, Copy, Drop)]
 pub(crate) enum Extra {
-    /// This step, with rules or without.
-    Step(Trial),
+    /// A move of the open call of the thread of this number, by a rule or not.
+    Moves(usize),
+    /// The end of the thread of this number, by a rule or not.
+    Ends(usize),
     /// A move by a rule of the open call of the thread of this number.
     ByRule(usize),
 }
@@ -172,7 +174,7 @@ impl Allowed<'_> {
                 && self.scene.is_dying(other)
                 && self.scene.world().is_living(other)
             {
-                push(extras, Extra::Step(Trial::Ends(other)))?;
+                push(extras, Extra::Ends(other))?;
             }
         }
         Ok(())
@@ -202,7 +204,7 @@ impl Allowed<'_> {
                 _ => false,
             };
             if uses && other != thread {
-                push(extras, Extra::Step(Trial::Moves(other)))?;
+                push(extras, Extra::Moves(other))?;
             }
         }
         Ok(())

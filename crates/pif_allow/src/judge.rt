@@ -9,15 +9,15 @@ ghost use Rattle.pif_allow_model.specs.Allowed.{WideAdvances, wide_start_of};
 ghost use Rattle.pif_allow_model.specs.Verdicts.{ArePossibleAnswersWith, ArePossiblePrioritiesWith, IsLegalWith};
 ghost use Rattle.pif_allow.specs.Verdicts.{IsVerdictWith};
 
-use crate::guide::AllowingGuide;
+use crate::tries::AllowingTries;
 use pif_allow_machine::{AllowingMachine, WidePosition};
-use pif_history::{efforts, find_run, judge_lines, possible_answers, possible_priorities, settled};
+use pif_history::{
+    efforts, find_by, find_run, judge_lines, possible_answers, possible_priorities, settled,
+};
 use pif_history_lines::{Verdict, answers_of, labels_of, numbers_of, priorities_of};
 use pif_history_model::{HistoryLimits, Label, Line};
 use pif_rules_model::{Rules, no_rules};
-use pif_search::{
-    Effort, Found, Stop, Unwatched, Watch, find, judge, possible, searches_all_steps,
-};
+use pif_search::{Effort, Found, Stop, Unwatched, Watch, judge, possible, searches_all_steps};
 use pif_types::{Answer, Tid};
 use std::alloc::Global;
 
@@ -42,9 +42,10 @@ fn guided<W: Watch>(
     requires { labels.now ≡ map (λ x. Shown x) lines.now }
     ensures { IfOk result (λ o. IfSome o (λ v. IsLegalWith rules.now limits lines.now v.items)) }
 {
-    let guide = AllowingGuide::new(alloc, rules, limits, lines)?;
+    let machine = AllowingMachine::new(limits, *rules);
+    let tries = AllowingTries::of(alloc, rules, lines)?;
     let start = WidePosition::start(alloc, limits)?;
-    match find(&guide, alloc, start, labels, effort, watch)? {
+    match find_by(machine, tries, alloc, start, labels, effort, watch)? {
         Found::Witness(witness) => Ok(Some(witness)),
         Found::Nothing(_) => Ok(None),
     }

@@ -12,8 +12,8 @@
 #![tactic(auto)]
 
 mod extras;
-mod guide;
 mod judge;
+mod tries;
 
 pub use judge::{
     find_run_allowing, judge_allowing, possible_answers_allowing, possible_priorities_allowing,

@@ -6,6 +6,7 @@
 //! | `judge_lines` | a witness, the first line up to which no run exists, or that the search gave up |
 //! | `find_run` | a witness, if the guided search finds one |
 //! | `possible_answers`, `possible_priorities` | with which answers, or priorities, a line would be shown |
+//! | `find_by`, `push_hopeful` | the guided search, for any machine and what is worth trying on it (`Hopes`, `Tries`) |
 //!
 //! A scan for a wait that nothing can have woken comes first: only the lines before it can have a witness. Then comes a
 //! player that keeps one state of `pif_posix`. If it gets stuck in both of its ways to wake waits, a scout looks which
@@ -19,6 +20,8 @@ mod judge;
 mod player;
 mod scout;
 mod stepping;
+mod tries;
 
+pub use guide::{Hopes, Tries, find_by, push_hopeful};
 pub use judge::{efforts, find_run, judge_lines, possible_answers, possible_priorities, settled};
 pub use pif_search::{Stop, Unwatched, Watch};
