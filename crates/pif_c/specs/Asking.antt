@@ -2,6 +2,7 @@
 use Rattle.std.specs.Prelude.{ℕ, ◌≡◌, ◌==◌, Bool, Option, Some, None, option_map, Result, if◌then◌else◌}
 use Rattle.pif_types.specs.declared.errors.AddFault.{AddFault}
 use Rattle.pif_model.specs.declared.events.Event.TheVariants.{Begin, Go, End, Tick}
+use Rattle.pif_model.specs.Word.{health_word}
 use Rattle.pif_model.specs.Table.{Table}
 use Rattle.pif_model.specs.Lines.{Outcome, event_outcome}
 use Rattle.pif_model.specs.Calls.{add_thread_answer, add_thread_after, add_mutex_answer, add_mutex_after, add_cond_answer, add_cond_after, effective_answer, waiting_answer, word_answer, health_answer, cond_word_answer, pick_answer, owner_answer, status_answer}
@@ -17,7 +18,8 @@ use Rattle.pif_c_numbers.specs.declared.numbers.PifNumber.{PifNumber}
 use Rattle.pif_c_numbers.specs.declared.numbers.PifOwned.{PifOwned}
 use Rattle.pif_c_numbers.specs.declared.numbers.PifDoing.{PifDoing}
 use Rattle.pif_c_numbers.specs.declared.numbers.PifRequest.{PifRequest}
-use Rattle.pif_c_numbers.specs.Numbers.{where_named, request_of, kind_of, seen_reported, nothing_seen, unnamed_seen, number_told, owner_told, status_told, added_told, health_number, no_core, invalid}
+use Rattle.pif_c_numbers.specs.Codes as pif
+use Rattle.pif_c_numbers.specs.Numbers.{no_number, no_owner, no_state, where_named, request_of, kind_of, seen_reported, nothing_seen, unnamed_seen, number_told, owner_told, status_told, added_told}
 
 -- TURNS
 
@@ -68,13 +70,13 @@ abbrev pub shown : Look → Table → Option ℕ
 shown (Effective t) s = effective_answer t s
 shown (Waiting t) s = option_map bit_of (waiting_answer t s)
 shown (Word m) s = word_answer m s
-shown (Health m) s = option_map health_number (health_answer m s)
+shown (Health m) s = option_map health_word (health_answer m s)
 shown (CondWord c) s = cond_word_answer c s
 shown Pick s = pick_answer s
 
 -- what is answered of what a handle holds
 abbrev pub shown_told : Look → Option Table → PifNumber
-shown_told x None = record { result = no_core; number = 0 }
+shown_told x None = no_number pif.no_core
 shown_told x (Some s) = number_told (shown x s)
 
 -- a look at what a handle holds: the answer, and it holds the same afterwards
@@ -84,11 +86,11 @@ pub record Looks (x : Look) (before after : Option Table) (told : PifNumber) : T
 
 -- the owner of a mutex, and what a thread does, by what a handle holds
 abbrev pub owner_shown : ℕ → Option Table → PifOwned
-owner_shown m None = record { result = no_core; thread = 0; count = 0 }
+owner_shown m None = no_owner pif.no_core
 owner_shown m (Some s) = owner_told (owner_answer m s)
 
 abbrev pub status_shown : ℕ → Option Table → PifDoing
-status_shown t None = record { result = no_core; state = 0; waits_for = 0 }
+status_shown t None = no_state pif.no_core
 status_shown t (Some s) = status_told (status_answer t s)
 
 -- ADDITIONS
@@ -106,8 +108,8 @@ added_after (Cond m) s = add_cond_after m (add_cond_answer m s) s
 
 -- what is answered to an addition on what a handle holds, and what the handle holds then
 abbrev pub add_told : Option Addition → Option Table → PifNumber
-add_told x None = record { result = no_core; number = 0 }
-add_told None (Some s) = record { result = invalid; number = 0 }
+add_told x None = no_number pif.no_core
+add_told None (Some s) = no_number pif.invalid
 add_told (Some x) (Some s) = added_told (added x s)
 
 abbrev pub add_after : Option Addition → Option Table → Option Table

@@ -16,7 +16,7 @@ use Rattle.pif_c.specs.declared.adding.Addition.{Addition}
 use Rattle.pif_c.specs.declared.adding.Addition.TheVariants.{Thread, Mutex, Cond}
 use Rattle.pif_c_numbers.specs.declared.numbers.PifSeen.{PifSeen}
 use Rattle.pif_c_numbers.specs.declared.numbers.PifNumber.{PifNumber}
-use Rattle.pif_c_numbers.specs.Numbers.{invalid, full, no_memory}
+use Rattle.pif_c_numbers.specs.Codes as pif
 use Rattle.pif_c.specs.Asking.{turn_told, turn_after, added, add_told, add_after}
 
 -- from one table to the next, with a longer history: wherever a core with the first stands after a history, one with
@@ -70,7 +70,7 @@ pub record Adds (x : Option Addition) (before after : Option Table) (told : PifN
 -- empty history. It is refused if there is a core already, or a limit is outside its range; if the heap refuses a
 -- request there is no core
 pub data IsMade (l : Bounds) : Option Table → Option Table → ℕ → Type 0 where
-  made : IsWithin l → Stands (new_table l) [] [] (empty_world l.signals) → IsMade l None (Some (new_table l)) 0
-  none_left : IsWithin l → IsMade l None None no_memory
-  not_within : (IsWithin l → ⊥) → IsMade l None None invalid
-  there : (s : Table) → IsMade l (Some s) (Some s) full
+  made : IsWithin l → Stands (new_table l) [] [] (empty_world l.signals) → IsMade l None (Some (new_table l)) pif.ok
+  none_left : IsWithin l → IsMade l None None pif.no_memory
+  not_within : (IsWithin l → ⊥) → IsMade l None None pif.invalid
+  there : (s : Table) → IsMade l (Some s) (Some s) pif.full

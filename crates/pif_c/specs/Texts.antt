@@ -8,24 +8,25 @@ use Rattle.pif_job_judge.specs.declared.forms.Form.TheVariants as form
 use Rattle.pif_job_judge.specs.Judging.{JudgesTo}
 use Rattle.pif_job_judge.specs.declared.faults.JudgeFault.{JudgeFault}
 use Rattle.pif_job_judge.specs.declared.faults.JudgeFault.TheVariants.{Cli, Undecided}
+use Rattle.pif_c_numbers.specs.Codes as pif
 use Rattle.pif_c.specs.declared.texts.PifText.{PifText}
 
--- how a job ended: `enum pif_ended_by`
+-- how a job ended
 abbrev pub fault_number : CliFault → ℕ
-fault_number (Script n c) = 1
-fault_number (Differs n) = 2
-fault_number NoMemory = 3
-fault_number Write = 4
-fault_number Read = 5
+fault_number (Script n c) = pif.fault
+fault_number (Differs n) = pif.differs
+fault_number NoMemory = pif.out_of_memory
+fault_number Write = pif.unwritten
+fault_number Read = pif.unread
 
 abbrev pub ended_number : Result (Unit {0}) CliFault → ℕ
-ended_number (Ok x) = 0
+ended_number (Ok x) = pif.whole
 ended_number (Err fault) = fault_number fault
 
 abbrev pub judged_number : Result (Unit {0}) JudgeFault → ℕ
-judged_number (Ok x) = 0
+judged_number (Ok x) = pif.whole
 judged_number (Err (Cli fault)) = fault_number fault
-judged_number (Err (Undecided n)) = 6
+judged_number (Err (Undecided n)) = pif.undecided
 
 -- what a job says of a reader and a writer: what the reader had and has left, what the writer held and holds, and how
 -- the job ended

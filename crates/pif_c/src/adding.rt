@@ -5,6 +5,7 @@ ghost use Rattle.pif_c.specs.Asking.{added, added_after, add_told, add_after, mu
 ghost use Rattle.pif_c.specs.Standing.{Adds};
 
 use crate::handles::PifCore;
+use pif_c_numbers::codes::{INVALID, NO_CORE};
 use pif_c_numbers::{PifNumber, added_told, kind_of};
 use pif_core::Core;
 use pif_types::{AddFault, Kind, MutexId};
@@ -63,10 +64,7 @@ fn add(core: &mut Core, asked: Option<Addition>) -> PifNumber
         Some(Addition::Thread(prio)) => added_told(add_thread(core, prio)),
         Some(Addition::Mutex(kind, robust)) => added_told(add_mutex(core, kind, robust)),
         Some(Addition::Cond(mutex)) => added_told(add_cond(core, mutex)),
-        None => PifNumber {
-            result: 6,
-            number: 0,
-        },
+        None => PifNumber::refused(INVALID),
     }
 }
 
@@ -81,10 +79,7 @@ fn add_on(alloc: Global, handle: &mut PifCore, asked: Option<Addition>) -> PifNu
             handle.put(core);
             told
         }
-        None => PifNumber {
-            result: 1,
-            number: 0,
-        },
+        None => PifNumber::refused(NO_CORE),
     }
 }
 

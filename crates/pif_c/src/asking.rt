@@ -4,7 +4,8 @@ ghost use Rattle.pif_c.specs.Asking.{outcome_of, turn_told, turn_after, shown, L
 ghost use Rattle.pif_c.specs.Standing.{Turns};
 
 use crate::handles::PifCore;
-use pif_c_numbers::{PifNumber, PifSeen, health_number, number_told, seen_reported};
+use pif_c_numbers::codes::NO_CORE;
+use pif_c_numbers::{PifNumber, PifSeen, health_code, number_told, seen_reported};
 use pif_core::{Core, Event, Seen};
 use pif_types::{CondId, MutexId, Request, Tid};
 use std::alloc::Global;
@@ -62,7 +63,7 @@ pub(crate) fn turn_on(alloc: Global, handle: &mut PifCore, asked: Option<Turn>) 
             handle.put(core);
             told
         }
-        None => PifSeen { what: 0, detail: 0 },
+        None => PifSeen::NOTHING,
     }
 }
 
@@ -74,7 +75,7 @@ fn told_turn(core: &mut Core, asked: Option<Turn>) -> PifSeen
 {
     match asked {
         Some(asked) => seen_reported(take_turn(core, asked)),
-        None => PifSeen { what: 8, detail: 0 },
+        None => PifSeen::UNNAMED,
     }
 }
 
@@ -113,7 +114,7 @@ fn health(core: &Core, mutex: u32) -> Option<u32>
     ensures { result ≡ shown (Look.Health mutex) core.now }
 {
     let health = core.health(MutexId::new(mutex)?)?;
-    Some(health_number(health))
+    Some(health_code(health))
 }
 
 fn pick(core: &Core) -> Option<u32>
@@ -133,9 +134,6 @@ pub(crate) fn look_on(alloc: Global, handle: &mut PifCore, asked: Look) -> PifNu
             handle.put(core);
             number_told(shown)
         }
-        None => PifNumber {
-            result: 1,
-            number: 0,
-        },
+        None => PifNumber::refused(NO_CORE),
     }
 }

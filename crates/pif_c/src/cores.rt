@@ -4,6 +4,7 @@ ghost use Rattle.pif_c.specs.Handles.{held};
 ghost use Rattle.pif_c.specs.Standing.{IsMade};
 
 use crate::handles::PifCore;
+use pif_c_numbers::codes::{FULL, INVALID, NO_MEMORY, OK};
 use pif_core::Core;
 use pif_types::Limits;
 use std::alloc::Global;
@@ -17,8 +18,8 @@ fn boxed(alloc: Global, limits: Limits) -> Option<Box<Core>>
 }
 
 /// Has a handle hold a new core under these limits, to which nothing was added: 0, or why not, and then it holds what
-/// it held. It is refused if the handle holds a core already (`Full`), or if a limit is outside its range (`Invalid`),
-/// and fails if the heap refuses a request (`NoMemory`).
+/// it held. It is refused if the handle holds a core already (`FULL`), or if a limit is outside its range (`INVALID`),
+/// and fails if the heap refuses a request (`NO_MEMORY`).
 #[unsafe(no_mangle)]
 pub extern "C" fn pif_core_new(
     alloc: Global,
@@ -31,11 +32,11 @@ pub extern "C" fn pif_core_new(
     ensures { IsMade (record { threads = threads; mutexes = mutexes; conds = conds; signals = signals }) (held handle.old) (held handle.new) result }
 {
     if handle.is_full() {
-        return 7;
+        return FULL;
     }
     match Limits::new(threads, mutexes, conds, signals) {
         Some(limits) => make(alloc, handle, limits),
-        None => 6,
+        None => INVALID,
     }
 }
 
@@ -49,9 +50,9 @@ fn make(alloc: Global, handle: &mut PifCore, limits: Limits) -> u32
     match boxed(alloc, limits) {
         Some(core) => {
             handle.put(core);
-            0
+            OK
         }
-        None => 8,
+        None => NO_MEMORY,
     }
 }
 

@@ -6,6 +6,7 @@ ghost use Rattle.pif_c.specs.Asking.{Looks, owner_shown, status_shown};
 
 use crate::asking::{Look, look_on};
 use crate::handles::PifCore;
+use pif_c_numbers::codes::{NO_CORE, NONE, OK};
 use pif_c_numbers::{PifDoing, PifNumber, PifOwned, doing_told};
 use pif_core::Core;
 use pif_types::{MutexId, Tid};
@@ -62,21 +63,16 @@ pub extern "C" fn pif_pick(alloc: Global, handle: &mut PifCore) -> PifNumber
 fn owner(core: &Core, mutex: u32) -> PifOwned
     ensures { result ≡ owner_shown mutex (Some core.now) }
 {
-    let none = PifOwned {
-        result: 2,
-        thread: 0,
-        count: 0,
-    };
     let Some(mutex) = MutexId::new(mutex) else {
-        return none;
+        return PifOwned::refused(NONE);
     };
     match core.owner(mutex) {
         Some((thread, count)) => PifOwned {
-            result: 0,
+            result: OK,
             thread: thread.get(),
             count,
         },
-        None => none,
+        None => PifOwned::refused(NONE),
     }
 }
 
@@ -92,28 +88,19 @@ pub extern "C" fn pif_owner(alloc: Global, handle: &mut PifCore, mutex: u32) -> 
             handle.put(core);
             shown
         }
-        None => PifOwned {
-            result: 1,
-            thread: 0,
-            count: 0,
-        },
+        None => PifOwned::refused(NO_CORE),
     }
 }
 
 fn status(core: &Core, thread: u32) -> PifDoing
     ensures { result ≡ status_shown thread (Some core.now) }
 {
-    let none = PifDoing {
-        result: 2,
-        state: 0,
-        waits_for: 0,
-    };
     let Some(thread) = Tid::new(thread) else {
-        return none;
+        return PifDoing::refused(NONE);
     };
     match core.status(thread) {
         Some(status) => doing_told(status),
-        None => none,
+        None => PifDoing::refused(NONE),
     }
 }
 
@@ -129,10 +116,6 @@ pub extern "C" fn pif_status(alloc: Global, handle: &mut PifCore, thread: u32) -
             handle.put(core);
             shown
         }
-        None => PifDoing {
-            result: 1,
-            state: 0,
-            waits_for: 0,
-        },
+        None => PifDoing::refused(NO_CORE),
     }
 }

@@ -7,6 +7,7 @@ ghost use Rattle.pif_job_judge.specs.declared.faults.JudgeFault.{JudgeFault};
 ghost use Rattle.pif_rules_model.specs.Rules.{no_rules};
 ghost use Rattle.pif_c.specs.Texts.{fault_number, ended_number, judged_number, form_of, JudgesAlone, Wholly, HandsOut, IsHandedOut};
 
+use pif_c_numbers::codes::{DIFFERS, FAULT, OUT_OF_MEMORY, UNDECIDED, UNREAD, UNWRITTEN, WHOLE};
 use pif_job_judge::{Form, JudgeFault, Judging, Unwatched};
 use pif_rules::no_rules;
 use pif_script_model::CliFault;
@@ -27,11 +28,11 @@ fn fault_number(fault: CliFault) -> u32
     ensures { result ≡ fault_number fault }
 {
     match fault {
-        CliFault::Script(_, _) => 1,
-        CliFault::Differs(_) => 2,
-        CliFault::NoMemory => 3,
-        CliFault::Write => 4,
-        CliFault::Read => 5,
+        CliFault::Script(_, _) => FAULT,
+        CliFault::Differs(_) => DIFFERS,
+        CliFault::NoMemory => OUT_OF_MEMORY,
+        CliFault::Write => UNWRITTEN,
+        CliFault::Read => UNREAD,
     }
 }
 
@@ -40,7 +41,7 @@ fn ended_number(done: Result<(), CliFault>) -> u32
     ensures { result ≡ ended_number done }
 {
     match done {
-        Ok(()) => 0,
+        Ok(()) => WHOLE,
         Err(fault) => fault_number(fault),
     }
 }
@@ -50,9 +51,9 @@ fn judged_number(done: Result<(), JudgeFault>) -> u32
     ensures { result ≡ judged_number done }
 {
     match done {
-        Ok(()) => 0,
+        Ok(()) => WHOLE,
         Err(JudgeFault::Cli(fault)) => fault_number(fault),
-        Err(JudgeFault::Undecided(_)) => 6,
+        Err(JudgeFault::Undecided(_)) => UNDECIDED,
     }
 }
 

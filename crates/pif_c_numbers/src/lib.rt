@@ -1,10 +1,12 @@
 //! The structs and the numbers that cross from C to `pif_c` and back, and what they stand for. `include/pif.h` has them
-//! for C.
+//! for C, each number under the name that it has here, behind `PIF_`.
 #![tactic(auto)]
 
+/// The numbers of results, states and calls, under the names of `include/pif.h`.
+pub mod codes;
 mod numbers;
 
 pub use numbers::{
-    PifDoing, PifNumber, PifOwned, PifRequest, PifSeen, added_told, doing_told, health_number,
+    PifDoing, PifNumber, PifOwned, PifRequest, PifSeen, added_told, doing_told, health_code,
     kind_of, number_told, request_of, seen_reported,
 };

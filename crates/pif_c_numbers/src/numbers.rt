@@ -1,6 +1,13 @@
 ghost use Rattle.std.specs.Prelude.{◌≡◌, ℕ, Option, Result};
-ghost use Rattle.pif_c_numbers.specs.Numbers.{refusal_number, add_number, added_told, number_told, seen_reported, kind_of, health_number, request_of, doing_told};
+ghost use Rattle.pif_model.specs.Word.{health_word};
+ghost use Rattle.pif_c_numbers.specs.Numbers.{no_number, no_owner, no_state, refusal_number, add_number, added_told, number_told, seen_reported, kind_of, request_of, doing_told};
 
+use crate::codes::{
+    ANSWERED, BAD_PRIO, BEGUN, BROADCAST, BUSY, CONSISTENT, DEAD, ENDED, ERRORCHECK, FINE, GONE,
+    IDLE, INCONSISTENT, LOCK, NO_MUTEX, NO_SUCH, NONE, NORMAL, NOTHING, OK, PARKED, PAST, QUEUED,
+    READY, RECURSIVE, REFUSED, SETPRIO, SIGNAL, STOPPED, TICKED, TIMEDLOCK, TIMEDWAIT, TOO_MANY,
+    TRYLOCK, UNLOCK, UNNAMED, UNUSABLE, WAIT, WAITS, WENT,
+};
 use pif_model::{Seen, Status};
 use pif_types::{AddFault, CondId, Health, Kind, MutexId, Refusal, Request, Tid};
 
@@ -14,6 +21,19 @@ pub struct PifSeen {
     pub detail: u32,
 }
 
+impl PifSeen {
+    /// What is answered if the handle holds no core.
+    pub const NOTHING: PifSeen = PifSeen {
+        what: NOTHING,
+        detail: 0,
+    };
+    /// What is answered if a number names nothing.
+    pub const UNNAMED: PifSeen = PifSeen {
+        what: UNNAMED,
+        detail: 0,
+    };
+}
+
 /// A number, if there is one.
 #[repr(C)]
 #[derive(Clone, Copy, Drop)]
@@ -22,6 +42,18 @@ pub struct PifNumber {
     pub result: u32,
     /// The number, 0 if there is none.
     pub number: u32,
+}
+
+impl PifNumber {
+    /// No number, and why (`enum pif_result`).
+    pub fn refused(why: u32) -> PifNumber
+        ensures { result ≡ no_number why }
+    {
+        PifNumber {
+            result: why,
+            number: 0,
+        }
+    }
 }
 
 /// The owner of a mutex, if there is one.
@@ -36,6 +68,19 @@ pub struct PifOwned {
     pub count: u32,
 }
 
+impl PifOwned {
+    /// No owner, and why (`enum pif_result`).
+    pub fn refused(why: u32) -> PifOwned
+        ensures { result ≡ no_owner why }
+    {
+        PifOwned {
+            result: why,
+            thread: 0,
+            count: 0,
+        }
+    }
+}
+
 /// What a thread does, if it was added.
 #[repr(C)]
 #[derive(Clone, Copy, Drop)]
@@ -46,6 +91,19 @@ pub struct PifDoing {
     pub state: u32,
     /// The mutex or the condition variable for which it waits, else 0.
     pub waits_for: u32,
+}
+
+impl PifDoing {
+    /// Nothing to say, and why (`enum pif_result`).
+    pub fn refused(why: u32) -> PifDoing
+        ensures { result ≡ no_state why }
+    {
+        PifDoing {
+            result: why,
+            state: 0,
+            waits_for: 0,
+        }
+    }
 }
 
 /// A call, with what it names. What a call doesn't name is not looked at.
@@ -72,11 +130,11 @@ fn refusal_number(refusal: Refusal) -> u32
     ensures { result ≡ refusal_number refusal }
 {
     match refusal {
-        Refusal::NoSuch => 1,
-        Refusal::Dead => 2,
-        Refusal::Busy => 3,
-        Refusal::Idle => 4,
-        Refusal::Past => 5,
+        Refusal::NoSuch => NO_SUCH,
+        Refusal::Dead => DEAD,
+        Refusal::Busy => BUSY,
+        Refusal::Idle => IDLE,
+        Refusal::Past => PAST,
     }
 }
 
@@ -86,13 +144,13 @@ pub fn seen_reported(seen: Seen) -> PifSeen
     ensures { result ≡ seen_reported seen }
 {
     let (what, detail) = match seen {
-        Seen::Begun => (1, 0),
-        Seen::Went => (2, 0),
-        Seen::Waits => (3, 0),
-        Seen::Answered(answer) => (4, answer),
-        Seen::Ended => (5, 0),
-        Seen::Ticked => (6, 0),
-        Seen::Refused(refusal) => (7, refusal_number(refusal)),
+        Seen::Begun => (BEGUN, 0),
+        Seen::Went => (WENT, 0),
+        Seen::Waits => (WAITS, 0),
+        Seen::Answered(answer) => (ANSWERED, answer),
+        Seen::Ended => (ENDED, 0),
+        Seen::Ticked => (TICKED, 0),
+        Seen::Refused(refusal) => (REFUSED, refusal_number(refusal)),
     };
     PifSeen { what, detail }
 }
@@ -102,9 +160,9 @@ fn fault_number(fault: AddFault) -> u32
     ensures { result ≡ add_number fault }
 {
     match fault {
-        AddFault::TooMany => 3,
-        AddFault::BadPrio => 4,
-        AddFault::NoSuch => 5,
+        AddFault::TooMany => TOO_MANY,
+        AddFault::BadPrio => BAD_PRIO,
+        AddFault::NoSuch => NO_MUTEX,
     }
 }
 
@@ -113,11 +171,8 @@ pub fn added_told(added: Result<u32, AddFault>) -> PifNumber
     ensures { result ≡ added_told added }
 {
     match added {
-        Ok(number) => PifNumber { result: 0, number },
-        Err(fault) => PifNumber {
-            result: fault_number(fault),
-            number: 0,
-        },
+        Ok(number) => PifNumber { result: OK, number },
+        Err(fault) => PifNumber::refused(fault_number(fault)),
     }
 }
 
@@ -126,11 +181,8 @@ pub fn number_told(shown: Option<u32>) -> PifNumber
     ensures { result ≡ number_told shown }
 {
     match shown {
-        Some(number) => PifNumber { result: 0, number },
-        None => PifNumber {
-            result: 2,
-            number: 0,
-        },
+        Some(number) => PifNumber { result: OK, number },
+        None => PifNumber::refused(NONE),
     }
 }
 
@@ -139,21 +191,21 @@ pub fn kind_of(kind: u32) -> Option<Kind>
     ensures { result ≡ kind_of kind }
 {
     match kind {
-        0 => Some(Kind::Normal),
-        1 => Some(Kind::Recursive),
-        2 => Some(Kind::ErrorCheck),
+        NORMAL => Some(Kind::Normal),
+        RECURSIVE => Some(Kind::Recursive),
+        ERRORCHECK => Some(Kind::ErrorCheck),
         _ => None,
     }
 }
 
-/// The number of a health, as the health word has it.
-pub fn health_number(health: Health) -> u32
-    ensures { result ≡ health_number health }
+/// The health word that says this: its number in `enum pif_health_of`.
+pub fn health_code(health: Health) -> u32
+    ensures { result ≡ health_word health }
 {
     match health {
-        Health::Fine => 0,
-        Health::Inconsistent => 1,
-        Health::Unusable => 2,
+        Health::Fine => FINE,
+        Health::Inconsistent => INCONSISTENT,
+        Health::Unusable => UNUSABLE,
     }
 }
 
@@ -162,14 +214,14 @@ pub fn doing_told(status: Status) -> PifDoing
     ensures { result ≡ doing_told status }
 {
     let (state, waits_for) = match status {
-        Status::Ready(_) => (0, 0),
-        Status::Queued(mutex) => (1, mutex.get()),
-        Status::Parked(cond) => (2, cond.get()),
-        Status::Stopped => (3, 0),
-        Status::Ended => (4, 0),
+        Status::Ready(_) => (READY, 0),
+        Status::Queued(mutex) => (QUEUED, mutex.get()),
+        Status::Parked(cond) => (PARKED, cond.get()),
+        Status::Stopped => (STOPPED, 0),
+        Status::Ended => (GONE, 0),
     };
     PifDoing {
-        result: 0,
+        result: OK,
         state,
         waits_for,
     }
@@ -181,26 +233,26 @@ pub fn request_of(asked: PifRequest) -> Option<Request>
     ensures { result ≡ request_of asked }
 {
     match asked.call {
-        1 => Some(Request::Lock(MutexId::new(asked.mutex)?)),
-        2 => Some(Request::TryLock(MutexId::new(asked.mutex)?)),
-        3 => Some(Request::Unlock(MutexId::new(asked.mutex)?)),
-        4 => Some(Request::Consistent(MutexId::new(asked.mutex)?)),
-        5 => {
+        LOCK => Some(Request::Lock(MutexId::new(asked.mutex)?)),
+        TRYLOCK => Some(Request::TryLock(MutexId::new(asked.mutex)?)),
+        UNLOCK => Some(Request::Unlock(MutexId::new(asked.mutex)?)),
+        CONSISTENT => Some(Request::Consistent(MutexId::new(asked.mutex)?)),
+        TIMEDLOCK => {
             let mutex = MutexId::new(asked.mutex)?;
             Some(Request::TimedLock(mutex, asked.deadline))
         }
-        6 => {
+        WAIT => {
             let cond = CondId::new(asked.cond)?;
             Some(Request::Wait(cond, MutexId::new(asked.mutex)?))
         }
-        7 => {
+        TIMEDWAIT => {
             let cond = CondId::new(asked.cond)?;
             let mutex = MutexId::new(asked.mutex)?;
             Some(Request::TimedWait(cond, mutex, asked.deadline))
         }
-        8 => Some(Request::Signal(CondId::new(asked.cond)?)),
-        9 => Some(Request::Broadcast(CondId::new(asked.cond)?)),
-        10 => Some(Request::SetPrio(Tid::new(asked.thread)?, asked.prio)),
+        SIGNAL => Some(Request::Signal(CondId::new(asked.cond)?)),
+        BROADCAST => Some(Request::Broadcast(CondId::new(asked.cond)?)),
+        SETPRIO => Some(Request::SetPrio(Tid::new(asked.thread)?, asked.prio)),
         _ => None,
     }
 }
