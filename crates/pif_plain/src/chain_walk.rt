@@ -16,8 +16,7 @@
 //!    1. It is moved to that level, if it is on one: t1 goes from level 2 to the end of level 99.
 //!    2. It becomes its effective priority: t1 and t2 have 99.
 //!    3. It becomes the priority with which it waits: t2 stands on s1 with 99, and with the ticket that it had.
-//! 3. The answer is how many threads got another priority: 2.
-ghost use Rattle.std.specs.Prelude.{◌≡◌, ℕ, ◌<◌, ◌≤◌, ◌==◌, not, length, None, true, unwrap_or};
+ghost use Rattle.std.specs.Prelude.{◌≡◌, ℕ, ◌<◌, ◌≤◌, length, None, true, unwrap_or};
 ghost use Rattle.pif_nodes_model.specs.Lists.{has};
 ghost use Rattle.pif_nodes_model.specs.Levels.{IsLevel, level_of, Holds, IsQueued, SameOutside, level_after_move_if_queued};
 ghost use Rattle.pif_model.specs.Graph.{IsEffective};
@@ -33,8 +32,7 @@ use pif_types::{Prio, Tid};
 /// Gives each thread the greatest base priority of it and of all that wait for it through any chain, also where it
 /// stands among the waiters of a state, with the ticket that it has; so the top waiter of a state is its next one. A
 /// thread of the run queue is moved to the level of its priority; one that keeps its level keeps its place. All else in
-/// the owner states and in the table stays as it was. Answers how many threads got another effective priority; only
-/// that these are at most the threads is proved. (RT-mutex design, the priority chain walk.)
+/// the owner states and in the table stays as it was. (RT-mutex design, the priority chain walk.)
 ///
 /// Before the call nothing may be left to repair but the effective priority of `start`, which was admitted: each other
 /// thread has the greatest of its base priority and of the effective priorities of those that wait for it, and every
@@ -42,7 +40,7 @@ use pif_types::{Prio, Tid};
 /// wait for nobody, and are on the levels of the effective priorities that they have. So only `start` and those for
 /// whom it waits can get another priority, and at most one thread, the last of them, joins another level (`one`). After
 /// the call nothing is left to repair, and each thread of the run queue is on the level of its priority.
-pub fn walk(owners: &mut RtMutexes, queue: &mut RunQueue, table: &mut NodeTable, start: Tid) -> u32
+pub fn walk(owners: &mut RtMutexes, queue: &mut RunQueue, table: &mut NodeTable, start: Tid)
     requires admitted { 1 ≤ base_of owners.old start }
     requires repaired { IsRepairedBut start owners.old }
     requires holds { Holds queue.old table.old }
@@ -61,30 +59,23 @@ pub fn walk(owners: &mut RtMutexes, queue: &mut RunQueue, table: &mut NodeTable,
     ensures outside { SameOutside queue.old table.old table.new }
     ensures place { queue.new ≡ record queue.old { mask = queue.new.mask } }
     ensures holds { Holds queue.new table.new }
-    ensures most { result < length owners.old.seats }
 {
     let mut greatest = [None; PLACES];
     propagate_all(owners, &mut greatest);
-    // How many threads have another priority than before.
-    let mut changed = 0;
     for place in 0..owners.threads() {
         let t = Tid::new(place + 1).unwrap();
-        if repair(owners, queue, table, t, priority_of(&greatest, t)) {
-            changed += 1;
-        }
+        repair(owners, queue, table, t, priority_of(&greatest, t));
     }
-    changed
 }
 
 /// Gives the thread `t` this effective priority, where it waits and in the run queue too. With none it stays as it is.
-/// Answers whether it had another one.
 fn repair(
     owners: &mut RtMutexes,
     queue: &mut RunQueue,
     table: &mut NodeTable,
     t: Tid,
     priority: Option<Prio>,
-) -> bool
+)
     requires row { t < length owners.old.seats }
     requires holds { Holds queue.old table.old }
     requires ready { IsQueued queue.old table.old t → 1 ≤ unwrap_or priority 0 }
@@ -95,27 +86,20 @@ fn repair(
     ensures outside { SameOutside queue.old table.old table.new }
     ensures place { queue.new ≡ record queue.old { mask = queue.new.mask } }
     ensures holds { Holds queue.new table.new }
-    ensures changed { 1 ≤ unwrap_or priority 0 → result ≡ not (unwrap_or priority 0 == local_of owners.old t) }
 {
-    match priority {
-        Some(prio) => {
-            queue.move_if_queued(table, t, prio);
-            boost(owners, t, prio)
-        }
-        None => false,
+    if let Some(prio) = priority {
+        queue.move_if_queued(table, t, prio);
+        boost(owners, t, prio);
     }
 }
 
-/// Gives the thread `t` this effective priority, also where it waits. Answers whether it had another one.
-fn boost(owners: &mut RtMutexes, t: Tid, prio: Prio) -> bool
+/// Gives the thread `t` this effective priority, also where it waits.
+fn boost(owners: &mut RtMutexes, t: Tid, prio: Prio)
     requires { t < length owners.old.seats }
-    ensures owners { owners.new ≡ with_task t (with_effective prio (task_at owners.old t)) owners.old }
-    ensures changed { result ≡ not (prio == local_of owners.old t) }
+    ensures { owners.new ≡ with_task t (with_effective prio (task_at owners.old t)) owners.old }
 {
-    let before = owners.local(t);
     owners.set_local(t, prio);
     if let Some(state) = owners.waits_on(t) {
         owners.rekey(state, t, prio);
     }
-    before != Some(prio)
 }

@@ -7,7 +7,6 @@ use Rattle.pif_plain.proofs.Propagation.{nothing_at}
 use Rattle.pif_kernel_model.proofs.Settled.{settled, top_is_next, walked-level}
 use Rattle.pif_kernel_model.proofs.Walks.{numbered, walked-start, next_ready, next_idle, walked-more, walked-repaired, walked-levels, repaired-greatest}
 use Rattle.pif_plain.proofs.chain_walk.walk.Goals as goal
-use Rattle.pif_plain.proofs.chain_walk.walk.Goals.{then-repair, else-repair}
 
 pub propagate_all-requires : goal.propagate_all-requires
 propagate_all-requires c = record { none = λ t. nothing_at 1025 t }
@@ -17,7 +16,6 @@ loop-place-init c =
     record {
       walked = walked-start c.args.owners.now c.args.queue.now c.args.table.now
           c.threads-place-end.ensures.sound c.requires.holds;
-      counted = omega arith;
     }
 
 pub repair-requires-clause-ready : goal.repair-requires-clause-ready
@@ -41,21 +39,11 @@ loop-place-preserved c =
     let at : c.unwrap-t.result ≡ c.loop-place.place + 1 = numbered c.new.result c.unwrap-t.result (c.loop-place.place + 1) c.unwrap-t.ensures c.new.ensures.value in
     let priority : unwrap_or c.priority_of.result 0 ≡ greatest_base c.args.owners.now c.unwrap-t.result =
     c.priority_of.ensures ∙ c.propagate_all.ensures.values c.unwrap-t.result (omega arith) in
-    let walked = walked-more c.loop-place.place c.unwrap-t.result _ c.args.owners.now c.loop-place.owners c.repair.new.owners
-    c.args.queue.now c.loop-place.queue c.repair.new.queue c.args.table.now c.loop-place.table c.repair.new.table
-    at (omega arith) priority c.requires.holds c.loop-place.invariant.walked c.repair.ensures.owners c.repair.ensures.levels c.repair.ensures.outside c.repair.ensures.place c.repair.ensures.holds in
-    elim c.if-repair.branch [
-      | then-repair w ↦ record {
-        walked = walked;
-        counted =
-            omega (arith, w.changed-is, c.loop-place.invariant.counted);
-      }
-      | else-repair w ↦ record {
-        walked = walked;
-        counted =
-            omega (arith, w.changed-is, c.loop-place.invariant.counted);
-      }
-    ]
+    record {
+      walked = walked-more c.loop-place.place c.unwrap-t.result _ c.args.owners.now c.loop-place.owners c.repair.new.owners
+          c.args.queue.now c.loop-place.queue c.repair.new.queue c.args.table.now c.loop-place.table c.repair.new.table
+          at (omega arith) priority c.requires.holds c.loop-place.invariant.walked c.repair.ensures.owners c.repair.ensures.levels c.repair.ensures.outside c.repair.ensures.place c.repair.ensures.holds;
+    }
 
 pub returns-clause-greatest : goal.returns-clause-greatest
 returns-clause-greatest c =
