@@ -1,6 +1,7 @@
 /* Each function once as it should be, and each of its refusals; and the header's numbers, as this system has them. */
 #define _POSIX_C_SOURCE 200809L
 #include <errno.h>
+#include <linux/futex.h>
 #include <pthread.h>
 
 #include "expect.h"
@@ -13,6 +14,7 @@ static void numbers_are_those_of_this_system(void)
     TRUE((int)PIF_NORMAL == (int)PTHREAD_MUTEX_NORMAL);
     TRUE((int)PIF_RECURSIVE == (int)PTHREAD_MUTEX_RECURSIVE);
     TRUE((int)PIF_ERRORCHECK == (int)PTHREAD_MUTEX_ERRORCHECK);
+    TRUE(PIF_WAITERS == FUTEX_WAITERS && PIF_OWNER_DIED == FUTEX_OWNER_DIED);
 }
 
 /* A handle with no core answers so, whatever is asked. */

@@ -77,6 +77,7 @@ static void is_given_up(pif_core *core)
     SEEN(pif_call(core, 4, pif_trylock(3)), PIF_ANSWERED, PIF_EBUSY);
     SEEN(pif_call(core, 4, pif_unlock(3)), PIF_ANSWERED, PIF_EPERM);
     SEEN(pif_end(core, 3), PIF_ENDED, 0);
+    NUMBER(pif_word(core, 3), PIF_OK, PIF_OWNER_DIED);
     SEEN(pif_call(core, 4, pif_lock(3)), PIF_ANSWERED, PIF_EOWNERDEAD);
     SEEN(pif_call(core, 4, pif_unlock(3)), PIF_ANSWERED, PIF_DONE);
     NUMBER(pif_health(core, 3), PIF_OK, PIF_UNUSABLE);
