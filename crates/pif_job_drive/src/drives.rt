@@ -11,6 +11,7 @@ use std::alloc::{AllocError, AllocFailed, Global};
 use std::sync::Wait;
 use std::thread;
 use std::thread::{JoinHandle, Threads};
+use thiserror::Error;
 
 /// How often each client locks the mutex, and unlocks it.
 const ROUNDS: u32 = 100;
@@ -19,13 +20,16 @@ const ROUNDS: u32 = 100;
 const TRIES: u32 = 1_000;
 
 /// Why a drive has no book.
-#[derive(Clone, Copy, Debug)]
+#[derive(Clone, Copy, Debug, PartialEq, Eq, Error)]
 pub enum DriveFault {
     /// A growth of memory was refused.
+    #[error("out of memory")]
     NoMemory,
     /// A thread could not be started.
+    #[error("a thread cannot be started")]
     Threads,
     /// A client was refused, or the desk didn't settle.
+    #[error("a client was refused, or the desk did not settle")]
     Unsettled,
 }
 
