@@ -74,7 +74,7 @@ fn a_refused_client_ends_unsettled(rt: HostRuntime) -> Result<(), Fail> {
 /// A drive of so many clients is refused as unsettled.
 fn is_refused<R: Threads + Wait + Sync>(rt: &R, alloc: Global, clients: u32) -> bool {
     let drive = drive_book(alloc, rt, clients, NoPause);
-    matches!(drive, Err(DriveFault::Unsettled))
+    drive.err() == Some(DriveFault::Unsettled)
 }
 
 #[test]
