@@ -7,3 +7,4 @@ mod Appending
 mod RunLemmas
 mod OpenCalls
 mod SetLemmas
+mod HealthLemmas

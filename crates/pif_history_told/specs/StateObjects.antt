@@ -1,9 +1,11 @@
 -- Threads, mutexes and condition variables of the POSIX machine as objects of JSON, and what a step changes of them.
 use Rattle.std.specs.Prelude.{ℕ, ◌-◌, ◌==◌, ◌&&◌, ◌||◌, Bool, true, false, not, nat_lt, List, [], ◌++◌, length, map, filter, Option, Some, None, bytes_eq, codes, decimal, if◌then◌else◌}
+use Rattle.pif_types.specs.declared.requests.Health.TheVariants as health
 use Rattle.pif_types.specs.declared.requests.Request.{Request}
 use Rattle.pif_model.specs.World.{World, Call, Progress, Health, effective_of, is_living, mutex_at, rests, thread_at, variable_at}
 use Rattle.pif_model.specs.World.Progress.{Fresh, Waiting, Stuck, Leaving, Has, Checked, Enlisted, Blocked, Reacquiring, Used}
 use Rattle.pif_model.specs.World.Health.{Fine, Inconsistent, Unusable}
+use Rattle.pif_text_model.specs.Replies.{health_text}
 use Rattle.pif_history_model.specs.declared.lines.Line.TheVariants.{Begin}
 use Rattle.pif_history_text.specs.Texts.{line_text}
 use Rattle.pif_text_json.specs.Json.{bool_text, name_or_null, name_text, numbers, quoted, separated}
@@ -69,10 +71,11 @@ is_thread_changed w v t =
 abbrev pub owner_of : ℕ → Option ℕ
 owner_of owner = if owner == 0 then None else Some owner
 
+-- The health of a mutex, in the word that a question for it is answered.
 abbrev pub health_word : Health → List ℕ
-health_word Fine = codes "fine"
-health_word Inconsistent = codes "inconsistent"
-health_word Unusable = codes "unusable"
+health_word Fine = health_text health.Fine
+health_word Inconsistent = health_text health.Inconsistent
+health_word Unusable = health_text health.Unusable
 
 -- A mutex: who owns it, how often, and its health.
 unfoldable pub mutex_object : World → (m : ℕ) → List ℕ

@@ -1,13 +1,13 @@
 ghost use Rattle.std.specs.Prelude.{◌≡◌, ◌+◌, ◌≤◌, ◌++◌, bytes_eq};
 ghost use Rattle.arrayvec.specs.ArrayVec.{array_vec_len};
-ghost use Rattle.pif_posix.specs.Shapes.{call_of, health_of, progress_of};
-ghost use Rattle.pif_history_told.specs.StateObjects.{call_members, health_word, members, progress_words};
+ghost use Rattle.pif_posix.specs.Shapes.{call_of, progress_of};
+ghost use Rattle.pif_history_told.specs.StateObjects.{call_members, members, progress_words};
 
 use pif_history_model::Line;
 use pif_history_text::line_text;
 use pif_posix::{Call, Progress};
 use pif_text::{TEXT_ROOM, Text, append, append_number};
-use pif_types::{Health, Request, Tid};
+use pif_types::{Request, Tid};
 
 /// Appends how far an open call has come.
 fn append_progress(progress: Progress, out: &mut Text)
@@ -64,15 +64,4 @@ pub fn is_same_call(thread: Tid, before: Option<Call>, after: Option<Call>) -> b
     let first = call_members(thread, before);
     let second = call_members(thread, after);
     first.as_slice() == second.as_slice()
-}
-
-/// The health of a mutex, in one word.
-pub fn health_word(health: Health) -> &'static [u8]
-    ensures { result.now ≡ health_word (health_of health) }
-{
-    match health {
-        Health::Fine => b"fine",
-        Health::Inconsistent => b"inconsistent",
-        Health::Unusable => b"unusable",
-    }
 }

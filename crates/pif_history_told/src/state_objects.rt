@@ -2,8 +2,9 @@ ghost use Rattle.std.specs.Prelude.{◌≡◌, ◌++◌, OnOk};
 ghost use Rattle.pif_model.specs.World.{mutex_at, variable_at};
 ghost use Rattle.pif_history_told.specs.StateObjects.{cond_object, health_word, is_mutex_changed, is_thread_changed, mutex_object, owner_of, same_bool, thread_object};
 
-use crate::calls::{call_members, health_word, is_same_call};
+use crate::calls::{call_members, is_same_call};
 use pif_posix::State;
+use pif_text::health_word;
 use pif_text_json::{append_bool, append_decimal, append_name, append_name_or_null, append_quoted};
 use pif_types::{Health, Tid};
 use std::alloc::AllocError;
@@ -57,13 +58,14 @@ fn count(state: &State, mutex: usize) -> u32
 }
 
 /// The health of a mutex, in one word; that of one that was not added is fine.
+#[tactic(auto, using(crate::proofs::HealthLemmas::same_word))]
 fn health(state: &State, mutex: usize) -> &'static [u8]
     ensures { result.now ≡ health_word (mutex_at state.now mutex).health }
 {
     if mutex < state.mutex_count() {
-        health_word(state.health(mutex))
+        health_word(state.health(mutex)).as_bytes()
     } else {
-        health_word(Health::Fine)
+        health_word(Health::Fine).as_bytes()
     }
 }
 

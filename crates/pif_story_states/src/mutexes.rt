@@ -7,12 +7,12 @@ ghost use Rattle.pif_story_states.specs.Objects.{kind_members, mutex_object, own
 
 use crate::queues::append_order;
 use pif_core::{Core, Order};
-use pif_text::kind_word;
+use pif_text::{health_word, kind_word};
 use pif_text_json::{
     append_bool, append_decimal, append_name, append_name_or_null, append_null,
     append_number_or_null, append_quoted,
 };
-use pif_types::{Health, MutexId};
+use pif_types::MutexId;
 use std::alloc::AllocError;
 
 /// Appends the kind of a mutex.
@@ -46,24 +46,13 @@ fn append_kind(core: &Core, mutex: MutexId, out: &mut Vec<u8>) -> Result<(), All
     append_robust(core, mutex, out)
 }
 
-/// The health of a mutex, in one word.
-fn health_text(health: Health) -> &'static str
-    ensures { result.now ≡ health_text health }
-{
-    match health {
-        Health::Fine => "fine",
-        Health::Inconsistent => "inconsistent",
-        Health::Unusable => "unusable",
-    }
-}
-
 /// Appends the health of a mutex as `Core::health` has it, by its health word, or `null` if it was never added. Right
 /// after its owner ended that word is still what it was.
 fn append_health(core: &Core, mutex: MutexId, out: &mut Vec<u8>) -> Result<(), AllocError>
     ensures { OnOk result (out.new.items ≡ out.old.items ++ or_null (λ h. quoted (health_text h)) (health_answer mutex core.now)) }
 {
     match core.health(mutex) {
-        Some(health) => append_quoted(out, health_text(health).as_bytes()),
+        Some(health) => append_quoted(out, health_word(health).as_bytes()),
         None => append_null(out),
     }
 }

@@ -27,4 +27,6 @@ pub use traces::{
     same_text, split_answer, version_of,
 };
 pub use words::{is_word, split_first};
-pub use writing::{REPLY_ROOM, append, append_number, append_thread, fault_text, reply_text};
+pub use writing::{
+    REPLY_ROOM, append, append_number, append_thread, fault_text, health_word, reply_text,
+};

@@ -171,15 +171,16 @@ fn refusal_of(refusal: Refusal) -> &'static [u8]
     }
 }
 
-/// What is known of the state that a mutex protects, in one word.
-fn health_of(health: Health) -> &'static [u8]
+/// What is known of the state that a mutex protects, in one word of at most 12 letters: `fine`, `inconsistent` or
+/// `unusable`.
+pub fn health_word(health: Health) -> &'static str
     ensures items { result.now ≡ health_text health }
     ensures len { length result.now ≤ 12 }
 {
     match health {
-        Health::Fine => b"fine",
-        Health::Inconsistent => b"inconsistent",
-        Health::Unusable => b"unusable",
+        Health::Fine => "fine",
+        Health::Inconsistent => "inconsistent",
+        Health::Unusable => "unusable",
     }
 }
 
@@ -262,7 +263,7 @@ fn append_fact<const N: usize>(out: &mut ArrayVec<u8, N>, fact: Fact)
     match fact {
         Fact::NoSuch => append(out, b"refused nosuch"),
         Fact::Word(value) => append_hex(out, value),
-        Fact::Health(health) => append(out, health_of(health)),
+        Fact::Health(health) => append(out, health_word(health).as_bytes()),
         Fact::Uses(uses) => append_number(out, uses),
         Fact::Priority(priority) => append_number(out, priority.get()),
         Fact::Dead => append(out, b"dead"),

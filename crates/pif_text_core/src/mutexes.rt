@@ -2,7 +2,7 @@ ghost use Rattle.std.specs.Prelude.{flat_map, unwrap_or, ◌≡◌, ◌≤◌, �
 ghost use Rattle.pif_model.specs.Calls.{kind_answer, owner_answer, word_answer};
 ghost use Rattle.pif_model.specs.Projection.{health_of};
 ghost use Rattle.pif_model.specs.Word.{health_word, word_of};
-ghost use Rattle.pif_text_model.specs.Replies.{health_text, thread_name};
+ghost use Rattle.pif_text_model.specs.Replies.{thread_name};
 ghost use Rattle.pif_text_json.specs.Json.{numbers};
 ghost use Rattle.pif_text_core.specs.Changes.{new_mutex_line};
 ghost use Rattle.pif_text_core.specs.Pages.{Tells};
@@ -16,7 +16,7 @@ use crate::pages::Page;
 use crate::queues::show_queue;
 use crate::threads::{show_owner, show_times};
 use pif_core::{Core, Order};
-use pif_text::kind_word;
+use pif_text::{health_word, kind_word};
 use pif_types::{Health, MutexId};
 use pif_word::{has_waiters, number, owner_died};
 use std::io::Write;
@@ -146,7 +146,7 @@ fn show_state<W: Write>(health: Health, died: bool, page: &mut Page, writer: &mu
     ensures { Tells page.old page.new (W.contents writer.old) (W.contents writer.new) (health_part health died) }
 {
     page.words(", robust, ", writer);
-    page.words(health_words(state_of(health, died)), writer);
+    page.words(health_word(state_of(health, died)), writer);
     show_lag(health, died, page, writer);
 }
 
@@ -156,7 +156,7 @@ fn show_lag<W: Write>(health: Health, died: bool, page: &mut Page, writer: &mut 
 {
     if lags(health, died) {
         page.words(" (health word: ", writer);
-        page.words(health_words(health), writer);
+        page.words(health_word(health), writer);
         page.words(")", writer);
     }
 }
@@ -170,17 +170,6 @@ fn state_of(health: Health, died: bool) -> Health
     match health {
         Health::Fine if died => Health::Inconsistent,
         health => health,
-    }
-}
-
-/// The state of a robust mutex in a word.
-fn health_words(health: Health) -> &'static str
-    ensures { result.now ≡ health_text health }
-{
-    match health {
-        Health::Fine => "fine",
-        Health::Inconsistent => "inconsistent",
-        Health::Unusable => "unusable",
     }
 }
 
