@@ -1,5 +1,4 @@
 mod KeepingLemmas
-pub mod ErrorLemmas
 pub mod HearingLemmas
 pub mod NameLemmas
 pub mod ShowLemmas

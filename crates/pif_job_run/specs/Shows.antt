@@ -2,19 +2,11 @@
 -- told of the core behind it.
 use Rattle.std.specs.Prelude.{ℕ, nat_le, ◌==◌, ◌&&◌, Bool, List, [], ◌∷◌, ◌++◌, Option, Some, None, Result, Ok, Err, codes, find, map, option_map, unwrap_or, if◌then◌else◌}
 use Rattle.std.specs.Io.KnownBytes.{Appends, Consumes}
-use Rattle.pif_types.specs.Numbers.{number_of}
-use Rattle.pif_types.specs.declared.errors.Errno.{Errno}
-use Rattle.pif_model.specs.declared.events.Seen.{Seen}
-use Rattle.pif_model.specs.declared.events.Seen.TheVariants as seen
 use Rattle.pif_model.specs.Table.{Table}
 use Rattle.pif_text_model.specs.declared.replies.Cause.{Cause}
 use Rattle.pif_text_model.specs.declared.replies.Cause.TheVariants as cause
-use Rattle.pif_text_model.specs.declared.replies.Reply.{Reply}
-use Rattle.pif_text_model.specs.declared.replies.Reply.TheVariants as reply
 use Rattle.pif_text_model.specs.Commands.{command_in}
-use Rattle.pif_text_model.specs.Errors.{errno_name}
-use Rattle.pif_text_model.specs.Replies.{text_of}
-use Rattle.pif_story_model.specs.Answers.{errors}
+use Rattle.pif_text_model.specs.Replies.{named_text}
 use Rattle.pif_story_model.specs.Stories.{script_of}
 use Rattle.pif_story.specs.Names.{name_of, names_in}
 use Rattle.pif_text_json.specs.Json.{numbers}
@@ -25,7 +17,7 @@ use Rattle.pif_script_model.specs.Running.{Answer, answer_or_fault, command_answ
 use Rattle.pif_script_model.specs.Runs.{end_line}
 use Rattle.pif_script_model.specs.Scripts.{FirstMeaning, Hearing, Meaning, Scan, reading_of, start}
 use Rattle.pif_text_core.specs.Changes.{lines_text}
-use Rattle.pif_text_core.specs.Texts.{if_some, state_text}
+use Rattle.pif_text_core.specs.Texts.{state_text}
 
 -- ---- a core that is shown
 
@@ -35,35 +27,6 @@ pub record Moment : Type 0 where
   pub core : Table
 
 -- ---- what a line is answered
-
--- the error that has this number, if one has it
-unfoldable pub error_of : ℕ → Option Errno
-error_of number = find (λ errno. number_of errno == number) errors
-
--- the error that an event was answered
-abbrev pub seen_error : Seen → Option Errno
-seen_error seen.Begun = None
-seen_error seen.Went = None
-seen_error seen.Waits = None
-seen_error (seen.Answered number) = error_of number
-seen_error seen.Ended = None
-seen_error seen.Ticked = None
-seen_error (seen.Refused why) = None
-
--- the error in a reply
-abbrev pub error_in : Reply → Option Errno
-error_in reply.Done = None
-error_in (reply.Added a) = None
-error_in (reply.Seen s) = seen_error s
-error_in (reply.Told f) = None
-
--- its name, as it stands behind its number
-abbrev pub error_text : Option Errno → List ℕ
-error_text error = if_some (λ errno. codes " " ++ errno_name errno) error
-
--- a reply, with the name of the error if it is one
-abbrev pub named_text : Reply → List ℕ
-named_text r = text_of r ++ error_text (error_in r)
 
 -- an answer as a line, and the core behind it, by what was there before
 abbrev pub named_line : Option Table → Result Answer Cause → Meaning Moment

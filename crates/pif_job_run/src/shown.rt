@@ -1,25 +1,16 @@
 ghost use Rattle.std.specs.Prelude.{◌≡◌, ◌+◌, ◌≤◌, ◌++◌, ◌∷◌, [], IfErr, IfOk, Some, option_copied};
 ghost use Rattle.arrayvec.specs.ArrayVec.{array_vec_len};
+ghost use Rattle.pif_text_model.specs.Replies.{named_text};
 ghost use Rattle.pif_script_model.specs.Scripts.{Hears};
 ghost use Rattle.pif_script_model.specs.Showing.{as_done, state_behind};
-ghost use Rattle.pif_job_run.specs.Shows.{error_in, error_of, error_text, later_named, named, named_text};
+ghost use Rattle.pif_job_run.specs.Shows.{later_named, named};
 
-use pif_core::{Core, Seen};
-use pif_script::{
-    ANSWER_ROOM, End, Ending, Listener, OUTPUT_ROOM, OpenFault, Output, REPLY_ROOM, append,
-    append_end,
-};
+use pif_core::Core;
+use pif_script::{ANSWER_ROOM, End, Ending, Listener, OUTPUT_ROOM, OpenFault, Output, append_end};
 use pif_script_core::{obey, open_core};
-use pif_text::{Cause, Command, Reply, Version, command_of, errno_name, errno_of, reply_text};
-use pif_types::{Answer, Errno};
+use pif_text::{Cause, Command, NAMED_ROOM, Reply, Version, command_of, named_reply_text};
 use std::alloc::Global;
 use std::marker::Model;
-
-/// The most bytes of the name of an error, with a space before it.
-const MOST_NAME: usize = 16;
-
-/// The most bytes that a reply has, with the name of an error and its LF.
-const NAMED_ROOM: usize = REPLY_ROOM + MOST_NAME;
 
 /// A core that is shown while it does what a script asks, and a second one, which does the same a command later.
 #[derive(Drop)]
@@ -60,45 +51,13 @@ impl Shown {
     }
 }
 
-/// The error that has this number, if one has it.
-fn error_of(answer: Answer) -> Option<Errno>
-    ensures { result ≡ error_of answer }
-{
-    errno_of(answer)
-}
-
-/// The error of a reply, if it is the answer of a call that failed.
-fn error_in(reply: Reply) -> Option<Errno>
-    ensures { result ≡ error_in reply }
-{
-    match reply {
-        Reply::Seen(Seen::Answered(answer)) => error_of(answer),
-        _ => None,
-    }
-}
-
-/// Appends the name of an error behind a space, if there is one.
-fn tell_error(error: Option<Errno>, output: &mut Output)
-    requires { array_vec_len output.old + MOST_NAME ≤ OUTPUT_ROOM }
-    ensures told { output.new.items ≡ output.old.items ++ error_text error }
-    ensures room { array_vec_len output.new ≤ array_vec_len output.old + MOST_NAME }
-{
-    if let Some(errno) = error {
-        append(output, b" ");
-        append(output, errno_name(errno).as_bytes());
-    }
-}
-
 /// Appends a reply with the name of the error behind it, if it is one, and LF.
 fn tell_named(reply: Reply, output: &mut Output)
-    requires { array_vec_len output.old + NAMED_ROOM ≤ OUTPUT_ROOM }
+    requires { array_vec_len output.old + NAMED_ROOM + 1 ≤ OUTPUT_ROOM }
     ensures told { output.new.items ≡ output.old.items ++ (named_text reply ++ 10 ∷ []) }
-    ensures room { array_vec_len output.new ≤ array_vec_len output.old + NAMED_ROOM }
+    ensures room { array_vec_len output.new ≤ array_vec_len output.old + NAMED_ROOM + 1 }
 {
-    // For the prover: each use has a value of its own.
-    let answered = reply;
-    reply_text(reply, output);
-    tell_error(error_in(answered), output);
+    named_reply_text(reply, output);
     output.push(b'\n');
 }
 

@@ -1,4 +1,3 @@
-pub mod Replies
 pub mod Stories
 pub mod Talks
 pub mod Lines

@@ -7,11 +7,10 @@ use crate::notes::{note_on, note_on_line};
 use crate::remarks::{
     Remark, not_redone_words, say_not_undone, say_refusal, say_unsaved, too_many,
 };
-use crate::replies::reply_line;
 use crate::sessions::Session;
 use crate::shelves::Shelf;
 use crate::stories::story_of;
-use crate::telling::{tell, tell_if, tell_words, write_text};
+use crate::telling::{reply_line, tell, tell_if, tell_words, write_text};
 use crate::wishes::{Wish, count_of, name_of, wish_of};
 use pif_text::{Command, Text, command_text};
 use pif_text_core::{Unwritten, write_state};

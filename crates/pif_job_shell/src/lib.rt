@@ -8,7 +8,6 @@
 //! | `wishes` | what a line asks of a shell |
 //! | `remarks` | what a shell says: syntax errors, and why a command is not accepted or not taken back |
 //! | `helps`, `answers` | the help on each word |
-//! | `replies` | the answer to a command, with what it changed |
 //! | `stories`, `shelves` | the session as a story, and where it is saved |
 //! | `loads` | a session with the commands of a story |
 //! | `notes` | what is said of a command that names what isn't there |
@@ -25,7 +24,6 @@ mod lines;
 mod loads;
 mod notes;
 mod remarks;
-mod replies;
 mod sessions;
 mod shells;
 mod shelves;

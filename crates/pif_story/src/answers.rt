@@ -1,5 +1,4 @@
-ghost use Rattle.std.specs.Prelude.{◌≡◌, ◌++◌, ◌≤◌, bytes_eq, length, option_copied, OnOk};
-ghost use Rattle.pif_text_model.specs.Errors.{errno_name};
+ghost use Rattle.std.specs.Prelude.{◌≡◌, ◌++◌, bytes_eq, option_copied, OnOk};
 ghost use Rattle.pif_story_model.specs.Answers.{answer_by, error_answer, error_in, form_in, in_form, is_named, says};
 ghost use Rattle.pif_story_model.specs.Filling.{form_written};
 
@@ -23,19 +22,11 @@ const ERRORS: [Errno; 11] = [
     Errno::NotRecoverable,
 ];
 
-/// The name of an error, as bytes.
-fn name_of(errno: Errno) -> &'static [u8]
-    ensures name { result.now ≡ errno_name errno }
-    ensures short { length result.now ≤ 15 }
-{
-    errno_name(errno).as_bytes()
-}
-
 /// The answer of a call that is this error, in this form.
 fn error_answer(form: Form, errno: Errno) -> Text
     ensures { result.items ≡ error_answer form errno }
 {
-    let name = name_of(errno);
+    let name = errno_name(errno).as_bytes();
     let number = errno.number();
     let mut text = Text::new();
     append(&mut text, b"answer ");

@@ -1,8 +1,8 @@
 use crate::growing_text::Page;
-use pif_model::{Event, Seen};
+use pif_model::Event;
 use pif_story_model::AnsweredRow;
-use pif_text::{Command, Reply, Text, errno_name, errno_of, reply_text};
-use pif_types::{Errno, Tid};
+use pif_text::{Command, Reply, Text, named_reply_text};
+use pif_types::Tid;
 use std::str::from_utf8;
 
 /// A command of a story, with its words.
@@ -50,22 +50,9 @@ pub fn row_of<'a>(answered: &AnsweredRow<'a>) -> Option<Row<'a>> {
 
 /// What a core answers a command, an error with its name.
 fn answer_text(reply: Reply) -> Text {
-    let error = error_of(&reply);
     let mut text = Text::new();
-    reply_text(reply, &mut text);
-    if let Some(errno) = error {
-        let _ = text.try_extend_from_slice(b" ");
-        let _ = text.try_extend_from_slice(errno_name(errno).as_bytes());
-    }
+    named_reply_text(reply, &mut text);
     text
-}
-
-/// The error that a call is answered.
-fn error_of(reply: &Reply) -> Option<Errno> {
-    match reply {
-        Reply::Seen(Seen::Answered(number)) => errno_of(*number),
-        _ => None,
-    }
 }
 
 /// Writes what a core answers a command, an error with its name.

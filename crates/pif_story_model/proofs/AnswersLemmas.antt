@@ -9,7 +9,8 @@ use Rattle.pif_types.specs.declared.errors.Errno.{Errno}
 use Rattle.pif_types.specs.declared.errors.Errno.TheVariants.{NotPermitted, NoSuchThread, Again, Fault, Busy, Invalid, Deadlock, Overflow, TimedOut, OwnerDead, NotRecoverable}
 use Rattle.pif_story_model.specs.declared.forms.Form.{Form}
 use Rattle.pif_story_model.specs.declared.forms.Form.TheVariants.{Number, Name, Both}
-use Rattle.pif_story_model.specs.Answers.{Says, error_answer, error_in, errors, is_named, says}
+use Rattle.pif_text_model.specs.Errors.{errors}
+use Rattle.pif_story_model.specs.Answers.{Says, error_answer, error_in, is_named, says}
 
 same-bytes : (xs ys : List ℕ) → bytes_eq xs ys ≡ true → xs ≡ ys
 same-bytes xs ys = (bytes_eq-Decides xs ys).0

@@ -1,9 +1,8 @@
 -- The answers that are written in a story. That of a call that is the number of an error has three forms.
-use Rattle.std.specs.Prelude.{ℕ, ◌≡◌, ◌⊎◌, Bool, false, ◌||◌, List, [], ◌∷◌, ◌++◌, Option, Some, None, is_some, if◌then◌else◌, bytes_eq, codes, decimal, find}
+use Rattle.std.specs.Prelude.{ℕ, ◌≡◌, ◌⊎◌, Bool, false, ◌||◌, List, ◌++◌, Option, Some, None, is_some, if◌then◌else◌, bytes_eq, codes, decimal, find}
 use Rattle.pif_types.specs.Numbers.{number_of}
 use Rattle.pif_types.specs.declared.errors.Errno.{Errno}
-use Rattle.pif_types.specs.declared.errors.Errno.TheVariants.{NotPermitted, NoSuchThread, Again, Fault, Busy, Invalid, Deadlock, Overflow, TimedOut, OwnerDead, NotRecoverable}
-use Rattle.pif_text_model.specs.Errors.{errno_name}
+use Rattle.pif_text_model.specs.Errors.{errno_name, errors}
 use Rattle.pif_story_model.specs.declared.forms.Form.{Form}
 use Rattle.pif_story_model.specs.declared.forms.Form.TheVariants.{Number, Name, Both}
 
@@ -21,12 +20,6 @@ Says written given =
     ⊎ ((form : Form) × (errno : Errno) × (written ≡ error_answer form errno) × (given ≡ error_answer Number errno))
 
 -- ---- the same as tests
-
--- all errors that a call can be answered
-abbrev pub errors : List Errno
-errors =
-    NotPermitted ∷ NoSuchThread ∷ Again ∷ Fault ∷ Busy ∷ Invalid ∷ Deadlock ∷ Overflow ∷ TimedOut ∷ OwnerDead
-    ∷ NotRecoverable ∷ []
 
 -- the error whose answer in this form a text is
 unfoldable pub error_in : Form → List ℕ → Option Errno

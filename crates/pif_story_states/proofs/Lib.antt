@@ -1,4 +1,3 @@
-pub mod AnswerLemmas
 pub mod ChainLemmas
 pub mod FilterLemmas
 pub mod PieceLemmas

@@ -1,6 +1,5 @@
 -- What there is behind a command, as objects of JSON. Each is a function of what a core's readers answer.
-use Rattle.std.specs.Prelude.{ℕ, ◌==◌, zero, suc, List, [], ◌++◌, Option, Some, None, codes, decimal, filter, find, option_and_then, option_map}
-use Rattle.pif_types.specs.Numbers.{number_of}
+use Rattle.std.specs.Prelude.{ℕ, zero, suc, List, [], ◌++◌, Option, Some, None, codes, decimal, filter, option_and_then, option_map}
 use Rattle.pif_model.specs.declared.events.Seen.{Seen}
 use Rattle.pif_model.specs.declared.events.Seen.TheVariants as seen
 use Rattle.pif_model.specs.declared.events.Order.TheVariants as order
@@ -11,9 +10,8 @@ use Rattle.pif_model.specs.Calls.{base_answer, bound_answer, cond_word_answer, e
 use Rattle.pif_text_model.specs.declared.replies.Reply.{Reply}
 use Rattle.pif_text_model.specs.declared.replies.Reply.TheVariants as reply
 use Rattle.pif_text_model.specs.CommandTexts.{kind_word, request_text}
-use Rattle.pif_text_model.specs.Errors.{errno_name}
+use Rattle.pif_text_model.specs.Errors.{errno_name, error_of}
 use Rattle.pif_text_model.specs.Replies.{health_text, text_of}
-use Rattle.pif_story_model.specs.Answers.{errors}
 use Rattle.pif_story.specs.Names.{name_of}
 use Rattle.pif_text_core.specs.Waiting.{awaited, blocker, has, mutexes_added, order_in, owner_of}
 use Rattle.pif_text_json.specs.Json.{bool_text, name_or_null, name_text, names_array, number_or_null, numbers, or_null, quoted}
@@ -21,8 +19,8 @@ use Rattle.pif_text_json.specs.Json.{bool_text, name_or_null, name_text, names_a
 -- ---- answers
 
 -- the name of the error that has this number, if one has it
-unfoldable pub error_name : ℕ → Option (List ℕ)
-error_name number = option_map errno_name (find (λ errno. number_of errno == number) errors)
+abbrev pub error_name : ℕ → Option (List ℕ)
+error_name number = option_map errno_name (error_of number)
 
 -- the answer of a call, with the name of the error if it is one
 abbrev pub called_object : ℕ → List ℕ

@@ -10,7 +10,6 @@ use pif_text_json::{append_decimal, append_null, append_quoted};
 use std::alloc::AllocError;
 
 /// Appends the name of the error that has this number, or `null`.
-#[tactic(auto, using(crate::proofs::AnswerLemmas::named_error, crate::proofs::AnswerLemmas::unnamed_error))]
 fn append_error(out: &mut Vec<u8>, number: u32) -> Result<(), AllocError>
     ensures { OnOk result (out.new.items ≡ out.old.items ++ or_null quoted (error_name number)) }
 {

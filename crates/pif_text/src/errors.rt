@@ -1,14 +1,16 @@
-ghost use Rattle.std.specs.Prelude.{◌≡◌, MatchOption};
+ghost use Rattle.std.specs.Prelude.{◌≡◌, ◌≤◌, MatchOption, length};
 ghost use Rattle.pif_types.specs.declared.errors.Errno.{Errno};
 ghost use Rattle.pif_types.specs.Numbers.{number_of};
-ghost use Rattle.pif_text_model.specs.Errors.{errno_name};
+ghost use Rattle.pif_text_model.specs.Errors.{errno_name, error_of};
 
 use pif_types::{Answer, Errno};
 
 /// The error of which this is the number, as <errno.h> of Linux on x86-64 has it. `None` for 0, and for a number of
 /// which there is no `Errno`.
+#[tactic(auto, unfolding(pif_text_model::specs::Errors::error_of))]
 pub fn errno_of(answer: Answer) -> Option<Errno>
-    ensures { MatchOption result ((errno : Errno) → (number_of errno ≡ answer) → ⊥) (λ errno. number_of errno ≡ answer) }
+    ensures value { result ≡ error_of answer }
+    ensures numbered { MatchOption result ((errno : Errno) → (number_of errno ≡ answer) → ⊥) (λ errno. number_of errno ≡ answer) }
 {
     match answer {
         1 => Some(Errno::NotPermitted),
@@ -26,9 +28,10 @@ pub fn errno_of(answer: Answer) -> Option<Errno>
     }
 }
 
-/// The name of an error, as `EDEADLK`.
+/// The name of an error, of at most 15 letters, as `EDEADLK`.
 pub fn errno_name(errno: Errno) -> &'static str
-    ensures { result.now ≡ errno_name errno }
+    ensures items { result.now ≡ errno_name errno }
+    ensures len { length result.now ≤ 15 }
 {
     match errno {
         Errno::NotPermitted => "EPERM",

@@ -28,5 +28,6 @@ pub use traces::{
 };
 pub use words::{is_word, split_first};
 pub use writing::{
-    REPLY_ROOM, append, append_number, append_thread, fault_text, health_word, reply_text,
+    NAMED_ROOM, REPLY_ROOM, append, append_number, append_thread, fault_text, health_word,
+    named_reply_text, reply_text,
 };

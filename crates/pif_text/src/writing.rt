@@ -2,17 +2,24 @@ ghost use Rattle.std.specs.Prelude.{◌≡◌, ◌+◌, ◌≤◌, ◌<◌, ◌+
 ghost use Rattle.arrayvec.specs.ArrayVec.{array_vec_len};
 ghost use Rattle.std.specs.Fmt.{digit_glyph};
 ghost use Rattle.pif_text_model.specs.Numbers.{hex_digits};
-ghost use Rattle.pif_text_model.specs.Replies.{text_of, fault_of, add_fault_word, refusal_word, health_text, added_text, seen_text, fact_text, thread_name, mutex_name, cond_name, thread_or_none, cause_word};
+ghost use Rattle.pif_text_model.specs.Replies.{text_of, fault_of, error_in, error_text, named_text, add_fault_word, refusal_word, health_text, added_text, seen_text, fact_text, thread_name, mutex_name, cond_name, thread_or_none, cause_word};
 
+use crate::errors::{errno_name, errno_of};
 use crate::{Added, Cause, Fact, Reply, TEXT_ROOM, Text};
 use arrayvec::ArrayVec;
 use itoa::Buffer;
 use pif_model::Seen;
-use pif_types::{AddFault, Answer, CondId, Health, MutexId, Refusal, Tid};
+use pif_types::{AddFault, Answer, CondId, Errno, Health, MutexId, Refusal, Tid};
 
 /// How many bytes of room `reply_text` and `fault_text` ask for: no text is longer. The longest is `fault N command`,
 /// 34 bytes with a number of 20 digits.
 pub const REPLY_ROOM: usize = 40;
+
+/// The most bytes of the name of an error, with a space before it.
+const ERROR_ROOM: usize = 16;
+
+/// How many bytes of room `named_reply_text` asks for.
+pub const NAMED_ROOM: usize = REPLY_ROOM + ERROR_ROOM;
 
 /// Appends bytes.
 #[inline(always)]
@@ -284,6 +291,41 @@ pub fn reply_text<const N: usize>(reply: Reply, out: &mut ArrayVec<u8, N>)
         Reply::Seen(seen) => append_seen(out, seen),
         Reply::Told(fact) => append_fact(out, fact),
     }
+}
+
+/// The error of a reply, if it is the answer of a call that failed.
+fn error_in(reply: Reply) -> Option<Errno>
+    ensures { result ≡ error_in reply }
+{
+    match reply {
+        Reply::Seen(Seen::Answered(number)) => errno_of(number),
+        _ => None,
+    }
+}
+
+/// Appends the name of an error behind a space, if there is one.
+fn append_error<const N: usize>(out: &mut ArrayVec<u8, N>, error: Option<Errno>)
+    requires { array_vec_len out.old + ERROR_ROOM ≤ N }
+    ensures items { out.new.items ≡ out.old.items ++ error_text error }
+    ensures len { array_vec_len out.new ≤ array_vec_len out.old + ERROR_ROOM }
+{
+    if let Some(errno) = error {
+        append(out, b" ");
+        append(out, errno_name(errno).as_bytes());
+    }
+}
+
+/// Appends the text of a reply, and behind the number of an error its name, as `answer 35 EDEADLK`. There is no line
+/// feed, and it is at most `NAMED_ROOM` bytes. What stands in `out` stays.
+pub fn named_reply_text<const N: usize>(reply: Reply, out: &mut ArrayVec<u8, N>)
+    requires { array_vec_len out.old + NAMED_ROOM ≤ N }
+    ensures written { out.new.items ≡ out.old.items ++ named_text reply }
+    ensures within { array_vec_len out.new ≤ array_vec_len out.old + NAMED_ROOM }
+{
+    // For the prover: each use has a value of its own.
+    let answered = reply;
+    reply_text(reply, out);
+    append_error(out, error_in(answered));
 }
 
 /// Appends the text of a fault at a line, counted from 1, with no line feed, at most `REPLY_ROOM` bytes. What stands in

@@ -1,5 +1,6 @@
--- The names of errors, as <errno.h> has them.
-use Rattle.std.specs.Prelude.{ℕ, List, codes}
+-- The numbers and the names of errors, as <errno.h> has them.
+use Rattle.std.specs.Prelude.{ℕ, ◌==◌, List, [], ◌∷◌, Option, codes, find}
+use Rattle.pif_types.specs.Numbers.{number_of}
 use Rattle.pif_types.specs.declared.errors.Errno.{Errno}
 use Rattle.pif_types.specs.declared.errors.Errno.TheVariants.{NotPermitted, NoSuchThread, Again, Fault, Busy, Invalid, Deadlock, Overflow, TimedOut, OwnerDead, NotRecoverable}
 
@@ -16,3 +17,13 @@ errno_name Overflow = codes "EOVERFLOW"
 errno_name TimedOut = codes "ETIMEDOUT"
 errno_name OwnerDead = codes "EOWNERDEAD"
 errno_name NotRecoverable = codes "ENOTRECOVERABLE"
+
+-- all errors that a call can be answered
+abbrev pub errors : List Errno
+errors =
+    NotPermitted ∷ NoSuchThread ∷ Again ∷ Fault ∷ Busy ∷ Invalid ∷ Deadlock ∷ Overflow ∷ TimedOut ∷ OwnerDead
+    ∷ NotRecoverable ∷ []
+
+-- the error that has this number, if one has it
+unfoldable pub error_of : ℕ → Option Errno
+error_of number = find (λ errno. number_of errno == number) errors

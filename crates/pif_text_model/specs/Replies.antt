@@ -1,7 +1,8 @@
 -- The texts of replies and faults.
-use Rattle.std.specs.Prelude.{ℕ, List, ◌++◌, Option, Some, None, codes, decimal}
+use Rattle.std.specs.Prelude.{ℕ, List, [], ◌++◌, Option, Some, None, codes, decimal}
 use Rattle.pif_types.specs.declared.errors.AddFault.{AddFault}
 use Rattle.pif_types.specs.declared.errors.AddFault.TheVariants as add_fault
+use Rattle.pif_types.specs.declared.errors.Errno.{Errno}
 use Rattle.pif_types.specs.declared.errors.Refusal.{Refusal}
 use Rattle.pif_types.specs.declared.errors.Refusal.TheVariants as refusal
 use Rattle.pif_types.specs.declared.requests.Health.{Health}
@@ -16,6 +17,7 @@ use Rattle.pif_text_model.specs.declared.replies.Fact.{Fact}
 use Rattle.pif_text_model.specs.declared.replies.Fact.TheVariants as fact
 use Rattle.pif_text_model.specs.declared.replies.Cause.{Cause}
 use Rattle.pif_text_model.specs.declared.replies.Cause.TheVariants as cause
+use Rattle.pif_text_model.specs.Errors.{errno_name, error_of}
 use Rattle.pif_text_model.specs.Numbers.{hex_digits}
 
 -- Why a thread, a mutex or a condition variable was not added, in one word.
@@ -89,6 +91,32 @@ text_of reply.Done = codes "ok"
 text_of (reply.Added a) = added_text a
 text_of (reply.Seen s) = seen_text s
 text_of (reply.Told f) = fact_text f
+
+-- The error that an event was answered.
+abbrev pub seen_error : Seen → Option Errno
+seen_error seen.Begun = None
+seen_error seen.Went = None
+seen_error seen.Waits = None
+seen_error (seen.Answered number) = error_of number
+seen_error seen.Ended = None
+seen_error seen.Ticked = None
+seen_error (seen.Refused why) = None
+
+-- The error in a reply.
+abbrev pub error_in : Reply → Option Errno
+error_in reply.Done = None
+error_in (reply.Added a) = None
+error_in (reply.Seen s) = seen_error s
+error_in (reply.Told f) = None
+
+-- The name of an error as it stands behind its number.
+abbrev pub error_text : Option Errno → List ℕ
+error_text None = []
+error_text (Some errno) = codes " " ++ errno_name errno
+
+-- The text of a reply, with the name of the error behind its number if it is one, without a line feed.
+abbrev pub named_text : Reply → List ℕ
+named_text r = text_of r ++ error_text (error_in r)
 
 -- The cause of a fault, in one word.
 abbrev pub cause_word : Cause → List ℕ
