@@ -3,8 +3,8 @@ ghost use Rattle.pif_script_model.specs.CommandLines.{IsNoLimits};
 
 use crate::Shape;
 use pif_core::{Core, Event, Seen, Status};
-use pif_text::{Addition, Command, Question};
-use pif_types::{CondId, Health, Kind, Limits, MutexId, NoMemory, Request, Tid};
+use pif_text::{Addition, Command, Question, default_limits};
+use pif_types::{CondId, Health, Kind, MutexId, NoMemory, Request, Tid};
 use rand_core::Rng;
 use rand_pcg::Pcg32;
 use std::alloc::Global;
@@ -39,9 +39,8 @@ pub struct Player {
 impl Player {
     /// A core under the default limits to which nothing was added.
     pub fn new(alloc: Global, seed: u64, shape: Shape) -> Result<Player, NoMemory> {
-        let limits = Limits::new(1024, 1024, 256, u32::MAX).unwrap();
         Ok(Player {
-            core: Core::new(alloc, limits)?,
+            core: Core::new(alloc, default_limits())?,
             random: Pcg32::new(seed, STREAM),
             shape,
             threads: shape.threads,

@@ -14,6 +14,6 @@ mod runs;
 mod stories;
 
 pub use commands::do_command;
-pub use running::{Running, default_limits, first_limits, obey, open_core, tell};
+pub use running::{Running, first_limits, obey, open_core, tell};
 pub use runs::{run, run_noting};
 pub use stories::{Ran, run_story, story_notes};

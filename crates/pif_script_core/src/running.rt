@@ -4,14 +4,16 @@ ghost use Rattle.pif_types.specs.Bounds.{Bounds};
 ghost use Rattle.pif_model.specs.Table.{new_table};
 ghost use Rattle.pif_text_model.specs.declared.replies.Fact.TheVariants as fact;
 ghost use Rattle.pif_text_model.specs.Replies.{text_of};
-ghost use Rattle.pif_script_model.specs.Running.{added_thread, added_mutex, added_cond, addition_answer, addition_after, fact_or_none, was_added, priority_fact, question_answer, run_outcome, command_answer, default_limits, script, first_answer, limited_answer, answer_or_fault, IsAnswer, Makes};
+ghost use Rattle.pif_text_model.specs.Limits.{default_limits};
+ghost use Rattle.pif_script_model.specs.Running.{added_thread, added_mutex, added_cond, addition_answer, addition_after, fact_or_none, was_added, priority_fact, question_answer, run_outcome, command_answer, script, first_answer, limited_answer, answer_or_fault, IsAnswer, Makes};
 ghost use Rattle.pif_script_model.specs.Transcripts.{first_limits};
 
 use pif_core::{Core, Seen};
 use pif_script::{ANSWER_ROOM, Listener, OUTPUT_ROOM, Output, REPLY_ROOM, append_end};
 use pif_script_model::{End, Ending, OpenFault};
 use pif_text::{
-    Added, Addition, Cause, Command, Fact, Question, Reply, Version, command_of, reply_text,
+    Added, Addition, Cause, Command, Fact, Question, Reply, Version, command_of, default_limits,
+    reply_text,
 };
 use pif_types::{AddFault, CondId, Health, Limits, MutexId, Prio, Request, Tid};
 use std::alloc::Global;
@@ -149,13 +151,6 @@ pub fn tell(reply: Reply, output: &mut Output)
 {
     reply_text(reply, output);
     output.push(b'\n');
-}
-
-/// The limits of a script that begins with no `limits`.
-pub fn default_limits() -> Limits
-    ensures { result ≡ default_limits }
-{
-    Limits::new(1024, 1024, 256, 4_294_967_295).unwrap()
 }
 
 /// The limits of the core that a first command makes; `None` if it names one that is out of its range.

@@ -24,7 +24,8 @@ use Rattle.pif_text_model.specs.declared.replies.Reply.TheVariants as reply
 use Rattle.pif_text_model.specs.Commands.{command_in}
 use Rattle.pif_script_model.specs.declared.ending.Ending.{Ending}
 use Rattle.pif_script_model.specs.Scripts.{Answered as AnsweredLine, Scan, start, byte_taken, line_answer, answer_to_line, answered_first, answered_later}
-use Rattle.pif_script_model.specs.Running.{Answer, addition_after, answer_line, answer_or_fault, are_limits, command_answer, default_limits, first_answer, limits_in, made_by, run_outcome, script}
+use Rattle.pif_text_model.specs.Limits.{default_limits}
+use Rattle.pif_script_model.specs.Running.{Answer, addition_after, answer_line, answer_or_fault, are_limits, command_answer, first_answer, limits_in, made_by, run_outcome, script}
 use Rattle.pif_script_model.specs.Traces.{IsHistory, trace, verdict}
 use Rattle.pif_script_model.specs.Transcripts.{SameAsTraced, addition_entries, call_entries, command_entries, cond_entries, entries_by, event_entry, first_limits, going_entries, line_entries, mutex_entries, run_entries, script_entries, script_limits, script_trace, thread_entries}
 use Rattle.pif_script_model.proofs.EntryLemmas.{call-entries-begun, call-entries-refused, first_answer-is, going-other, going-went, going-zero, limits-or_default}

@@ -14,7 +14,8 @@ use Rattle.pif_text_model.proofs.PlainTexts.{command-line}
 use Rattle.pif_text_model.proofs.ReadBack.{command_back}
 use Rattle.pif_script_model.specs.declared.ending.Ending.TheVariants.{Fault}
 use Rattle.pif_script_model.specs.Scripts.{FirstMeaning, Meaning, Scan, answer_to_line, answered_first, answered_later, closed_at, ended_by, reading_of, start}
-use Rattle.pif_script_model.specs.Running.{Answer, answer_line, answer_or_fault, command_answer, default_limits, first_answer, first_line_meaning, line_meaning, made_by, script}
+use Rattle.pif_text_model.specs.Limits.{default_limits}
+use Rattle.pif_script_model.specs.Running.{Answer, answer_line, answer_or_fault, command_answer, first_answer, first_line_meaning, line_meaning, made_by, script}
 use Rattle.pif_script_model.specs.CommandLines.{HasNoFault, IsNoLimits, StandsAnywhere, command_line, script_lines}
 use Rattle.pif_script_model.proofs.SameAgainLemmas.{reading_of-line}
 use Rattle.pif_script_model.proofs.ScriptLemmas.{reading_of-nil}

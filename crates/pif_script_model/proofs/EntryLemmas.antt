@@ -24,7 +24,8 @@ use Rattle.pif_text_model.specs.declared.commands.Command.TheVariants as command
 use Rattle.pif_text_model.specs.declared.replies.Cause.TheVariants.{Limits as LimitsCause}
 use Rattle.pif_text_model.specs.declared.replies.Reply.{Reply}
 use Rattle.pif_text_model.specs.declared.replies.Reply.TheVariants as reply
-use Rattle.pif_script_model.specs.Running.{Answer, IsAnswer, answer_or_fault, command_answer, default_limits, are_limits, first_answer, limited_answer, limits_in, added_thread, added_mutex, added_cond, addition_answer, run_outcome}
+use Rattle.pif_text_model.specs.Limits.{default_limits}
+use Rattle.pif_script_model.specs.Running.{Answer, IsAnswer, answer_or_fault, command_answer, are_limits, first_answer, limited_answer, limits_in, added_thread, added_mutex, added_cond, addition_answer, run_outcome}
 use Rattle.pif_script_model.specs.Traces.{entry_line, entry_text}
 use Rattle.pif_script_model.specs.Transcripts.{Transcribed, addition_entries, call_entries, command_entries, cond_entries, entry_lines, event_entry, first_limits, going_entries, mutex_entries, row, single_line, thread_entries}
 use Rattle.pif_script_model.proofs.RunningLemmas.{answered-later, first_answer-later}

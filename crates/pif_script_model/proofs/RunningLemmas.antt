@@ -3,7 +3,8 @@ use Rattle.std.proofs.Common.{◌≡◌, ℕ, refl}
 use Rattle.pif_model.specs.Table.{Table, new_table}
 use Rattle.pif_text_model.specs.declared.commands.Command.{Command}
 use Rattle.pif_text_model.specs.declared.commands.Command.TheVariants as command
-use Rattle.pif_script_model.specs.Running.{answer_or_fault, default_limits, first_answer, IsAnswer, command_answer}
+use Rattle.pif_text_model.specs.Limits.{default_limits}
+use Rattle.pif_script_model.specs.Running.{answer_or_fault, first_answer, IsAnswer, command_answer}
 
 -- the answer to a first command that isn't `limits` is its answer under the default limits
 pub first_answer-later : (c : Command) → ((t m v n : ℕ) → c ≡ command.Limits t m v n → ⊥)

@@ -23,6 +23,7 @@ use Rattle.pif_text_model.specs.declared.replies.Cause.TheVariants as cause
 use Rattle.pif_text_model.specs.declared.replies.Reply.{Reply}
 use Rattle.pif_text_model.specs.declared.replies.Reply.TheVariants as reply
 use Rattle.pif_text_model.specs.Commands.{command_in}
+use Rattle.pif_text_model.specs.Limits.{default_limits}
 use Rattle.pif_text_model.specs.Replies.{text_of}
 use Rattle.pif_script_model.specs.declared.faults.CliFault.{CliFault}
 use Rattle.pif_script_model.specs.declared.faults.CliFault.TheVariants as cli_fault
@@ -115,10 +116,6 @@ abbrev pub are_limits : Bounds → Bool
 are_limits b =
     nat_le 1 b.threads && nat_le b.threads 1024 && nat_le b.mutexes 1024 && nat_le b.conds 256 && nat_le 1 b.signals
     && nat_le b.signals 4294967295
-
--- the limits of a script that begins with no `limits`
-abbrev pub default_limits : Bounds
-default_limits = record { threads = 1024; mutexes = 1024; conds = 256; signals = 4294967295 }
 
 -- what `limits` is answered as the first command: these limits, or the fault `limits` if a number is out of its range
 abbrev pub limited_answer : Option Bounds → Result Answer Cause

@@ -30,7 +30,8 @@ use Rattle.pif_script_model.specs.declared.ending.Ending.TheVariants.{Fault}
 use Rattle.pif_script_model.specs.declared.ending.End.{End}
 use Rattle.pif_script_model.specs.Scripts.{Meaning, FirstMeaning, Hearing, Scan, Reading, start, byte_taken, reading_of, ended_by, NeedsIn}
 use Rattle.pif_script_model.specs.Runs.{WritesPart}
-use Rattle.pif_script_model.specs.Running.{command_answer, default_limits, first_line_meaning, limits_in, line_meaning, script}
+use Rattle.pif_text_model.specs.Limits.{default_limits}
+use Rattle.pif_script_model.specs.Running.{command_answer, first_line_meaning, limits_in, line_meaning, script}
 use Rattle.pif_script_model.specs.Traces.{entry_line, front_lines, trace, verdict}
 
 -- ---- the entries that a script makes

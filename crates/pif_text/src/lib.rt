@@ -5,6 +5,7 @@
 mod command_texts;
 mod errors;
 mod kinds;
+mod limits;
 mod numbers;
 mod questions;
 mod reading;
@@ -18,6 +19,7 @@ pub use command_texts::{
 };
 pub use errors::{errno_name, errno_of};
 pub use kinds::{DEFAULT_WORD, ERROR_CHECK_WORD, NORMAL_WORD, RECURSIVE_WORD, kind_word};
+pub use limits::default_limits;
 pub use numbers::{number_of, number_reads_back, thread_of};
 pub use pif_text_model::{Added, Addition, Cause, Command, Fact, Question, Reply, Version};
 pub use reading::command_of;

@@ -2,6 +2,7 @@ pub mod CommandTexts
 pub mod Commands
 pub mod Errors
 pub mod Extends
+pub mod Limits
 pub mod Numbers
 pub mod Questions
 pub mod Replies
