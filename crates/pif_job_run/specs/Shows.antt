@@ -1,6 +1,6 @@
 -- What is written of a script that is shown to a person: of each line the line itself, what it is answered, and what is
 -- told of the core behind it.
-use Rattle.std.specs.Prelude.{ℕ, nat_le, ◌==◌, ◌&&◌, Bool, List, [], ◌∷◌, ◌++◌, Option, Some, None, Result, Ok, Err, codes, find, map, option_map, unwrap_or, if◌then◌else◌}
+use Rattle.std.specs.Prelude.{ℕ, Bool, List, [], ◌∷◌, ◌++◌, Option, Some, None, Result, Ok, Err, codes, map, option_map, unwrap_or, if◌then◌else◌}
 use Rattle.std.specs.Io.KnownBytes.{Appends, Consumes}
 use Rattle.pif_model.specs.Table.{Table}
 use Rattle.pif_text_model.specs.declared.replies.Cause.{Cause}
@@ -8,6 +8,7 @@ use Rattle.pif_text_model.specs.declared.replies.Cause.TheVariants as cause
 use Rattle.pif_text_model.specs.Commands.{command_in}
 use Rattle.pif_text_model.specs.Replies.{named_text}
 use Rattle.pif_story_model.specs.Stories.{script_of}
+use Rattle.pif_story_model.specs.Verdicts.{printable}
 use Rattle.pif_story.specs.Names.{name_of, names_in}
 use Rattle.pif_text_json.specs.Json.{numbers}
 use Rattle.pif_script_model.specs.declared.details.Detail.{Detail}
@@ -59,10 +60,6 @@ named = record {
 }
 
 -- ---- what is told of a line
-
--- a byte, or what stands for it if it is not printable
-abbrev pub printable : ℕ → ℕ
-printable byte = if nat_le 32 byte && nat_le byte 126 then byte else 63
 
 -- the line itself
 abbrev pub line_told : List ℕ → List ℕ

@@ -7,7 +7,7 @@ ghost use Rattle.pif_script_model.specs.Runs.{Feeds, RunsFrom, Stops};
 ghost use Rattle.pif_script.specs.Scanners.{scan_of};
 ghost use Rattle.pif_script_model.specs.Showing.{OrUnwritten, ShowsTo, Silent};
 ghost use Rattle.pif_text_core.specs.Changes.{lines_text};
-ghost use Rattle.pif_job_run.specs.Shows.{behind_byte, core_scan, core_told, front_told, line_told, printable, showing, shown_text};
+ghost use Rattle.pif_job_run.specs.Shows.{behind_byte, core_scan, core_told, front_told, line_told, showing, shown_text};
 
 use crate::shown::Shown;
 use pif_core::Core;
@@ -16,6 +16,7 @@ use pif_script::{
     write_whole,
 };
 use pif_script_model::Detail;
+use pif_story::printable;
 use pif_text_core::{Unwritten, write_changes, write_state};
 use std::alloc::Global;
 use std::io::Write;
@@ -109,16 +110,6 @@ fn tell_line(line: &[u8], output: &mut Output)
         output.push(printable(*byte));
     }
     output.push(b'\n');
-}
-
-/// The byte, or what stands for it if it is not printable.
-fn printable(byte: u8) -> u8
-    ensures { result ≡ printable byte }
-{
-    match byte {
-        b' '..=b'~' => byte,
-        _ => b'?',
-    }
 }
 
 /// Writes what was told of the line that this byte ended, if it ended one, and what is told of the core behind it.

@@ -52,4 +52,4 @@ pub use reading::{MOST, read_script_of_story};
 pub use scripts::script_of;
 pub use texts::{append_missing, notes_text};
 pub use titles::titled_story;
-pub use verdicts::verdict_text;
+pub use verdicts::{printable, verdict_text};

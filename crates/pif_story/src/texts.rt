@@ -1,20 +1,13 @@
 ghost use Rattle.std.specs.Prelude.{◌≡◌, ◌≤◌, ◌++◌, ◌&&◌, true, length, decimal, flat_map, IfOk, OnOk};
-ghost use Rattle.pif_story_model.specs.Lines.{is_blank, lines, plain_lines};
+ghost use Rattle.pif_story_model.specs.Lines.{lines, plain_lines};
 ghost use Rattle.pif_story.specs.Notes.{begins_with, column_from, ends_word, line_in, missing_text, missing_word, note_column, note_line, notes_beside, place_text, words_before, words_behind};
 
+use crate::lines::is_blank;
 use crate::missing::{Missing, Note};
 use crate::notes::notes_of;
+use crate::verdicts::append_decimal;
 use crate::{MOST, commentless, split_line, without_mark};
-use itoa::Buffer;
 use std::alloc::{AllocError, Global};
-
-/// Appends a number in decimal digits.
-fn append_decimal(text: &mut Vec<u8>, number: u64) -> Result<(), AllocError>
-    ensures { OnOk result (text.new.items ≡ text.old.items ++ decimal number) }
-{
-    let mut buffer = Buffer::new();
-    text.extend_from_slice(buffer.format(number).as_bytes())
-}
 
 /// Appends a letter and a number.
 fn append_name(text: &mut Vec<u8>, letter: &[u8], number: u32) -> Result<(), AllocError>
@@ -72,13 +65,6 @@ pub fn append_missing(text: &mut Vec<u8>, missing: &Missing) -> Result<(), Alloc
     text.extend_from_slice(words_before(missing))?;
     append_word(text, missing)?;
     text.extend_from_slice(words_behind(missing))
-}
-
-/// Whether a byte is a space or a tab.
-fn is_blank(byte: u8) -> bool
-    ensures { result ≡ is_blank byte }
-{
-    byte == b' ' || byte == b'\t'
 }
 
 /// Whether a text is at an end of a word.

@@ -12,8 +12,8 @@ use std::alloc::{AllocError, Global};
 /// How many flaws of a story have a line of their own.
 const MOST_FLAWS: usize = 20;
 
-/// The byte, or what stands for it if it is not printable.
-fn printable(byte: u8) -> u8
+/// The byte, or `?` if it is no printable ASCII.
+pub fn printable(byte: u8) -> u8
     ensures { result ≡ printable byte }
 {
     match byte {
@@ -40,7 +40,7 @@ fn append_shown(line: &mut Vec<u8>, text: &[u8]) -> Result<(), AllocError>
 }
 
 /// Appends a number in decimal digits.
-fn append_decimal(line: &mut Vec<u8>, number: u64) -> Result<(), AllocError>
+pub fn append_decimal(line: &mut Vec<u8>, number: u64) -> Result<(), AllocError>
     ensures { OnOk result (line.new.items ≡ line.old.items ++ decimal number) }
 {
     let mut buffer = Buffer::new();
