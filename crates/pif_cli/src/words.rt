@@ -303,7 +303,7 @@ pub fn refuse<W: Write, E: Write>(
 /// names a file: no file is opened here, and `input` stands for the first. What a job makes goes to `output`:
 ///
 /// - `run` reads a script, and writes what its lines are answered, and the line of a fault, as `run` does.
-/// - `show` reads a story or a script, and writes each command, its answer and what it has changed, as `show_story`
+/// - `show` reads a story or a script, and writes each command, its answer and what it has changed, as `show_noting`
 ///   does; with `--all` the state behind it; with `--json` or `--dot` a picture of it.
 /// - `draw` reads a story or a script, and writes a drawing of it, as `write_picture` does.
 /// - `check` reads a story, and writes whether it is ok, as `check` does. With `--strict` it wants an answer beside

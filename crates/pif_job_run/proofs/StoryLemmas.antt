@@ -86,12 +86,3 @@ not_kept name before after held story NoMemory from is =
 not_kept name before after held story Write from is = absurd is
 not_kept name before after held story (Script line cause) from is = absurd is
 not_kept name before after held story (Differs line) from is = absurd is
-
--- what was shown, whatever is noted
-pub shown_of_noted : (name notes : List ℕ) (before after held holds : Option (List ℕ))
-    → ShowsNoting name before after held holds (Ok notes) → ShowsStoryTo before after held holds (Ok tt)
-shown_of_noted name notes before after held holds n = (n.3.0, (n.0, n.1, n.2, n.3.1), n.3.2)
-
-pub shown_of_failed : (name : List ℕ) (before after held holds : Option (List ℕ)) (fault : CliFault)
-    → ShowsNoting name before after held holds (Err fault) → ShowsStoryTo before after held holds (Err fault)
-shown_of_failed name before after held holds fault n = (n.3.0, (n.0, n.1, n.2, n.3.1), n.3.2)

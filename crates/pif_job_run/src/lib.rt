@@ -34,7 +34,7 @@ mod tracing;
 mod transcribing;
 
 pub use runs::run_noted;
-pub use script_traces::{script_trace_is_the_same, trace, trace_noting};
-pub use story_shows::{show_noting, show_story};
+pub use script_traces::{script_trace_is_the_same, trace_noting};
+pub use story_shows::show_noting;
 pub use story_traces::trace_story;
 pub use tracing::{write_trace, written_trace_is_the_same};

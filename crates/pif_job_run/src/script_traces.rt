@@ -10,29 +10,14 @@ use std::io::{Read, Write};
 /// answered. Those are the additions that were made, and each event, also a refused one; `call` and `finish` make the
 /// events of which they consist. Refused additions and questions make none. The line of a fault is not written: the
 /// trace is that of the lines before it. If no core was made, nothing is written. `replay` finds the trace the same, up
-/// to the size that a trace may have: `script_trace_is_the_same`.
+/// to the size that a trace may have: `script_trace_is_the_same`. `notice` keeps the line of the fault, and is left as it
+/// is if there is none.
 ///
 /// # Errors
 ///
 /// Those of `run`: `Script` with the first fault of the script. `Read` if the reader fails; the trace of the whole
 /// lines read so far was written. `Write` if the writer fails or takes no byte. `NoMemory` if the core cannot be made;
 /// nothing was written.
-pub fn trace<R: Read, W: Write>(
-    alloc: Global,
-    reader: &mut R,
-    writer: &mut W,
-) -> Result<(), CliFault>
-    ensures { TracesTo (R.remaining reader.old) (R.remaining reader.new) (W.contents writer.old) (W.contents writer.new) result }
-{
-    trace_noting(alloc, reader, writer, &mut Notice::new())
-}
-
-/// Writes the trace of a script as `trace` does, and has `notice` keep the line of the fault; if there is none,
-/// `notice` is left as it is.
-///
-/// # Errors
-///
-/// Those of `trace`.
 pub fn trace_noting<R: Read, W: Write>(
     alloc: Global,
     reader: &mut R,
@@ -44,8 +29,8 @@ pub fn trace_noting<R: Read, W: Write>(
     read_script::<Transcribing, R, W>(alloc, reader, writer, notice)
 }
 
-/// The trace that `trace` writes of a script that makes a core prints `same` when it is replayed, with the number of
-/// its entries and one more, for the line of the limits, as long as it has at most 16,777,216 bytes.
+/// The trace that `trace_noting` writes of a script that makes a core prints `same` when it is replayed, with the number
+/// of its entries and one more, for the line of the limits, as long as it has at most 16,777,216 bytes.
 pub fn script_trace_is_the_same()
     ensures { SameAsTraced }
 {}

@@ -33,7 +33,7 @@ pub struct Look<'n> {
     pub names: &'n [&'n str],
 }
 
-/// Runs the script that a text in memory is, and shows it as `show_story` says.
+/// Runs the script that a text in memory is, and shows it as `show_noting` says.
 ///
 /// # Errors
 ///

@@ -57,7 +57,7 @@ fn list_of<'n>(alloc: Global, names: &'n [u8]) -> Result<Vec<&'n str>, AllocErro
 ///
 /// # Errors
 ///
-/// Those of `show_story`, but for `Read`.
+/// Those of `show_noting`, but for `Read`.
 fn show_named<W: Write>(
     detail: Detail,
     alloc: Global,
@@ -91,33 +91,14 @@ fn show_named<W: Write>(
 /// of the core is told. A thread to which a comment of the story gives a name has it behind its own, as `t1 low`. The
 /// line of a fault is told so, too, and nothing of the core behind it; `notice` keeps it, and is left as it is if there
 /// is none. Lines are counted in the script that is left, from 1. Answers that are written in the story are not
-/// compared. This text is for reading, and may change. It stands behind what the writer held.
+/// compared. This text is for reading, and may change. It stands behind what the writer held. Answers the notes on the
+/// story of this name, a line for each, as `story_notes` does.
 ///
 /// # Errors
 ///
 /// `Script` with the first fault of the script, whose line was written then; `Script` with the fault `size` and the
 /// line of the story, if the story is too large, and nothing was written; `Read`, if the reader fails, and `NoMemory`,
 /// and nothing was written; and `Write`, if the writer fails or takes no byte.
-pub fn show_story<R: Read, W: Write>(
-    detail: Detail,
-    alloc: Global,
-    reader: &mut R,
-    writer: &mut W,
-    notice: &mut Notice,
-) -> Result<(), CliFault>
-    ensures ends { ShowsStoryTo (R.remaining reader.old) (R.remaining reader.new) (W.contents writer.old) (W.contents writer.new) result }
-    ensures told { OnOk result (WritesStory detail (R.remaining reader.old) (R.remaining reader.new)
-        (W.contents writer.old) (W.contents writer.new)) }
-{
-    show_noting(detail, alloc, b"", reader, writer, notice)?;
-    Ok(())
-}
-
-/// Shows a story of this name as `show_story` does, and answers the notes on it, a line for each, as `story_notes` does.
-///
-/// # Errors
-///
-/// Those of `show_story`.
 pub fn show_noting<R: Read, W: Write>(
     detail: Detail,
     alloc: Global,

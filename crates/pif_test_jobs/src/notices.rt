@@ -4,7 +4,7 @@
 use crate::streams::Stream;
 use pif_job_check::{check_noting, check_strictly, fill_as_one_of_several, fill_noting};
 use pif_job_replay::{migrate_noting, replay_noting};
-use pif_job_run::{show_story, trace_noting, trace_story};
+use pif_job_run::{show_noting, trace_noting, trace_story};
 use pif_script::{CliFault, Notice};
 use pif_script_core::run_noting;
 use pif_script_model::Detail;
@@ -42,7 +42,10 @@ fn note_story(
         Noting::Fill => fill_noting(alloc, b"story", reader, writer, notice),
         Noting::FillSeveral => fill_as_one_of_several(alloc, b"story", reader, writer, notice),
         Noting::Trace => trace_story(alloc, reader, writer, notice),
-        Noting::Show => show_story(Detail::Changes, alloc, reader, writer, notice),
+        Noting::Show => {
+            show_noting(Detail::Changes, alloc, b"story", reader, writer, notice)?;
+            Ok(())
+        }
         _ => {
             check_noting(alloc, b"story", reader, writer, notice)?;
             Ok(())

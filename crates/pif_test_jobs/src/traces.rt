@@ -1,8 +1,8 @@
 //! Traces of scripts that are read from a stream.
 
 use crate::streams::Stream;
-use pif_job_run::trace;
-use pif_script::CliFault;
+use pif_job_run::trace_noting;
+use pif_script::{CliFault, Notice};
 use pif_text::Cause;
 use std::alloc::Global;
 use std::io::ErrorKind;
@@ -120,7 +120,7 @@ fn check_traced(rt: &impl Abort, alloc: Global, row: usize, asked: &Row, each: u
     let mut input = Stream::failing(&script, most, failure);
     let mut output = Stream::failing(&texts, room, Some(ErrorKind::BrokenPipe));
     output.pace(each, 0, each);
-    let ended = trace(alloc, &mut input, &mut output);
+    let ended = trace_noting(alloc, &mut input, &mut output, &mut Notice::new());
     assert!(rt;
         ended == wanted && output.is_met(),
         "row {row} by {each}: {ended:?}"
