@@ -305,7 +305,7 @@ pub fn refuse<W: Write, E: Write>(
 /// - `run` reads a script, and writes what its lines are answered, and the line of a fault, as `run` does.
 /// - `show` reads a story or a script, and writes each command, its answer and what it has changed, as `show_noting`
 ///   does; with `--all` the state behind it; with `--json` or `--dot` a picture of it.
-/// - `draw` reads a story or a script, and writes a drawing of it, as `write_picture` does.
+/// - `draw` reads a story or a script, and writes a drawing of it, as `write_drawn` does.
 /// - `check` reads a story, and writes whether it is ok, as `check` does. With `--strict` it wants an answer beside
 ///   each refusal. With `--print` it writes the story with its answers, as `fill` does. `--write` is refused, since
 ///   `input` is no file.

@@ -5,7 +5,7 @@ use Rattle.pif_text_model.specs.declared.replies.Cause.TheVariants.{Size}
 use Rattle.pif_script_model.specs.declared.faults.CliFault.{CliFault}
 use Rattle.pif_script_model.specs.declared.faults.CliFault.TheVariants.{Differs, NoMemory, Read, Script, Write}
 use Rattle.pif_script_model.specs.declared.pictures.Picture.{Picture}
-use Rattle.pif_script_model.specs.declared.pictures.Picture.TheVariants.{Drawing, States, Graph}
+use Rattle.pif_script_model.specs.declared.pictures.Picture.TheVariants.{States, Graph}
 use Rattle.pif_script_model.specs.Migrating.{IsAllRead}
 use Rattle.pif_script_model.specs.Runs.{WritesPart}
 use Rattle.pif_story_model.specs.Checks.{fill_telling}
@@ -20,9 +20,8 @@ end_of_filling story = (fill_telling [] story).1
 abbrev pub FillingEnds : List ℕ → (after : Option (List ℕ)) → Result (Unit {0}) CliFault → Type 0
 FillingEnds read after result = (end_of_filling read ≡ result) × IsAllRead read after
 
--- a text is this picture of a story. What drawings show is for reading, and may change
+-- a text is this picture of a story
 abbrev pub IsPictureOf : Picture → (story text : List ℕ) → Type 0
-IsPictureOf Drawing story text = Unit {0}
 IsPictureOf States story text = text ≡ states_text story
 IsPictureOf Graph story text = text ≡ graph_text story
 

@@ -17,7 +17,7 @@ use std::alloc::Global;
 use std::io::{Read, Write};
 
 /// How many commands are drawn at most: browsers open no wider image.
-pub const MOST_COMMANDS: u32 = 5000;
+const MOST_COMMANDS: u32 = 5000;
 
 /// What of a story is drawn, and how.
 #[derive(Clone, Copy)]

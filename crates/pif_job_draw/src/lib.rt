@@ -25,5 +25,5 @@ mod pages;
 mod pictures;
 mod texts;
 
-pub use drawings::{Drawn, MOST_COMMANDS, write_drawn};
-pub use pictures::{draw, write_graph, write_picture, write_states};
+pub use drawings::{Drawn, write_drawn};
+pub use pictures::write_picture;

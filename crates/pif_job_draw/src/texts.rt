@@ -79,7 +79,6 @@ fn text_of<V: WatchSteps>(
     ensures { IfOk result (λ text. IsPictureOf picture story.now text.items) }
 {
     match picture {
-        Picture::Drawing => drawing_text(alloc, &Span::all(), story, rows, watch),
         Picture::States => states_text(alloc, story, rows, watch),
         Picture::Graph => match graph_of(alloc, rows, watch) {
             Ok(text) => Ok(text),

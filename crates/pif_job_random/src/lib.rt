@@ -10,5 +10,5 @@ mod shapes;
 mod written;
 
 pub use laws::commands_have_no_fault;
-pub use scripts::{MOST_LINES, random_script};
+pub use scripts::random_script;
 pub use shapes::Shape;

@@ -11,11 +11,9 @@ use pif_types::NoMemory;
 use pif_watch::WatchSteps;
 use std::alloc::Global;
 
-/// The most lines of a script for which it is promised that a run of it has no fault: a script has at most 16 MiB.
-pub const MOST_LINES: u32 = 262_144;
-
 /// A random script of so many lines, each a command, the same for the same seed, lines and shape. Which commands it has
-/// is not promised. `watch` is told of each line.
+/// is not promised. A run of it has no fault if there are at most 262,144 lines: a script has at most 16 MiB. `watch`
+/// is told of each line.
 ///
 /// # Errors
 ///

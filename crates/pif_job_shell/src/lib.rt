@@ -32,8 +32,7 @@ mod telling;
 mod wishes;
 
 pub use sessions::{
-    MOST_COMMANDS, NotLoaded, NotRedone, NotUndone, Refusal, Session, Unplayed, session_of,
-    sessions_are_runs,
+    NotLoaded, NotRedone, NotUndone, Refusal, Session, Unplayed, session_of, sessions_are_runs,
 };
 pub use shells::shell;
 pub use shelves::{LoadFault, NoShelf, SaveFault, Shelf};

@@ -16,7 +16,7 @@ use std::alloc::{AllocError, Global};
 use std::marker::Model;
 
 /// The most commands of a session: the script of so many has at most 16 MiB.
-pub const MOST_COMMANDS: usize = 131_072;
+const MOST_COMMANDS: usize = 131_072;
 
 /// Why a command was not accepted.
 #[derive(Clone, Copy, PartialEq, Eq)]

@@ -1,8 +1,6 @@
-/// A picture of a story.
+/// A picture of a story for programs.
 #[derive(Clone, Copy)]
 pub enum Picture {
-    /// A drawing with a lane for each thread, as SVG.
-    Drawing,
     /// The state behind each command, as a line of JSON.
     States,
     /// Who waits for whom at the end, in the language of Graphviz.

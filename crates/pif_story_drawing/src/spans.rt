@@ -16,14 +16,6 @@ impl Span {
         }
     }
 
-    /// All lines.
-    pub fn all() -> Span {
-        Span {
-            from: 1,
-            to: u32::MAX,
-        }
-    }
-
     /// Whether a line is behind the last.
     pub fn is_before(&self, line: u32) -> bool {
         self.to < line
