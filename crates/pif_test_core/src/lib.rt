@@ -6,6 +6,7 @@
 //! | `cores` | `pif_core`: its readers |
 //! | `uses` | `pif_core_callers`: the callers to copy from; below it each of their ways out |
 //! | `driver` | none: what the tables of `cores` and `uses` are made of, and the core on which each is played |
+//! | `chance` | none: numbers that look like chance, for many turns of many threads |
 //! | `desk` | `pif_desk`: calls of real threads, sleep and time, refused memory, receipts, journals as traces |
 //! | `drives` | `pif_job_drive`: what the clients of a drive do, and that one without memory ends |
 //! | `leaving` | `pif_job_drive`: how a client ends at a fault, and which drives are refused |
@@ -15,6 +16,8 @@
 //! tested by transcripts: crates/pif_test_transcripts/data/cores.txt and expiries.txt.
 #![tactic(auto)]
 
+#[cfg(test)]
+mod chance;
 #[cfg(test)]
 mod cores;
 #[cfg(test)]

@@ -3,6 +3,7 @@
 use super::deeds::{Deed, call};
 use super::scenes::{EMPTY, Scene, act, desk_of};
 use super::watch::Watch;
+use crate::chance::next;
 use crate::driver::{Wish, request};
 use pif_desk::{Act, Client, Desk, DeskFault, Room};
 use pif_types::{Kind, NoMemory};
@@ -57,12 +58,6 @@ static CHANCE: Scene = Scene {
     ],
     ..EMPTY
 };
-
-/// The next number of a row that looks like chance.
-fn next(seed: u64) -> u64 {
-    seed.wrapping_mul(6_364_136_223_846_793_005)
-        .wrapping_add(1_442_695_040_888_963_407)
-}
 
 /// The request that a number stands for, with one of three mutexes.
 fn wish_of(seed: u64) -> Wish {

@@ -2,6 +2,7 @@
 ghost use Rattle.std.specs.Prelude.{◌≡◌, ◌<◌, ◌≤◌, All, IfOk};
 ghost use Rattle.pif_quick.specs.Quick.{word_count, held_word, IsPassOf, IsIdle, IsIdleBut, IsTurnOf};
 
+use crate::chance::next;
 use pif_quick::{Held, Pass, Quick};
 use std::alloc::{AllocError, Global};
 use std::process::Abort;
@@ -24,12 +25,6 @@ struct Turn {
     tries: bool,
     quiet: bool,
     ghost inside: { word < 4 },
-}
-
-/// The next number of a row that looks like chance.
-fn next(seed: u64) -> u64 {
-    seed.wrapping_mul(6_364_136_223_846_793_005)
-        .wrapping_add(1_442_695_040_888_963_407)
 }
 
 /// The turn that a number stands for.
