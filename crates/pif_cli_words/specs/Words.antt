@@ -8,7 +8,7 @@ use Rattle.clap.specs.declared.error.kind.ErrorKind.TheVariants.{ArgumentConflic
 use Rattle.pif_script_model.specs.declared.details.Detail.TheVariants.{Changes, All}
 use Rattle.pif_script_model.specs.declared.pictures.Picture.TheVariants.{States, Graph}
 use Rattle.pif_cli_words.specs.declared.clashes.Clash.{Clash}
-use Rattle.pif_cli_words.specs.declared.clashes.Clash.TheVariants.{Least, Forms, Files, Rules}
+use Rattle.pif_cli_words.specs.declared.clashes.Clash.TheVariants.{Least, Forms, Json, Files, Rules, Checks, Range}
 use Rattle.pif_cli_words.specs.declared.jobs.Drawn.{Drawn}
 use Rattle.pif_cli_words.specs.declared.jobs.Exploring.{Exploring}
 use Rattle.pif_cli_words.specs.declared.jobs.Judging.{Judging}
@@ -159,13 +159,17 @@ judging_in rows = record {
   allowed = allowed_in rows;
 }
 
--- how a page clashes: it holds the lines of JSON and a run, so that nothing else is written beside it, and it is one of
--- one history
-abbrev pub page_clash : List Row → Option Clash
-page_clash rows =
+-- how lines of JSON clash: they have a run already
+abbrev pub json_clash : List Row → Option Clash
+json_clash rows = if flag_in (codes "json") rows && flag_in (codes "witness") rows then Some Json else None
+
+-- how the form of a verdict clashes: a page holds the lines of JSON and a run, so that nothing else is written beside
+-- it, and it is one of one history
+abbrev pub form_clash : List Row → Option Clash
+form_clash rows =
     if flag_in (codes "html") rows
     then (if flag_in (codes "json") rows || flag_in (codes "witness") rows then Some Forms
-    else (if has_several rows then Some Files else None)) else None
+    else (if has_several rows then Some Files else None)) else json_clash rows
 
 -- whether a form is given to `judge` that isn't its first one
 abbrev pub has_form : List Row → Bool
@@ -175,19 +179,44 @@ has_form rows = flag_in (codes "json") rows || (flag_in (codes "html") rows || f
 abbrev pub judging_clash : List Row → Option Clash
 judging_clash rows =
     if are_rules rows then (if flag_in (codes "least") rows
-    then (if has_form rows then Some Least else None) else page_clash rows) else Some Rules
+    then (if has_form rows then Some Least else None) else form_clash rows) else Some Rules
+
+-- how `check` clashes: stories are checked strictly, printed or written, and two of these are not done at once
+abbrev pub checking_clash : List Row → Option Clash
+checking_clash rows =
+    if (flag_in (codes "strict") rows && flag_in (codes "print") rows)
+    || ((flag_in (codes "strict") rows || flag_in (codes "print") rows) && flag_in (codes "write") rows)
+    then Some Checks else None
+
+-- the first line that is to be drawn, and the last; 0 stands for one that isn't named
+abbrev pub first_drawn : List Row → ℕ
+first_drawn rows = number_between 1 4294967295 (first_of (codes "from") rows)
+
+abbrev pub last_drawn : List Row → ℕ
+last_drawn rows = number_between 1 4294967295 (first_of (codes "to") rows)
+
+-- how `draw` clashes: the last line that is to be drawn doesn't stand before the first
+abbrev pub drawing_clash : List Row → Option Clash
+drawing_clash rows =
+    if nat_lt 0 (last_drawn rows) && nat_lt (last_drawn rows) (first_drawn rows) then Some Range else None
 
 -- the kind of error of a clash, if there is one
 abbrev pub clash_kinds : Option Clash → Kinds
 clash_kinds None = []
 clash_kinds (Some Least) = ArgumentConflict ∷ []
 clash_kinds (Some Forms) = ArgumentConflict ∷ []
+clash_kinds (Some Json) = ArgumentConflict ∷ []
 clash_kinds (Some Files) = TooManyValues ∷ []
 clash_kinds (Some Rules) = InvalidValue ∷ []
+clash_kinds (Some Checks) = ArgumentConflict ∷ []
+clash_kinds (Some Range) = InvalidValue ∷ []
 
 -- how words of a command clash, by its name and what was given to it
 abbrev pub clash_by : Option (Text × List Row) → Option Clash
-clash_by (Some command) = if bytes_eq command.0 (codes "judge") then judging_clash command.1 else None
+clash_by (Some command) =
+    if bytes_eq command.0 (codes "judge") then judging_clash command.1
+    else (if bytes_eq command.0 (codes "check") then checking_clash command.1
+    else (if bytes_eq command.0 (codes "draw") then drawing_clash command.1 else None))
 clash_by None = None
 
 -- the command that the words name, and what was given to it
@@ -210,8 +239,7 @@ exploring_in rows = record {
 abbrev pub filling_in : List Row → Job
 filling_in rows = if has_several rows then FillSeveral else Fill
 
--- what is done with stories: those that are written into their files are filled in; of the other flags the first of
--- `--print` and `--strict` counts
+-- what is done with stories: those that are written into their files are filled in; two flags at once are refused
 abbrev pub checking_in : List Row → Job
 checking_in rows =
     if flag_in (codes "write") rows then Fill

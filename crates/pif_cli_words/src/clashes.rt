@@ -1,10 +1,10 @@
 //! Words that `clap` takes one by one, and that ask for what cannot be had together.
 ghost use Rattle.std.specs.Prelude.{◌≡◌, ◌∷◌, [], Some};
 ghost use Rattle.clap.specs.Words.{HasKind, found_of, rows_of};
-ghost use Rattle.pif_cli_words.specs.Words.{clash_by, clash_kinds, has_form, judging_clash, page_clash};
+ghost use Rattle.pif_cli_words.specs.Words.{checking_clash, clash_by, clash_kinds, drawing_clash, form_clash, has_form, json_clash, judging_clash};
 
 use crate::commands::program;
-use crate::options::{has_several, is_given};
+use crate::options::{has_several, is_given, small_number_between};
 use crate::rules::are_rules;
 use clap::error::ErrorKind;
 use std::alloc::Global;
@@ -16,10 +16,16 @@ pub enum Clash {
     Least,
     /// A page is asked for, and another form, too.
     Forms,
+    /// Lines of JSON are asked for, and another form, too.
+    Json,
     /// A page is asked for, of several files.
     Files,
     /// What is to be allowed is no rule.
     Rules,
+    /// Stories are to be checked, printed and written, two of these at once.
+    Checks,
+    /// The last line that is to be drawn stands before the first.
+    Range,
 }
 
 impl Clash {
@@ -28,9 +34,11 @@ impl Clash {
         ensures { clash_kinds (Some self) ≡ result ∷ [] }
     {
         match self {
-            Clash::Least | Clash::Forms => ErrorKind::ArgumentConflict,
+            Clash::Least | Clash::Forms | Clash::Json | Clash::Checks => {
+                ErrorKind::ArgumentConflict
+            }
             Clash::Files => ErrorKind::TooManyValues,
-            Clash::Rules => ErrorKind::InvalidValue,
+            Clash::Rules | Clash::Range => ErrorKind::InvalidValue,
         }
     }
 
@@ -39,7 +47,10 @@ impl Clash {
         match self {
             Clash::Least => "'judge --least' takes none of '--json', '--html' and '--witness'",
             Clash::Forms => "'judge --html' takes neither '--json' nor '--witness'",
+            Clash::Json => "'judge --json' takes no '--witness': it has a run already",
             Clash::Files => "'judge --html' makes a page of one file",
+            Clash::Checks => "'check' takes one of '--strict', '--print' and '--write'",
+            Clash::Range => "'draw --from' names a line behind that of '--to'",
             Clash::Rules => {
                 "'judge --allow' takes a rule: steal, any_waiter, spurious, recursion=N (256 to \
                 4294967295), own_errorcheck, any_consistent, held_wait, lost_signal, revives, all"
@@ -68,12 +79,23 @@ impl Clash {
     }
 }
 
-/// How a page clashes with what else was given to `judge`.
-fn page_clash(given: &clap::ArgMatches) -> Option<Clash>
-    ensures { result ≡ page_clash (rows_of (found_of given.now)) }
+/// How lines of JSON clash with what else was given to `judge`.
+fn json_clash(given: &clap::ArgMatches) -> Option<Clash>
+    ensures { result ≡ json_clash (rows_of (found_of given.now)) }
+{
+    if is_given(given, "json") && is_given(given, "witness") {
+        Some(Clash::Json)
+    } else {
+        None
+    }
+}
+
+/// How the form of a verdict clashes with what else was given to `judge`.
+fn form_clash(given: &clap::ArgMatches) -> Option<Clash>
+    ensures { result ≡ form_clash (rows_of (found_of given.now)) }
 {
     if !is_given(given, "html") {
-        None
+        json_clash(given)
     } else if is_given(given, "json") || is_given(given, "witness") {
         Some(Clash::Forms)
     } else if has_several(given) {
@@ -97,9 +119,34 @@ fn judging_clash(given: &clap::ArgMatches) -> Option<Clash>
     if !are_rules(given) {
         Some(Clash::Rules)
     } else if !is_given(given, "least") {
-        page_clash(given)
+        form_clash(given)
     } else if has_form(given) {
         Some(Clash::Least)
+    } else {
+        None
+    }
+}
+
+/// How `check` clashes with what was given to it.
+fn checking_clash(given: &clap::ArgMatches) -> Option<Clash>
+    ensures { result ≡ checking_clash (rows_of (found_of given.now)) }
+{
+    let (strict, print) = (is_given(given, "strict"), is_given(given, "print"));
+    if (strict && print) || ((strict || print) && is_given(given, "write")) {
+        Some(Clash::Checks)
+    } else {
+        None
+    }
+}
+
+/// How `draw` clashes with what was given to it.
+fn drawing_clash(given: &clap::ArgMatches) -> Option<Clash>
+    ensures { result ≡ drawing_clash (rows_of (found_of given.now)) }
+{
+    let from = small_number_between(given, "from", 1, u32::MAX);
+    let to = small_number_between(given, "to", 1, u32::MAX);
+    if to > 0 && to < from {
+        Some(Clash::Range)
     } else {
         None
     }
@@ -111,6 +158,10 @@ pub fn clash_in(name: &str, given: &clap::ArgMatches) -> Option<Clash>
 {
     if name == "judge" {
         judging_clash(given)
+    } else if name == "check" {
+        checking_clash(given)
+    } else if name == "draw" {
+        drawing_clash(given)
     } else {
         None
     }

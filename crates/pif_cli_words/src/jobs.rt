@@ -216,8 +216,8 @@ fn drawn_in(given: &clap::ArgMatches) -> Drawn
     }
 }
 
-/// What `check` does with its stories: those that are written into their files are filled in. Of the other flags the
-/// first of `--print` and `--strict` counts.
+/// What `check` does with its stories: those that are written into their files are filled in. Two of its flags at once
+/// were refused before.
 fn checking_in(given: &clap::ArgMatches) -> Job
     ensures { result ≡ checking_in (rows_of (found_of given.now)) }
 {

@@ -14,7 +14,8 @@ use pif_script_model::{Detail, Picture};
 /// two files, `judge` alone, with its options and two files, with `--least`, and with `--html` and one, `explore` alone,
 /// with its options, and with `--core` without its number, `random` with a seed and from 1 to 262,144 lines, and `drive`
 /// with a number from 1 to 64 do; no word, `--help`, `--version`, `judge --html` with another form or two files, `judge
-/// --least` with `--json`, and `judge --allow` with no rule don't.
+/// --least` with `--json`, `judge --json` with `--witness`, `judge --allow` with no rule, `check` with two of its
+/// flags, and `draw` with a last line before the first don't.
 #[tactic(auto, unfolding(clap::proofs::OnLiterals::clap_on_literals))]
 pub fn words_of_the_program()
     ensures run { (name : List ℕ) → (refusals_of (name ∷ codes "run" ∷ []) ≡ []) × (job_of (name ∷ codes "run" ∷ []) ≡ Job.Run) }
@@ -29,6 +30,7 @@ pub fn words_of_the_program()
     ensures page { (name : List ℕ) → (refusals_of (name ∷ codes "draw" ∷ codes "--html" ∷ codes "--from=3" ∷ codes "--to=9" ∷ []) ≡ [])
         × (job_of (name ∷ codes "draw" ∷ codes "--html" ∷ codes "--from=3" ∷ codes "--to=9" ∷ [])
         ≡ Job.Draw (record { html = true; from = 3; to = 9 })) }
+    ensures last_before_first { (name : List ℕ) → refusals_of (name ∷ codes "draw" ∷ codes "--from=9" ∷ codes "--to=3" ∷ []) ≡ InvalidValue ∷ [] }
     ensures json { (name : List ℕ) → (refusals_of (name ∷ codes "show" ∷ codes "--json" ∷ []) ≡ [])
         × (job_of (name ∷ codes "show" ∷ codes "--json" ∷ []) ≡ Job.Picture Picture.States) }
     ensures dot { (name : List ℕ) → (refusals_of (name ∷ codes "show" ∷ codes "--dot" ∷ []) ≡ [])
@@ -45,6 +47,8 @@ pub fn words_of_the_program()
     ensures rewrite { (name : List ℕ) → (refusals_of (name ∷ codes "check" ∷ codes "--write" ∷ codes "a" ∷ []) ≡ [])
         × (job_of (name ∷ codes "check" ∷ codes "--write" ∷ codes "a" ∷ []) ≡ Job.Fill)
         × (rewrites (name ∷ codes "check" ∷ codes "--write" ∷ codes "a" ∷ []) ≡ true) }
+    ensures strict_or_print { (name : List ℕ) → refusals_of (name ∷ codes "check" ∷ codes "--strict" ∷ codes "--print" ∷ []) ≡ ArgumentConflict ∷ [] }
+    ensures print_or_write { (name : List ℕ) → refusals_of (name ∷ codes "check" ∷ codes "--print" ∷ codes "--write" ∷ []) ≡ ArgumentConflict ∷ [] }
     ensures judge { (name : List ℕ) → (refusals_of (name ∷ codes "judge" ∷ []) ≡ [])
         × (job_of (name ∷ codes "judge" ∷ []) ≡ Job.Judge (record { witness = false; json = false; html = false; least = false; states = 200000; seconds = None; jobs = None; several = false; allowed = no_rules })) }
     ensures judges { (name : List ℕ) → (refusals_of (name ∷ codes "judge" ∷ codes "--witness" ∷ codes "--states=7" ∷ codes "a" ∷ codes "b" ∷ []) ≡ [])
@@ -60,6 +64,7 @@ pub fn words_of_the_program()
         × (job_of (name ∷ codes "judge" ∷ codes "--least" ∷ codes "a" ∷ codes "b" ∷ [])
         ≡ Job.Judge (record { witness = false; json = false; html = false; least = true; states = 200000; seconds = None; jobs = None; several = true; allowed = no_rules })) }
     ensures least_or_json { (name : List ℕ) → refusals_of (name ∷ codes "judge" ∷ codes "--least" ∷ codes "--json" ∷ []) ≡ ArgumentConflict ∷ [] }
+    ensures json_or_witness { (name : List ℕ) → refusals_of (name ∷ codes "judge" ∷ codes "--witness" ∷ codes "--json" ∷ []) ≡ ArgumentConflict ∷ [] }
     ensures no_rule { (name : List ℕ) → refusals_of (name ∷ codes "judge" ∷ codes "--allow" ∷ codes "theft" ∷ []) ≡ InvalidValue ∷ [] }
     ensures page_or_json { (name : List ℕ) → refusals_of (name ∷ codes "judge" ∷ codes "--html" ∷ codes "--json" ∷ []) ≡ ArgumentConflict ∷ [] }
     ensures page_or_witness { (name : List ℕ) → refusals_of (name ∷ codes "judge" ∷ codes "--html" ∷ codes "--witness" ∷ []) ≡ ArgumentConflict ∷ [] }
