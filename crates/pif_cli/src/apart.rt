@@ -6,7 +6,7 @@ ghost use Rattle.pif_cli.specs.Apart.{AreApart, IsApart, IsJudged, WritesJudged}
 
 use crate::hosts::Runtime;
 use crate::judging::judge_input;
-use pif_cli_messages::{JobFault, Unwatched};
+use pif_cli_messages::{JobFault, Kept, Unwatched};
 use pif_cli_words::{Job, Judging, STANDARD_NAME};
 use pif_history_text::MOST_BYTES;
 use pif_script::{CliFault, write_whole};
@@ -32,6 +32,41 @@ pub struct Judged {
     pub text: Vec<u8>,
     /// How it ended.
     pub done: Result<(), JobFault>,
+    /// The line at fault without its LF, if there is one, and memory was not refused for it.
+    pub line: Option<Vec<u8>>,
+}
+
+/// The number of the line at fault, if there is one.
+fn faulty_number(done: &Result<(), JobFault>) -> Option<u64> {
+    match done {
+        Err(JobFault::Cli(CliFault::Script(number, _))) => Some(*number),
+        _ => None,
+    }
+}
+
+/// The line at fault of a history of these bytes that ended so, if there is one, and memory is not refused for it.
+fn faulty_line(alloc: Global, done: &Result<(), JobFault>, bytes: &[u8]) -> Option<Vec<u8>> {
+    let kept = Kept {
+        text: bytes,
+        first: 1,
+    };
+    let line = kept.whole_line(faulty_number(done)?)?;
+    let mut copy = Vec::new(alloc);
+    copy.extend_from_slice(line).ok()?;
+    Some(copy)
+}
+
+impl Judged {
+    /// What was kept of the history: the line at fault.
+    pub fn kept(&self) -> Option<Kept<'_>> {
+        match (&self.line, faulty_number(&self.done)) {
+            (Some(line), Some(first)) => Some(Kept {
+                text: line.as_slice(),
+                first,
+            }),
+            _ => None,
+        }
+    }
 }
 
 /// What was done with a file before its turn.
@@ -134,7 +169,8 @@ fn judge_bytes<P: Runtime>(
         &mut text,
         &mut Unwatched,
     );
-    Judged { text, done }
+    let line = faulty_line(alloc, &done, bytes);
+    Judged { text, done, line }
 }
 
 /// Judges the history of these bytes, if there are any, which is of this name.

@@ -46,7 +46,7 @@ fn end_judged<P, S, W: Write, E: Write, V>(
     let given = Given {
         job,
         name,
-        story: None,
+        kept: judged.kept(),
         why: None,
     };
     tell_end(done, &given, &Told::new(host.alloc), host)

@@ -13,7 +13,7 @@ use crate::random::write_random;
 use crate::told::Told;
 use clap::error::ErrorKind;
 use pif_cli_messages::{
-    Given, Input, JobFault, Message, Output, Unwatched, WatchJob, fault_status, is_output,
+    Given, Input, JobFault, Keeps, Message, Output, Unwatched, WatchJob, fault_status, is_output,
     job_fault_status, plain_message,
 };
 use pif_cli_words::{Job, first_name, near_command, read_words};
@@ -130,12 +130,15 @@ fn do_job<P: Runtime + Sync, S: Shelf, R: Read, W: Write, E, V: WatchJob>(
     }
 }
 
-/// Whether the text that a job reads is kept, so that the place of a fault can be told: that of a story.
-fn keeps_text(job: Job) -> bool {
+/// What is kept of the text that a job reads, so that a fault can be told: all of a story and of a program, and of a
+/// history the last lines.
+fn kept_of(job: Job) -> Keeps {
     match job {
-        Job::Check | Job::Strict | Job::Fill | Job::FillSeveral => true,
-        Job::Picture(_) | Job::Draw(_) | Job::Show(_) | Job::Trace => true,
-        _ => false,
+        Job::Check | Job::Strict | Job::Fill | Job::FillSeveral => Keeps::All,
+        Job::Picture(_) | Job::Draw(_) | Job::Show(_) | Job::Trace => Keeps::All,
+        Job::Explore(_) => Keeps::All,
+        Job::Judge(_) => Keeps::LastLines,
+        _ => Keeps::Nothing,
     }
 }
 
@@ -203,12 +206,12 @@ pub fn do_and_tell<P: Runtime + Sync, S: Shelf, R: Read, W: Write, E: Write, V: 
         (W.contents host.new.output.now) (E.contents host.old.errors.now) (E.contents host.new.errors.now) result }
 {
     let mut told = Told::new(host.alloc);
-    input.begin(host.alloc, keeps_text(job));
+    input.begin(host.alloc, kept_of(job));
     let done = do_job(job, name, &mut *input, host, &mut told);
     let given = Given {
         job,
         name,
-        story: input.text(),
+        kept: input.kept(),
         why: input.why(),
     };
     tell_end(done, &given, &told, host)
@@ -323,18 +326,19 @@ pub fn refuse<W: Write, E: Write>(
 /// The status is 0 if the job was done, or help or the version was asked for, whose text goes to `output`. Else it is:
 ///
 /// - 1 if the words are refused, and the reason goes to `errors`: nothing is read then;
-/// - 2 for a fault of the script, story, history or trace;
+/// - 2 for a fault of the script, story, history, program or trace;
 /// - 3 if a read or a write fails;
 /// - 4 if it ran out of memory;
-/// - 5 if a story or a trace differs, or a history is illegal;
+/// - 5 if a story or a trace differs, a history is illegal, or a claim is broken;
 /// - 6 if a thread can't be started, or the desk of the clients doesn't settle;
 /// - 7 if a history stayed undecided.
 ///
 /// At status 0 the notes of `run`, `check` and `show` go to `errors`, as `story_notes` has them, and at 2 to 7 one line
 /// of printable ASCII, which says what went wrong. If these cannot be written, the status stays. At 3 it is a part of
 /// the reason why the words are refused, if that could not be written. It is nothing if nobody reads `output` any more.
-/// No memory is taken for the line, but a story is kept in memory for the place of its fault. A script that is run is
-/// kept for its notes. If memory is refused for these, one line says so in their place.
+/// No memory is taken for the line, but a story, a program or the last lines of a history are kept in memory for the
+/// place of a fault. A script that is run is kept for its notes. If memory is refused for these, one line says so in
+/// their place.
 pub fn command<T: Runtime + Sync, S: AsStr, R: Read, W: Write, E: Write>(
     alloc: Global,
     rt: &T,

@@ -1,10 +1,14 @@
 use crate::messages::Message;
 use crate::places::Place;
 use crate::statuses::JobFault;
+use crate::streams::Kept;
 use pif_cli_words::{Job, STANDARD_NAME};
 use pif_script::{CliFault, MOST_BYTES, MOST_LINE, Notice};
-use pif_text::{Cause, Command, errno_name, errno_of, split_answer};
-use pif_text_errors::{Form, SyntaxError, Wrong, call_form, read_command};
+use pif_text::{Cause, Command, errno_name, errno_of};
+use pif_text_errors::{
+    SyntaxError, TextKind, Wrong, cause_words, history_error, other_kind, program_error,
+    read_command,
+};
 use pif_types::Errno;
 use std::fmt::Write;
 use std::str::from_utf8;
@@ -31,8 +35,8 @@ pub struct Given<'n, 's> {
     pub job: Job,
     /// The name of the input, `-` for the standard input.
     pub name: &'n str,
-    /// The text of a story, if it was kept.
-    pub story: Option<&'s [u8]>,
+    /// What was kept of the text of the input.
+    pub kept: Option<Kept<'s>>,
     /// Why a read of the input has failed, in the system's words, if there are such.
     pub why: Option<&'static str>,
 }
@@ -45,7 +49,7 @@ pub fn message_of(job: Job, name: &str, fault: JobFault, notice: &Notice) -> Mes
     let given = Given {
         job,
         name,
-        story: None,
+        kept: None,
         why: None,
     };
     given.message(fault, notice)
@@ -78,9 +82,18 @@ impl<'n, 's> Given<'n, 's> {
         }
     }
 
+    /// The text of a story, if it was kept.
+    fn story(&self) -> Option<&'s [u8]> {
+        match (self.job, self.kept) {
+            (Job::Judge(_) | Job::Explore(_), _) => None,
+            (_, Some(kept)) => Some(kept.text),
+            (_, None) => None,
+        }
+    }
+
     /// The line of this number, from 1, in the text that was given.
     fn place(&self, number: u64) -> Place<'n, 's> {
-        Place::of_line(self.name, number, self.story)
+        Place::of_line(self.name, number, self.story())
     }
 
     /// Where the fault of this cause stands, at a line of this number. `show` and `trace` count the commands of a
@@ -88,7 +101,7 @@ impl<'n, 's> Given<'n, 's> {
     fn place_of_fault(&self, number: u64, cause: Cause) -> Place<'n, 's> {
         match (self.job, cause) {
             (_, Cause::Size) => self.place(number),
-            (Job::Show(_) | Job::Trace, _) => Place::of_command(self.name, number, self.story),
+            (Job::Show(_) | Job::Trace, _) => Place::of_command(self.name, number, self.story()),
             _ => self.place(number),
         }
     }
@@ -98,38 +111,79 @@ impl<'n, 's> Given<'n, 's> {
         let mut message = Message::empty();
         let place = self.place_of_fault(number, cause);
         match (self.job, cause) {
-            (Job::Judge(_), _) => {
-                let column = column_of(cause, b"");
-                say_line(&place, column, history_cause(cause), b"", &mut message)
-            }
-            (Job::Explore(_), _) => {
-                let column = explore_column(cause);
-                say_line(&place, column, explore_cause(cause), b"", &mut message)
-            }
+            (Job::Judge(_), _) => self.say_history_fault(&place, number, cause, &mut message),
+            (Job::Explore(_), _) => self.say_program_fault(&place, number, cause, &mut message),
             (Job::Replay | Job::Migrate, Cause::Command) => {
                 no_traced(&place, number, notice, &mut message)
             }
             (Job::Run, Cause::Command) => no_command(&place, notice.line(), &mut message),
             (_, Cause::Command) => no_row(&place, notice.line(), &mut message),
             (Job::Draw(_), Cause::Size) => {
-                say_line(&place, 1, size_of_drawing(self.story), b"", &mut message)
+                say_line(&place, 1, size_of_drawing(self.story()), b"", &mut message)
             }
             (job, _) if is_of_story(job) => {
                 let column = column_of(cause, b"");
-                say_line(&place, column, plain_cause(cause), b"", &mut message)
+                say_line(&place, column, cause_words(cause), b"", &mut message)
             }
             _ => {
                 let column = column_of(cause, notice.line());
                 say_line(
                     &place,
                     column,
-                    plain_cause(cause),
+                    cause_words(cause),
                     notice.line(),
                     &mut message,
                 )
             }
         }
         message
+    }
+
+    /// Says why the line of this number is a fault of a history.
+    fn say_history_fault(
+        &self,
+        place: &Place<'_, '_>,
+        number: u64,
+        cause: Cause,
+        message: &mut Message,
+    ) {
+        let line = self.kept.and_then(|kept| kept.line(number));
+        match (cause, line) {
+            (Cause::Command | Cause::Limits, Some(line)) => {
+                say_wrong_line(place, TextKind::History, history_error(line), line, message)
+            }
+            _ => say_line(
+                place,
+                column_of(cause, b""),
+                history_cause(cause),
+                b"",
+                message,
+            ),
+        }
+    }
+
+    /// Says why the line of this number is a fault of a program.
+    fn say_program_fault(
+        &self,
+        place: &Place<'_, '_>,
+        number: u64,
+        cause: Cause,
+        message: &mut Message,
+    ) {
+        let line = self.kept.and_then(|kept| kept.line(number));
+        match (cause, self.kept, line) {
+            (Cause::Command | Cause::Limits, Some(kept), Some(line)) => {
+                let syntax_error = program_error(kept.text, number, line, cause);
+                say_wrong_line(place, TextKind::Program, syntax_error, line, message)
+            }
+            _ => say_line(
+                place,
+                program_column(cause),
+                program_cause(cause),
+                b"",
+                message,
+            ),
+        }
     }
 
     /// What is told of a difference in the line of this number.
@@ -255,7 +309,7 @@ fn undecided_words(job: Job) -> &'static str {
 }
 
 /// In which column of a line a fault of this cause stands, of a program that is explored.
-fn explore_column(cause: Cause) -> usize {
+fn program_column(cause: Cause) -> usize {
     match cause {
         Cause::Long => 501,
         _ => 1,
@@ -263,13 +317,13 @@ fn explore_column(cause: Cause) -> usize {
 }
 
 /// The words of a cause, of a program that is explored.
-fn explore_cause(cause: Cause) -> &'static str {
+fn program_cause(cause: Cause) -> &'static str {
     match cause {
         Cause::Long => "the line has more than 500 bytes",
         Cause::Limits => "there is no room left for it, or a number is out of its range",
         Cause::Command =>
             "not a line of a program, or one that stands too late or twice, or names what is not there",
-        _ => plain_cause(cause),
+        _ => cause_words(cause),
     }
 }
 
@@ -279,7 +333,7 @@ fn history_cause(cause: Cause) -> &'static str {
         Cause::Size => "the input has more than 268435456 bytes",
         Cause::Limits => "the number of recursion is 256 to 4294967295",
         Cause::Command => "not a line of a history, or one that stands too late or twice",
-        _ => plain_cause(cause),
+        _ => cause_words(cause),
     }
 }
 
@@ -321,28 +375,13 @@ fn error_in(answer: &[u8]) -> Option<Errno> {
 /// What is said of a story that is too large to be drawn: it has too many bytes, or else too many commands.
 fn size_of_drawing(story: Option<&[u8]>) -> &'static str {
     match story {
-        Some(text) if text.len() > MOST_BYTES as usize => plain_cause(Cause::Size),
+        Some(text) if text.len() > MOST_BYTES as usize => cause_words(Cause::Size),
         _ =>
             "no browser opens a drawing of more than 5000 commands; choose lines by --from and --to",
     }
 }
 
-/// The words of a cause, if it has just these.
-fn plain_cause(cause: Cause) -> &'static str {
-    match cause {
-        Cause::Size => "the input has more than 16777216 bytes",
-        Cause::Long => "the line has more than 120 bytes",
-        Cause::Cut => "the input ends inside the line, with no LF after it",
-        Cause::Limits => {
-            "a limit is out of range (threads 1 to 1024, mutexes 0 to 1024, variables 0 to 256, \
-            signals 1 to 4294967295)"
-        }
-        Cause::Command => "no such command",
-    }
-}
-
-/// Says what is wrong with a line: the place, the syntax error, the nearest word, or else what is allowed, and the form
-/// of the command, if there are such, and the text of the line.
+/// Says what is wrong with a line: the place, the syntax error, and the text of the line.
 fn say_syntax_error(
     place: &Place<'_, '_>,
     syntax_error: SyntaxError,
@@ -350,47 +389,35 @@ fn say_syntax_error(
     message: &mut Message,
 ) {
     place.say(syntax_error.column, message);
-    message.say(syntax_error.wrong.words());
-    if syntax_error.near.is_none() {
-        say_allowed(syntax_error, message);
-    }
-    say_hint(", perhaps '", syntax_error.near, message);
-    say_hint(", in '", syntax_error.form, message);
+    let _ = write!(message, "{syntax_error}");
     show_line(line, message);
 }
 
-/// Says which calls or kinds of mutexes there are, in place of a wrong one, or how a call is written that begins a
-/// line.
-fn say_allowed(syntax_error: SyntaxError, message: &mut Message) {
-    if syntax_error.wrong == Wrong::NoCommand {
-        say_hint(
-            "; calls are written '",
-            call_form(syntax_error.word),
-            message,
-        );
-    }
-    say_names(syntax_error.wrong.allowed(), message);
+/// Says that a line is one of another kind of texts than the one that is wanted, and which command takes it.
+fn say_other_kind(
+    place: &Place<'_, '_>,
+    found: TextKind,
+    wanted: TextKind,
+    line: &[u8],
+    message: &mut Message,
+) {
+    let (name, other, command) = (found.name(), wanted.name(), found.command());
+    place.say(1, message);
+    let _ = write!(message, "a {name} is no {other}: 'pif {command}' takes it");
+    show_line(line, message);
 }
 
-/// Appends the words with which these forms begin, in brackets, if there are any.
-fn say_names(forms: &[Form], message: &mut Message) {
-    let mut before = " (";
-    for form in forms {
-        message.say(before);
-        message.say(form.name);
-        before = ", ";
-    }
-    if !forms.is_empty() {
-        message.say(")");
-    }
-}
-
-/// Appends words and a hint between quotes, if there is one.
-fn say_hint(words: &str, hint: Option<&'static str>, message: &mut Message) {
-    if let Some(text) = hint {
-        message.say(words);
-        message.say(text);
-        message.say("'");
+/// Says what is wrong with a line of a text of this kind: that it is one of another kind, or else the syntax error.
+fn say_wrong_line(
+    place: &Place<'_, '_>,
+    wanted: TextKind,
+    syntax_error: SyntaxError,
+    line: &[u8],
+    message: &mut Message,
+) {
+    match other_kind(line, wanted) {
+        Some(found) => say_other_kind(place, found, wanted, line, message),
+        None => say_syntax_error(place, syntax_error, line, message),
     }
 }
 
@@ -431,41 +458,12 @@ fn no_command(place: &Place<'_, '_>, line: &[u8], message: &mut Message) {
         let words = "the line begins with a byte order mark, which a script has not";
         return say_line(place, 1, words, line, message);
     }
-    if line.starts_with(b"pif-trace ") {
-        let words = "a trace is no script: 'pif replay' takes it";
-        return say_line(place, 1, words, line, message);
-    }
-    if is_answered(line) {
-        let words = "a story is no script: 'pif check' takes it";
-        return say_line(place, 1, words, line, message);
-    }
     match read_command(line) {
-        Ok(_) => {
-            let words = "limits may stand on the first line only";
-            say_line(place, 1, words, line, message)
-        }
-        Err(syntax_error) => say_syntax_error(place, syntax_error, line, message),
-    }
-}
-
-/// Whether a line is a command with an answer behind it, as in a story.
-fn is_answered(line: &[u8]) -> bool {
-    match split_answer(line) {
-        Some((command, _)) => read_command(without_blanks(command)).is_ok(),
-        None => false,
-    }
-}
-
-/// A text without the blanks at its end.
-fn without_blanks(text: &[u8]) -> &[u8] {
-    let mut front = text;
-    for _ in 0..text.len() {
-        match front {
-            [shorter @ .., b' '] => front = shorter,
-            _ => return front,
+        Ok(_) => say_line(place, 1, cause_words(Cause::Command), line, message),
+        Err(syntax_error) => {
+            say_wrong_line(place, TextKind::Script, syntax_error, line, message)
         }
     }
-    front
 }
 
 /// Says why a line of a trace, of this number, is no command there.
@@ -481,7 +479,7 @@ fn no_traced(place: &Place<'_, '_>, number: u64, notice: &Notice, message: &mut 
         );
     }
     if number == 1 {
-        return say_line(place, 1, no_header(line), line, message);
+        return no_header(place, line, message);
     }
     let Some((command, _)) = notice.parts() else {
         let words = "no ' = ' with an answer after it";
@@ -493,16 +491,23 @@ fn no_traced(place: &Place<'_, '_>, number: u64, notice: &Notice, message: &mut 
     }
 }
 
-/// Why a first line is none of a trace.
-fn no_header(line: &[u8]) -> &'static str {
+/// Says why a first line is none of a trace.
+fn no_header(place: &Place<'_, '_>, line: &[u8], message: &mut Message) {
     if line.starts_with(b"pif-trace ") {
-        "there are traces of version 1 and of version 2 only"
-    } else if read_command(line).is_ok() {
-        "a script is no trace: 'pif run' takes it"
-    } else if is_answered(line) {
-        "a story is no trace: 'pif check' takes it"
+        let words = "there are traces of version 1 and of version 2 only";
+        return say_line(place, 1, words, line, message);
+    }
+    let found = if read_command(line).is_ok() {
+        Some(TextKind::Script)
     } else {
-        "the first line of a trace is 'pif-trace 1' or 'pif-trace 2'"
+        other_kind(line, TextKind::Trace)
+    };
+    match found {
+        Some(found) => say_other_kind(place, found, TextKind::Trace, line, message),
+        None => {
+            let words = "the first line of a trace is 'pif-trace 1' or 'pif-trace 2'";
+            say_line(place, 1, words, line, message)
+        }
     }
 }
 

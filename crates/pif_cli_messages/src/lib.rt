@@ -25,4 +25,4 @@ pub use messages::Message;
 pub use notes::Notes;
 pub use progress::{Progress, Unwatched, WatchFiles, WatchJob};
 pub use statuses::{JobFault, fault_status, is_output, job_fault_status};
-pub use streams::{Input, Output, words_of};
+pub use streams::{Input, Keeps, Kept, Output, words_of};

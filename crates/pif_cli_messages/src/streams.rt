@@ -1,16 +1,70 @@
 //! What a job reads and writes, and what has failed of it.
 
+use memchr::{memchr_iter, memrchr};
+use pif_text_errors::without_mark;
 use std::alloc::Global;
 use std::io;
 use std::io::{ErrorKind, Read, Write};
 use std::marker::Model;
 
-/// What jobs read. It keeps why a read has failed, and the text that one job reads, if that is asked for. In contracts
+/// What is kept of the text that a job reads.
+#[derive(Clone, Copy)]
+pub enum Keeps {
+    /// Nothing.
+    Nothing,
+    /// All of it.
+    All,
+    /// The lines that the last read has ended, and what stands behind them.
+    LastLines,
+}
+
+/// What was kept of a text.
+#[derive(Clone, Copy)]
+pub struct Kept<'s> {
+    /// Its bytes.
+    pub text: &'s [u8],
+    /// The number of its first line, from 1.
+    pub first: u64,
+}
+
+impl<'s> Kept<'s> {
+    /// The line of this number, from 1, without its LF. `None` if it was not kept.
+    pub fn whole_line(&self, number: u64) -> Option<&'s [u8]> {
+        let mut line = self.first;
+        for written in self.text.split(|byte| *byte == b'\n') {
+            if line == number {
+                return Some(written);
+            }
+            line = line.saturating_add(1);
+        }
+        None
+    }
+
+    /// The same without a CR at its end. A byte order mark at the front of the text is no part of its first line.
+    pub fn line(&self, number: u64) -> Option<&'s [u8]> {
+        let whole = self.whole_line(number)?;
+        let line = if number == 1 {
+            without_mark(whole)
+        } else {
+            whole
+        };
+        match line {
+            [before @ .., b'\r'] => Some(before),
+            _ => Some(line),
+        }
+    }
+}
+
+/// What jobs read. It keeps why a read has failed, and of the text that one job reads what is asked for. In contracts
 /// it is its reader.
 #[derive(Drop)]
 pub struct Input<R> {
     reader: R,
-    text: Option<Vec<u8>>,
+    /// What is kept, and where memory for it comes from.
+    text: Option<(Vec<u8>, Global)>,
+    /// The number of the first line that is kept, from 1.
+    first: u64,
+    keeps: Keeps,
     why: Option<&'static str>,
 }
 
@@ -18,6 +72,21 @@ impl<R> Model for Input<R> {
     ghost Value = { R };
 
     ghost view = { λ s. s.reader };
+}
+
+/// A text with more bytes behind it; `None` if memory is refused.
+fn extended(text: Vec<u8>, bytes: &[u8]) -> Option<Vec<u8>> {
+    let mut text = text;
+    text.extend_from_slice(bytes).ok()?;
+    Some(text)
+}
+
+/// What stands behind the last LF of a text.
+fn behind_lines(text: &[u8]) -> &[u8] {
+    match memrchr(b'\n', text) {
+        Some(place) => &text[place + 1..],
+        None => text,
+    }
 }
 
 impl<R> Input<R> {
@@ -30,23 +99,33 @@ impl<R> Input<R> {
         Input {
             reader,
             text: None,
+            first: 1,
+            keeps: Keeps::Nothing,
             why: None,
         }
     }
 
-    /// Forgets what one job has read, and why a read of it has failed. If `keeps`, the text that is read from here on
-    /// is kept. Nothing is read.
-    pub fn begin(&mut self, alloc: Global, keeps: bool)
+    /// Forgets what one job has read, and why a read of it has failed. Of the text that is read from here on so much is
+    /// kept. Nothing is read.
+    pub fn begin(&mut self, alloc: Global, keeps: Keeps)
         ensures { self.new ≡ self.old }
     {
-        self.text = if keeps { Some(Vec::new(alloc)) } else { None };
+        self.text = match keeps {
+            Keeps::Nothing => None,
+            Keeps::All | Keeps::LastLines => Some((Vec::new(alloc), alloc)),
+        };
+        self.first = 1;
+        self.keeps = keeps;
         self.why = None;
     }
 
-    /// The text that was read, if it was kept, and memory was not refused for it.
-    pub fn text(&self) -> Option<&[u8]> {
+    /// What was kept of the text that was read, if that was asked for, and memory was not refused for it.
+    pub fn kept(&self) -> Option<Kept<'_>> {
         match &self.text {
-            Some(text) => Some(text.as_slice()),
+            Some((text, _)) => Some(Kept {
+                text: text.as_slice(),
+                first: self.first,
+            }),
             None => None,
         }
     }
@@ -56,16 +135,29 @@ impl<R> Input<R> {
         self.why
     }
 
-    /// Keeps what was read. If memory is refused for it, no text is kept.
+    /// What is kept behind so many bytes more, of which lines were read before these.
+    fn last_lines(&mut self, alloc: Global, text: &[u8], bytes: &[u8]) -> Option<Vec<u8>>
+        ensures { self.new ≡ self.old }
+    {
+        let ended = memchr_iter(b'\n', text).count();
+        self.first = self.first.saturating_add(ended as u64);
+        let rest = extended(Vec::new(alloc), behind_lines(text))?;
+        extended(rest, bytes)
+    }
+
+    /// Keeps what was read. If memory is refused for it, nothing is kept.
     fn keep(&mut self, bytes: &[u8])
         ensures { self.new ≡ self.old }
     {
-        let is_kept = match &mut self.text {
-            Some(text) => text.extend_from_slice(bytes).is_ok(),
-            None => return,
+        let Some((text, alloc)) = self.text.take() else {
+            return;
         };
-        if !is_kept {
-            self.text = None;
+        let kept = match self.keeps {
+            Keeps::LastLines => self.last_lines(alloc, text.as_slice(), bytes),
+            Keeps::All | Keeps::Nothing => extended(text, bytes),
+        };
+        if let Some(text) = kept {
+            self.text = Some((text, alloc));
         }
     }
 }

@@ -3,7 +3,11 @@ use crate::shelves::{LoadFault, SaveFault};
 use arrayvec::ArrayVec;
 use itoa::Buffer;
 use pif_text::Cause;
-use pif_text_errors::{SyntaxError, Wrong, line_of_command, nearest_name, written_column};
+use pif_text_errors::{
+    SyntaxError, Wrong, cause_words, line_of_command, nearest_name, written_column,
+};
+use std::fmt;
+use std::fmt::Write;
 
 /// The most bytes of a remark.
 const REMARK_ROOM: usize = 512;
@@ -56,20 +60,10 @@ impl Remark {
     }
 }
 
-/// Appends words and a hint between quotes, if there is one.
-fn say_hint(words: &str, hint: Option<&'static str>, remark: &mut Remark) {
-    if let Some(text) = hint {
-        remark.say(words);
-        remark.say(text);
-        remark.say("'");
-    }
-}
-
-/// What is wrong with a line, in words. Here a line may be a comment, as in a story.
-fn wrong_words(wrong: Wrong) -> &'static str {
-    match wrong {
-        Wrong::Comment => "a comment is a line that begins with '#'",
-        _ => wrong.words(),
+impl Write for Remark {
+    fn write_str(&mut self, text: &str) -> fmt::Result {
+        self.say(text);
+        Ok(())
     }
 }
 
@@ -98,12 +92,23 @@ fn say_syntax_error(syntax_error: &SyntaxError<'_>, remark: &mut Remark) {
     say_wrong(syntax_error, remark);
 }
 
-/// Says what is wrong with a line, the nearest word and the form of the command, if there are such.
+/// What is wrong with a line of the shell. Here a line may be a comment, as in a history.
+fn wrong_here(wrong: Wrong) -> Wrong {
+    match wrong {
+        Wrong::Comment => Wrong::CommentBehind,
+        _ => wrong,
+    }
+}
+
+/// Says what is wrong with a line, as `run` does, and that `help` names the commands.
 fn say_wrong(syntax_error: &SyntaxError<'_>, remark: &mut Remark) {
-    remark.say(wrong_words(syntax_error.wrong));
     let near = near_of(syntax_error);
-    say_hint(", perhaps '", near, remark);
-    say_hint(", in '", syntax_error.form, remark);
+    let told = SyntaxError {
+        wrong: wrong_here(syntax_error.wrong),
+        near,
+        ..*syntax_error
+    };
+    let _ = write!(remark, "{told}");
     if syntax_error.wrong == Wrong::NoCommand && near.is_none() {
         remark.say("; 'help' names them all");
     }
@@ -112,11 +117,7 @@ fn say_wrong(syntax_error: &SyntaxError<'_>, remark: &mut Remark) {
 /// Why a command is not accepted, in words.
 fn unplayed_words(why: Unplayed) -> &'static str {
     match why {
-        Unplayed::Fault(Cause::Limits) => {
-            "a limit is out of range (threads 1 to 1024, mutexes 0 to 1024, variables 0 to 256, \
-            signals 1 to 4294967295)"
-        }
-        Unplayed::Fault(_) => "limits may stand on the first line only",
+        Unplayed::Fault(cause) => cause_words(cause),
         Unplayed::Full => "the script has 131072 commands, and takes no more",
         Unplayed::NoMemory => "out of memory: nothing has changed",
     }
@@ -134,7 +135,9 @@ pub fn say_refusal(refusal: &Refusal<'_>, remark: &mut Remark) {
 pub fn too_many(word: &'static str) -> Remark {
     let mut remark = Remark::new();
     remark.say(Wrong::TooMany.words());
-    say_hint(", in '", Some(word), &mut remark);
+    remark.say(", in '");
+    remark.say(word);
+    remark.say("'");
     remark
 }
 
@@ -208,7 +211,7 @@ fn say_place(name: &str, line: u64, column: usize, remark: &mut Remark) {
 /// Says that the file of this name is too large, at a line of this number.
 pub fn say_too_large(name: &str, line: u64, remark: &mut Remark) {
     say_place(name, line, 1, remark);
-    remark.say("the input has more than 16777216 bytes");
+    remark.say(cause_words(Cause::Size));
 }
 
 /// Says why the command of this number is not accepted in the story of this name.

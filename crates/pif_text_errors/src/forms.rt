@@ -1,7 +1,5 @@
-use pif_text::{DEFAULT_WORD, ERROR_CHECK_WORD, NORMAL_WORD, RECURSIVE_WORD};
-
 /// What stands at a place of a form, between blanks.
-#[derive(Clone, Copy)]
+#[derive(Clone, Copy, PartialEq, Eq)]
 pub enum Part {
     /// The name of a thread.
     Thread,
@@ -13,6 +11,65 @@ pub enum Part {
     Number,
     /// The word `robust`.
     Robust,
+    /// The number of an answer, or the name of an error.
+    Answer,
+    /// How deep a recursive mutex may be locked, by a rule.
+    Recursion,
+    /// The priority of a thread of a program.
+    Priority,
+    /// The name of a cell.
+    Cell,
+    /// The value of a cell.
+    Value,
+    /// `:`
+    Colon,
+    /// `=`
+    Equals,
+    /// `by`
+    By,
+    /// `;`, or the end of a block or of the line.
+    Semicolon,
+    /// `{`
+    Brace,
+    /// `or`, or `{`
+    Alternative,
+    /// What a test asks.
+    Guard,
+    /// What a condition speaks of.
+    Subject,
+    /// What a condition says of a thread.
+    OfThread,
+    /// What a condition says of a mutex.
+    OfMutex,
+    /// `and` or `or`, or the end of brackets or of the line.
+    Connective,
+}
+
+impl Part {
+    /// What is wanted, in words: printable ASCII, and at most 70 bytes.
+    pub(crate) fn words(self) -> &'static str {
+        match self {
+            Part::Thread => "a thread is wanted here, as t1",
+            Part::Mutex => "a mutex is wanted here, as m1",
+            Part::Cond => "a condition variable is wanted here, as c1",
+            Part::Number => "a number from 0 to 4294967295 is wanted, with no zero in front",
+            Part::Robust | Part::OfThread | Part::OfMutex => "another word is wanted here",
+            Part::Answer => "a number or the name of an error is wanted here, as 0 or EBUSY",
+            Part::Recursion => "the number of recursion is 256 to 4294967295",
+            Part::Priority => "a priority is 1 to 99",
+            Part::Cell => "a cell is wanted here, x1 to x64",
+            Part::Value => "a number from 0 to 255 is wanted here",
+            Part::Colon => "a ':' is wanted here",
+            Part::Equals => "a '=' is wanted here",
+            Part::By => "'by' is wanted here",
+            Part::Semicolon => "a ';' is wanted here",
+            Part::Brace => "a '{' is wanted here",
+            Part::Alternative => "'or' or a '{' is wanted here",
+            Part::Guard => "an answer or a cell is wanted here, as 0, EBUSY or x1",
+            Part::Subject => "a thread, a mutex or a cell is wanted here, as t1, m1 or x1",
+            Part::Connective => "'and' or 'or' is wanted here",
+        }
+    }
 }
 
 /// What follows the parts of a form.
@@ -26,6 +83,16 @@ pub enum Rest {
     Begin,
     /// A kind of mutex.
     Kind,
+    /// The rules that are allowed.
+    Rules,
+    /// Statements.
+    Statements,
+    /// The test of an `if` or a `while`, and a block.
+    Test,
+    /// A condition.
+    Condition,
+    /// Times that rise.
+    Ticks,
 }
 
 /// The form of a command from one of its words on.
@@ -33,12 +100,36 @@ pub enum Rest {
 pub struct Form {
     /// The word that it begins with.
     pub name: &'static str,
-    /// The form of the whole command, for people.
+    /// The form from that word on, for people; of a word behind the first that is no call it is that of the whole line.
     pub text: &'static str,
     /// What stands behind the word.
     pub parts: &'static [Part],
     /// What follows behind that.
     pub rest: Rest,
+}
+
+/// A form as it is told.
+#[derive(Clone, Copy, PartialEq, Eq)]
+pub struct Shape {
+    /// What stands before a call, or nothing.
+    pub front: &'static str,
+    /// The form of the call, or of the line.
+    pub text: &'static str,
+}
+
+impl Form {
+    /// The form as it is told.
+    pub(crate) fn shape(self) -> Shape {
+        self.behind("")
+    }
+
+    /// The form as it is told, behind a front.
+    pub(crate) fn behind(self, front: &'static str) -> Shape {
+        Shape {
+            front,
+            text: self.text,
+        }
+    }
 }
 
 /// The form whose word this is.
@@ -50,133 +141,3 @@ pub fn form_of(word: &[u8], forms: &'static [Form]) -> Option<Form> {
     }
     None
 }
-
-/// The commands, by their first word.
-pub static COMMANDS: [Form; 15] = [
-    Form {
-        name: "limits",
-        text: "limits THREADS MUTEXES VARIABLES SIGNALS",
-        parts: &[Part::Number, Part::Number, Part::Number, Part::Number],
-        rest: Rest::End,
-    },
-    Form {
-        name: "thread",
-        text: "thread P",
-        parts: &[Part::Number],
-        rest: Rest::End,
-    },
-    Form {
-        name: "mutex",
-        text: "mutex KIND [robust]",
-        parts: &[],
-        rest: Rest::Kind,
-    },
-    Form {
-        name: "cond",
-        text: "cond mN",
-        parts: &[Part::Mutex],
-        rest: Rest::End,
-    },
-    Form {
-        name: "begin",
-        text: "begin tN CALL",
-        parts: &[Part::Thread],
-        rest: Rest::Begin,
-    },
-    Form {
-        name: "go",
-        text: "go tN",
-        parts: &[Part::Thread],
-        rest: Rest::End,
-    },
-    Form {
-        name: "end",
-        text: "end tN",
-        parts: &[Part::Thread],
-        rest: Rest::End,
-    },
-    Form {
-        name: "tick",
-        text: "tick N",
-        parts: &[Part::Number],
-        rest: Rest::End,
-    },
-    Form {
-        name: "call",
-        text: "call tN CALL",
-        parts: &[Part::Thread],
-        rest: Rest::Call,
-    },
-    Form {
-        name: "finish",
-        text: "finish tN",
-        parts: &[Part::Thread],
-        rest: Rest::End,
-    },
-    Form {
-        name: "word",
-        text: "word mN",
-        parts: &[Part::Mutex],
-        rest: Rest::End,
-    },
-    Form {
-        name: "health",
-        text: "health mN",
-        parts: &[Part::Mutex],
-        rest: Rest::End,
-    },
-    Form {
-        name: "condword",
-        text: "condword cN",
-        parts: &[Part::Cond],
-        rest: Rest::End,
-    },
-    Form {
-        name: "prio",
-        text: "prio tN",
-        parts: &[Part::Thread],
-        rest: Rest::End,
-    },
-    Form {
-        name: "pick",
-        text: "pick",
-        parts: &[],
-        rest: Rest::End,
-    },
-];
-
-/// The kinds of mutexes. Behind a kind the line ends, and is a command, or `robust` is wanted.
-pub static KINDS: [Form; 4] = [
-    Form {
-        name: NORMAL_WORD,
-        text: "mutex KIND [robust]",
-        parts: &[Part::Robust],
-        rest: Rest::End,
-    },
-    Form {
-        name: DEFAULT_WORD,
-        text: "mutex KIND [robust]",
-        parts: &[Part::Robust],
-        rest: Rest::End,
-    },
-    Form {
-        name: ERROR_CHECK_WORD,
-        text: "mutex KIND [robust]",
-        parts: &[Part::Robust],
-        rest: Rest::End,
-    },
-    Form {
-        name: RECURSIVE_WORD,
-        text: "mutex KIND [robust]",
-        parts: &[Part::Robust],
-        rest: Rest::End,
-    },
-];
-
-/// What is wanted behind a kind.
-pub static ROBUST: [Form; 1] = [Form {
-    name: "robust",
-    text: "mutex KIND [robust]",
-    parts: &[],
-    rest: Rest::End,
-}];

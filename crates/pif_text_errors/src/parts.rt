@@ -1,28 +1,36 @@
 use crate::Wrong;
-use crate::forms::{Form, Part, ROBUST};
-use crate::near::name_in_capitals;
+use crate::forms::{Form, Part};
+use crate::near::{name_in_capitals, nearest, nearest_name};
+use crate::tables::ROBUST;
+use pif_text::number_of;
 
-/// Whether a word is a number: decimal digits below 2 ^ 32, with no zero in front of others.
-fn number_of(word: &[u8]) -> Option<u32> {
-    if word.is_empty() || (word.len() > 1 && word[0] == b'0') {
-        return None;
+/// The names of errors, as an answer may have them.
+const ERRORS: [&str; 11] = [
+    "EPERM",
+    "ESRCH",
+    "EAGAIN",
+    "EFAULT",
+    "EBUSY",
+    "EINVAL",
+    "EDEADLK",
+    "EOVERFLOW",
+    "ETIMEDOUT",
+    "EOWNERDEAD",
+    "ENOTRECOVERABLE",
+];
+
+/// The number behind the letter of a name.
+fn digits_of(word: &[u8], letter: u8) -> Option<u32> {
+    match word {
+        [first, digits @ ..] if *first == letter => number_of(digits),
+        _ => None,
     }
-    let mut value: u32 = 0;
-    for digit in word {
-        if !digit.is_ascii_digit() {
-            return None;
-        }
-        value = value
-            .checked_mul(10)?
-            .checked_add(u32::from(*digit - b'0'))?;
-    }
-    Some(value)
 }
 
-/// What is wrong with a word where a name with this letter is wanted; `other` if it is another word.
-fn wrong_with_name(word: &[u8], letter: u8, other: Wrong) -> Option<Wrong> {
+/// What is wrong with a word where a name with this letter is wanted.
+fn wrong_with_name(word: &[u8], letter: u8, part: Part) -> Option<Wrong> {
     let [first, digits @ ..] = word else {
-        return Some(other);
+        return Some(Wrong::Not(part));
     };
     let is_name = number_of(digits).is_some_and(|number| number > 0);
     let is_number = !digits.is_empty() && digits.iter().all(|digit| digit.is_ascii_digit());
@@ -33,7 +41,7 @@ fn wrong_with_name(word: &[u8], letter: u8, other: Wrong) -> Option<Wrong> {
     } else if first.to_ascii_lowercase() == letter && is_name {
         Some(Wrong::Capitals)
     } else {
-        Some(other)
+        Some(Wrong::Not(part))
     }
 }
 
@@ -45,15 +53,65 @@ pub fn wrong_with_word(word: &[u8], forms: &'static [Form], other: Wrong) -> Wro
     }
 }
 
+/// Whether a word is a number of this range.
+fn is_between(word: &[u8], least: u32, most: u32) -> bool {
+    number_of(word).is_some_and(|number| number >= least && number <= most)
+}
+
+/// Whether a word is an answer: a number, or the name of an error.
+pub fn is_answer(word: &[u8]) -> bool {
+    number_of(word).is_some() || ERRORS.iter().any(|name| word == name.as_bytes())
+}
+
+/// Whether a word is the name of a cell.
+pub fn is_cell(word: &[u8]) -> bool {
+    digits_of(word, b'x').is_some_and(|number| number >= 1 && number <= 64)
+}
+
+/// Whether a word that is no name is what this part wants.
+fn is_plain(word: &[u8], part: Part) -> bool {
+    match part {
+        Part::Number => number_of(word).is_some(),
+        Part::Answer => is_answer(word),
+        Part::Recursion => is_between(word, 256, u32::MAX),
+        Part::Priority => is_between(word, 1, 99),
+        Part::Cell => is_cell(word),
+        Part::Value => is_between(word, 0, 255),
+        Part::Robust => word == b"robust".as_slice(),
+        Part::Colon => word == b":".as_slice(),
+        Part::Equals => word == b"=".as_slice(),
+        Part::By => word == b"by".as_slice(),
+        _ => false,
+    }
+}
+
 /// What is wrong with a word where this part is wanted, or `None` if it is right.
 pub fn wrong_with_part(word: &[u8], part: Part) -> Option<Wrong> {
     match part {
-        Part::Thread => wrong_with_name(word, b't', Wrong::NotThread),
-        Part::Mutex => wrong_with_name(word, b'm', Wrong::NotMutex),
-        Part::Cond => wrong_with_name(word, b'c', Wrong::NotCond),
-        Part::Number if number_of(word).is_some() => None,
-        Part::Number => Some(Wrong::NotNumber),
-        Part::Robust if word == b"robust".as_slice() => None,
-        Part::Robust => Some(wrong_with_word(word, &ROBUST, Wrong::NoWord)),
+        Part::Thread => wrong_with_name(word, b't', part),
+        Part::Mutex => wrong_with_name(word, b'm', part),
+        Part::Cond => wrong_with_name(word, b'c', part),
+        _ if is_plain(word, part) => None,
+        Part::Robust => Some(wrong_with_word(word, &ROBUST, Wrong::Not(part))),
+        _ => Some(Wrong::Not(part)),
+    }
+}
+
+/// The right word that is nearest to one that is wrong where this part is wanted.
+pub fn near_part(word: &[u8], part: Part) -> Option<&'static str> {
+    match part {
+        Part::Robust => nearest(word, &ROBUST),
+        Part::Answer => nearest_name(word, ERRORS.as_slice()),
+        _ => None,
+    }
+}
+
+/// The number of the name that a word is where this part is wanted.
+pub fn number_named(word: &[u8], part: Part) -> Option<u32> {
+    match part {
+        Part::Thread => digits_of(word, b't'),
+        Part::Mutex => digits_of(word, b'm'),
+        Part::Cond => digits_of(word, b'c'),
+        _ => None,
     }
 }

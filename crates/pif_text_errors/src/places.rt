@@ -1,5 +1,5 @@
 /// A text without a byte order mark at its front.
-fn without_mark(text: &[u8]) -> &[u8] {
+pub fn without_mark(text: &[u8]) -> &[u8] {
     match text {
         [0xef, 0xbb, 0xbf, rest @ ..] => rest,
         _ => text,

@@ -2,8 +2,12 @@ ghost use Rattle.std.specs.Prelude.{◌≤◌, length};
 ghost use Rattle.pif_text_errors.specs.SyntaxErrors.{IsIn};
 
 use crate::Wrong;
+use crate::calls::calls;
+use crate::forms::{Form, Shape, form_of};
+use std::fmt;
 
-/// The first syntax error of a line that is no command.
+/// The first syntax error of a line that is no command. As a text it is what is wrong, the nearest word, or else what
+/// is allowed in its place, and the form that is wanted, as far as there are such.
 #[derive(Clone, Copy, PartialEq, Eq)]
 pub struct SyntaxError<'a> {
     /// What is wrong.
@@ -15,7 +19,7 @@ pub struct SyntaxError<'a> {
     /// part of it.
     pub word: &'a [u8],
     /// The form of the command that the line has begun, if that is known.
-    pub form: Option<&'static str>,
+    pub form: Option<Shape>,
     /// The right word that is nearest, if one is near.
     pub near: Option<&'static str>,
 }
@@ -39,7 +43,7 @@ pub fn syntax_error_at<'a>(
     line: &'a [u8],
     place: usize,
     wrong: Wrong,
-    form: Option<&'static str>,
+    form: Option<Shape>,
     near: Option<&'static str>,
 ) -> SyntaxError<'a>
     requires { place ≤ length line.now }
@@ -52,5 +56,64 @@ pub fn syntax_error_at<'a>(
         word: &line[place..end],
         form,
         near,
+    }
+}
+
+/// Writes the words with which these forms begin, in brackets, if there are any.
+fn write_names<W: fmt::Write>(forms: &[Form], f: &mut fmt::Formatter<W>) -> fmt::Result {
+    let mut before = " (";
+    for form in forms {
+        f.write_str(before)?;
+        f.write_str(form.name)?;
+        before = ", ";
+    }
+    if forms.is_empty() {
+        Ok(())
+    } else {
+        f.write_str(")")
+    }
+}
+
+/// Writes how the call is written that this word begins, behind what stands before a call.
+fn write_call<W: fmt::Write>(word: &[u8], before: &str, f: &mut fmt::Formatter<W>) -> fmt::Result {
+    match form_of(word, calls()) {
+        Some(form) => {
+            f.write_str("; calls are written '")?;
+            f.write_str(before)?;
+            f.write_str(form.text)?;
+            f.write_str("'")
+        }
+        None => Ok(()),
+    }
+}
+
+impl SyntaxError<'_> {
+    /// Writes what is allowed in place of the wrong word.
+    fn write_allowed<W: fmt::Write>(&self, f: &mut fmt::Formatter<W>) -> fmt::Result {
+        if let Some(before) = self.wrong.before_call() {
+            write_call(self.word, before, f)?;
+        }
+        write_names(self.wrong.allowed(), f)
+    }
+}
+
+impl fmt::Display for SyntaxError<'_> {
+    fn fmt<W: fmt::Write>(&self, f: &mut fmt::Formatter<W>) -> fmt::Result {
+        f.write_str(self.wrong.words())?;
+        match self.near {
+            Some(near) => {
+                f.write_str(", perhaps '")?;
+                f.write_str(near)?;
+                f.write_str("'")?;
+            }
+            None => self.write_allowed(f)?,
+        }
+        if let Some(form) = self.form {
+            f.write_str(", in '")?;
+            f.write_str(form.front)?;
+            f.write_str(form.text)?;
+            f.write_str("'")?;
+        }
+        Ok(())
     }
 }

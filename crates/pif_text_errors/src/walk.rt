@@ -3,40 +3,15 @@ ghost use Rattle.std.specs.Result.{result_ok};
 ghost use Rattle.pif_text_model.specs.Commands.{command_in};
 ghost use Rattle.pif_text_errors.specs.SyntaxErrors.{IsIn};
 
-use crate::calls::{BEGINS, CALLS};
-use crate::forms::{COMMANDS, Form, KINDS, Part, ROBUST, Rest, form_of};
+use crate::bytes::{place_of, wrong_blank};
+use crate::calls::{BEHIND_BEGIN, BEHIND_CALL, calls};
+use crate::forms::{Form, Part, Rest, Shape, form_of};
 use crate::near::nearest;
-use crate::parts::{wrong_with_part, wrong_with_word};
+use crate::parts::{near_part, wrong_with_part, wrong_with_word};
 use crate::syntax_errors::{end_of_word, syntax_error_at};
+use crate::tables::{COMMANDS, KINDS};
 use crate::{SyntaxError, Wrong};
 use pif_text::{Command, command_of};
-
-/// The first place in a line that has a tab, or a space at an end of the line or behind another space.
-fn wrong_blank(line: &[u8]) -> Option<usize>
-    ensures { IfSome result (λ place. place ≤ length line.now) }
-{
-    let mut before = b' ';
-    for (place, byte) in line.iter().enumerate() {
-        let is_last = place + 1 == line.len();
-        if *byte == b'\t' || (*byte == b' ' && (before == b' ' || is_last)) {
-            return Some(place);
-        }
-        before = *byte;
-    }
-    None
-}
-
-/// The place of the first `#`.
-fn comment(line: &[u8]) -> Option<usize>
-    ensures { IfSome result (λ place. place ≤ length line.now) }
-{
-    for (place, byte) in line.iter().enumerate() {
-        if *byte == b'#' {
-            return Some(place);
-        }
-    }
-    None
-}
 
 /// The syntax error of the bytes of a line, whatever its words are.
 fn syntax_error_of_bytes(line: &[u8]) -> Option<SyntaxError>
@@ -45,7 +20,7 @@ fn syntax_error_of_bytes(line: &[u8]) -> Option<SyntaxError>
     if line.is_empty() {
         return Some(syntax_error_at(line, 0, Wrong::Empty, None, None));
     }
-    if let Some(place) = comment(line) {
+    if let Some(place) = place_of(line, b'#') {
         return Some(syntax_error_at(line, place, Wrong::Comment, None, None));
     }
     if line.ends_with(b"\r") {
@@ -59,7 +34,7 @@ fn syntax_error_of_bytes(line: &[u8]) -> Option<SyntaxError>
 fn syntax_error_of_name<'a>(
     line: &'a [u8],
     place: usize,
-    form: Option<&'static str>,
+    form: Option<Shape>,
     forms: &'static [Form],
     other: Wrong,
 ) -> SyntaxError<'a>
@@ -71,83 +46,67 @@ fn syntax_error_of_name<'a>(
     syntax_error_at(line, place, wrong, form, nearest(word, forms))
 }
 
-/// The syntax error of a word that is wrong where this part is wanted.
-fn syntax_error_of_part<'a>(
+/// The end of the parts that stand behind the word that ends at `end`, in a command of this form, or their first syntax
+/// error.
+fn end_of_parts<'a>(
     line: &'a [u8],
-    place: usize,
-    form: Form,
-    part: Part,
-    wrong: Wrong,
-) -> SyntaxError<'a>
-    requires { place ≤ length line.now }
-    ensures { IsIn line.now result }
-{
-    match part {
-        Part::Robust => syntax_error_of_name(line, place, Some(form.text), &ROBUST, wrong),
-        _ => syntax_error_at(line, place, wrong, Some(form.text), None),
-    }
-}
-
-/// The end of the parts of a form that stand behind the word that ends at `end`, or their first syntax error.
-fn end_of_parts<'a>(line: &'a [u8], end: usize, form: Form) -> Result<usize, SyntaxError<'a>>
+    end: usize,
+    parts: &'static [Part],
+    form: Shape,
+) -> Result<usize, SyntaxError<'a>>
     requires { end ≤ length line.now }
     ensures end { IfOk result (λ place. place ≤ length line.now) }
     ensures syntax_error { IfErr result (IsIn line.now) }
 {
     let mut end = end;
-    for part in form.parts {
+    for part in parts {
         if end == line.len() {
-            return Err(syntax_error_at(line, end, Wrong::Missing, Some(form.text), None));
+            return Err(syntax_error_at(line, end, Wrong::Missing, Some(form), None));
         }
         let place = end + 1;
         end = end_of_word(line, place);
-        if let Some(wrong) = wrong_with_part(&line[place..end], *part) {
-            return Err(syntax_error_of_part(line, place, form, *part, wrong));
+        let word = &line[place..end];
+        if let Some(wrong) = wrong_with_part(word, *part) {
+            return Err(syntax_error_at(line, place, wrong, Some(form), near_part(word, *part)));
         }
     }
     Ok(end)
 }
 
 /// The syntax error of a line whose words are right up to `end`, where the form ends: what stands behind that.
-fn syntax_error_behind<'a>(line: &'a [u8], end: usize, form: Form) -> SyntaxError<'a>
+fn syntax_error_behind<'a>(line: &'a [u8], end: usize, form: Shape) -> SyntaxError<'a>
     requires { end ≤ length line.now }
     ensures { IsIn line.now result }
 {
     let place = if end < line.len() { end + 1 } else { end };
-    syntax_error_at(line, place, Wrong::TooMany, Some(form.text), None)
+    syntax_error_at(line, place, Wrong::TooMany, Some(form), None)
 }
 
-/// The syntax error behind the word that ends at `end`, where a word of a table is wanted, and then the parts of its
-/// form.
+/// The syntax error behind the word that ends at `end` in a command of this form. A word of a table is wanted there,
+/// and then the parts of its form, behind what stands before a call.
 fn syntax_error_of_rest<'a>(
     line: &'a [u8],
     end: usize,
-    form: Form,
+    form: Shape,
     forms: &'static [Form],
+    before: &'static str,
     other: Wrong,
 ) -> SyntaxError<'a>
     requires { end ≤ length line.now }
     ensures { IsIn line.now result }
 {
     if end == line.len() {
-        return syntax_error_at(line, end, Wrong::Missing, Some(form.text), None);
+        return syntax_error_at(line, end, Wrong::Missing, Some(form), None);
     }
     let place = end + 1;
     let end = end_of_word(line, place);
-    let Some(form) = form_of(&line[place..end], forms) else {
-        return syntax_error_of_name(line, place, Some(form.text), forms, other);
+    let Some(found) = form_of(&line[place..end], forms) else {
+        return syntax_error_of_name(line, place, Some(form), forms, other);
     };
-    match end_of_parts(line, end, form) {
+    let form = found.behind(before);
+    match end_of_parts(line, end, found.parts, form) {
         Ok(end) => syntax_error_behind(line, end, form),
         Err(syntax_error) => syntax_error,
-    }
-}
-
-/// The form of the call that begins with this word, behind `call`, if there is such a call.
-pub fn call_form(word: &[u8]) -> Option<&'static str> {
-    match form_of(word, &CALLS) {
-        Some(form) => Some(form.text),
-        None => None,
     }
 }
 
@@ -156,18 +115,21 @@ fn syntax_error_of_words(line: &[u8]) -> SyntaxError
     ensures { IsIn line.now result }
 {
     let end = end_of_word(line, 0);
-    let Some(form) = form_of(&line[..end], &COMMANDS) else {
+    let Some(found) = form_of(&line[..end], &COMMANDS) else {
         return syntax_error_of_name(line, 0, None, &COMMANDS, Wrong::NoCommand);
     };
-    let end = match end_of_parts(line, end, form) {
+    let form = found.shape();
+    let end = match end_of_parts(line, end, found.parts, form) {
         Ok(end) => end,
         Err(syntax_error) => return syntax_error,
     };
-    match form.rest {
-        Rest::End => syntax_error_behind(line, end, form),
-        Rest::Call => syntax_error_of_rest(line, end, form, &CALLS, Wrong::NoCall),
-        Rest::Begin => syntax_error_of_rest(line, end, form, &BEGINS, Wrong::NoCall),
-        Rest::Kind => syntax_error_of_rest(line, end, form, &KINDS, Wrong::NoKind),
+    match found.rest {
+        Rest::Call => { syntax_error_of_rest(line, end, form, calls(), BEHIND_CALL, Wrong::NoCall) }
+        Rest::Begin => {
+            syntax_error_of_rest(line, end, form, calls(), BEHIND_BEGIN, Wrong::NoCall)
+        }
+        Rest::Kind => syntax_error_of_rest(line, end, form, &KINDS, "", Wrong::NoKind),
+        _ => syntax_error_behind(line, end, form),
     }
 }
 

@@ -1,8 +1,48 @@
-use crate::calls::CALLS;
-use crate::forms::{Form, KINDS};
+use crate::calls::{BEHIND_BEGIN, BEHIND_CALL, BEHIND_DO, STATEMENTS, calls};
+use crate::forms::{Form, Part};
+use crate::tables::{HISTORY, KINDS, OF_MUTEXES, OF_THREADS, PROGRAM, RULES};
+use pif_text::Cause;
 
-/// What is wrong with a line that is no command.
-#[derive(Clone, Copy, PartialEq, Eq, Debug)]
+/// Why a line has no place where it stands, though it is right by itself.
+#[derive(Clone, Copy, PartialEq, Eq)]
+pub enum Misplaced {
+    /// Limits stand behind another line.
+    Limits,
+    /// Rules of a history stand behind its first call, or one of them was allowed before.
+    HistoryRules,
+    /// Rules of a program stand behind what it does, or one of them was allowed before.
+    ProgramRules,
+    /// An addition stands behind what a program does.
+    Addition,
+    /// The text has such a line already.
+    Second,
+    /// There is no room for what is added.
+    NoRoom,
+    /// It stands too late or twice.
+    Other,
+}
+
+impl Misplaced {
+    /// Why it has no place, in words: printable ASCII, and at most 100 bytes.
+    fn words(self) -> &'static str {
+        match self {
+            Misplaced::Limits => "limits may stand before all other lines only",
+            Misplaced::HistoryRules => {
+                "it may stand before the first 'begin' only, and may name no rule for the second time"
+            }
+            Misplaced::ProgramRules => {
+                "it may stand before 'do', 'ends', 'ticks' and claims only, and may name no rule a second time"
+            }
+            Misplaced::Addition => "it may stand before 'do', 'ends', 'ticks' and claims only",
+            Misplaced::Second => "there is such a line already",
+            Misplaced::NoRoom => "no room is left for it (limits)",
+            Misplaced::Other => "it stands too late or twice",
+        }
+    }
+}
+
+/// What is wrong with a line that is no command of a script, no line of a history or none of a program.
+#[derive(Clone, Copy, PartialEq, Eq)]
 pub enum Wrong {
     /// The line is empty.
     Empty,
@@ -10,64 +50,124 @@ pub enum Wrong {
     CarriageReturn,
     /// A blank stands at an end of the line or behind another blank, or there is a tab.
     Spaces,
+    /// There is a tab where further blanks would do no harm.
+    Tab,
     /// There is a `#`: scripts have no comments, but stories may have them.
     Comment,
+    /// There is a `#` behind the front of a line whose text has comments in lines of their own.
+    CommentBehind,
     /// The word would be right in small letters.
     Capitals,
     /// The first word is no command.
     NoCommand,
+    /// The first word begins no line of histories.
+    NoHistory,
+    /// The first word begins no line of programs.
+    NoProgram,
     /// A call is wanted, as `lock`.
     NoCall,
+    /// A statement is wanted, as `lock` or `set`.
+    NoStatement,
     /// A kind of mutex is wanted, as `normal`.
     NoKind,
-    /// Another word is wanted, as `robust`.
-    NoWord,
+    /// A rule is wanted, as `steal`.
+    NoRule,
     /// The line ends where a word is wanted.
     Missing,
+    /// The line ends in an open block.
+    OpenBlock,
+    /// The line ends in open brackets.
+    OpenBrackets,
     /// There are words behind the end of the command.
     TooMany,
-    /// A thread is wanted, as `t1`.
-    NotThread,
-    /// A mutex is wanted, as `m1`.
-    NotMutex,
-    /// A condition variable is wanted, as `c1`.
-    NotCond,
+    /// Another part is wanted here.
+    Not(Part),
     /// The letter is right, and the number behind it is that of no name.
     NameNumber,
-    /// A number is wanted.
-    NotNumber,
+    /// What is named was not added.
+    NotAdded,
+    /// The rule is named a second time.
+    RuleTwice,
+    /// The time is 0, or not above the one before.
+    NotRising,
+    /// A `)` or `}` closes nothing.
+    ClosesNothing,
+    /// A limit is out of its range.
+    Limits,
+    /// The line is right by itself, and has no place where it stands.
+    Misplaced(Misplaced),
 }
 
 impl Wrong {
-    /// The forms of the calls or kinds of mutexes that are allowed in the place of the wrong word. There are none if
-    /// another word is wrong.
-    pub fn allowed(self) -> &'static [Form] {
+    /// The forms of which one is allowed in the place of the wrong word. There are none if another word is wrong.
+    pub(crate) fn allowed(self) -> &'static [Form] {
         match self {
-            Wrong::NoCall => &CALLS,
+            Wrong::NoCall => calls(),
+            Wrong::NoStatement => &STATEMENTS,
             Wrong::NoKind => &KINDS,
+            Wrong::NoRule => &RULES,
+            Wrong::NoHistory => &HISTORY,
+            Wrong::NoProgram => &PROGRAM,
+            Wrong::Not(Part::OfThread) => &OF_THREADS,
+            Wrong::Not(Part::OfMutex) => &OF_MUTEXES,
             _ => &[],
         }
     }
 
-    /// What is wrong, in words: printable ASCII, and at most 70 bytes.
+    /// What stands before a call in the text of which this is the first word; `None` if another word is wrong.
+    pub(crate) fn before_call(self) -> Option<&'static str> {
+        match self {
+            Wrong::NoCommand => Some(BEHIND_CALL),
+            Wrong::NoHistory => Some(BEHIND_BEGIN),
+            Wrong::NoProgram => Some(BEHIND_DO),
+            _ => None,
+        }
+    }
+
+    /// What is wrong, in words: printable ASCII, and at most 130 bytes.
     pub fn words(self) -> &'static str {
         match self {
             Wrong::Empty => "an empty line is no command",
             Wrong::CarriageReturn => "the line ends in CR LF, and not in LF alone",
             Wrong::Spaces => "words are separated by one space, with none at either end",
+            Wrong::Tab => "words are separated by spaces, and not by a tab",
             Wrong::Comment => "scripts have no comments; a story may have them",
-            Wrong::Capitals => "no word has capital letters",
+            Wrong::CommentBehind => "a comment is a line that begins with '#'",
+            Wrong::Capitals => "the word is written in small letters",
             Wrong::NoCommand => "no such command",
+            Wrong::NoHistory => "no line of a history begins so",
+            Wrong::NoProgram => "no line of a program begins so",
             Wrong::NoCall => "no such call",
+            Wrong::NoStatement => "no such call or statement",
             Wrong::NoKind => "no such kind of mutex",
-            Wrong::NoWord => "another word is wanted here",
+            Wrong::NoRule => "no such rule",
             Wrong::Missing => "the line ends where a word is wanted",
+            Wrong::OpenBlock => "the line ends where a '}' is wanted",
+            Wrong::OpenBrackets => "the line ends where a ')' is wanted",
             Wrong::TooMany => "there are words behind the end of the command",
-            Wrong::NotThread => "a thread is wanted here, as t1",
-            Wrong::NotMutex => "a mutex is wanted here, as m1",
-            Wrong::NotCond => "a condition variable is wanted here, as c1",
+            Wrong::Not(part) => part.words(),
             Wrong::NameNumber => "a name has a number from 1 to 4294967295, with no zero in front",
-            Wrong::NotNumber => "a number from 0 to 4294967295 is wanted, with no zero in front",
+            Wrong::NotAdded => "no line before this one adds it",
+            Wrong::RuleTwice => "the rule is named twice",
+            Wrong::NotRising => "the times of ticks rise, and are above 0",
+            Wrong::ClosesNothing => "it closes nothing",
+            Wrong::Limits => cause_words(Cause::Limits),
+            Wrong::Misplaced(why) => why.words(),
         }
+    }
+}
+
+/// What a fault of this cause is, in words: printable ASCII, and at most 130 bytes. `Command` is that of a line that is
+/// a command by itself.
+pub fn cause_words(cause: Cause) -> &'static str {
+    match cause {
+        Cause::Size => "the input has more than 16777216 bytes",
+        Cause::Long => "the line has more than 120 bytes",
+        Cause::Cut => "the input ends inside the line, with no LF after it",
+        Cause::Limits => {
+            "a limit is out of range (threads 1 to 1024, mutexes 0 to 1024, variables 0 to 256, \
+            signals 1 to 4294967295)"
+        }
+        Cause::Command => "limits may stand on the first line only",
     }
 }

@@ -1,0 +1,443 @@
+use crate::Wrong;
+use crate::calls::{BEHIND_BEGIN, STATEMENTS, calls};
+use crate::forms::{Form, Part, Rest, Shape, form_of};
+use crate::near::nearest;
+use crate::parts::{is_answer, is_cell, near_part, number_named, wrong_with_part, wrong_with_word};
+use crate::tables::{KINDS, OF_CELL, OF_MUTEXES, OF_THREADS, ROBUST, RULE_COUNT, RULES};
+use arrayvec::ArrayVec;
+use pif_text::number_of;
+
+/// The most blocks that may be open in a line, which has at most 500 bytes.
+const MOST_OPEN: usize = 500;
+
+/// How many threads, mutexes and condition variables there are.
+#[derive(Clone, Copy)]
+pub struct Added {
+    /// The threads.
+    pub threads: u32,
+    /// The mutexes.
+    pub mutexes: u32,
+    /// The condition variables.
+    pub conds: u32,
+}
+
+impl Added {
+    /// As many as can be named.
+    pub fn all() -> Added {
+        Added {
+            threads: u32::MAX,
+            mutexes: u32::MAX,
+            conds: u32::MAX,
+        }
+    }
+
+    /// Whether a word names what is not there.
+    fn lacks(&self, word: &[u8], part: Part) -> bool {
+        let most = match part {
+            Part::Thread => self.threads,
+            Part::Mutex => self.mutexes,
+            Part::Cond => self.conds,
+            _ => return false,
+        };
+        number_named(word, part).is_some_and(|number| number > most)
+    }
+}
+
+/// What the next word of a line may be.
+#[derive(Clone, Copy)]
+enum Next {
+    /// The next part of the form.
+    Part,
+    /// Nothing: the line ends.
+    End,
+    /// A call.
+    Call,
+    /// A kind of mutex.
+    Kind,
+    /// `robust`, or the end.
+    Robust,
+    /// A rule.
+    Rule,
+    /// A rule, or the end.
+    Rules,
+    /// A time, or the end.
+    Tick,
+    /// A statement, or what ends none.
+    Statement,
+    /// What ends a statement.
+    Semicolon,
+    /// The same, behind a block.
+    Closed,
+    /// `else`, or the same.
+    Else,
+    /// `{`
+    Brace,
+    /// What a test asks. Whether `not` may stand in front.
+    Guard(bool),
+    /// `or` or `{`
+    Alternative,
+    /// What a condition speaks of. Whether `not` may stand in front.
+    Subject(bool),
+    /// What a condition says of a thread.
+    OfThread,
+    /// What a condition says of a mutex.
+    OfMutex,
+    /// `and`, `or`, `)` or the end.
+    Connective,
+}
+
+/// A word that is wrong.
+#[derive(Clone, Copy)]
+pub struct Slip {
+    /// What is wrong.
+    pub wrong: Wrong,
+    /// The form that is wanted, if that is known.
+    pub form: Option<Shape>,
+    /// The right word that is nearest, if one is near.
+    pub near: Option<&'static str>,
+}
+
+/// A line between two of its words.
+#[derive(Drop)]
+pub struct LineSoFar {
+    /// What there is to be named.
+    added: Added,
+    /// What the next word may be.
+    next: Next,
+    /// The parts of the form that are still to come.
+    parts: &'static [Part],
+    /// What may follow them.
+    behind: Next,
+    /// The form of the line.
+    line: Shape,
+    /// The form of the words that are read: of the line, or of a part of it.
+    form: Shape,
+    /// The rules that were named.
+    rules: ArrayVec<&'static str, RULE_COUNT>,
+    /// The open blocks, and which of them are those of an `if`.
+    blocks: ArrayVec<bool, MOST_OPEN>,
+    /// Whether the test is that of an `if`.
+    is_if: bool,
+    /// How many brackets are open.
+    brackets: usize,
+    /// The last time.
+    time: u32,
+}
+
+/// What follows the parts of a form at the front of a line.
+fn after_parts(rest: Rest) -> Next {
+    match rest {
+        Rest::End => Next::End,
+        Rest::Call | Rest::Begin => Next::Call,
+        Rest::Kind => Next::Kind,
+        Rest::Rules => Next::Rule,
+        Rest::Statements => Next::Statement,
+        Rest::Test => Next::Guard(true),
+        Rest::Condition => Next::Subject(true),
+        Rest::Ticks => Next::Tick,
+    }
+}
+
+impl LineSoFar {
+    /// Behind the first word of a line of this form.
+    pub fn new(form: Form, added: Added) -> LineSoFar {
+        let mut line = LineSoFar {
+            added,
+            next: Next::End,
+            parts: &[],
+            behind: Next::End,
+            line: form.shape(),
+            form: form.shape(),
+            rules: ArrayVec::new(),
+            blocks: ArrayVec::new(),
+            is_if: false,
+            brackets: 0,
+            time: 0,
+        };
+        line.begin(form.parts, after_parts(form.rest));
+        line
+    }
+
+    /// Behind a word whose parts follow, and then this.
+    fn begin(&mut self, parts: &'static [Part], behind: Next) {
+        self.parts = parts;
+        self.behind = behind;
+        self.next = if parts.is_empty() { behind } else { Next::Part };
+    }
+
+    /// A wrong word in the form of the line.
+    fn slip(&self, wrong: Wrong, near: Option<&'static str>) -> Slip {
+        Slip {
+            wrong,
+            form: Some(self.form),
+            near,
+        }
+    }
+
+    /// A word where this part is wanted.
+    fn no(&self, part: Part) -> Slip {
+        self.slip(Wrong::Not(part), None)
+    }
+
+    /// A word that is none of a table.
+    fn none_of(&self, word: &[u8], forms: &'static [Form], other: Wrong) -> Slip {
+        self.slip(wrong_with_word(word, forms, other), nearest(word, forms))
+    }
+
+    /// Takes the next part of the form.
+    fn take_part(&mut self, word: &[u8]) -> Result<(), Slip> {
+        let [part, more @ ..] = self.parts else {
+            return Err(self.slip(Wrong::TooMany, None));
+        };
+        if let Some(wrong) = wrong_with_part(word, *part) {
+            return Err(self.slip(wrong, near_part(word, *part)));
+        }
+        if self.added.lacks(word, *part) {
+            return Err(self.slip(Wrong::NotAdded, None));
+        }
+        self.begin(more, self.behind);
+        Ok(())
+    }
+
+    /// Takes a call, behind `begin tN`.
+    fn take_call(&mut self, word: &[u8]) -> Result<(), Slip> {
+        let Some(form) = form_of(word, calls()) else {
+            return Err(self.none_of(word, calls(), Wrong::NoCall));
+        };
+        self.form = form.behind(BEHIND_BEGIN);
+        self.begin(form.parts, Next::End);
+        Ok(())
+    }
+
+    /// Takes a word of a table, behind which this may stand.
+    fn take_word(
+        &mut self,
+        word: &[u8],
+        forms: &'static [Form],
+        other: Wrong,
+        behind: Next,
+    ) -> Result<(), Slip> {
+        match form_of(word, forms) {
+            Some(_) => {
+                self.next = behind;
+                Ok(())
+            }
+            None => Err(self.none_of(word, forms, other)),
+        }
+    }
+
+    /// Takes a word that says something of a subject, behind which a connective may stand.
+    fn take_said(&mut self, word: &[u8], forms: &'static [Form], part: Part) -> Result<(), Slip> {
+        let Some(form) = form_of(word, forms) else {
+            return Err(self.none_of(word, forms, Wrong::Not(part)));
+        };
+        self.form = form.shape();
+        self.begin(form.parts, Next::Connective);
+        Ok(())
+    }
+
+    /// Takes a rule.
+    fn take_rule(&mut self, word: &[u8]) -> Result<(), Slip> {
+        self.form = self.line;
+        let Some(form) = form_of(word, &RULES) else {
+            return Err(self.none_of(word, &RULES, Wrong::NoRule));
+        };
+        if self.rules.iter().any(|name| *name == form.name) {
+            return Err(self.slip(Wrong::RuleTwice, None));
+        }
+        let _ = self.rules.try_push(form.name);
+        self.form = form.shape();
+        self.begin(form.parts, Next::Rules);
+        Ok(())
+    }
+
+    /// Takes the time of a tick.
+    fn take_tick(&mut self, word: &[u8]) -> Result<(), Slip> {
+        let Some(time) = number_of(word) else {
+            return Err(self.no(Part::Number));
+        };
+        if time <= self.time {
+            return Err(self.slip(Wrong::NotRising, None));
+        }
+        self.time = time;
+        Ok(())
+    }
+
+    /// Takes the front of a statement, or what ends none.
+    fn take_statement(&mut self, word: &[u8]) -> Result<(), Slip> {
+        if is_end(word) {
+            return self.take_end(word, None);
+        }
+        let Some(form) = form_of(word, &STATEMENTS) else {
+            return Err(Slip {
+                form: None,
+                ..self.none_of(word, &STATEMENTS, Wrong::NoStatement)
+            });
+        };
+        self.form = form.shape();
+        self.is_if = form.name == "if";
+        let behind = match form.rest {
+            Rest::Test => Next::Guard(true),
+            _ => Next::Semicolon,
+        };
+        self.begin(form.parts, behind);
+        Ok(())
+    }
+
+    /// Takes `;`, or `}`, which ends a block. The statement that ends there has this form, if that is known.
+    fn take_end(&mut self, word: &[u8], form: Option<Shape>) -> Result<(), Slip> {
+        if word == b";".as_slice() {
+            self.next = Next::Statement;
+            return Ok(());
+        }
+        if word != b"}".as_slice() {
+            return Err(Slip {
+                form,
+                ..self.no(Part::Semicolon)
+            });
+        }
+        match self.blocks.pop() {
+            Some(true) => self.next = Next::Else,
+            Some(false) => self.next = Next::Closed,
+            None => return Err(alone(Wrong::ClosesNothing)),
+        }
+        Ok(())
+    }
+
+    /// Takes `{`, which begins a block: that of an `if`, or another one.
+    fn take_brace(&mut self, word: &[u8], is_if: bool, slip: Slip) -> Result<(), Slip> {
+        if word != b"{".as_slice() {
+            return Err(slip);
+        }
+        let _ = self.blocks.try_push(is_if);
+        self.next = Next::Statement;
+        Ok(())
+    }
+
+    /// Takes what a test asks.
+    fn take_guard(&mut self, word: &[u8], may_deny: bool) -> Result<(), Slip> {
+        if may_deny && word == b"not".as_slice() {
+            self.next = Next::Guard(false);
+        } else if is_answer(word) {
+            self.next = Next::Alternative;
+        } else if is_cell(word) {
+            self.begin(OF_CELL.parts, Next::Alternative);
+        } else {
+            return Err(self.slip(Wrong::Not(Part::Guard), near_part(word, Part::Answer)));
+        }
+        Ok(())
+    }
+
+    /// Takes what a condition speaks of.
+    fn take_subject(&mut self, word: &[u8], may_deny: bool) -> Result<(), Slip> {
+        if may_deny && word == b"not".as_slice() {
+            self.next = Next::Subject(false);
+        } else if word == b"(".as_slice() {
+            self.brackets = self.brackets.saturating_add(1);
+            self.next = Next::Subject(true);
+        } else if is_cell(word) {
+            self.form = OF_CELL.shape();
+            self.begin(OF_CELL.parts, Next::Connective);
+        } else {
+            return self.take_name(word);
+        }
+        Ok(())
+    }
+
+    /// Takes the name of a thread or a mutex, of which a condition speaks.
+    fn take_name(&mut self, word: &[u8]) -> Result<(), Slip> {
+        let (part, next) = match word {
+            [b'm', ..] => (Part::Mutex, Next::OfMutex),
+            [b't', ..] => (Part::Thread, Next::OfThread),
+            _ => return Err(self.no(Part::Subject)),
+        };
+        if wrong_with_part(word, part).is_some() {
+            return Err(self.no(Part::Subject));
+        }
+        if self.added.lacks(word, part) {
+            return Err(self.slip(Wrong::NotAdded, None));
+        }
+        self.next = next;
+        Ok(())
+    }
+
+    /// Takes `and`, `or` or `)`.
+    fn take_connective(&mut self, word: &[u8]) -> Result<(), Slip> {
+        if word == b"and".as_slice() || word == b"or".as_slice() {
+            self.form = self.line;
+            self.next = Next::Subject(true);
+            return Ok(());
+        }
+        if word != b")".as_slice() {
+            return Err(alone(Wrong::Not(Part::Connective)));
+        }
+        match self.brackets.checked_sub(1) {
+            Some(left) => {
+                self.brackets = left;
+                Ok(())
+            }
+            None => Err(alone(Wrong::ClosesNothing)),
+        }
+    }
+
+    /// Takes the next word, unless it is wrong.
+    pub fn take(&mut self, word: &[u8]) -> Result<(), Slip> {
+        match self.next {
+            Next::Part => self.take_part(word),
+            Next::End => Err(self.slip(Wrong::TooMany, None)),
+            Next::Call => self.take_call(word),
+            Next::Kind => self.take_word(word, &KINDS, Wrong::NoKind, Next::Robust),
+            Next::Robust => self.take_word(word, &ROBUST, Wrong::Not(Part::Robust), Next::End),
+            Next::Rule | Next::Rules => self.take_rule(word),
+            Next::Tick => self.take_tick(word),
+            Next::Statement => self.take_statement(word),
+            Next::Else if word == b"else".as_slice() => {
+                self.next = Next::Brace;
+                Ok(())
+            }
+            Next::Semicolon => self.take_end(word, Some(self.form)),
+            Next::Closed | Next::Else => self.take_end(word, None),
+            Next::Brace => self.take_brace(word, false, alone(Wrong::Not(Part::Brace))),
+            Next::Guard(may_deny) => self.take_guard(word, may_deny),
+            Next::Alternative if word == b"or".as_slice() => {
+                self.next = Next::Guard(true);
+                Ok(())
+            }
+            Next::Alternative => { self.take_brace(word, self.is_if, self.no(Part::Alternative)) }
+            Next::Subject(may_deny) => self.take_subject(word, may_deny),
+            Next::OfThread => self.take_said(word, &OF_THREADS, Part::OfThread),
+            Next::OfMutex => self.take_said(word, &OF_MUTEXES, Part::OfMutex),
+            Next::Connective => self.take_connective(word),
+        }
+    }
+
+    /// Ends the line, unless another word is wanted.
+    pub fn end(&self) -> Result<(), Slip> {
+        let wrong = match self.next {
+            Next::End | Next::Robust | Next::Rules | Next::Tick => return Ok(()),
+            Next::Statement | Next::Semicolon | Next::Closed | Next::Else
+                if self.blocks.is_empty() => {
+                return Ok(());
+            }
+            Next::Connective if self.brackets == 0 => return Ok(()),
+            Next::Statement | Next::Semicolon | Next::Closed | Next::Else => Wrong::OpenBlock,
+            Next::Connective => Wrong::OpenBrackets,
+            _ => return Err(self.slip(Wrong::Missing, None)),
+        };
+        Err(alone(wrong))
+    }
+}
+
+/// What is wrong, in no form.
+fn alone(wrong: Wrong) -> Slip {
+    Slip {
+        wrong,
+        form: None,
+        near: None,
+    }
+}
+
+/// Whether a word ends a statement or a block.
+fn is_end(word: &[u8]) -> bool {
+    word == b";".as_slice() || word == b"}".as_slice()
+}

@@ -1,0 +1,358 @@
+use crate::forms::{Form, Part, Rest};
+use pif_text::{DEFAULT_WORD, ERROR_CHECK_WORD, NORMAL_WORD, RECURSIVE_WORD};
+
+const LIMITS: Form = Form {
+    name: "limits",
+    text: "limits THREADS MUTEXES VARIABLES SIGNALS",
+    parts: &[Part::Number, Part::Number, Part::Number, Part::Number],
+    rest: Rest::End,
+};
+
+const THREAD: Form = Form {
+    name: "thread",
+    text: "thread P",
+    parts: &[Part::Number],
+    rest: Rest::End,
+};
+
+const MUTEX: Form = Form {
+    name: "mutex",
+    text: "mutex KIND [robust]",
+    parts: &[],
+    rest: Rest::Kind,
+};
+
+const COND: Form = Form {
+    name: "cond",
+    text: "cond mN",
+    parts: &[Part::Mutex],
+    rest: Rest::End,
+};
+
+const BEGIN: Form = Form {
+    name: "begin",
+    text: "begin tN CALL",
+    parts: &[Part::Thread],
+    rest: Rest::Begin,
+};
+
+const END: Form = Form {
+    name: "end",
+    text: "end tN",
+    parts: &[Part::Thread],
+    rest: Rest::End,
+};
+
+const TICK: Form = Form {
+    name: "tick",
+    text: "tick N",
+    parts: &[Part::Number],
+    rest: Rest::End,
+};
+
+const ALLOW: Form = Form {
+    name: "allow",
+    text: "allow RULE ..",
+    parts: &[],
+    rest: Rest::Rules,
+};
+
+/// The commands of scripts, by their first word.
+pub static COMMANDS: [Form; 15] = [
+    LIMITS,
+    THREAD,
+    MUTEX,
+    COND,
+    BEGIN,
+    Form {
+        name: "go",
+        text: "go tN",
+        parts: &[Part::Thread],
+        rest: Rest::End,
+    },
+    END,
+    TICK,
+    Form {
+        name: "call",
+        text: "call tN CALL",
+        parts: &[Part::Thread],
+        rest: Rest::Call,
+    },
+    Form {
+        name: "finish",
+        text: "finish tN",
+        parts: &[Part::Thread],
+        rest: Rest::End,
+    },
+    Form {
+        name: "word",
+        text: "word mN",
+        parts: &[Part::Mutex],
+        rest: Rest::End,
+    },
+    Form {
+        name: "health",
+        text: "health mN",
+        parts: &[Part::Mutex],
+        rest: Rest::End,
+    },
+    Form {
+        name: "condword",
+        text: "condword cN",
+        parts: &[Part::Cond],
+        rest: Rest::End,
+    },
+    Form {
+        name: "prio",
+        text: "prio tN",
+        parts: &[Part::Thread],
+        rest: Rest::End,
+    },
+    Form {
+        name: "pick",
+        text: "pick",
+        parts: &[],
+        rest: Rest::End,
+    },
+];
+
+/// The lines of histories, by their first word.
+pub static HISTORY: [Form; 12] = [
+    LIMITS,
+    ALLOW,
+    THREAD,
+    MUTEX,
+    COND,
+    BEGIN,
+    Form {
+        name: "answer",
+        text: "answer tN A",
+        parts: &[Part::Thread, Part::Answer],
+        rest: Rest::End,
+    },
+    Form {
+        name: "dying",
+        text: "dying tN",
+        parts: &[Part::Thread],
+        rest: Rest::End,
+    },
+    END,
+    TICK,
+    Form {
+        name: "rests",
+        text: "rests tN",
+        parts: &[Part::Thread],
+        rest: Rest::End,
+    },
+    Form {
+        name: "prio",
+        text: "prio tN P",
+        parts: &[Part::Thread, Part::Number],
+        rest: Rest::End,
+    },
+];
+
+/// The lines of programs that are explored, by their first word.
+pub static PROGRAM: [Form; 11] = [
+    LIMITS,
+    ALLOW,
+    Form {
+        name: "thread",
+        text: "thread P",
+        parts: &[Part::Priority],
+        rest: Rest::End,
+    },
+    MUTEX,
+    COND,
+    Form {
+        name: "do",
+        text: "do tN: S; S; ..",
+        parts: &[Part::Thread, Part::Colon],
+        rest: Rest::Statements,
+    },
+    Form {
+        name: "ends",
+        text: "ends N",
+        parts: &[Part::Value],
+        rest: Rest::End,
+    },
+    Form {
+        name: "ticks",
+        text: "ticks N N ..",
+        parts: &[],
+        rest: Rest::Ticks,
+    },
+    Form {
+        name: "never",
+        text: "never: C",
+        parts: &[Part::Colon],
+        rest: Rest::Condition,
+    },
+    Form {
+        name: "always",
+        text: "always: C",
+        parts: &[Part::Colon],
+        rest: Rest::Condition,
+    },
+    Form {
+        name: "finally",
+        text: "finally: C",
+        parts: &[Part::Colon],
+        rest: Rest::Condition,
+    },
+];
+
+/// The kinds of mutexes. Behind a kind the line ends, and is a command, or `robust` is wanted.
+pub static KINDS: [Form; 4] = [
+    Form {
+        name: NORMAL_WORD,
+        text: "mutex KIND [robust]",
+        parts: &[Part::Robust],
+        rest: Rest::End,
+    },
+    Form {
+        name: DEFAULT_WORD,
+        text: "mutex KIND [robust]",
+        parts: &[Part::Robust],
+        rest: Rest::End,
+    },
+    Form {
+        name: ERROR_CHECK_WORD,
+        text: "mutex KIND [robust]",
+        parts: &[Part::Robust],
+        rest: Rest::End,
+    },
+    Form {
+        name: RECURSIVE_WORD,
+        text: "mutex KIND [robust]",
+        parts: &[Part::Robust],
+        rest: Rest::End,
+    },
+];
+
+/// What is wanted behind a kind.
+pub static ROBUST: [Form; 1] = [Form {
+    name: "robust",
+    text: "mutex KIND [robust]",
+    parts: &[],
+    rest: Rest::End,
+}];
+
+/// How many rules there are.
+pub const RULE_COUNT: usize = 9;
+
+/// The rules that a history or a program may allow.
+pub static RULES: [Form; RULE_COUNT] = [
+    Form {
+        name: "steal",
+        text: "allow RULE ..",
+        parts: &[],
+        rest: Rest::End,
+    },
+    Form {
+        name: "any_waiter",
+        text: "allow RULE ..",
+        parts: &[],
+        rest: Rest::End,
+    },
+    Form {
+        name: "spurious",
+        text: "allow RULE ..",
+        parts: &[],
+        rest: Rest::End,
+    },
+    Form {
+        name: "recursion",
+        text: "allow recursion N",
+        parts: &[Part::Recursion],
+        rest: Rest::End,
+    },
+    Form {
+        name: "own_errorcheck",
+        text: "allow RULE ..",
+        parts: &[],
+        rest: Rest::End,
+    },
+    Form {
+        name: "any_consistent",
+        text: "allow RULE ..",
+        parts: &[],
+        rest: Rest::End,
+    },
+    Form {
+        name: "held_wait",
+        text: "allow RULE ..",
+        parts: &[],
+        rest: Rest::End,
+    },
+    Form {
+        name: "lost_signal",
+        text: "allow RULE ..",
+        parts: &[],
+        rest: Rest::End,
+    },
+    Form {
+        name: "revives",
+        text: "allow RULE ..",
+        parts: &[],
+        rest: Rest::End,
+    },
+];
+
+/// What a condition may say of a thread.
+pub static OF_THREADS: [Form; 3] = [
+    Form {
+        name: "stuck",
+        text: "tN stuck",
+        parts: &[],
+        rest: Rest::End,
+    },
+    Form {
+        name: "ended",
+        text: "tN ended",
+        parts: &[],
+        rest: Rest::End,
+    },
+    Form {
+        name: "answered",
+        text: "tN answered A",
+        parts: &[Part::Answer],
+        rest: Rest::End,
+    },
+];
+
+/// What a condition may say of a mutex.
+pub static OF_MUTEXES: [Form; 4] = [
+    Form {
+        name: "free",
+        text: "mN free",
+        parts: &[],
+        rest: Rest::End,
+    },
+    Form {
+        name: "inconsistent",
+        text: "mN inconsistent",
+        parts: &[],
+        rest: Rest::End,
+    },
+    Form {
+        name: "unusable",
+        text: "mN unusable",
+        parts: &[],
+        rest: Rest::End,
+    },
+    Form {
+        name: "held",
+        text: "mN held by tN",
+        parts: &[Part::By, Part::Thread],
+        rest: Rest::End,
+    },
+];
+
+/// What a condition or a test may say of a cell.
+pub static OF_CELL: Form = Form {
+    name: "",
+    text: "xN = V",
+    parts: &[Part::Equals, Part::Value],
+    rest: Rest::End,
+};
