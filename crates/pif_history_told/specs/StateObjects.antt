@@ -2,7 +2,7 @@
 use Rattle.std.specs.Prelude.{ℕ, ◌-◌, ◌==◌, ◌&&◌, ◌||◌, Bool, true, false, not, nat_lt, List, [], ◌++◌, length, map, filter, Option, Some, None, bytes_eq, codes, decimal, if◌then◌else◌}
 use Rattle.pif_types.specs.declared.requests.Health.TheVariants as health
 use Rattle.pif_types.specs.declared.requests.Request.{Request}
-use Rattle.pif_model.specs.World.{World, Call, Progress, Health, effective_of, is_living, mutex_at, rests, thread_at, variable_at}
+use Rattle.pif_model.specs.World.{World, Call, Mutex, Progress, Health, effective_of, is_living, mutex_at, rests, thread_at, variable_at}
 use Rattle.pif_model.specs.World.Progress.{Fresh, Waiting, Stuck, Leaving, Has, Checked, Enlisted, Blocked, Reacquiring, Used}
 use Rattle.pif_model.specs.World.Health.{Fine, Inconsistent, Unusable}
 use Rattle.pif_text_model.specs.Replies.{health_text}
@@ -77,18 +77,22 @@ health_word Fine = health_text health.Fine
 health_word Inconsistent = health_text health.Inconsistent
 health_word Unusable = health_text health.Unusable
 
+-- How often its owner holds a mutex; 0 if nobody owns it.
+abbrev pub holds_of : Mutex → ℕ
+holds_of x = if x.owner == 0 then 0 else x.count
+
 -- A mutex: who owns it, how often, and its health.
 unfoldable pub mutex_object : World → (m : ℕ) → List ℕ
 mutex_object w m =
     codes "{\"name\":" ++ name_text mutex_letter m ++ codes ",\"owner\":"
-    ++ name_or_null thread_letter (owner_of (mutex_at w m).owner) ++ codes ",\"count\":" ++ decimal (mutex_at w m).count
+    ++ name_or_null thread_letter (owner_of (mutex_at w m).owner) ++ codes ",\"count\":" ++ decimal (holds_of (mutex_at w m))
     ++ codes ",\"health\":" ++ quoted (health_word (mutex_at w m).health) ++ codes "}"
 
 -- Whether a mutex was not there, or is another one than before.
 unfoldable pub is_mutex_changed : World → World → (m : ℕ) → Bool
 is_mutex_changed w v m =
     not (nat_lt m (length w.mutexes)
-    && ((mutex_at w m).owner == (mutex_at v m).owner) && ((mutex_at w m).count == (mutex_at v m).count)
+    && ((mutex_at w m).owner == (mutex_at v m).owner) && (holds_of (mutex_at w m) == holds_of (mutex_at v m))
     && bytes_eq (health_word (mutex_at w m).health) (health_word (mutex_at v m).health))
 
 -- A condition variable, and the mutex to which it is bound.

@@ -1,6 +1,6 @@
 ghost use Rattle.std.specs.Prelude.{◌≡◌, ◌++◌, OnOk};
 ghost use Rattle.pif_model.specs.World.{mutex_at, variable_at};
-ghost use Rattle.pif_history_told.specs.StateObjects.{cond_object, health_word, is_mutex_changed, is_thread_changed, mutex_object, owner_of, same_bool, thread_object};
+ghost use Rattle.pif_history_told.specs.StateObjects.{cond_object, health_word, holds_of, is_mutex_changed, is_thread_changed, mutex_object, owner_of, same_bool, thread_object};
 
 use crate::calls::{call_members, is_same_call};
 use pif_posix::State;
@@ -46,7 +46,7 @@ pub fn is_thread_changed(from: &State, to: &State, thread: Tid) -> bool
         && from.effective(at) == to.effective(at))
 }
 
-/// How often the owner of a mutex holds it; 1 if it has none or was not added.
+/// How often a mutex is held, if somebody owns it; 1 if it was not added.
 fn count(state: &State, mutex: usize) -> u32
     ensures { result ≡ (mutex_at state.now mutex).count }
 {
@@ -54,6 +54,17 @@ fn count(state: &State, mutex: usize) -> u32
         state.count(mutex)
     } else {
         1
+    }
+}
+
+/// How often the owner of a mutex holds it; 0 if it has none or was not added.
+fn holds(state: &State, mutex: usize) -> u32
+    ensures { result ≡ holds_of (mutex_at state.now mutex) }
+{
+    if state.owner_or_none(mutex) == 0 {
+        0
+    } else {
+        count(state, mutex)
     }
 }
 
@@ -88,7 +99,7 @@ pub fn append_mutex(state: &State, mutex: u32, out: &mut Vec<u8>) -> Result<(), 
     out.extend_from_slice(b",\"owner\":")?;
     append_name_or_null(out, b't', owner(state, at))?;
     out.extend_from_slice(b",\"count\":")?;
-    append_decimal(out, u64::from(count(state, at)))?;
+    append_decimal(out, u64::from(holds(state, at)))?;
     out.extend_from_slice(b",\"health\":")?;
     append_quoted(out, health(state, at))?;
     out.extend_from_slice(b"}")
@@ -101,7 +112,7 @@ pub fn is_mutex_changed(from: &State, to: &State, mutex: usize) -> bool
 {
     !(mutex < from.mutex_count()
         && from.owner_or_none(mutex) == to.owner_or_none(mutex)
-        && count(from, mutex) == count(to, mutex)
+        && holds(from, mutex) == holds(to, mutex)
         && health(from, mutex) == health(to, mutex))
 }
 
