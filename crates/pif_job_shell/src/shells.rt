@@ -8,7 +8,9 @@ use crate::sessions::Session;
 use crate::shelves::Shelf;
 use crate::telling::{tell, tell_if, tell_words, write_text};
 use pif_script::CliFault;
+use pif_text::Cause;
 use pif_text_core::Unwritten;
+use pif_text_errors::cause_words;
 use std::alloc::Global;
 use std::io::{Read, Write};
 
@@ -43,7 +45,7 @@ fn hear<S: Shelf, W: Write>(
 {
     match lines.found() {
         Found::Nothing => Ok(Done::Nothing),
-        Found::Long => nothing(tell_words("the line has more than 120 bytes", writer)),
+        Found::Long => nothing(tell_words(cause_words(Cause::Long), writer)),
         Found::Line => obey(alloc, shelf, session, lines.line(), writer),
     }
 }
