@@ -12,6 +12,7 @@ use Rattle.pif_text_model.specs.declared.commands.Addition.{Addition}
 use Rattle.pif_text_model.specs.declared.commands.Addition.TheVariants as addition
 use Rattle.pif_text_model.specs.Commands.{command_in, command_of_two, command_of_three, command_of_words}
 use Rattle.pif_text_model.specs.CommandTexts.{IsWritten, addition_text, command_text, event_text}
+use Rattle.pif_text_model.specs.Errors.{error_named}
 use Rattle.pif_text_model.specs.Numbers.{IsName, IsNumber, number_in, thread_in}
 use Rattle.pif_text_model.specs.Questions.{question_in_two}
 use Rattle.pif_text_model.specs.Replies.{thread_name}
@@ -28,7 +29,7 @@ use Rattle.pif_history_text.specs.declared.said.Said.{Said}
 use Rattle.pif_history_text.specs.declared.said.Said.TheVariants.{Allow, Limits, Nothing, Shown}
 use Rattle.pif_rules_model.specs.declared.rules.Rules.{Rules}
 use Rattle.pif_history_text.specs.Allowed.{allowed_in}
-use Rattle.pif_history_text.specs.Lines.{answer_in, command_said, errno_in, line_of_three, line_of_two, line_of_words, said_by_words, said_in}
+use Rattle.pif_history_text.specs.Lines.{answer_in, command_said, line_of_three, line_of_two, line_of_words, said_by_words, said_in}
 use Rattle.pif_history_text.specs.Texts.{IsLineWritten, line_text}
 
 -- ---- lines that are commands of scripts
@@ -73,7 +74,7 @@ said_words text ws l e f g h =
 answer_back : (a : ℕ) → a < 4294967296 → answer_in (decimal a) ≡ Some a
 unfolding answer_in
 answer_back a small =
-    ap (λ (o : Option ℕ). elim o [ Some n ↦ Some n | None ↦ option_map number_of (errno_in (decimal a)) ])
+    ap (λ (o : Option ℕ). elim o [ Some n ↦ Some n | None ↦ option_map number_of (error_named (decimal a)) ])
     (number_decimal a small)
 
 pub line_back : (l : Line) → IsLineWritten l → said_in (line_text l) ≡ Some (Shown l)
@@ -132,7 +133,7 @@ or_errno None p h = errnos-small p
 
 answer-small : (word : List ℕ) → Yields IsNumber (answer_in word)
 unfolding answer_in
-answer-small word = or_errno (number_in word) (errno_in word) (number-small word)
+answer-small word = or_errno (number_in word) (error_named word) (number-small word)
 
 two-written : (name word : List ℕ) → Yields IsLineWritten (line_of_two name word)
 unfolding line_of_two

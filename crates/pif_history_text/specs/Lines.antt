@@ -2,8 +2,6 @@
 use Rattle.std.specs.Prelude.{ℕ, ◌==◌, nat_lt, Bool, List, [], ◌∷◌, length, Option, Some, None, option_map, if◌then◌else◌, bytes_eq, codes}
 use Rattle.std.specs.Str.Lines.{strip_carriage_return}
 use Rattle.pif_types.specs.Numbers.{number_of}
-use Rattle.pif_types.specs.declared.errors.Errno.{Errno}
-use Rattle.pif_types.specs.declared.errors.Errno.TheVariants.{NotPermitted, NoSuchThread, Again, Fault, Busy, Invalid, Deadlock, Overflow, TimedOut, OwnerDead, NotRecoverable}
 use Rattle.pif_model.specs.declared.events.Event.{Event}
 use Rattle.pif_model.specs.declared.events.Event.TheVariants as event
 use Rattle.pif_text_model.specs.declared.commands.Command.{Command}
@@ -11,6 +9,7 @@ use Rattle.pif_text_model.specs.declared.commands.Command.TheVariants as command
 use Rattle.pif_text_model.specs.declared.commands.Addition.{Addition}
 use Rattle.pif_text_model.specs.declared.commands.Addition.TheVariants as addition
 use Rattle.pif_text_model.specs.Commands.{◌>>=◌, command_in}
+use Rattle.pif_text_model.specs.Errors.{error_named}
 use Rattle.pif_text_model.specs.Numbers.{number_in, thread_in}
 use Rattle.pif_text_model.specs.Words.{words}
 use Rattle.pif_story_model.specs.Lines.{is_passed, without_mark}
@@ -20,25 +19,9 @@ use Rattle.pif_history_text.specs.Allowed.{allowed_in}
 use Rattle.pif_history_text.specs.declared.said.Said.{Said}
 use Rattle.pif_history_text.specs.declared.said.Said.TheVariants.{Allow, Limits, Nothing, Shown}
 
--- The error that a word names, as <errno.h> does.
-unfoldable pub errno_in : List ℕ → Option Errno
-errno_in word =
-    if bytes_eq word (codes "EPERM") then Some NotPermitted
-    else if bytes_eq word (codes "ESRCH") then Some NoSuchThread
-    else if bytes_eq word (codes "EAGAIN") then Some Again
-    else if bytes_eq word (codes "EFAULT") then Some Fault
-    else if bytes_eq word (codes "EBUSY") then Some Busy
-    else if bytes_eq word (codes "EINVAL") then Some Invalid
-    else if bytes_eq word (codes "EDEADLK") then Some Deadlock
-    else if bytes_eq word (codes "EOVERFLOW") then Some Overflow
-    else if bytes_eq word (codes "ETIMEDOUT") then Some TimedOut
-    else if bytes_eq word (codes "EOWNERDEAD") then Some OwnerDead
-    else if bytes_eq word (codes "ENOTRECOVERABLE") then Some NotRecoverable
-    else None
-
 -- What a call returned: a number as scripts write it, or else the number of the error that the word names.
 unfoldable pub answer_in : List ℕ → Option ℕ
-answer_in word = elim (number_in word) [ Some n ↦ Some n | None ↦ option_map number_of (errno_in word) ]
+answer_in word = elim (number_in word) [ Some n ↦ Some n | None ↦ option_map number_of (error_named word) ]
 
 -- What an event of scripts says in a history: begins, ends and ticks stand there. What a step of a thread came to is
 -- not seen from outside.

@@ -1,47 +1,15 @@
 ghost use Rattle.std.specs.Prelude.{◌≡◌, ◌∷◌, ◌+◌, ◌≤◌, ◌<◌, ◌↔◌, ◌==◌, IsTrue, length, option_map};
 ghost use Rattle.pif_types.specs.Numbers.{number_of};
 ghost use Rattle.pif_text_model.specs.Words.{words};
-ghost use Rattle.pif_history_text.specs.Lines.{addition_said, answer_in, command_said, errno_in, event_said, is_long, line_of_three, line_of_two, line_of_words, said_by_words, said_in, text_of_line};
+ghost use Rattle.pif_history_text.specs.Lines.{addition_said, answer_in, command_said, event_said, is_long, line_of_three, line_of_two, line_of_words, said_by_words, said_in, text_of_line};
 
 use crate::Said;
 use crate::allowed::allowed_of;
 use crate::texts::is_passed;
 use pif_history_model::Line;
 use pif_model::Event;
-use pif_text::{Addition, Command, command_of, is_word, number_of, split_first, thread_of};
-use pif_types::{Answer, Errno};
-
-/// The error that a word names.
-#[tactic(auto, unfolding(crate::specs::Lines::errno_in))]
-fn errno_of(word: &[u8]) -> Option<Errno>
-    ensures { result ≡ errno_in word.now }
-{
-    if is_word(word, b"EPERM") {
-        Some(Errno::NotPermitted)
-    } else if is_word(word, b"ESRCH") {
-        Some(Errno::NoSuchThread)
-    } else if is_word(word, b"EAGAIN") {
-        Some(Errno::Again)
-    } else if is_word(word, b"EFAULT") {
-        Some(Errno::Fault)
-    } else if is_word(word, b"EBUSY") {
-        Some(Errno::Busy)
-    } else if is_word(word, b"EINVAL") {
-        Some(Errno::Invalid)
-    } else if is_word(word, b"EDEADLK") {
-        Some(Errno::Deadlock)
-    } else if is_word(word, b"EOVERFLOW") {
-        Some(Errno::Overflow)
-    } else if is_word(word, b"ETIMEDOUT") {
-        Some(Errno::TimedOut)
-    } else if is_word(word, b"EOWNERDEAD") {
-        Some(Errno::OwnerDead)
-    } else if is_word(word, b"ENOTRECOVERABLE") {
-        Some(Errno::NotRecoverable)
-    } else {
-        None
-    }
-}
+use pif_text::{Addition, Command, command_of, errno_named, is_word, number_of, split_first, thread_of};
+use pif_types::Answer;
 
 /// What a call returned, as a word says it: the number that it writes, or that of the error which it names. `None` if the
 /// word is neither.
@@ -51,7 +19,7 @@ pub fn answer_of(word: &[u8]) -> Option<Answer>
 {
     match number_of(word) {
         Some(number) => Some(number),
-        None => Some(errno_of(word)?.number()),
+        None => Some(errno_named(word)?.number()),
     }
 }
 

@@ -3,24 +3,9 @@ ghost use Rattle.pif_story_model.specs.Answers.{answer_by, error_answer, error_i
 ghost use Rattle.pif_story_model.specs.Filling.{form_written};
 
 use pif_story_model::Form;
-use pif_text::{Text, append, append_number, errno_name};
+use pif_text::{ERRORS, Text, append, append_number, errno_name};
 use pif_types::Errno;
 use std::alloc::AllocError;
-
-/// All errors that a call can be answered.
-const ERRORS: [Errno; 11] = [
-    Errno::NotPermitted,
-    Errno::NoSuchThread,
-    Errno::Again,
-    Errno::Fault,
-    Errno::Busy,
-    Errno::Invalid,
-    Errno::Deadlock,
-    Errno::Overflow,
-    Errno::TimedOut,
-    Errno::OwnerDead,
-    Errno::NotRecoverable,
-];
 
 /// The answer of a call that is this error, in this form.
 fn error_answer(form: Form, errno: Errno) -> Text

@@ -28,11 +28,6 @@ found-passes p (y ∷ ys) x e = by_test (p y) refl (found-passes p ys x) e
     by_test true t h e = let same : y ≡ x = cc in ap p (sym same) ∙ t
     by_test false t h e = h e
 
--- what does not pass is not what is found
-pub find_behind : {A : Type 0} (p : A → Bool) (xs : List A) (i : ℕ) (d : A) → i < length xs
-    → p (get_or xs i d) ≡ false → find p (drop i xs) ≡ find p (drop (i + 1) xs)
-find_behind p xs i d lt e = ap (find p) (drop_more xs i d lt) ∙ rw e refl
-
 -- the error that is found is answered so
 error-found : (form : Form) (text : List ℕ) (errno : Errno) → error_in form text ≡ Some errno
     → text ≡ error_answer form errno

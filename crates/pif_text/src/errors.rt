@@ -1,9 +1,24 @@
 ghost use Rattle.std.specs.Prelude.{◌≡◌, ◌≤◌, MatchOption, length};
 ghost use Rattle.pif_types.specs.declared.errors.Errno.{Errno};
 ghost use Rattle.pif_types.specs.Numbers.{number_of};
-ghost use Rattle.pif_text_model.specs.Errors.{errno_name, error_of};
+ghost use Rattle.pif_text_model.specs.Errors.{errno_name, error_named, error_of};
 
 use pif_types::{Answer, Errno};
+
+/// All errors of `Errno`, in the order of their numbers.
+pub const ERRORS: [Errno; 11] = [
+    Errno::NotPermitted,
+    Errno::NoSuchThread,
+    Errno::Again,
+    Errno::Fault,
+    Errno::Busy,
+    Errno::Invalid,
+    Errno::Deadlock,
+    Errno::Overflow,
+    Errno::TimedOut,
+    Errno::OwnerDead,
+    Errno::NotRecoverable,
+];
 
 /// The error of which this is the number, as <errno.h> of Linux on x86-64 has it. `None` for 0, and for a number of
 /// which there is no `Errno`.
@@ -46,4 +61,17 @@ pub fn errno_name(errno: Errno) -> &'static str
         Errno::OwnerDead => "EOWNERDEAD",
         Errno::NotRecoverable => "ENOTRECOVERABLE",
     }
+}
+
+/// The error of this name, in capital letters as `EDEADLK`. `None` if there is none.
+#[tactic(auto, unfolding(pif_text_model::specs::Errors::error_named))]
+pub fn errno_named(name: &[u8]) -> Option<Errno>
+    ensures { result ≡ error_named name.now }
+{
+    for errno in ERRORS {
+        if name == errno_name(errno).as_bytes() {
+            return Some(errno);
+        }
+    }
+    None
 }

@@ -17,7 +17,7 @@ mod writing;
 pub use command_texts::{
     COMMAND_ROOM, command_reads_back, command_text, commands_of_lines_are_written, mutex_text,
 };
-pub use errors::{errno_name, errno_of};
+pub use errors::{ERRORS, errno_name, errno_named, errno_of};
 pub use kinds::{DEFAULT_WORD, ERROR_CHECK_WORD, NORMAL_WORD, RECURSIVE_WORD, kind_word};
 pub use limits::default_limits;
 pub use numbers::{number_of, number_reads_back, thread_of};

@@ -1,23 +1,8 @@
 use crate::Wrong;
 use crate::forms::{Form, Part};
-use crate::near::{name_in_capitals, nearest, nearest_name};
+use crate::near::{name_in_capitals, nearest, nearest_error};
 use crate::tables::ROBUST;
-use pif_text::number_of;
-
-/// The names of errors, as an answer may have them.
-const ERRORS: [&str; 11] = [
-    "EPERM",
-    "ESRCH",
-    "EAGAIN",
-    "EFAULT",
-    "EBUSY",
-    "EINVAL",
-    "EDEADLK",
-    "EOVERFLOW",
-    "ETIMEDOUT",
-    "EOWNERDEAD",
-    "ENOTRECOVERABLE",
-];
+use pif_text::{errno_named, number_of};
 
 /// The number behind the letter of a name.
 fn digits_of(word: &[u8], letter: u8) -> Option<u32> {
@@ -60,7 +45,7 @@ fn is_between(word: &[u8], least: u32, most: u32) -> bool {
 
 /// Whether a word is an answer: a number, or the name of an error.
 pub fn is_answer(word: &[u8]) -> bool {
-    number_of(word).is_some() || ERRORS.iter().any(|name| word == name.as_bytes())
+    number_of(word).is_some() || errno_named(word).is_some()
 }
 
 /// Whether a word is the name of a cell.
@@ -101,7 +86,7 @@ pub fn wrong_with_part(word: &[u8], part: Part) -> Option<Wrong> {
 pub fn near_part(word: &[u8], part: Part) -> Option<&'static str> {
     match part {
         Part::Robust => nearest(word, &ROBUST),
-        Part::Answer => nearest_name(word, ERRORS.as_slice()),
+        Part::Answer => nearest_error(word),
         _ => None,
     }
 }

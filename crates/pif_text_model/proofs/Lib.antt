@@ -3,6 +3,7 @@ pub mod Splits
 pub mod Numerals
 pub mod Marks
 pub mod Names
+pub mod Finding
 pub mod Yields
 pub mod Plain
 pub mod QuestionLemmas
