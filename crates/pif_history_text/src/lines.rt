@@ -8,7 +8,9 @@ use crate::allowed::allowed_of;
 use crate::texts::is_passed;
 use pif_history_model::Line;
 use pif_model::Event;
-use pif_text::{Addition, Command, command_of, errno_named, is_word, number_of, split_first, thread_of};
+use pif_text::{
+    Addition, Command, command_of, errno_named, is_word, number_of, split_first, thread_of,
+};
 use pif_types::Answer;
 
 /// What a call returned, as a word says it: the number that it writes, or that of the error which it names. `None` if the

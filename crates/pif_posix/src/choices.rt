@@ -10,6 +10,9 @@ use pif_search::{Stop, push};
 use pif_types::Request;
 use std::alloc::Global;
 
+/// How many states of one broadcast are made at most: those of 16 threads that it may wake or not.
+const MOST_AT_ONCE: usize = 65_536;
+
 /// Whether none of these priorities is greater than this one.
 fn is_none_above(priorities: &[u32], priority: u32) -> bool
     ensures { result ≡ list_all (λ p. nat_le p priority) priorities.now }
@@ -216,6 +219,9 @@ impl State {
         ensures { OnOk result (all.new.items ≡ all.old.items ++ wakings (drop from marked.now) self.now) }
     {
         if from >= marked.len() {
+            if all.len() >= MOST_AT_ONCE {
+                return Err(Stop::Many);
+            }
             let copy = self.copied(alloc)?;
             push(all, copy)?;
             return Ok(());
