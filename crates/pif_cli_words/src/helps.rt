@@ -386,9 +386,9 @@ For each history it prints:
     answered
   undecided at L
     more states than --states were made for line L, or the time of --seconds was
-    over before it; within it no clock is asked. 'no witness found from M on'
-    says that no run was found for the lines up to M, and 'found there: A ..'
-    with which answers in it one was: they claim nothing of others
+    over. 'no witness found from M on' says that no run was found for the lines
+    up to M, and 'found there: A ..' with which answers in it one was: they
+    claim nothing of others
   fault L CAUSE
     line L is the first that is a fault
 With --json it prints an object for the verdict, and one for each line of a run
