@@ -86,7 +86,8 @@ fn answer_by_lines(lines: &[Line], from: usize, thread: usize) -> Option<Answer>
     None
 }
 
-/// The most rows of a table: threads are numbered from 1, and a history has at most 1,024.
+/// The most rows of a table: for threads 1 to 1,024. Threads beyond have no row, and what they are answered is found by
+/// a scan of the lines.
 const MOST_ROWS: usize = 1_025;
 
 /// How many rows a table of these lines has: one for each number up to that of the last thread that they add. A line may
