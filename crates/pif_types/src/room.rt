@@ -1,4 +1,5 @@
 ghost use Rattle.std.specs.Prelude.{◌≡◌, ◌<◌, ◌≤◌, ◌+◌, ◌++◌, ◌∷◌, [], IfOk, vec_len, vec_capacity};
+ghost use Rattle.std.specs.Vec.{vec_ptr};
 
 use crate::errors::NoMemory;
 use std::alloc::Global;
@@ -16,12 +17,13 @@ pub fn with_room<T: Drop>(alloc: Global, count: usize) -> Result<Vec<T>, NoMemor
     }
 }
 
-/// Puts `item` at the end of `items`, which has room for it, so that no memory is taken.
+/// Puts `item` at the end of `items`, which has room for it: the list stays where it is, and no memory is taken.
 pub fn push_within<T: Drop>(items: &mut Vec<T>, item: T)
     requires { vec_len items.old < vec_capacity items.old }
     ensures items { items.new.items ≡ items.old.items ++ item ∷ [] }
     ensures len { vec_len items.new ≡ vec_len items.old + 1 }
-    ensures room { vec_capacity items.old ≤ vec_capacity items.new }
+    ensures room { vec_capacity items.new ≡ vec_capacity items.old }
+    ensures in_place { vec_ptr items.new ≡ vec_ptr items.old }
 {
-    items.push(item).unwrap();
+    items.push_reserved(item);
 }

@@ -18,5 +18,5 @@ pub invariant_of-self : goal.invariant_of-self
 invariant_of-self c =
     rw c.push_within.ensures.items
     (parked_behind _ _ c.self.invariant _ _ (omega (arith, c.get-number.ensures.value, c.get-number.ensures.range))
-    (subst (λ (x : PlainRows). c.args.t ≤ x.room) (sym c.self.view_is) c.requires.room) c.push_within.ensures.room
+    (subst (λ (x : PlainRows). c.args.t ≤ x.room) (sym c.self.view_is) c.requires.room) (omega (arith, c.push_within.ensures.room))
     (subst (λ (x : PlainRows). is_named c.args.t (parked_pairs x.parked) ≡ false) (sym c.self.view_is) c.requires.unparked))
