@@ -1,3 +1,4 @@
 pub mod Fates
+pub mod Waiters
 pub mod Steppable
 pub mod Calls

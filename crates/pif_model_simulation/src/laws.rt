@@ -9,11 +9,12 @@ ghost use Rattle.pif_model.specs.declared.events.Entry.TheVariants.{Step as Happ
 ghost use Rattle.pif_model.specs.Graph.{has_waiter, next_waiter, without, waiting_order, IsNextWaiter, Reaches};
 ghost use Rattle.pif_model.specs.Posix.{World, IsRun, WaitsFor, Expires, is_thread, effective_of, leads_to, mutex_at, is_due};
 ghost use Rattle.pif_model.specs.Standing.{HasEffective};
-ghost use Rattle.pif_model.specs.History.{AlwaysOneHolder};
+ghost use Rattle.pif_model.specs.History.{holds, AlwaysOneHolder};
 ghost use Rattle.pif_model.specs.PiKernel.{is_living};
 ghost use Rattle.pif_model.specs.Table.{Table, line_at};
 ghost use Rattle.pif_model_simulation.specs.Fates.{fate};
 ghost use Rattle.pif_model_simulation.specs.Fates.Fate.{Expired};
+ghost use Rattle.pif_model_simulation.specs.Waiters.{is_waiter, WaitsInItsCall};
 ghost use Rattle.pif_model.specs.Lines.{is_open, goes_on, ClosesOrWaits};
 
 /// A law: the next waiter of a mutex for which threads wait is, among those of greatest effective priority, the first
@@ -33,6 +34,18 @@ pub fn waiters_get_a_mutex_in_order()
 /// A law: in a history that a run of the POSIX machine gives, no mutex has two holders by the answers at any point.
 pub fn no_mutex_has_two_holders()
     ensures { (limits : Bounds) (history : List Entry) (states : List World) (last : World) → IsRun limits history states last → AlwaysOneHolder history }
+{}
+
+/// A law: in each state that a run of the POSIX machine reaches, who holds a mutex by the answers owns it.
+pub fn holders_by_answers_own()
+    ensures { (limits : Bounds) (history : List Entry) (states : List World) (last : World) → IsRun limits history states last → (t m : ℕ) → holds t m history ≡ true → (mutex_at last m).owner ≡ t }
+{}
+
+/// A law: in each state that a run of the POSIX machine reaches, a thread that is among the waiters of a mutex has a
+/// call open that locks it, or a wait that locks it again, and waits for it there. So a mutex that passes on to a
+/// thread is taken within a call of that thread.
+pub fn waiters_wait_in_their_calls()
+    ensures { (limits : Bounds) (history : List Entry) (states : List World) (last : World) → IsRun limits history states last → (t m : ℕ) → 1 ≤ m → is_waiter last t m ≡ true → WaitsInItsCall last t m }
 {}
 
 /// A law: in each state that a run of the POSIX machine reaches, the effective priority of a thread, which looks over

@@ -11,7 +11,8 @@ mod laws;
 
 pub use laws::{
     call_closes_or_waits_within_24_steps, chain_is_found_where_there_is_one,
-    effective_priority_is_greatest_over_any_chain, expiry_leaves_mutexes,
+    effective_priority_is_greatest_over_any_chain, expiry_leaves_mutexes, holders_by_answers_own,
     next_waiter_is_first_of_greatest, no_mutex_has_two_holders, time_never_falls,
-    timed_out_call_has_expired, waiters_get_a_mutex_in_order, whoever_is_told_to_wait_was_not_due,
+    timed_out_call_has_expired, waiters_get_a_mutex_in_order, waiters_wait_in_their_calls,
+    whoever_is_told_to_wait_was_not_due,
 };

@@ -2,7 +2,7 @@ ghost use Rattle.std.specs.Prelude.{◌≡◌, ℕ, List, true, false};
 ghost use Rattle.pif_types.specs.Bounds.{Bounds};
 ghost use Rattle.pif_model.specs.declared.events.Entry.{Entry};
 ghost use Rattle.pif_model.specs.Posix.{World, Step, Ends, IsRun};
-ghost use Rattle.pif_posix_model.specs.Once.{MovesOnce, Enters, GoesHidden, IsByMoves, IsByMovesAndEntry, is_hidden, is_refused};
+ghost use Rattle.pif_posix_model.specs.Once.{MovesOnce, Enters, GoesHidden, IsByMoves, IsByMovesAndEntry, is_go, is_hidden, is_refused};
 
 /// A law: from a state of a run, a step that no line of a history shows is made up of moves, of its own thread and of
 /// threads that were blocked before it.
@@ -11,9 +11,10 @@ pub fn hidden_steps_are_moves()
 {}
 
 /// A law: from a state of a run, a step that a line of a history shows, and that is not refused, is made up of moves
-/// and then of the entry alone. Only an answer needs moves before it.
+/// and then of the entry alone. Only an answer needs moves before it: any other is the entry alone.
 pub fn shown_steps_are_moves_and_an_entry()
-    ensures { (limits : Bounds) (history : List Entry) (states : List World) (before : World) → IsRun limits history states before → (entry : Entry) (after : World) → Step limits before entry after → is_hidden entry ≡ false → is_refused entry ≡ false → IsByMovesAndEntry limits before entry after }
+    ensures moves { (limits : Bounds) (history : List Entry) (states : List World) (before : World) → IsRun limits history states before → (entry : Entry) (after : World) → Step limits before entry after → is_hidden entry ≡ false → is_refused entry ≡ false → IsByMovesAndEntry limits before entry after }
+    ensures alone { (limits : Bounds) (before : World) (entry : Entry) (after : World) → Step limits before entry after → is_go entry ≡ false → is_refused entry ≡ false → Enters limits before entry after }
 {}
 
 /// A law: from a state of a run, a move is a step that no line of a history shows.
