@@ -7,9 +7,12 @@ use std::marker::Model;
 /// What the library knows of a mutex beside its words.
 #[derive(Clone, Copy)]
 pub struct Mutex {
-    kind: Kind,
-    robust: bool,
-    count: u32,
+    /// Its kind.
+    pub(crate) kind: Kind,
+    /// Whether it is robust.
+    pub(crate) robust: bool,
+    /// How often its owner holds it.
+    pub(crate) count: u32,
 }
 
 impl Model for Mutex {
@@ -31,38 +34,6 @@ impl Mutex {
             kind,
             robust,
             count: 1,
-        }
-    }
-
-    /// Its kind.
-    pub fn kind(self) -> Kind
-        ensures { result ≡ self.kind }
-    {
-        self.kind
-    }
-
-    /// Whether it is robust.
-    pub fn is_robust(self) -> bool
-        ensures { result ≡ self.robust }
-    {
-        self.robust
-    }
-
-    /// How often its owner holds it.
-    pub fn count(self) -> u32
-        ensures { result ≡ self.count }
-    {
-        self.count
-    }
-
-    /// The same mutex, held this often.
-    pub fn with_count(self, count: u32) -> Mutex
-        ensures { result ≡ record self { count = count } }
-    {
-        Mutex {
-            kind: self.kind,
-            robust: self.robust,
-            count,
         }
     }
 }

@@ -223,7 +223,7 @@ impl<K: PiKernel + Drop> State<K> {
         requires { has_mutex self.now m ≡ true }
         ensures { result ≡ (cell_at self.now m).kind }
     {
-        self.mutexes[m.get() as usize].kind()
+        self.mutexes[m.get() as usize].kind
     }
 
     /// Whether a mutex that was added is robust.
@@ -231,7 +231,7 @@ impl<K: PiKernel + Drop> State<K> {
         requires { has_mutex self.now m ≡ true }
         ensures { result ≡ is_robust m self.now }
     {
-        self.mutexes[m.get() as usize].is_robust()
+        self.mutexes[m.get() as usize].robust
     }
 
     /// How often its owner holds a mutex that was added.
@@ -239,7 +239,7 @@ impl<K: PiKernel + Drop> State<K> {
         requires { has_mutex self.now m ≡ true }
         ensures { result ≡ (cell_at self.now m).count }
     {
-        self.mutexes[m.get() as usize].count()
+        self.mutexes[m.get() as usize].count
     }
 
     /// A mutex that was added is held this often.
@@ -248,7 +248,7 @@ impl<K: PiKernel + Drop> State<K> {
         ensures { self.new ≡ with_count m count self.old }
     {
         let place = m.get() as usize;
-        self.mutexes[place] = self.mutexes[place].with_count(count);
+        self.mutexes[place].count = count;
     }
 
     /// The bits of the word of a mutex that was added.
