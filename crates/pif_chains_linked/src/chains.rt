@@ -25,7 +25,7 @@ const CONDS: u32 = 256;
 /// Chains in one table of nodes, linked by index, with four nodes a thread: as a waiter or a parked thread, as a top
 /// waiter, as a ready thread, and one for the row of an owner state. A list of waiters for each owner state comes
 /// first, then one of top waiters for each thread, the levels, the buckets, and the parked threads of each variable. No
-/// call on these but `new` looks at every thread: a walk goes up one chain.
+/// call on these but `new`, and `park` at the last ticket, looks at every thread: a walk goes up one chain.
 #[derive(Drop)]
 pub struct LinkedChains {
     owners: RtMutexes,

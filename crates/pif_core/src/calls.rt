@@ -34,8 +34,8 @@ impl Core {
 
     /// A thread goes on with its open call up to the first answer that isn't `Went`, at most 24 times; that is enough
     /// for each call of POSIX here, so the answer is never `Went`. `Answered` closes the call, with 0 or the number of
-    /// an error. `Waits` leaves it open: the thread waits for others, and once they have had their turns this is called
-    /// again. `Refused` says that nothing has changed: the thread was never added (`NoSuch`), has ended (`Dead`), or
+    /// an error. `Waits` leaves it open: the thread waits for others, or for its deadline. Once `Core::waiting` is false
+    /// this is called again. `Refused` says that nothing has changed: the thread was never added (`NoSuch`), has ended (`Dead`), or
     /// has no call open (`Idle`).
     pub fn finish(&mut self, thread: Tid) -> Seen
         ensures seen { result ≡ (finish_outcome thread self.old).seen }

@@ -185,7 +185,7 @@ impl Core {
         self.parts.pick()
     }
 
-    /// Whether a thread rests. True if it is among the waiters of a mutex, is blocked on a condition variable or waits
+    /// Whether a thread rests. True if it is among the waiters of a mutex, is parked on a condition variable or waits
     /// for good. False if it may take a step, also if that step is an expiry, since its deadline is reached. `None` if
     /// no living thread has that number, or if that thread has no call open.
     pub fn waiting(&self, thread: Tid) -> Option<bool>

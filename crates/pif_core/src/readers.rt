@@ -45,7 +45,7 @@ impl Core {
         self.parts.base(thread)
     }
 
-    /// What a thread does: it may run, is among the waiters of a mutex, is blocked on a condition variable, waits for
+    /// What a thread does: it may run, is among the waiters of a mutex, is parked on a condition variable, waits for
     /// good, or has ended. `None` if it was never added.
     pub fn status(&self, thread: Tid) -> Option<Status>
         ensures value { result ≡ status_answer thread self.now }

@@ -13,7 +13,8 @@ use pif_types::{Answer, Refusal, Request, Tid};
 pub enum Next {
     /// The call is open, and its thread may go on.
     GoOn,
-    /// The call is open, and its thread rests: another thread has to take a step first.
+    /// The call is open, and its thread rests. Another thread has to take a step first, or the time to reach the
+    /// deadline of the call: `Core::waiting` is false once it may go on.
     LetOthersGo,
     /// The call is closed with this answer, 0 or the number of an error, and its thread may begin another.
     Closed(Answer),

@@ -48,7 +48,7 @@ pub fn wait_unless(
 /// what that test will say. It is there before the wait is answered, which is right only since this call has the core
 /// alone. Among real threads, test after the wait, with the mutex held. `Met` says that it is so now. `Not` has what
 /// the wait was answered otherwise, and then nothing more was done; or what another wait is answered, which was begun
-/// since the test failed.
+/// since the test failed. Another wait has no deadline, also if the first had one.
 pub fn resume_wait(
     core: &mut Core,
     thread: Tid,

@@ -75,8 +75,8 @@ abbrev pub joins : Owners → Queue → NodeLists → ℕ → ℕ → Bool
 joins v q t p u = (greatest_base v u == p) && is_other p (level_with q t u)
 
 -- level p of a run queue once each of its threads is at the level of the effective priority that it is to have: those
--- that keep their level in their order, then those that join it in order of their numbers. (sched(7): a thread whose
--- priority changes joins the end of its new level.)
+-- that keep their level in their order, then those that join it in order of their numbers. (sched(7) puts a thread whose
+-- priority is lowered at the front of its new level; that all join the end is this project's choice.)
 abbrev pub level_after_walk : Owners → Queue → NodeLists → ℕ → List ℕ
 level_after_walk v q t p = filter (λ u. greatest_base v u == p) (level_of q t p) ++ filter (joins v q t p)
     (threads_of v)

@@ -1,6 +1,6 @@
 use pif_types::{Answer, CondId, Kind, MutexId, Prio, Refusal, Request, Tid};
 
-/// What a caller hands to a core: a thread begins a call, goes on by one step of its open call, or ends.
+/// What a caller hands to a core: a thread begins a call, goes on by one step of its open call, or ends; or the time.
 #[derive(Clone, Copy, Debug, PartialEq, Eq)]
 pub enum Event {
     /// The thread begins this call. No word is touched.

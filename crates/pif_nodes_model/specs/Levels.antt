@@ -113,7 +113,8 @@ abbrev pub level_after_add : ℕ → ℕ → ℕ → List ℕ → List ℕ
 level_after_add u to p ts = if nat_eq p to then ts ++ u ∷ [] else ts
 
 -- the threads of level p once u, which was on some level, is at level `to`: if that is its level, it keeps its
--- place, and else it joins the end (sched(7))
+-- place, and else it joins the end (sched(7) puts one whose priority is lowered at the front; that all join the end is
+-- this project's choice)
 abbrev pub level_after_move : ℕ → ℕ → ℕ → List ℕ → List ℕ
 level_after_move u to p ts = if nat_eq p to then (if has u ts then ts else ts ++ u ∷ []) else list_without u ts
 

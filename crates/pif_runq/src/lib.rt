@@ -1,6 +1,7 @@
 //! A run queue as sched(7) describes it for SCHED_FIFO: 99 levels, each a list of a node table, and a mask of the
-//! levels that have a thread. No call takes memory, and each takes constant time, but for `nth`, which goes through the
-//! levels and the threads before a place.
+//! levels that have a thread. In one point it departs from that page: a thread whose priority is lowered joins the end
+//! of its new level, not the front. No call takes memory, and each takes constant time, but for `nth`, which goes
+//! through the levels and the threads before a place.
 //!
 //! ```text
 //!  mask     bits 99 and 10 are set                level 99 │ t3
