@@ -385,9 +385,9 @@ fn first_place(request: &Request) -> Place
     }
 }
 
-/// The thread, which lives and has a call on mutexes open, or a wait that locks its mutex again, takes one step of it:
-/// one access of one word, one write of its robust list, one kernel call, or the answer after a stalled mutex was
-/// handed to it; or it waits, and nothing changes. A lock that is queued or stopped and whose deadline is reached
+/// The thread, which lives and has a call on mutexes open, or a wait that gives its mutex up or locks it again, takes
+/// one step of it: one access of one word, one write of its robust list, one kernel call, or the answer after a stalled
+/// mutex was handed to it; or it waits, and nothing changes. A lock that is queued or stopped and whose deadline is reached
 /// expires, by the kernel call expire, and does nothing else; a wait that expired before is answered ETIMEDOUT in place
 /// of 0. Whoever owns a mutex after the step and did not before, the thread or the next waiter, holds it once.
 #[inline(always)]

@@ -2,8 +2,8 @@
 //! and a cycle test of its own. So it is the kernel to compare another one with.
 //!
 //! `rt_mutexes` has the owner states and the rows of the threads, `chain_walk` the walk over them and `cycles` the test
-//! whether a wait closes a cycle. `paths` goes up one chain of waiting. `plain_rows` has the keys of the mutexes, and the
-//! parked threads in one list in the order in which they were parked: there a parked thread has no ticket, and its
+//! whether a wait closes a cycle. `paths` goes up one chain of waiting. `plain_rows` has the keys of the mutexes, and
+//! the parked threads in one list in the order in which they were parked. There a parked thread has no ticket, and its
 //! priority is read when one is taken. `chains` is these together with the run queue, as `KernelOn` of `pif_kernel`
 //! takes them.
 #![tactic(auto)]
