@@ -9,8 +9,8 @@ pub static ANSWERS: [Help; 27] = [
         word: "EPERM",
         text: "\
 EPERM (answer 1)
-  unlock, consistent, wait: the caller is not the owner of the mutex, also if
-  nobody is.
+  unlock, consistent, wait, timedwait: the caller is not the owner of the mutex,
+  also if nobody is.
 ",
     },
     Help {
@@ -24,7 +24,7 @@ ESRCH (answer 3)
         word: "EAGAIN",
         text: "\
 EAGAIN (answer 11)
-  lock, trylock: the caller holds a recursive mutex 255 times.
+  lock, timedlock, trylock: the caller holds a recursive mutex 255 times.
 ",
     },
     Help {
@@ -41,16 +41,17 @@ EBUSY (answer 16)
 EINVAL (answer 22)
   setprio: the priority is not 1 to 99.
   consistent: the mutex is not robust, or not inconsistent.
-  wait: another mutex is bound to the variable, or it is held more than once.
+  wait, timedwait: another mutex is bound to the variable, or the mutex is held
+  more than once.
 ",
     },
     Help {
         word: "EDEADLK",
         text: "\
 EDEADLK (answer 35)
-  lock: the caller holds an errorcheck mutex already.
-  lock, wait: the owner of the mutex waits for the caller, through some chain. A
-  wait that ends so doesn't hold its mutex.
+  lock, timedlock: the caller holds an errorcheck mutex already.
+  lock, timedlock, wait, timedwait: the owner of the mutex waits for the caller,
+  through some chain. A wait that ends so doesn't hold its mutex.
 ",
     },
     Help {
@@ -72,16 +73,17 @@ ETIMEDOUT (answer 110)
         word: "EOWNERDEAD",
         text: "\
 EOWNERDEAD (answer 130)
-  lock, trylock, wait: the caller owns the robust mutex, whose last owner ended:
-  what it protects is to be repaired, and then 'consistent' is called.
+  lock, timedlock, trylock, wait, timedwait: the caller owns the robust mutex,
+  whose last owner ended: what it protects is to be repaired, and then
+  'consistent' is called.
 ",
     },
     Help {
         word: "ENOTRECOVERABLE",
         text: "\
 ENOTRECOVERABLE (answer 131)
-  lock, trylock, wait: the robust mutex was given up while it was inconsistent,
-  and nobody can own it any more.
+  lock, timedlock, trylock, wait, timedwait: the robust mutex was given up while
+  it was inconsistent, and nobody can own it any more.
 ",
     },
     Help {
