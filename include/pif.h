@@ -321,7 +321,7 @@ pif_text pif_check(const uint8_t *name, size_t name_length, const uint8_t *story
 
 /* Judges a history, and writes what `pif judge` prints: whether some run of the POSIX machine shows its lines. At most
    `states` states are made for one line, as with --states; `pif judge` makes at most 200000 without it. If `witness` is
-   true, a run that shows a legal history is written behind, as with --witness. */
+   true, a run that shows a legal history is written after it, as with --witness. */
 pif_text pif_judge(const uint8_t *history, size_t history_length, uint32_t states, bool witness, uint8_t *room,
                    size_t room_length);
 

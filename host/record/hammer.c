@@ -25,7 +25,7 @@ static const char help[] =
     "  --trylock P      of a hundred locks P are trylocks; 20 without it\n"
     "  --timed P        of a hundred locks and waits P have a deadline of up to 2 ms; 20 without it\n"
     "  --waits P        of a hundred calls with a mutex held P wait, without one P signal; 20 without it\n"
-    "  --ends P         behind a hundred calls P threads end, with robust mutexes held; 0 without it\n"
+    "  --ends P         after a hundred calls P threads end, with robust mutexes held; 0 without it\n"
     "  --fifo           SCHED_FIFO, priorities 10 to 25; without it SCHED_OTHER\n"
     "  --priorities P   with --fifo: of a hundred calls without a mutex P set the thread's priority; 5 without it\n"
     "  --plain          mutexes without PTHREAD_PRIO_INHERIT\n"

@@ -33,7 +33,7 @@ def environment(history, besides=None):
 
 
 def with_time(words, seconds, *options):
-    """The words with a SIGALRM behind so many seconds, and five seconds later the end; options as of timeout(1)."""
+    """The words with a SIGALRM after so many seconds, and five seconds later the end; options as of timeout(1)."""
     return ["timeout", *options, "-k", "5", "-s", "ALRM", str(seconds), *map(str, words)]
 
 

@@ -28,7 +28,7 @@ static void look_at_priorities(void)
         PIF_LINE("prio t%u %u", thread, effective[thread]);
 }
 
-/* Along the chain of owners; the wrong one stops behind the first. */
+/* Along the chain of owners; the wrong one stops after the first. */
 static void boost(unsigned mutex, unsigned priority)
 {
     unsigned thread = owner[mutex];

@@ -135,7 +135,7 @@ Did job name before after held holds errors_held errors_hold status =
 
 -- the standard input is no file into which something can be written, which is said
 abbrev pub no_file_text : List ℕ
-no_file_text = codes "error: 'check --write' writes into files, and the standard input is none\n"
+no_file_text = codes "error: 'check --write' writes into files; the standard input is not one\n"
 
 abbrev pub RefusesInput : (errors_held errors_hold : Option (List ℕ)) → ℕ → Type 0
 RefusesInput errors_held errors_hold status = Shows errors_held errors_hold no_file_text 1 status

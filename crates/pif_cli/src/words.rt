@@ -247,7 +247,7 @@ pub fn show<W: Write>(text: &str, shown: u8, writer: &mut W) -> u8
 }
 
 /// What is said if the answers of the standard input are to be written into its file.
-const NO_FILE: &str = "error: 'check --write' writes into files, and the standard input is none\n";
+const NO_FILE: &str = "error: 'check --write' writes into files; the standard input is not one\n";
 
 /// Refuses to write into the standard input. Answers the status.
 pub fn refuse_input<E: Write>(errors: &mut E) -> u8

@@ -50,7 +50,7 @@ impl Clash {
             Clash::Json => "'judge --json' takes no '--witness': it has a run already",
             Clash::Files => "'judge --html' makes a page of one file",
             Clash::Checks => "'check' takes one of '--strict', '--print' and '--write'",
-            Clash::Range => "'draw --from' names a line behind that of '--to'",
+            Clash::Range => "'draw --from' names a line after that of '--to'",
             Clash::Rules => {
                 "'judge --allow' takes a rule: steal, any_waiter, spurious, recursion=N (256 to \
                 4294967295), own_errorcheck, any_consistent, held_wait, lost_signal, revives, all"

@@ -257,7 +257,7 @@ function choose(place) {
   const step = steps[place], before = place ? stateAt(place - 1) : empty(), state = stateAt(place);
   const said = [...(step.by.rule ? [`by the rule ${step.by.rule}`] : []), ...wordsOf(before, step.by)];
   const lit = new Set(step.by.whole ? [] : [...step.by.threads, ...step.by.mutexes].map(one => one.name));
-  at('where').textContent = 'Behind ' + titleOf(place);
+  at('where').textContent = 'After ' + titleOf(place);
   at('words').textContent = said.length ? said.join('; ') : place && !step.by.whole ? 'nothing changes' : 'the whole state';
   const owns = name => [...state.mutexes.values()].filter(mutex => mutex.owner === name).map(mutex => mutex.name).join(' ');
   const threads = [...state.threads.values()].map(t => [t.name, t.living ? 'lives' : 'ended', String(t.priority), owns(t.name),

@@ -311,7 +311,7 @@ save FILE, save! FILE
 const LEAVE: &str = "\
 exit, quit
   Ends. At a terminal the story in which the session was kept is removed, if
-  nothing came behind the last 'save'.
+  nothing changed after the last 'save'.
 ";
 
 /// What is said of a word on which there is no help.

@@ -28,10 +28,10 @@ impl Misplaced {
         match self {
             Misplaced::Limits => "limits may stand before all other lines only",
             Misplaced::HistoryRules => {
-                "it may stand before the first 'begin' only, and may name no rule for the second time"
+                "'allow' may stand before the first 'begin' only, and names each rule once"
             }
             Misplaced::ProgramRules => {
-                "it may stand before 'do', 'ends', 'ticks' and claims only, and may name no rule a second time"
+                "'allow' may stand before 'do', 'ends', 'ticks' and claims only, and names each rule once"
             }
             Misplaced::Addition => "it may stand before 'do', 'ends', 'ticks' and claims only",
             Misplaced::Second => "there is such a line already",
@@ -78,7 +78,7 @@ pub enum Wrong {
     OpenBlock,
     /// The line ends in open brackets.
     OpenBrackets,
-    /// There are words behind the end of the command.
+    /// There are more words after the end of the command.
     TooMany,
     /// Another part is wanted here.
     Not(Part),
@@ -144,7 +144,7 @@ impl Wrong {
             Wrong::Missing => "the line ends where a word is wanted",
             Wrong::OpenBlock => "the line ends where a '}' is wanted",
             Wrong::OpenBrackets => "the line ends where a ')' is wanted",
-            Wrong::TooMany => "there are words behind the end of the command",
+            Wrong::TooMany => "there are more words after the end of the command",
             Wrong::Not(part) => part.words(),
             Wrong::NameNumber => "a name has a number from 1 to 4294967295, with no zero in front",
             Wrong::NotAdded => "no line before this one adds it",

@@ -100,7 +100,7 @@ static void signal_and_sleep(void)
     sleep_ms(SHORT_MS);
 }
 
-/* Two wait before the first signal, and one of greater priority behind it. The second signal is for the two. */
+/* Two wait before the first signal, and one of greater priority after it. The second signal is for the two. */
 static void signal_to_the_older_group(void)
 {
     become_driver();
@@ -116,6 +116,6 @@ static void signal_to_the_older_group(void)
 
 const Feature difference_features[] = {
     {"lock_is_stolen", "an unlock with a waiter, then a trylock and a lock of a greater thread", lock_is_stolen},
-    {"signal_to_the_older_group", "a signal behind a wait of a thread of greater priority", signal_to_the_older_group},
+    {"signal_to_the_older_group", "a signal after a wait of a thread of greater priority", signal_to_the_older_group},
     {NULL, NULL, NULL},
 };

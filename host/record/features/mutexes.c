@@ -139,6 +139,6 @@ const Feature mutex_features[] = {
     {"timed_locks", "deadlines on both clocks, reached, past and far", timed_locks},
     {"bad_times", "calls with a timespec that is none", bad_times},
     {"owners_end", "threads that end while they hold a robust mutex", owners_end},
-    {"initialised_again", "an address with one object behind another", initialised_again},
+    {"initialised_again", "an address with one object after another", initialised_again},
     {NULL, NULL, NULL},
 };

@@ -94,5 +94,5 @@ void say_left_out(const History *history)
     if (atomic_load(&lost_place) <= history->cut)
         say("cut where a thread had more records than RECORD_MAX, or memory was short: ", most_records, "");
     if (history->is_late)
-        say("cut behind 4294967294 microseconds", 0, NULL);
+        say("cut after 4294967294 microseconds", 0, NULL);
 }
