@@ -264,8 +264,8 @@ pif_seen pif_tick(pif_core *core, uint32_t time);
    chain. PIF_NONE if no living thread has that number. */
 pif_number pif_effective(pif_core *core, uint32_t thread);
 
-/* Whether a thread rests, 1, or may take a step, 0. PIF_NONE if no living thread has that number, or that thread has
-   no call open. */
+/* 1 if a thread is blocked, and its deadline, if it has one, isn't reached; 0 if it may take a step. PIF_NONE if no
+   living thread has that number, or that thread has no call open. */
 pif_number pif_waiting(pif_core *core, uint32_t thread);
 
 /* The word of a mutex. PIF_NONE if it was never added. */

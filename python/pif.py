@@ -286,9 +286,9 @@ class Core:
         return shown(LIBRARY.pif_effective(self.handle, thread))
 
     def waiting(self, thread):
-        """Whether a thread rests, or None if it has no call open."""
-        rests = shown(LIBRARY.pif_waiting(self.handle, thread))
-        return None if rests is None else rests == 1
+        """Whether a thread is blocked, and its deadline, if it has one, isn't reached; None if it has no call open."""
+        waiting = shown(LIBRARY.pif_waiting(self.handle, thread))
+        return None if waiting is None else waiting == 1
 
     def word(self, mutex):
         """The word of a mutex, or None."""

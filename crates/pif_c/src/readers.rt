@@ -20,7 +20,7 @@ pub extern "C" fn pif_effective(alloc: Global, handle: &mut PifCore, thread: u32
     look_on(alloc, handle, Look::Effective(thread))
 }
 
-/// Whether a thread rests, 1 or 0: `Core::waiting`.
+/// 1 if a thread is blocked and its deadline isn't reached, 0 if it may take a step: `Core::waiting`.
 #[unsafe(no_mangle)]
 pub extern "C" fn pif_waiting(alloc: Global, handle: &mut PifCore, thread: u32) -> PifNumber
     ensures { Looks (Look.Waiting thread) (held handle.old) (held handle.new) result }

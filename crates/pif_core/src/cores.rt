@@ -185,9 +185,9 @@ impl Core {
         self.parts.pick()
     }
 
-    /// Whether a thread rests. True if it is among the waiters of a mutex, is parked on a condition variable or waits
-    /// for good. False if it may take a step, also if that step is an expiry, since its deadline is reached. `None` if
-    /// no living thread has that number, or if that thread has no call open.
+    /// Whether a thread is blocked, by a mutex, by a condition variable or for good, and its deadline, if it has one,
+    /// isn't reached. False if it may take a step, also if that step is an expiry. `None` if no living thread has that
+    /// number, or if that thread has no call open.
     pub fn waiting(&self, thread: Tid) -> Option<bool>
         ensures value { result ≡ waiting_answer thread self.now }
         ensures open { WhereStands self.now (λ h r w.
