@@ -3,8 +3,8 @@ pub const VERSION: &str = "0.1";
 
 /// What the program is for.
 pub const ABOUT: &str =
-    "Runs scripts and replays traces on a model of pthread mutexes and condition\n\
-    variables with priority inheritance";
+    "Runs scripts on a model of priority-inheriting mutexes and condition variables,\n\
+    judges histories of other implementations, and explores small programs";
 
 /// What `run` does.
 pub const ABOUT_RUN: &str = "Reads a script, and writes an answer for each of its lines";
@@ -442,7 +442,7 @@ is stuck, and mutexes and cells. Then, and last:
                               more
   race: tN tN xN              two next steps access xN, and the first writes it
   deadlock: tN                at the end tN waits for a mutex
-  lost wake-up: tN cN         at the end tN waits on cN, though a signal came
+  lost wake-up: tN cN         at the end tN waits on cN; a signal woke nobody
   livelock                    from some state no final one is reached
   N outcomes, S states, T steps
 It begins with 'undecided: ' if there are more states than --states. The first

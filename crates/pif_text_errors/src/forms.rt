@@ -56,7 +56,7 @@ impl Part {
             Part::Robust | Part::OfThread | Part::OfMutex => "another word is wanted here",
             Part::Answer => "a number or the name of an error is wanted here, as 0 or EBUSY",
             Part::Recursion => "the number of recursion is 256 to 4294967295",
-            Part::Priority => "a priority is 1 to 99",
+            Part::Priority => "a priority is a number from 1 to 99, with no zero in front",
             Part::Cell => "a cell is wanted here, x1 to x64",
             Part::Value => "a number from 0 to 255 is wanted here",
             Part::Colon => "a ':' is wanted here",
