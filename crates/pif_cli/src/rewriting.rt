@@ -10,7 +10,7 @@ use pif_cli_messages::{Input, Unwritten, WatchJob, unwritten_message, words_of};
 use pif_cli_words::Job;
 use pif_job_check::fill;
 use pif_job_shell::Shelf;
-use pif_script::{CliFault, read_all, write_whole};
+use pif_script::{CliFault, read_all};
 use std::alloc::{AllocError, Global};
 use std::fs::{File, OpenFile, Permissions};
 use std::io::{ErrorKind, Write};
@@ -48,19 +48,23 @@ fn name_beside(alloc: Global, name: &str) -> Result<String, AllocError> {
     Ok(beside)
 }
 
+/// Whether a file could be written, with the reason in the system's words if it couldn't.
+fn written(done: io::Result<()>) -> Result<(), Unwritten> {
+    match done {
+        Ok(()) => Ok(()),
+        Err(error) => Err(Unwritten::Refused(words_of(error.kind()))),
+    }
+}
+
 /// Writes a text to a file that was just made, and has the system keep it.
 fn write_file<F: OpenFile + Write>(
     file: &mut F,
     mode: Permissions,
     text: &[u8],
 ) -> Result<(), Unwritten> {
-    if file.set_permissions(mode).is_err() || write_whole(file, text).is_err() {
-        return Err(Unwritten::Refused);
-    }
-    match file.sync_all() {
-        Ok(()) => Ok(()),
-        Err(_) => Err(Unwritten::Refused),
-    }
+    written(file.set_permissions(mode))?;
+    written(file.write_all(text))?;
+    written(file.sync_all())
 }
 
 /// Makes a new file of this name and mode with this text. If that fails, there is no such file.
@@ -76,7 +80,7 @@ fn make_file<P: Files>(
             return if error.kind() == ErrorKind::AlreadyExists {
                 Err(Unwritten::Taken)
             } else {
-                Err(Unwritten::Refused)
+                written(Err(error))
             };
         }
     };
@@ -99,11 +103,11 @@ fn replace_file<P: Files>(
         return Err(Unwritten::NoMemory);
     };
     make_file(process, beside.as_str(), mode, text)?;
-    if process.rename(beside.as_str(), name).is_err() {
+    let placed = written(process.rename(beside.as_str(), name));
+    if placed.is_err() {
         let _ = process.remove_file(beside.as_str());
-        return Err(Unwritten::Refused);
     }
-    Ok(())
+    placed
 }
 
 /// Tells `errors` why the file of this name stays as it is. Answers the status: 4 if it is out of memory, else 3.

@@ -22,8 +22,8 @@ pub enum Unwritten {
     Unread(Option<&'static str>),
     /// The new file beside it is there already.
     Taken,
-    /// The new file can't be made or written, or can't take its place.
-    Refused,
+    /// The new file can't be made or written, or can't take its place, for this reason likewise.
+    Refused(Option<&'static str>),
     /// Out of memory.
     NoMemory,
 }
@@ -213,17 +213,14 @@ impl<'n, 's> Given<'n, 's> {
 /// What a person is told of an input of this name that cannot be read, with the reason in the system's words, if there
 /// are such.
 pub fn unread_message(name: &str, why: Option<&'static str>) -> Message {
+    if name != STANDARD_NAME {
+        return file_message(name, why.unwrap_or("cannot be read"));
+    }
     let mut message = Message::new();
-    if name == STANDARD_NAME {
-        message.say("the input cannot be read");
-        if let Some(words) = why {
-            message.say(": ");
-            message.say(words);
-        }
-    } else {
-        message.show(name.as_bytes());
+    message.say("the input cannot be read");
+    if let Some(words) = why {
         message.say(": ");
-        message.say(why.unwrap_or("cannot be read"));
+        message.say(words);
     }
     message
 }
@@ -238,14 +235,18 @@ pub fn unwritten_message(name: &str, why: Unwritten) -> Message {
             let words = "stays as it is, since there is a file of its name with '.new' after it";
             file_message(name, words)
         }
-        Unwritten::Refused => file_message(name, "cannot be written"),
+        Unwritten::Refused(why) => file_message(name, why.unwrap_or("cannot be written")),
     }
 }
 
-/// What is told of the file of this name by these words.
+/// What is told of the file of this name by these words. A name without a letter stands in quotes.
 fn file_message(name: &str, words: &str) -> Message {
     let mut message = Message::new();
-    message.show(name.as_bytes());
+    if name.is_empty() {
+        message.say("''");
+    } else {
+        message.show(name.as_bytes());
+    }
     message.say(": ");
     message.say(words);
     message
