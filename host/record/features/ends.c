@@ -36,6 +36,23 @@ static void alarm_of_its_own(void)
     hangs();
 }
 
+static void aborts(void)
+{
+    make_inheriting(&mutex);
+    lock_and_unlock(&mutex);
+    abort();
+}
+
+/* An access to no memory, as the processor tells it. */
+static void faults(void)
+{
+    static int *volatile nowhere;
+
+    make_inheriting(&mutex);
+    lock_and_unlock(&mutex);
+    *nowhere = 1;
+}
+
 static void later_than_all(void)
 {
     make_inheriting(&mutex);
@@ -94,6 +111,8 @@ const Feature end_features[] = {
     {"many_calls", "twenty locks and unlocks, for RECORD_MAX", many_calls},
     {"hangs", "two threads wait for good", hangs},
     {"alarm_of_its_own", "the same, up to SIGALRM", alarm_of_its_own},
+    {"aborts", "a program that ends by abort", aborts},
+    {"faults", "a program that writes where there is no memory", faults},
     {"later_than_all", "calls after 2^32 microseconds", later_than_all},
     {"child_of_recorded", "a fork after the first call", child_of_recorded},
     {"child_alone", "a fork before the first call", child_alone},

@@ -161,6 +161,27 @@ static void call_in_handler(void)
     lock_and_unlock(&kept);
 }
 
+static void become_least(int number)
+{
+    (void)number;
+    pthread_setschedprio(pthread_self(), 0);
+    sem_post(&is_done);
+}
+
+static void priority_in_handler(void)
+{
+    make_inheriting(&mutex);
+    signal(SIGUSR1, become_least);
+    pthread_mutex_lock(&mutex);
+    pthread_t thread = start(lock_it, NULL);
+    until(&is_there);
+    until_blocked(waiter);
+    pthread_kill(thread, SIGUSR1);
+    until(&is_done);
+    pthread_mutex_unlock(&mutex);
+    pthread_join(thread, NULL);
+}
+
 /* Gives up the right to real time. */
 static void give_right_up(void)
 {
@@ -215,6 +236,7 @@ const Feature left_out_features[] = {
     {"cancelled_wait", "a thread that is cancelled inside a wait", cancelled_wait},
     {"cancelled_lock", "a thread that is cancelled inside a lock, with RECORD_ALL=1", cancelled_lock},
     {"call_in_handler", "a signal's handler that locks while its thread waits for another mutex", call_in_handler},
+    {"priority_in_handler", "a signal's handler that gives a priority while its thread waits", priority_in_handler},
     {"refused_priority", "a priority that is answered EPERM", refused_priority},
     {"refused_thread", "a thread that can't be started", refused_thread},
     {NULL, NULL, NULL},

@@ -105,6 +105,18 @@ static void priorities(void)
     run_to_end(lock_once, NULL);
 }
 
+/* As rtkit makes threads: what such a one starts isn't of real time. */
+static void reset_on_fork(void)
+{
+    struct sched_param high = {.sched_priority = 10};
+
+    make_inheriting(&mutex);
+    sched_setscheduler(0, SCHED_FIFO | SCHED_RESET_ON_FORK, &high);
+    lock_and_unlock(&mutex);
+    pthread_setschedprio(pthread_self(), 20);
+    run_to_end(lock_once, NULL);
+}
+
 static void *lock_behind_main(void *unused)
 {
     (void)unused;
@@ -142,6 +154,7 @@ const Feature thread_features[] = {
     {"destructors", "calls in the destructors of keys", destructors},
     {"named_at_once", "a thread gets priorities before it runs", named_at_once},
     {"priorities", "policies and priorities", priorities},
+    {"reset_on_fork", "a thread of SCHED_FIFO whose threads are not", reset_on_fork},
     {"main_exits", "main ends before the program", main_exits},
     {"bare_exit", "a thread that ends by the exit call, without destructors", bare_exit},
     {NULL, NULL, NULL},

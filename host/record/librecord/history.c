@@ -58,15 +58,16 @@ bool is_written(const Record *record)
 
 static void collect_thread(History *history, Thread *thread)
 {
-    uint32_t used = atomic_load_explicit(&thread->used, memory_order_acquire);
+    uint32_t used = atomic_load(&thread->used);
+    Record *records = atomic_load(&thread->records);
 
-    for (uint32_t i = 0; i < used; i++) {
-        Record *record = &thread->records[i];
-        uint64_t answer = atomic_load_explicit(&record->answer_place, memory_order_acquire);
-        if (record->begin_place < history->cut)
-            history->at[record->begin_place] = record;
-        if (answer != 0 && answer < history->cut)
-            history->at[answer] = record;
+    for (uint32_t i = 0; i < used && i < most_records; i++) {
+        uint64_t begin = atomic_load_explicit(&records[i].begin_place, memory_order_acquire);
+        uint64_t answer = atomic_load_explicit(&records[i].answer_place, memory_order_acquire);
+        if (begin != 0 && begin < history->cut)
+            history->at[begin] = &records[i];
+        if (begin != 0 && answer != 0 && answer < history->cut)
+            history->at[answer] = &records[i];
     }
 }
 
@@ -156,7 +157,7 @@ static void make_history(void)
         return;
     }
     write_lines(&history);
-    if (!close_text())
+    if (!close_text(history_file))
         say("RECORD_FILE cannot be written", 0, NULL);
     say_left_out(&history);
 }

@@ -84,13 +84,15 @@ void say_left_out(const History *history)
     say_some(counted(C11_OBJECTS), "left out: mutexes and variables of C11 (mtx_t, cnd_t): ");
     say_some(cancelled_threads(), "left out: threads that were cancelled inside a call: ");
     say_some(left_out(WITH_CANCELLED), "left out: mutexes and variables that such threads used: ");
+    say_some(left_out(IN_CALLS), "left out: mutexes and variables used inside another call of the same thread: ");
     say_some(left_out(WITH_LEFT_OUT), "left out: mutexes and variables used together with one that is left out: ");
     say_some(dropped.bad_times, "left out: calls with a time that is none, answered EINVAL: ");
     say_some(dropped.unwaited, "left out: signals and broadcasts of variables on which nobody waited: ");
     say_some(dropped.refused, "left out: calls that give a priority, answered EPERM: ");
     say_some(counted(FOREIGN_PRIORITIES), "left out: calls that give a policy or a priority which a history has not: ");
     say_some(counted(UNKNOWN_THREADS), "left out: calls that name a thread which isn't recorded: ");
-    say_some(counted(CALLS_IN_CALLS), "left out: calls inside other calls of the same thread: ");
+    say_some(counted(PRIORITIES_IN_CALLS),
+             "left out: calls that give a priority inside another call of the same thread: ");
     if (atomic_load(&lost_place) <= history->cut)
         say("cut where a thread had more records than RECORD_MAX, or memory was short: ", most_records, "");
     if (history->is_late)

@@ -172,6 +172,9 @@ static void end_by_signal(int number)
     raise(number);
 }
 
+/* The signals at which the history is written, if the program doesn't handle them itself. */
+static const int last_signals[] = {SIGTERM, SIGALRM, SIGINT, SIGHUP, SIGQUIT, SIGABRT, SIGSEGV, SIGBUS, SIGFPE, SIGILL};
+
 static void write_at_signal(int number)
 {
     struct sigaction present, ours;
@@ -194,8 +197,8 @@ void take_the_file(void)
     for (char **entry = environ; entry != NULL && *entry != NULL; entry++)
         if (strncmp(*entry, "RECORD_FILE=", 12) == 0)
             (*entry)[0] = '_';
-    write_at_signal(SIGTERM);
-    write_at_signal(SIGALRM);
+    for (size_t i = 0; i < sizeof last_signals / sizeof *last_signals; i++)
+        write_at_signal(last_signals[i]);
 }
 
 __attribute__((destructor)) static void end_of_program(void)

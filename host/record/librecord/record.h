@@ -31,6 +31,7 @@ typedef enum {
     PROTECTED,      /* PTHREAD_PRIO_PROTECT */
     SHARED,         /* between processes, or made by another one */
     WITH_CANCELLED, /* a thread that was cancelled inside a call used it */
+    IN_CALLS,       /* a call on it came inside another call of the same thread */
     WITH_LEFT_OUT,  /* it was used together with one that is left out */
     OF_OTHERS,      /* a variable whose waits are with mutexes that aren't recorded; nothing is said of it */
     REASONS,
@@ -39,7 +40,7 @@ typedef enum {
 /* What else is counted, and said on standard error. */
 typedef enum {
     C11_OBJECTS,
-    CALLS_IN_CALLS,
+    PRIORITIES_IN_CALLS,
     UNKNOWN_THREADS,
     FOREIGN_PRIORITIES,
     COUNTS,
@@ -66,9 +67,9 @@ typedef struct Object {
     Variable *variable;                       /* which of them it is at this line; NULL: the first */
 } Object;
 
-/* A call, or what befell a thread. Times are nanoseconds of CLOCK_MONOTONIC, read behind the stamp. */
+/* A call, or what befell a thread. Times are nanoseconds of CLOCK_MONOTONIC, read after the stamp. */
 typedef struct {
-    uint64_t begin_place; /* its place in the order of all stamps, from 1 */
+    _Atomic uint64_t begin_place; /* its place in the order of all stamps, from 1; 0: it isn't stamped yet */
     uint64_t begin_time;
     _Atomic uint64_t answer_place; /* 0: it has no answer */
     uint64_t answer_time;
@@ -89,8 +90,8 @@ typedef struct {
 
 typedef struct Thread {
     struct Thread *next;
-    Record *records;
-    _Atomic uint32_t used;
+    _Atomic(Record *) records;
+    _Atomic uint32_t used; /* of its records; a signal's handler may take some between two instructions */
     _Atomic int priority;
     _Atomic bool started, never_started, cancelled;
     _Atomic bool is_set; /* a call gives it a priority */
@@ -170,7 +171,7 @@ extern _Atomic uint64_t next_place, lost_place;
 uint64_t now(void);
 void stop_recording(void);
 Record *new_record(Thread *, What);
-void stamp_begin(Thread *, Record *);
+void stamp_begin(Record *);
 Record *begin_call(What, Object *, Object *mutex);
 Record *begin_timed(What, Object *, Object *mutex, clockid_t, const struct timespec *);
 Record *begin_setprio(Thread *named, int64_t priority);
@@ -219,7 +220,7 @@ void write_lines(History *);
 
 /* text.c */
 bool open_text(const char *file);
-bool close_text(void);
+bool close_text(const char *file);
 void put_text(const char *);
 void put_number(uint64_t);
 void put_name(char letter, uint32_t number);

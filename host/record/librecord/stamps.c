@@ -1,5 +1,5 @@
 /* Stamps and records. One counter gives the order of all: a begin takes its place before the real call is entered, an
-   answer after it has returned. The clock is read behind that, so that the history's time is never behind the real. */
+   answer after it has returned. The clock is read after that, so that the history's time is never behind the real. */
 #define _GNU_SOURCE
 #include <errno.h>
 
@@ -42,59 +42,88 @@ void stop_recording(void)
     atomic_store(&recording, false);
 }
 
-static bool find_room(Thread *thread)
+/* The thread's room for records. A signal's handler may make it first. */
+static Record *records_of(Thread *thread)
 {
-    if (thread->records == NULL)
-        thread->records = map_memory((size_t)most_records * sizeof *thread->records);
-    return thread->records != NULL && thread->used < most_records;
+    Record *present = atomic_load_explicit(&thread->records, memory_order_relaxed);
+
+    if (present != NULL)
+        return present;
+    Record *mapped = map_memory((size_t)most_records * sizeof *mapped);
+    if (mapped != NULL && !atomic_compare_exchange_strong(&thread->records, &present, mapped))
+        return present;
+    return mapped;
 }
 
 /* It isn't seen by who writes the history before it is stamped. */
 Record *new_record(Thread *thread, What what)
 {
-    if ((thread->records == NULL || thread->used >= most_records) && !find_room(thread)) {
+    Record *records = records_of(thread);
+    uint32_t at = most_records;
+
+    if (records != NULL && atomic_load_explicit(&thread->used, memory_order_relaxed) < most_records)
+        at = atomic_fetch_add_explicit(&thread->used, 1, memory_order_relaxed);
+    if (at >= most_records) {
         stop_recording();
         return NULL;
     }
-    Record *record = &thread->records[thread->used];
+    Record *record = &records[at];
     record->thread = thread;
     record->what = what;
     return record;
 }
 
-void stamp_begin(Thread *thread, Record *record)
+void stamp_begin(Record *record)
 {
-    record->begin_place = take_place();
+    uint64_t place = take_place();
+
     record->begin_time = now();
-    atomic_store_explicit(&thread->used, thread->used + 1, memory_order_release);
+    atomic_store_explicit(&record->begin_place, place, memory_order_release);
 }
 
-/* A call inside of another is that library's own, or one of a signal's handler. */
-static Record *new_call(What what)
+/* A call inside of another, as of a signal's handler, or one that the library makes itself. A thread of a history has
+   one call open at most, so that all calls on its objects are left out. */
+static void leave_call_out(Object *object, Object *mutex)
+{
+    if (object == NULL)
+        count(PRIORITIES_IN_CALLS);
+    else
+        leave_out(object, IN_CALLS);
+    if (mutex != NULL)
+        leave_out(mutex, IN_CALLS);
+}
+
+/* The record of a call on this object, and of a wait with this mutex; NULL if it isn't recorded. The thread is inside
+   the call before it has the record, since a signal's handler may come between. */
+static Record *new_call(What what, Object *object, Object *mutex)
 {
     Thread *thread = this_thread();
 
     if (thread == NULL)
         return NULL;
     if (thread->in_call) {
-        count(CALLS_IN_CALLS);
+        leave_call_out(object, mutex);
         return NULL;
     }
+    thread->in_call = true;
+    atomic_signal_fence(memory_order_seq_cst);
     take_the_file();
     Record *record = new_record(thread, what);
-    thread->in_call = record != NULL;
+    if (record == NULL) {
+        thread->in_call = false;
+        return NULL;
+    }
+    record->object = object;
+    record->mutex = mutex;
     return record;
 }
 
 Record *begin_call(What what, Object *object, Object *mutex)
 {
-    Record *record = object == NULL ? NULL : new_call(what);
+    Record *record = object == NULL ? NULL : new_call(what, object, mutex);
 
-    if (record == NULL)
-        return NULL;
-    record->object = object;
-    record->mutex = mutex;
-    stamp_begin(record->thread, record);
+    if (record != NULL)
+        stamp_begin(record);
     return record;
 }
 
@@ -124,27 +153,25 @@ Record *begin_timed(What what, Object *object, Object *mutex, clockid_t clock, c
         return NULL;
     bool is_good = is_time(clock, deadline);
     uint64_t time = is_good ? monotonic_deadline(clock, deadline) : 0;
-    Record *record = new_call(what);
+    Record *record = new_call(what, object, mutex);
     if (record == NULL)
         return NULL;
-    record->object = object;
-    record->mutex = mutex;
     record->deadline = time;
     record->bad_time = !is_good;
-    stamp_begin(record->thread, record);
+    stamp_begin(record);
     return record;
 }
 
 Record *begin_setprio(Thread *named, int64_t priority)
 {
-    Record *record = new_call(CALL_SETPRIO);
+    Record *record = new_call(CALL_SETPRIO, NULL, NULL);
 
     if (record == NULL)
         return NULL;
     atomic_store(&named->is_set, true);
     record->named = named;
     record->priority = priority;
-    stamp_begin(record->thread, record);
+    stamp_begin(record);
     return record;
 }
 
@@ -156,6 +183,7 @@ void answer_call(Record *record, int answer)
     record->answer_time = now();
     record->answer = (int16_t)answer;
     atomic_store_explicit(&record->answer_place, place, memory_order_release);
+    atomic_signal_fence(memory_order_seq_cst);
     record->thread->in_call = false;
 }
 

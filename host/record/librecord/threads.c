@@ -10,10 +10,16 @@ enum { LEAST_PRIORITY = 1 };
 
 _Atomic(Thread *) all_threads;
 
-static __thread Thread *self __attribute__((tls_model("initial-exec")));
+static __thread _Atomic(Thread *) self __attribute__((tls_model("initial-exec")));
 static pthread_key_t key;
 
-static bool is_real_time(int policy) { return policy == SCHED_FIFO || policy == SCHED_RR; }
+/* Without what it says of the threads that such a one makes. */
+static int plain_policy(int policy) { return policy & ~SCHED_RESET_ON_FORK; }
+
+static bool is_real_time(int policy)
+{
+    return plain_policy(policy) == SCHED_FIFO || plain_policy(policy) == SCHED_RR;
+}
 
 /* Threads that aren't of real time are all of one priority. */
 static int present_priority(void)
@@ -63,7 +69,7 @@ static bool record_of(Thread *maker, What what, Thread *thread)
     if (record == NULL)
         return false;
     record->named = thread;
-    stamp_begin(maker, record);
+    stamp_begin(record);
     return true;
 }
 
@@ -71,7 +77,7 @@ static bool record_of(Thread *maker, What what, Thread *thread)
    somebody has changed that by a call of the history. */
 static void take_name(Thread *thread)
 {
-    self = thread;
+    atomic_store(&self, thread);
     if (!atomic_load(&thread->is_set))
         atomic_store(&thread->priority, present_priority());
     atomic_store(&thread->started, true);
@@ -79,21 +85,37 @@ static void take_name(Thread *thread)
     pthread_setspecific(key, thread);
 }
 
-/* A thread that pthread_create didn't start, as the first one. */
+/* A thread that pthread_create didn't start, as the first one. A signal's handler may have found it out meanwhile. */
+static Thread *add_itself(Thread *thread)
+{
+    Thread *present = NULL;
+
+    record_of(thread, THREAD_ADDED, thread);
+    if (!atomic_compare_exchange_strong(&self, &present, thread)) {
+        atomic_store(&thread->never_started, true);
+        return present;
+    }
+    take_name(thread);
+    return thread;
+}
+
 static Thread *find_out_who(void)
 {
     int number = errno;
     Thread *thread = new_thread(LEAST_PRIORITY);
 
-    if (thread != NULL) {
-        record_of(thread, THREAD_ADDED, thread);
-        take_name(thread);
-    }
+    if (thread != NULL)
+        thread = add_itself(thread);
     errno = number;
     return thread;
 }
 
-Thread *this_thread(void) { return self != NULL ? self : find_out_who(); }
+Thread *this_thread(void)
+{
+    Thread *present = atomic_load_explicit(&self, memory_order_relaxed);
+
+    return present != NULL ? present : find_out_who();
+}
 
 /* Other keys' destructors may still make calls, up to the last round; a call behind this stamp moves it. */
 static void round_of_destructors(void *value)
@@ -175,9 +197,10 @@ int pthread_join(pthread_t name, void **result)
 void pthread_exit(void *result)
 {
     be_ready();
-    if (self != NULL && self->in_call) { /* by a signal's handler */
-        atomic_store(&self->cancelled, true);
-        self->in_call = false;
+    Thread *thread = atomic_load(&self);
+    if (thread != NULL && thread->in_call) { /* by a signal's handler */
+        atomic_store(&thread->cancelled, true);
+        thread->in_call = false;
     }
     real.exit(result);
 }
@@ -217,7 +240,7 @@ int pthread_setschedprio(pthread_t name, int priority)
 int pthread_setschedparam(pthread_t name, int policy, const struct sched_param *parameters)
 {
     int priority = parameters->sched_priority;
-    bool is_least = policy == SCHED_OTHER && priority == 0;
+    bool is_least = plain_policy(policy) == SCHED_OTHER && priority == 0;
 
     be_ready();
     Thread *named = named_thread(name, is_least || (is_real_time(policy) && priority >= 0));
