@@ -1,9 +1,12 @@
 """What the tools of this folder share: a program is recorded, and its history judged by `pif judge`."""
 
+import atexit
+import functools
 import os
 import re
 import shutil
 import subprocess
+import tempfile
 from pathlib import Path
 from typing import NamedTuple
 
@@ -27,9 +30,22 @@ def make(*targets):
     subprocess.run(["make", "-s", "-C", str(HERE), *targets], check=True)
 
 
+@functools.cache
+def preloaded(library):
+    """A name of a library for LD_PRELOAD, which is cut at blanks and colons: a link, if its own has such."""
+    if not re.search("[ :]", str(library)):
+        return str(library)
+    folder = tempfile.mkdtemp()
+    atexit.register(shutil.rmtree, folder, ignore_errors=True)
+    link = Path(folder) / library.name
+    link.symlink_to(library)
+    return str(link)
+
+
 def environment(history, besides=None):
-    """The variables with which a program is recorded."""
-    return {**os.environ, "RECORD_FILE": str(history), "LD_PRELOAD": str(LIBRARY), **(besides or {})}
+    """The variables with which a program is recorded. What it preloads itself comes after the recorder."""
+    libraries = " ".join(filter(None, [preloaded(LIBRARY), os.environ.get("LD_PRELOAD")]))
+    return {**os.environ, "RECORD_FILE": str(history), "LD_PRELOAD": libraries, **(besides or {})}
 
 
 def with_time(words, seconds, *options):
@@ -72,9 +88,3 @@ def excerpt(history, line):
     """The calls on that line's mutex and its variables since it was last free, up to that line; else nothing."""
     done = subprocess.run([HERE / "excerpt", history, str(line)], capture_output=True, text=True)
     return done.stdout
-
-
-def keep(history, place):
-    """Copies a history to where it is to stay."""
-    if place is not None:
-        shutil.copy(history, place)
