@@ -14,21 +14,28 @@
 
        #define PIF_CLOCK() my_microseconds()
 
-   It is read behind each stamp, and counts as the deadlines of `timedlock` and `timedwait` do, in whole units of which
-   none is begun: rounded up, where deadlines are rounded down. Then the dump has the ticks. Now say
+   It is read after each stamp, and counts as the deadlines of `timedlock` and `timedwait` do, in whole units of which
+   none is begun: rounded up, where deadlines are rounded down. Then the dump has the ticks. It must not go back to 0
+   between PIF_FORGET() and the dump. Now say
 
        PIF_ADD("thread %u", priority);             what there is, from one thread at a time: threads, mutexes
        PIF_ADD("mutex normal robust");             and variables, each numbered from 1 in this order
        PIF_BEGIN(t, "lock m%u", m);                before the call is entered
        PIF_ANSWER(t, a);                           after it has returned a: 0, or the number of an error
        PIF_LINE("tick %u", time);                  any other line of a history: tick, dying, end, rests, prio
-       PIF_FORGET();                               now every mutex is free and no call is open: start anew here
+       PIF_FORGET();                               now all is as it was added: start anew here
        lost = pif_dump(put);                       writes it, a character at a time, while nothing else is recorded
 
-   A line has up to four numbers, each by %u. Its text stays where it is and isn't copied. If more lines than
-   PIF_RECORD_LINES came since the last PIF_FORGET, the first of them are lost. If more threads, mutexes and variables
-   than PIF_RECORD_ADDED (64) are added, the last of them are lost. Then the dump is no whole history: it says so in a
-   comment, and answers how many lines are lost. Define other numbers before the header is included. */
+   A line has up to four numbers, each by %u. Its text stays where it is and isn't copied.
+
+   Call PIF_FORGET() only while every mutex is free, no call is open, each robust mutex is consistent, no thread is dying
+   or has ended, and each thread has the priority with which it was added. Else right answers may be judged illegal.
+   Without PIF_CLOCK() write the time again after it, by PIF_LINE("tick %u", time).
+
+   If more lines than PIF_RECORD_LINES came since the last PIF_FORGET, the first of them are lost. So is a line over
+   which a thread wrote its own a whole round of the ring late. If more threads, mutexes and variables than
+   PIF_RECORD_ADDED (64) are added, the last of them are lost. Then the dump is no whole history: it says so in comments,
+   and answers how many lines are lost. Define other numbers before the header is included. */
 #ifndef PIF_RECORD_H
 #define PIF_RECORD_H
 
@@ -224,18 +231,6 @@ static void pif_put_tick(void (*put)(char), PifTimes *times, unsigned long place
     pif_find_next(times, place);
 }
 
-static void pif_put_lines(void (*put)(char), unsigned long first, unsigned long last)
-{
-    PifTimes times = {0, 0, -1u, first};
-
-    for (unsigned long place = first; place <= last; place++) {
-        if (pif_lines[place % PIF_RECORD_LINES].place != place)
-            continue;
-        pif_put_tick(put, &times, place);
-        pif_put_line(put, &pif_lines[place % PIF_RECORD_LINES]);
-    }
-}
-
 static void pif_put_lost(void (*put)(char), const char *comment, unsigned long lost)
 {
     if (lost == 0)
@@ -245,19 +240,38 @@ static void pif_put_lost(void (*put)(char), const char *comment, unsigned long l
     put('\n');
 }
 
+/* How many lines are lost, with those before the first. In the first round of the ring nothing was written over: a line
+   that isn't there is of a thread that was stopped before it could write, and which hasn't gone on. */
+static unsigned long pif_put_lines(void (*put)(char), unsigned long first, unsigned long last, unsigned long before)
+{
+    PifTimes times = {0, 0, -1u, first};
+    unsigned long lost = 0;
+
+    for (unsigned long place = first; place <= last; place++) {
+        if (pif_lines[place % PIF_RECORD_LINES].place != place) {
+            before += place > PIF_RECORD_LINES;
+            continue;
+        }
+        pif_put_lost(put, "# lost before this line: ", before);
+        lost += before;
+        before = 0;
+        pif_put_tick(put, &times, place);
+        pif_put_line(put, &pif_lines[place % PIF_RECORD_LINES]);
+    }
+    return lost;
+}
+
 /* How many lines are lost. */
 unsigned long pif_dump(void (*put)(char))
 {
-    unsigned long last = pif_last(), lost = 0;
+    unsigned long last = pif_last(), before = 0;
 
     pif_put_lost(put, "# not added, PIF_RECORD_ADDED is too small: ", pif_not_added);
     for (unsigned at = 0; at < pif_added_count; at++)
         pif_put_line(put, &pif_added[at]);
     if (last >= pif_first && last - pif_first >= PIF_RECORD_LINES)
-        lost = last - pif_first - PIF_RECORD_LINES + 1;
-    pif_put_lost(put, "# lost before this line: ", lost);
-    pif_put_lines(put, pif_first + lost, last);
-    return lost + pif_not_added;
+        before = last - pif_first - PIF_RECORD_LINES + 1;
+    return pif_not_added + pif_put_lines(put, pif_first + before, last, before);
 }
 
 #endif

@@ -1,5 +1,5 @@
 /* pif_record.h with a ring of four lines, and room for two that add: what is lost is said, and what is forgotten is
-   gone. */
+   gone. At the end a thread writes a line a whole round late, over another one. */
 #include <stdio.h>
 
 static unsigned long places;
@@ -33,6 +33,11 @@ int main(void)
     PIF_LINE("tick %u", 9u);
     printf("lost %lu\n", pif_dump(put));
     PIF_ADD("cond m%u", 1u);
+    printf("lost %lu\n", pif_dump(put));
+    unsigned long late = PIF_COUNTER();
+    for (unsigned time = 10; time < 15; time++)
+        PIF_LINE("tick %u", time);
+    pif_note(late, (const char *)0, 0, "tick %u", 9u);
     printf("lost %lu\n", pif_dump(put));
     return 0;
 }
