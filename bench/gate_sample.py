@@ -10,7 +10,7 @@
 Once a second it reads what each process of the prover has spent so far, and adds it to the crate and part that the
 process works for; what a process spends in its last second is lost, and so are linking and the runs of programs. Last
 come the sums, and the longest chain: the crates that have to be proved one after the other, with the tests or edits of
-the last. It judges nothing; the status is that of `rt ci`. `--below` prints the sums and the ten dearest parts alone.
+the last. It judges nothing; the status is that of `rt ci`. SIGTERM and Ctrl-C end `rt ci`, too, with status 143 or 130. `--below` prints the sums and the ten dearest parts alone.
 bench/gate_cost.py measures one part after the other, which takes hours.
 
 `rt ci` runs with RT_JOBS set: one check for each processor, in one process each. Without that it gives idle processors to
@@ -167,17 +167,28 @@ def watch(root):
     return 0
 
 
+def end(run):
+    """Ends a command that leads a process group, with all that it started there."""
+    if run.poll() is None:
+        os.killpg(run.pid, signal.SIGTERM)
+        run.wait()
+
+
 def gate(log):
     """Runs `rt ci`, its output to this file, and prints what each crate cost. The status is that of `rt ci`."""
-    sums, folder = Sums(), temporary()
+    signal.signal(signal.SIGTERM, lambda number, _: sys.exit(128 + number))
+    sums, folder, run = Sums(), temporary(), None
     settings = {**os.environ, "RT_JOBS": jobs(), **({"TMPDIR": folder} if folder else {})}
     try:
         with open(log, "w", encoding="utf-8") as output:
-            run = subprocess.Popen(["rt", "ci"], env=settings, stdout=output, stderr=subprocess.STDOUT)
+            run = subprocess.Popen(["rt", "ci"], env=settings, stdout=output, stderr=subprocess.STDOUT,
+                                   start_new_session=True)
             while run.poll() is None:
                 sums.sample(run.pid)
                 time.sleep(1)
     finally:
+        if run:
+            end(run)
         if folder:
             shutil.rmtree(folder, ignore_errors=True)
     each = sums.each()

@@ -14,8 +14,8 @@ status is 1.
 
     bench/refused_requests.py [PROGRAM [WORD..]]        PROGRAM is crates/pif/out/pif by default
 
-Prints a line for each row, and how many differ; a row in which no request was seen is one of them. A program of a
-checked run (`rt try`) has a `malloc` of its own, so that none is seen. The status is 0 if none differs, 1 if one does,
+Prints a line for each row, and how many differ; a row in which no request was seen, or a run takes more than 120
+seconds, is one of them. A program of a checked run (`rt try`) has a `malloc` of its own, so that none is seen. The status is 0 if none differs, 1 if one does,
 and 2 if there is no program or no C compiler.
 """
 
@@ -65,6 +65,8 @@ JOBS = (
 # The lines of a shell, and what it says of one that was refused memory.
 LINES = b"thread 10\nundo\nthread 10\nload %s\nundo\nload %s\n" % ((os.path.relpath(SCRIPT).encode(),) * 2)
 NOTHING_CHANGED = b"out of memory: nothing has changed\n"
+
+MOST_SECONDS = 120
 
 # What a benchmark measures is another number each time.
 MEASURED = re.compile(rb"[0-9]+(\.[0-9]+)? (ns|ps|bare pairs)")
@@ -117,11 +119,15 @@ class Stopped(Exception):
 
 
 def run(room, row, number):
-    """Runs a row with this request refused: its status, what it printed, and whether a request was refused."""
+    """Runs a row with this request refused: its status, what it printed, and whether a request was refused. A run that
+    takes too long has no status."""
     left = room / "refused"
     left.unlink(missing_ok=True)
     variables = dict(os.environ, LD_PRELOAD=str(room / "refuse.so"), REFUSED_REQUEST=str(number), REFUSED=str(left))
-    done = subprocess.run(row.words, input=row.text, capture_output=True, env=variables, timeout=120)
+    try:
+        done = subprocess.run(row.words, input=row.text, capture_output=True, env=variables, timeout=MOST_SECONDS)
+    except subprocess.TimeoutExpired as why:
+        return (None, why.stdout or b"", why.stderr or b""), left.exists()
     return (done.returncode, MEASURED.sub(b"", done.stdout), done.stderr), left.exists()
 
 
@@ -129,7 +135,7 @@ def sweep(room, row):
     """Refuses each request of a row in turn, and prints what came out; whether all was as it must be."""
     whole, _ = run(room, row, 0)
     if whole[0] != row.status:
-        print("%s: with no refusal the status is %d" % (row.name, whole[0]))
+        print("%s: with no refusal the status is %s" % (row.name, whole[0]))
         return False
     number, same = 1, []
     ended, refused = run(room, row, number)
