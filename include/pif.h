@@ -4,8 +4,8 @@
    A core has threads, mutexes and condition variables, which you add, and answers what each call of pthread answers.
    It starts no thread: its threads are numbers, and each takes a step when you say so.
 
-   A handle holds a core, or none. C owns it: `pif_core core = {0};` holds none, pif_core_new has it hold one,
-   pif_core_free gives that up. What you owe:
+   A handle holds a core, or none. C owns it: `pif_core core = {0};`, in C++ `pif_core core = {};`, holds none,
+   pif_core_new has it hold one, pif_core_free gives that up. What you owe:
 
    - hand a handle back as the library wrote it: never read, write or copy its fields, and don't move it with memcpy;
    - give a handle to one call at a time. Between two calls it may pass to another thread, if you order the calls, as by
@@ -31,6 +31,10 @@
 #ifdef __cplusplus
 extern "C" {
 #endif
+
+/* The version of this header, of libpif.a and libpif.so, and of pif.pc. Its first number is that of the file to which a
+   program is linked, libpif.so.1: while it stays, no program has to be built again for a new library. */
+#define PIF_VERSION "1.0.0"
 
 /* A handle. Its fields are the library's. */
 typedef struct pif_core {
@@ -301,7 +305,7 @@ enum pif_ended_by {
     PIF_OUT_OF_MEMORY = 3, /* malloc refused a request */
     PIF_UNWRITTEN = 4,     /* malloc refused room for the text that is to be written, which is cut */
     PIF_UNREAD = 5,        /* does not happen */
-    PIF_UNDECIDED = 6      /* of pif_judge: more states were made for a line than may be, and nothing is claimed */
+    PIF_UNDECIDED = 6      /* of pif_judge: it gave up at a line, and nothing is claimed */
 };
 
 typedef struct pif_text {
@@ -319,9 +323,11 @@ pif_text pif_replay(const uint8_t *trace, size_t trace_length, uint8_t *room, si
 pif_text pif_check(const uint8_t *name, size_t name_length, const uint8_t *story, size_t story_length, uint8_t *room,
                    size_t room_length);
 
-/* Judges a history, and writes what `pif judge` prints: whether some run of the POSIX machine shows its lines. At most
-   `states` states are made for one line, as with --states; `pif judge` makes at most 200000 without it. If `witness` is
-   true, a run that shows a legal history is written after it, as with --witness. */
+/* Judges a history, and writes what `pif judge` prints: whether some run of the POSIX machine shows its lines. It gives
+   up at a line for which it would make more than `states` states, as with --states; `pif judge` has 200000 without it,
+   and takes 1 to 16777216. Here any number may be given, and 0 allows no state. It also gives up at a broadcast that has
+   more than 65536 choices of whom it wakes, which are made at once. If `witness` is true, a run that shows a legal
+   history is written after it, as with --witness. */
 pif_text pif_judge(const uint8_t *history, size_t history_length, uint32_t states, bool witness, uint8_t *room,
                    size_t room_length);
 

@@ -2,12 +2,13 @@
    test makes the same calls on both. Of the first difference the story so far is printed, as `pif check` reads it, with
    what the target says.
 
-       target_test [forgets_a_boost|wakes_the_first]     the status is 1 where a test fails
+       target_test [forgets_a_boost|wakes_the_first]     the status is 1 if a test fails, 2 if a core can't be had
 
    The target's threads are numbers, and no two run at once, as in a simulation or with a scheduler of one's own. */
 #include <stdarg.h>
 #include <stdbool.h>
 #include <stdio.h>
+#include <stdlib.h>
 #include <string.h>
 
 #include "pif.h"
@@ -146,7 +147,10 @@ static void begin_test(void)
 
     memset(&target, 0, sizeof target);
     story[0] = '\0';
-    pif_core_new(&core, THREADS, MUTEXES, 0, 1);
+    if (pif_core_new(&core, THREADS, MUTEXES, 0, 1) != PIF_OK) {
+        fputs("target_test: there is no memory for a core\n", stderr);
+        exit(2);
+    }
     for (unsigned thread = 1; thread <= THREADS; thread++) {
         target.base[thread] = base[thread];
         tell("thread %u = t%u\n", base[thread], pif_add_thread(&core, base[thread]).number);
