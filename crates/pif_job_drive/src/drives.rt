@@ -95,7 +95,7 @@ fn make_calls<P: Pause + Drop, R: Wait>(
     Ok(())
 }
 
-/// A client ends, so that no other waits for it.
+/// A client ends, so that no other waits for it; or it is given up, since its end takes memory, which is refused.
 fn leave<P: Pause + Drop, R: Wait>(rt: &R, desk: &Desk<P>, client: &mut Client) {
     for _try in 0..TRIES {
         match client.quit(rt, desk) {
@@ -107,7 +107,7 @@ fn leave<P: Pause + Drop, R: Wait>(rt: &R, desk: &Desk<P>, client: &mut Client) 
 
 /// How a client's thread ends, once its calls have come to `made`. If each was answered, the client is served, and the
 /// desk stays as it was. At a fault the client is ended, so that no other waits for it. While memory is refused for
-/// that it is tried again, 1,000 times in all.
+/// that it is tried again, 1,000 times in all. Then it is given up: who waits for its mutex may wait for good.
 ///
 /// There is no error: a fault of `made` is answered as an `Ending`.
 pub fn end_of<P: Pause + Drop, R: Wait>(
@@ -253,9 +253,10 @@ fn drive_desk<P: Pause + Drop + Sync, R: Threads + Wait + Sync>(
 ///
 /// # Errors
 ///
-/// `NoMemory` if memory was refused; a client that meets that ends, so that the others go on. `Threads` if a thread
+/// `NoMemory` if memory was refused. A client that meets that is ended, so that the others go on. `Threads` if a thread
 /// could not be started. `Unsettled` if there are not 1 to 99 clients, as client i has priority i; if one was refused;
-/// or if the desk didn't settle. All threads have ended then too, and the desk and its clients are gone.
+/// or if the desk didn't settle. All threads have ended then too, and the desk and its clients are gone. But a client
+/// that can't even be ended, as `end_of` says, may leave others that wait for good: then there is no answer.
 pub fn drive_book<P: Pause + Drop + Sync, R: Threads + Wait + Sync>(
     alloc: Global,
     rt: &R,

@@ -30,7 +30,8 @@ pub struct Judging<'a> {
     pub name: Option<&'a [u8]>,
     /// The form in which the verdict is told.
     pub form: Form,
-    /// How many states may be made for one line.
+    /// How many states may be made for one line. What a broadcast may choose is made at once, 65,536 states at most, and
+    /// counted after that.
     pub states: u32,
     /// The rules that hold beside those that the history allows.
     pub allowed: Rules,
