@@ -42,7 +42,8 @@ A number that the core can't be given, and a name of nothing, are refused before
     Traceback (most recent call last):
     ValueError: there is no kind 'nromal', but normal, recursive, errorcheck
 
-Texts go in and come out:
+Texts go in, as str or bytes, and come out as str. Its `ended` says how that ended: whole (a history is legal), fault,
+differs (a history is illegal) or undecided:
 
     >>> print(run("thread 10\\nmutex normal\\ncall t1 lock m1\\n"), end="")
     t1
@@ -52,6 +53,8 @@ Texts go in and come out:
     mine: differs 1: thread 10 = t2, but the core gives t1
     >>> print(replay("pif-trace 2\\nthread 10 = t1\\n"), end="")
     same 1
+    >>> run(b"thred 10\\n").ended
+    'fault'
     >>> print(judge("thread 10\\nmutex normal\\nbegin t1 lock m1\\nanswer t1 EBUSY\\n"), end="")
     illegal at 4: answer t1 16
     possible there: 0
@@ -74,7 +77,7 @@ from collections import namedtuple
 from pathlib import Path
 from types import SimpleNamespace
 
-__all__ = ["Core", "Refused", "Seen", "check", "judge", "replay", "run"]
+__all__ = ["Core", "Printed", "Refused", "Seen", "check", "judge", "replay", "run"]
 
 WHAT = ("no core", "begun", "went", "waits", "answer", "ended", "ticked", "refused", "unnamed")
 REFUSALS = (None, "nosuch", "dead", "busy", "idle", "past")
@@ -84,7 +87,7 @@ KINDS = {"normal": 0, "recursive": 1, "errorcheck": 2}
 RESULTS = (None, "no core", "none", "too many", "bad priority", "no such mutex", "out of range",
            "there is a core already", "out of memory")
 OK, NONE, NO_MEMORY = 0, 2, 8
-OUT_OF_MEMORY, UNWRITTEN = 3, 4
+ENDS = ("whole", "fault", "differs", "out of memory", "unwritten", "unread", "undecided")
 
 # The calls by name: the number of each, and what its arguments are, in order.
 CALLS = {
@@ -104,8 +107,17 @@ Seen = namedtuple("Seen", "what detail")
 Seen.__doc__ = "What became of an event: begun, went, waits, answer, ended, ticked, refused or unnamed; and its detail."
 
 
+class Printed(str):
+    """What a job prints. `ended` says how the job ended: whole, fault, differs or undecided."""
+
+    def __new__(cls, text, ended):
+        printed = super().__new__(cls, text)
+        printed.ended = ended
+        return printed
+
+
 class Refused(Exception):
-    """An addition, a core or a text was refused, and nothing has changed."""
+    """An addition or a core was refused, and nothing has changed."""
 
 
 def fitting(number):
@@ -134,7 +146,7 @@ class Handle(ctypes.Structure):
     _fields_ = [("at", ctypes.c_void_p), ("full", ctypes.c_bool)]
 
 
-class Text(ctypes.Structure):
+class TextBy(ctypes.Structure):
     """How a text came out."""
 
     _fields_ = [("ended", ctypes.c_uint32), ("wanted", ctypes.c_size_t)]
@@ -170,10 +182,10 @@ SIGNATURES = {
     "pif_pick": (Number, HANDLE),
     "pif_owner": (Owned, HANDLE, U32),
     "pif_status": (Doing, HANDLE, U32),
-    "pif_run": (Text, BYTES, SIZE, BYTES, SIZE),
-    "pif_replay": (Text, BYTES, SIZE, BYTES, SIZE),
-    "pif_check": (Text, BYTES, SIZE, BYTES, SIZE, BYTES, SIZE),
-    "pif_judge": (Text, BYTES, SIZE, U32, ctypes.c_bool, BYTES, SIZE),
+    "pif_run": (TextBy, BYTES, SIZE, BYTES, SIZE),
+    "pif_replay": (TextBy, BYTES, SIZE, BYTES, SIZE),
+    "pif_check": (TextBy, BYTES, SIZE, BYTES, SIZE, BYTES, SIZE),
+    "pif_judge": (TextBy, BYTES, SIZE, U32, ctypes.c_bool, BYTES, SIZE),
 }
 
 
@@ -319,8 +331,10 @@ class Core:
 
 
 def sized(text):
-    """A text as a function takes it, with how many bytes it has."""
-    taken = text.encode()
+    """A text, or its bytes, as a function takes it, with how many bytes it has."""
+    if not isinstance(text, (str, bytes)):
+        raise TypeError("a text is str or bytes, and not %s" % type(text).__name__)
+    taken = text.encode() if isinstance(text, str) else text
     return taken, len(taken)
 
 
@@ -330,10 +344,11 @@ def written(function, *arguments):
     while True:
         room = ctypes.create_string_buffer(max(size, 1))
         told = function(*arguments, room, size)
-        if told.ended in (OUT_OF_MEMORY, UNWRITTEN):
+        ended = ENDS[told.ended]
+        if ended in ("out of memory", "unwritten"):
             raise MemoryError
         if told.wanted <= size:
-            return room.raw[:told.wanted].decode()
+            return Printed(room.raw[:told.wanted].decode(), ended)
         size = told.wanted
 
 
