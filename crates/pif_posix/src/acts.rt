@@ -75,17 +75,6 @@ impl State {
         }
     }
 
-    /// The next effect of a call of a thread that is a wait, which has come this far.
-    fn act_later(&mut self, thread: u32, request: Request, progress: Progress) -> Result<bool, Stop>
-        requires { thread < length self.old.threads }
-        ensures { IfOk result (λ b. later_effects request (progress_of progress) thread self.old ≡ if_done b self.new) }
-    {
-        match request {
-            Request::Wait(_, mutex) => self.act_on_wait(thread, mutex.get(), progress),
-            _ => Ok(false),
-        }
-    }
-
     /// A call of a thread expires, if it is due.
     fn act_on_time(&mut self, thread: u32, request: Request) -> bool
         requires { thread < length self.old.threads }
@@ -95,20 +84,6 @@ impl State {
             self.expire(thread, &request)
         } else {
             false
-        }
-    }
-
-    /// It is noted that the thread of a wait, which is blocked, was told to wait.
-    fn act_on_note(&mut self, thread: u32, request: Request) -> bool
-        requires { thread < length self.old.threads }
-        ensures { (if may_be_noted request (Blocked false) then noted thread self.old ∷ [] else []) ≡ if_done result self.new }
-    {
-        match request {
-            Request::Wait(_, _) => {
-                self.set_progress(thread as usize, Progress::Blocked(true));
-                true
-            }
-            _ => false,
         }
     }
 
@@ -125,20 +100,22 @@ impl State {
                 self.leave(thread, &call.request)?;
                 Ok(true)
             }
-            Progress::Checked => self.act_later(thread, call.request, call.progress),
-            Progress::Enlisted(_) => self.act_later(thread, call.request, call.progress),
-            Progress::Reacquiring => self.act_later(thread, call.request, call.progress),
-            Progress::Waiting => Ok(self.act_on_time(thread, call.request)),
-            Progress::Stuck => Ok(self.act_on_time(thread, call.request)),
-            Progress::Blocked(noted) => {
-                if noted {
-                    Ok(self.act_on_time(thread, call.request))
-                } else {
-                    Ok(self.act_on_note(thread, call.request))
+            Progress::Checked | Progress::Enlisted(_) | Progress::Reacquiring =>
+                match call.request {
+                    Request::Wait(_, mutex) => self.act_on_wait(thread, mutex.get(), call.progress),
+                    _ => Ok(false),
+                },
+            Progress::Blocked(false) => match call.request {
+                Request::Wait(_, _) => {
+                    self.set_progress(thread as usize, Progress::Blocked(true));
+                    Ok(true)
                 }
+                _ => Ok(false),
+            },
+            Progress::Waiting | Progress::Stuck | Progress::Blocked(true) => {
+                Ok(self.act_on_time(thread, call.request))
             }
-            Progress::Has(_) => Ok(false),
-            Progress::Used => Ok(false),
+            Progress::Has(_) | Progress::Used => Ok(false),
         }
     }
 }

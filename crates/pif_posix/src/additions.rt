@@ -79,34 +79,6 @@ impl State {
         })
     }
 
-    /// A thread more.
-    fn push_task(&mut self, task: Task) -> Result<(), Stop>
-        ensures { OnOk result (self.new ≡ record self.old { threads = self.old.threads ++ task ∷ [] }) }
-    {
-        push(&mut self.threads, task)
-    }
-
-    /// A mutex more.
-    fn push_lockable(&mut self, lockable: Lockable) -> Result<(), Stop>
-        ensures { OnOk result (self.new ≡ record self.old { mutexes = self.old.mutexes ++ lockable ∷ [] }) }
-    {
-        push(&mut self.mutexes, lockable)
-    }
-
-    /// A variable more.
-    fn push_signalled(&mut self, signalled: Signalled) -> Result<(), Stop>
-        ensures { OnOk result (self.new ≡ record self.old { variables = self.old.variables ++ signalled ∷ [] }) }
-    {
-        push(&mut self.variables, signalled)
-    }
-
-    /// The time is this.
-    fn set_time(&mut self, time: u32)
-        ensures { self.new ≡ record self.old { time = time } }
-    {
-        self.time = time;
-    }
-
     /// A thread is added, with this base priority; false if it isn't the next, or passes the limit.
     pub(crate) fn add_thread(
         &mut self,
@@ -120,7 +92,7 @@ impl State {
         if !is_next(thread.get(), self.thread_count(), limits.most_threads()) {
             return Ok(false);
         }
-        self.push_task(new_task(alloc, priority.get(), true))?;
+        push(&mut self.threads, new_task(alloc, priority.get(), true))?;
         Ok(true)
     }
 
@@ -137,7 +109,7 @@ impl State {
         if !is_next(mutex.get(), self.mutex_count(), limits.most_mutexes()) {
             return Ok(false);
         }
-        self.push_lockable(new_lockable(kind, robust))?;
+        push(&mut self.mutexes, new_lockable(kind, robust))?;
         Ok(true)
     }
 
@@ -157,7 +129,7 @@ impl State {
         if !is_next(cond.get(), self.variable_count(), limits.most_variables()) {
             return Ok(false);
         }
-        self.push_signalled(new_signalled(mutex.get()))?;
+        push(&mut self.variables, new_signalled(mutex.get()))?;
         Ok(true)
     }
 
@@ -168,7 +140,7 @@ impl State {
         if self.tick_refusal(time).is_some() {
             return false;
         }
-        self.set_time(time);
+        self.time = time;
         true
     }
 }

@@ -1,14 +1,14 @@
-ghost use Rattle.std.specs.Prelude.{◌≡◌, All, Contains, IfOk, option_to_list};
+ghost use Rattle.std.specs.Prelude.{◌≡◌, All, Contains, IfOk};
 ghost use Rattle.pif_model.specs.Posix.{World};
 ghost use Rattle.pif_posix_model.specs.Once.{Enters};
-ghost use Rattle.pif_posix_model.specs.Doing.{thread_added, mutex_added, variable_added, begun, answered, ticked, happened, entered};
-ghost use Rattle.pif_posix.specs.Results.{if_done};
+ghost use Rattle.pif_posix_model.specs.Doing.{entered};
+ghost use Rattle.pif_posix.specs.Results.{if_done, entered_in_place};
 
 use crate::state::State;
 use pif_model::{Entry, Event, Seen};
 use pif_posix_model::HistoryLimits;
 use pif_search::{Stop, one};
-use pif_types::{Answer, CondId, Kind, MutexId, Prio, Request, Tid};
+use pif_types::Request;
 use std::alloc::Global;
 
 /// The state, if a function did what it was to do.
@@ -24,107 +24,18 @@ pub(crate) fn if_done(alloc: Global, did: bool, state: State) -> Result<Vec<Stat
 
 /// Where entries of a history lead.
 impl State {
-    /// The state once a thread is added; none if it can't be.
-    fn with_thread(
+    /// The state to which one entry leads; none if it can't happen, and for the end of a thread.
+    fn entered_in_place(
         &self,
         alloc: Global,
         limits: &HistoryLimits,
-        thread: Tid,
-        priority: Prio,
+        entry: &Entry,
     ) -> Result<Vec<State>, Stop>
-        ensures { IfOk result (λ v. v.items ≡ option_to_list (thread_added limits.now thread priority self.now)) }
+        ensures { IfOk result (λ v. v.items ≡ entered_in_place limits.now self.now entry.now) }
     {
         let mut next = self.copied(alloc)?;
-        let did = next.add_thread(alloc, limits, thread, priority)?;
+        let did = next.comes(alloc, limits, entry)?;
         if_done(alloc, did, next)
-    }
-
-    /// The state once a mutex is added; none if it can't be.
-    fn with_mutex(
-        &self,
-        alloc: Global,
-        limits: &HistoryLimits,
-        mutex: MutexId,
-        kind: Kind,
-        robust: bool,
-    ) -> Result<Vec<State>, Stop>
-        ensures { IfOk result (λ v. v.items ≡ option_to_list (mutex_added limits.now mutex kind robust self.now)) }
-    {
-        let mut next = self.copied(alloc)?;
-        let did = next.add_mutex(limits, mutex, kind, robust)?;
-        if_done(alloc, did, next)
-    }
-
-    /// The state once a variable is added; none if it can't be.
-    fn with_variable(
-        &self,
-        alloc: Global,
-        limits: &HistoryLimits,
-        cond: CondId,
-        mutex: MutexId,
-    ) -> Result<Vec<State>, Stop>
-        ensures { IfOk result (λ v. v.items ≡ option_to_list (variable_added limits.now cond mutex self.now)) }
-    {
-        let mut next = self.copied(alloc)?;
-        let did = next.add_variable(limits, cond, mutex)?;
-        if_done(alloc, did, next)
-    }
-
-    /// The state once a thread has begun a call; none if that is refused.
-    fn begun(&self, alloc: Global, thread: Tid, request: Request) -> Result<Vec<State>, Stop>
-        ensures { IfOk result (λ v. v.items ≡ option_to_list (begun thread request self.now)) }
-    {
-        let mut next = self.copied(alloc)?;
-        let did = next.begin(alloc, thread.get(), request)?;
-        let all = if_done(alloc, did, next)?;
-        Ok(all)
-    }
-
-    /// The state once the open call of a thread is answered this; none if it isn't.
-    fn answered(&self, alloc: Global, thread: Tid, answer: Answer) -> Result<Vec<State>, Stop>
-        ensures { IfOk result (λ v. v.items ≡ option_to_list (answered thread answer self.now)) }
-    {
-        let number = thread.get();
-        if !self.is_answered(number as usize, answer) {
-            return Ok(Vec::new(alloc));
-        }
-        let mut next = self.copied(alloc)?;
-        let did = next.answer(number, answer)?;
-        let all = if_done(alloc, did, next)?;
-        Ok(all)
-    }
-
-    /// The state once the time is this; none if that is refused.
-    fn ticked(&self, alloc: Global, time: u32) -> Result<Vec<State>, Stop>
-        ensures { IfOk result (λ v. v.items ≡ option_to_list (ticked time self.now)) }
-    {
-        let mut next = self.copied(alloc)?;
-        let did = next.tick(time);
-        if_done(alloc, did, next)
-    }
-
-    /// The states to which an event leads, at which this was seen.
-    fn happened(&self, alloc: Global, event: Event, seen: Seen) -> Result<Vec<State>, Stop>
-        ensures { IfOk result (λ v. v.items ≡ happened event seen self.now) }
-    {
-        match event {
-            Event::Begin(thread, request) => match seen {
-                Seen::Begun => self.begun(alloc, thread, request),
-                _ => Ok(Vec::new(alloc)),
-            },
-            Event::Go(thread) => match seen {
-                Seen::Answered(answer) => self.answered(alloc, thread, answer),
-                _ => Ok(Vec::new(alloc)),
-            },
-            Event::End(thread) => match seen {
-                Seen::Ended => self.ended(alloc, thread.get()),
-                _ => Ok(Vec::new(alloc)),
-            },
-            Event::Tick(time) => match seen {
-                Seen::Ticked => self.ticked(alloc, time),
-                _ => Ok(Vec::new(alloc)),
-            },
-        }
     }
 
     /// The states to which one entry leads, in the order of the definitions.
@@ -137,12 +48,11 @@ impl State {
         ensures { IfOk result (λ v. v.items ≡ entered limits.now self.now entry.now) }
     {
         match *entry {
-            Entry::Thread(thread, priority) => self.with_thread(alloc, limits, thread, priority),
-            Entry::Mutex(mutex, kind, robust) => self.with_mutex(
-                alloc, limits, mutex, kind, robust,
-            ),
-            Entry::Cond(cond, mutex) => self.with_variable(alloc, limits, cond, mutex),
-            Entry::Step(event, seen) => self.happened(alloc, event, seen),
+            Entry::Step(Event::End(thread), Seen::Ended) => self.ended(alloc, thread.get()),
+            Entry::Step(Event::End(_), _) => Ok(Vec::new(alloc)),
+            Entry::Step(Event::Go(thread), Seen::Answered(answer))
+                if !self.is_answered(thread.get() as usize, answer) => { Ok(Vec::new(alloc)) }
+            _ => self.entered_in_place(alloc, limits, entry),
         }
     }
 

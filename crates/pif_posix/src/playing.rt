@@ -1,51 +1,37 @@
 //! One step in place, if there is no choice: what a player does that keeps one state.
-ghost use Rattle.std.specs.Prelude.{◌≡◌, ◌<◌, ◌∷◌, [], true, Some, ℕ, length, option_to_list, IfOk};
+ghost use Rattle.std.specs.Prelude.{◌≡◌, ◌<◌, ◌∷◌, [], true, Some, ℕ, length, IfOk};
 ghost use Rattle.pif_model.specs.Posix.{thread_at};
 ghost use Rattle.pif_posix_model.specs.Once.{MovesOnce, Enters};
-ghost use Rattle.pif_posix_model.specs.Doing.{acted, moved, chosen, signalled, broadcast, begun, happened, entered};
+ghost use Rattle.pif_posix_model.specs.Doing.{acted, moved, chosen, entered};
+ghost use Rattle.pif_posix.specs.Results.{if_done, happened_in_place, entered_in_place};
 ghost use Rattle.pif_posix.specs.Shapes.{call_of};
 
 use crate::progress::{Call, Progress};
+use crate::requests::{is_use, variable_of};
 use crate::state::State;
 use pif_model::{Entry, Event, Seen};
 use pif_posix_model::HistoryLimits;
 use pif_search::Stop;
-use pif_types::{Request, Tid};
+use pif_types::Request;
 use std::alloc::Global;
 
 /// Steps in place.
 impl State {
-    /// A signal or broadcast of a thread, which has used this variable, wakes nobody, if nobody is blocked on it; else
+    /// A signal or broadcast of a thread, which has used its variable, wakes nobody, if nobody is blocked on it; else
     /// nothing changes.
-    fn wake_nobody(&mut self, alloc: Global, thread: usize, variable: u32) -> Result<bool, Stop>
+    fn wake_nobody(&mut self, alloc: Global, thread: usize, request: &Request) -> Result<bool, Stop>
         requires { thread < length self.old.threads }
-        ensures signal { IfOk result (λ b. b ≡ true → signalled thread variable self.old ≡ self.new ∷ []) }
-        ensures broadcast { IfOk result (λ b. b ≡ true → broadcast thread variable self.old ≡ self.new ∷ []) }
+        ensures { IfOk result (λ b. b ≡ true → chosen thread request.now self.old ≡ self.new ∷ []) }
     {
-        let blocked = self.all_blocked(alloc, variable)?;
+        if !is_use(request) {
+            return Ok(false);
+        }
+        let blocked = self.all_blocked(alloc, variable_of(request))?;
         if blocked.len() != 0 {
             return Ok(false);
         }
         self.set_progress(thread, Progress::Has(0));
         Ok(true)
-    }
-
-    /// A signal or broadcast of a thread, which has used its variable, wakes whom it has to, if it has no choice.
-    fn choose(&mut self, alloc: Global, thread: usize, request: Request) -> Result<bool, Stop>
-        requires { thread < length self.old.threads }
-        ensures { IfOk result (λ b. b ≡ true → chosen thread request self.old ≡ self.new ∷ []) }
-    {
-        match request {
-            Request::Signal(cond) => {
-                let did = self.wake_nobody(alloc, thread, cond.get())?;
-                Ok(did)
-            }
-            Request::Broadcast(cond) => {
-                let did = self.wake_nobody(alloc, thread, cond.get())?;
-                Ok(did)
-            }
-            _ => Ok(false),
-        }
     }
 
     /// The open call of a thread does the one thing that it can do next.
@@ -55,7 +41,7 @@ impl State {
         ensures { IfOk result (λ b. b ≡ true → acted thread self.old ≡ self.new ∷ []) }
     {
         if let Progress::Used = call.progress {
-            return self.choose(alloc, thread as usize, call.request);
+            return self.wake_nobody(alloc, thread as usize, &call.request);
         }
         self.act(thread, call)
     }
@@ -92,21 +78,13 @@ impl State {
         Ok(went)
     }
 
-    /// A thread begins a call, in place; false if that is refused.
-    fn begin_call(&mut self, alloc: Global, thread: Tid, request: Request) -> Result<bool, Stop>
-        ensures { IfOk result (λ b. b ≡ true → option_to_list (begun thread request self.old) ≡ self.new ∷ []) }
-    {
-        let did = self.begin(alloc, thread.get(), request)?;
-        Ok(did)
-    }
-
-    /// An event at which this was seen, in place, but for the end of a thread.
+    /// An event at which this was seen, in place, but for the end of a thread; false if it can't happen.
     fn happen(&mut self, alloc: Global, event: Event, seen: Seen) -> Result<bool, Stop>
-        ensures { IfOk result (λ b. b ≡ true → happened event seen self.old ≡ self.new ∷ []) }
+        ensures { IfOk result (λ b. happened_in_place event seen self.old ≡ if_done b self.new) }
     {
         match event {
             Event::Begin(thread, request) => match seen {
-                Seen::Begun => self.begin_call(alloc, thread, request),
+                Seen::Begun => self.begin(alloc, thread.get(), request),
                 _ => Ok(false),
             },
             Event::Go(thread) => match seen {
@@ -121,9 +99,14 @@ impl State {
         }
     }
 
-    /// One entry, in place, but for the end of a thread.
-    fn comes(&mut self, alloc: Global, limits: &HistoryLimits, entry: &Entry) -> Result<bool, Stop>
-        ensures { IfOk result (λ b. b ≡ true → entered limits.now self.old entry.now ≡ self.new ∷ []) }
+    /// One entry, in place, but for the end of a thread; false if it can't happen.
+    pub(crate) fn comes(
+        &mut self,
+        alloc: Global,
+        limits: &HistoryLimits,
+        entry: &Entry,
+    ) -> Result<bool, Stop>
+        ensures { IfOk result (λ b. entered_in_place limits.now self.old entry.now ≡ if_done b self.new) }
     {
         match *entry {
             Entry::Thread(thread, priority) => self.add_thread(alloc, limits, thread, priority),

@@ -1,6 +1,6 @@
-use Rattle.std.proofs.Common.{◌∙◌, ◌==◌, ◌++◌, ◌∷◌, [], refl, ap, length}
+use Rattle.std.proofs.Common.{List, ◌∙◌, ◌==◌, ◌++◌, ◌∷◌, [], refl, ap, length}
 use Rattle.std.specs.Prelude.{nat_le}
-use Rattle.pif_model.specs.Posix.{Mutex}
+use Rattle.pif_model.specs.Posix.{World, Mutex}
 use Rattle.pif_posix_model.specs.Doing.{mutex_added}
 use Rattle.pif_posix_model.specs.Doing.Does.{did_not}
 use Rattle.pif_posix_model.proofs.DoingCases.{did_this}
@@ -18,4 +18,7 @@ returns c =
     did_this (mutex_added c.args.limits.now c.args.mutex c.args.kind c.args.robust c.args.self.now)
     (next_within (c.args.mutex == length c.args.self.now.mutexes) (nat_le c.args.mutex c.args.limits.now.mutexes) _
     (next_is c.get.ensures.value c.mutex_count.ensures c.most_mutexes.ensures c.is_next.ensures c.if-not-is_next.false))
-    (c.in_ok-push_lockable.ensures ∙ ap (λ (x : Mutex). record c.args.self.now { mutexes = c.args.self.now.mutexes ++ x ∷ [] }) c.new_lockable.ensures)
+    (ap (λ (w : World). record w { mutexes = c.push.new.items.items }) c.self.view_is
+    ∙ ap (λ (xs : List Mutex). record c.args.self.now { mutexes = xs })
+    (c.in_ok-push.ensures ∙ ap (λ (w : World). w.mutexes ++ c.new_lockable.result ∷ []) c.self.view_is
+    ∙ ap (λ (x : Mutex). c.args.self.now.mutexes ++ x ∷ []) c.new_lockable.ensures))

@@ -1,7 +1,7 @@
-use Rattle.std.proofs.Common.{◌∙◌, ◌==◌, ◌++◌, ◌∷◌, [], refl, sym, ap, length, Some, None}
+use Rattle.std.proofs.Common.{List, ◌∙◌, ◌==◌, ◌++◌, ◌∷◌, [], refl, sym, ap, length, Some, None}
 use Rattle.std.specs.Prelude.{nat_le}
 use Rattle.pif_model.specs.Graph.{is_priority}
-use Rattle.pif_model.specs.Posix.{Thread, new_thread}
+use Rattle.pif_model.specs.Posix.{World, Thread, new_thread}
 use Rattle.pif_posix_model.specs.Doing.{thread_added}
 use Rattle.pif_posix_model.specs.Doing.Does.{did_not}
 use Rattle.pif_posix_model.proofs.DoingCases.{did_this, choose_then}
@@ -22,5 +22,7 @@ returns c =
     (next_is c.get.ensures.value c.thread_count.ensures c.most_threads.ensures c.is_next.ensures c.if-not-is_next.false)
     ∙ choose_then (is_priority c.args.priority) (Some (record c.args.self.now { threads = c.args.self.now.threads ++ new_thread c.args.priority ∷ [] })) None
     (ap is_priority (sym c.get-2.ensures.value) ∙ priority_from c.get-2.result c.get-2.ensures.low c.get-2.ensures.high))
-    (c.in_ok-push_task.ensures
-    ∙ ap (λ (x : Thread). record c.args.self.now { threads = c.args.self.now.threads ++ x ∷ [] }) (c.new_task.ensures ∙ ap new_thread c.get-2.ensures.value))
+    (ap (λ (w : World). record w { threads = c.push.new.items.items }) c.self.view_is
+    ∙ ap (λ (xs : List Thread). record c.args.self.now { threads = xs })
+    (c.in_ok-push.ensures ∙ ap (λ (w : World). w.threads ++ c.new_task.result ∷ []) c.self.view_is
+    ∙ ap (λ (x : Thread). c.args.self.now.threads ++ x ∷ []) (c.new_task.ensures ∙ ap new_thread c.get-2.ensures.value)))

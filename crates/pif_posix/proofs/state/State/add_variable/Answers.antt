@@ -1,6 +1,6 @@
-use Rattle.std.proofs.Common.{◌∙◌, ◌==◌, ◌++◌, ◌∷◌, [], refl, sym, ap, length}
+use Rattle.std.proofs.Common.{List, ◌∙◌, ◌==◌, ◌++◌, ◌∷◌, [], refl, sym, ap, length}
 use Rattle.std.specs.Prelude.{nat_le}
-use Rattle.pif_model.specs.Posix.{Variable, is_mutex, new_variable}
+use Rattle.pif_model.specs.Posix.{World, Variable, is_mutex, new_variable}
 use Rattle.pif_posix_model.specs.Doing.{variable_added}
 use Rattle.pif_posix_model.specs.Doing.Does.{did_not}
 use Rattle.pif_posix_model.proofs.DoingCases.{did_this, choose_then, choose_else}
@@ -24,5 +24,7 @@ returns c =
     (choose_then (is_mutex c.args.self.now c.args.mutex) _ _ (ap (is_mutex c.args.self.now) (sym c.get.ensures.value) ∙ sym c.is_mutex.ensures ∙ c.if-not-is_mutex.false)
     ∙ next_within (c.args.cond == length c.args.self.now.variables) (nat_le c.args.cond c.args.limits.now.conds) _
     (next_is c.get-2.ensures.value c.variable_count.ensures c.most_variables.ensures c.is_next.ensures c.if-not-is_next.false))
-    (c.in_ok-push_signalled.ensures
-    ∙ ap (λ (x : Variable). record c.args.self.now { variables = c.args.self.now.variables ++ x ∷ [] }) (c.new_signalled.ensures ∙ ap new_variable c.get-3.ensures.value))
+    (ap (λ (w : World). record w { variables = c.push.new.items.items }) c.self.view_is
+    ∙ ap (λ (xs : List Variable). record c.args.self.now { variables = xs })
+    (c.in_ok-push.ensures ∙ ap (λ (w : World). w.variables ++ c.new_signalled.result ∷ []) c.self.view_is
+    ∙ ap (λ (x : Variable). c.args.self.now.variables ++ x ∷ []) (c.new_signalled.ensures ∙ ap new_variable c.get-3.ensures.value)))

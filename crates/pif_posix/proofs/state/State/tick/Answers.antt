@@ -1,4 +1,5 @@
-use Rattle.std.proofs.Common.{◌∙◌, refl, sym}
+use Rattle.std.proofs.Common.{◌∙◌, refl, sym, ap}
+use Rattle.pif_model.specs.World.{World}
 use Rattle.pif_model.specs.declared.events.Event.TheVariants.{Tick}
 use Rattle.pif_posix_model.specs.Doing.{ticked}
 use Rattle.pif_posix_model.specs.Doing.Does.{did_not}
@@ -18,4 +19,4 @@ returns c =
     did_this (ticked c.args.time c.args.self.now)
     (ticked-allowed c.args.time c.args.self.now
     (allowed c.args.self.now (Tick c.args.time) c.tick_refusal.result c.tick_refusal.ensures (sym c.is_some.ensures ∙ c.if-is_some.false)))
-    c.set_time.ensures
+    (ap (λ (w : World). record w { time = c.args.time }) c.self.view_is)
