@@ -4,7 +4,7 @@ ghost use Rattle.pif_model.specs.World.{mutex_at, with_progress};
 ghost use Rattle.pif_model.specs.World.Progress.{Has};
 ghost use Rattle.pif_model.specs.Posix.{with_one_hold_more};
 ghost use Rattle.pif_types.specs.Numbers.{number_of};
-ghost use Rattle.pif_rules_model.specs.Rules.{stolen, is_recursive, is_errorcheck};
+ghost use Rattle.pif_rules_model.specs.Rules.{stolen};
 ghost use Rattle.pif_rules_model.specs.Ruled.{listed_of, one_if, is_mutex_of, stolen_from, stolen_by, locked_more_or_refused, beyond, locked_beyond, tried_own};
 
 use crate::lists::append;
@@ -21,28 +21,6 @@ fn is_mutex_of(found: Option<u32>, mutex: u32) -> bool
     match found {
         None => false,
         Some(other) => other == mutex,
-    }
-}
-
-/// Whether a mutex of this kind is recursive.
-fn is_recursive(kind: Kind) -> bool
-    ensures { result ≡ is_recursive kind }
-{
-    match kind {
-        Kind::Recursive => true,
-        Kind::Normal => false,
-        Kind::ErrorCheck => false,
-    }
-}
-
-/// Whether a mutex of this kind is errorcheck.
-fn is_errorcheck(kind: Kind) -> bool
-    ensures { result ≡ is_errorcheck kind }
-{
-    match kind {
-        Kind::ErrorCheck => true,
-        Kind::Normal => false,
-        Kind::Recursive => false,
     }
 }
 
@@ -191,7 +169,7 @@ fn beyond(
     if state.owner_or_none(at) != thread {
         return Ok(Vec::new(alloc));
     }
-    if !is_recursive(state.kind(at)) {
+    if state.kind(at) != Kind::Recursive {
         return Ok(Vec::new(alloc));
     }
     if state.count(at) < MOST_HOLDS {
@@ -246,7 +224,7 @@ pub(crate) fn tried_own(alloc: Global, state: &State, thread: u32) -> Result<Vec
             if state.owner_or_none(at) != thread {
                 return Ok(Vec::new(alloc));
             }
-            if !is_errorcheck(state.kind(at)) {
+            if state.kind(at) != Kind::ErrorCheck {
                 return Ok(Vec::new(alloc));
             }
             let next = failed(alloc, state, thread, Errno::Deadlock)?;

@@ -3,7 +3,7 @@ ghost use Rattle.std.specs.List.{list_any};
 ghost use Rattle.pif_model.specs.World.{with_progress};
 ghost use Rattle.pif_model.specs.World.Progress.{Has};
 ghost use Rattle.pif_rules_model.specs.Rules.{Wide as Widened, WideMoves, without_one};
-ghost use Rattle.pif_rules_model.specs.Ruled.{one_if, by_rule, by_recursion, stolen_by, any_woken, woken_by_itself, tried_own, mended_by_any, waiting_held, signal_lost, locked_by_rule, woken_by_rule, others_by_rule, moved_by_rule, widely_moved};
+ghost use Rattle.pif_rules_model.specs.Ruled.{one_if, by_recursion, signal_lost, locked_by_rule, woken_by_rule, others_by_rule, moved_by_rule, widely_moved};
 
 use crate::health::mended_by_any;
 use crate::lists::append;
@@ -19,19 +19,6 @@ use std::alloc::Global;
 
 /// Where moves lead, by the plain machine and by rules.
 impl Wide {
-    /// By `steal`: the thread takes a mutex from its owner.
-    fn stolen(&self, alloc: Global, thread: u32, rules: &Rules) -> Result<Vec<Wide>, Stop>
-        requires { thread < length self.now.world.threads }
-        ensures { IfOk result (λ v. v.items ≡ by_rule rules.now.steal self.now (stolen_by thread self.now.world)) }
-    {
-        if rules.steal {
-            let states = stolen_by(alloc, &self.state, thread)?;
-            self.beside(alloc, states)
-        } else {
-            Ok(Vec::new(alloc))
-        }
-    }
-
     /// By `recursion`: the thread locks a recursive mutex beyond 255 holds, or is refused.
     fn locked_beyond(&self, alloc: Global, thread: u32, rules: &Rules) -> Result<Vec<Wide>, Stop>
         requires { thread < length self.now.world.threads }
@@ -46,54 +33,22 @@ impl Wide {
         }
     }
 
-    /// By `own_errorcheck`: an attempt to lock a mutex of its own is refused as a lock is.
-    fn tried_own(&self, alloc: Global, thread: u32, rules: &Rules) -> Result<Vec<Wide>, Stop>
-        requires { thread < length self.now.world.threads }
-        ensures { IfOk result (λ v. v.items ≡ by_rule rules.now.own_errorcheck self.now (tried_own thread self.now.world)) }
-    {
-        if rules.own_errorcheck {
-            let states = tried_own(alloc, &self.state, thread)?;
-            self.beside(alloc, states)
-        } else {
-            Ok(Vec::new(alloc))
-        }
-    }
-
     /// A move of a thread by a rule on locks: all states to which it leads.
     fn locked_by_rule(&self, alloc: Global, thread: u32, rules: &Rules) -> Result<Vec<Wide>, Stop>
         requires { thread < length self.now.world.threads }
         ensures { IfOk result (λ v. v.items ≡ locked_by_rule rules.now thread self.now) }
     {
-        let mut all = self.stolen(alloc, thread, rules)?;
+        let mut all = Vec::new(alloc);
+        if rules.steal {
+            let states = stolen_by(alloc, &self.state, thread)?;
+            append(&mut all, self.beside(alloc, states)?)?;
+        }
         append(&mut all, self.locked_beyond(alloc, thread, rules)?)?;
-        append(&mut all, self.tried_own(alloc, thread, rules)?)?;
+        if rules.own_errorcheck {
+            let states = tried_own(alloc, &self.state, thread)?;
+            append(&mut all, self.beside(alloc, states)?)?;
+        }
         Ok(all)
-    }
-
-    /// By `any_waiter`: the thread's signal wakes any that is blocked.
-    fn any_woken(&self, alloc: Global, thread: u32, rules: &Rules) -> Result<Vec<Wide>, Stop>
-        requires { thread < length self.now.world.threads }
-        ensures { IfOk result (λ v. v.items ≡ by_rule rules.now.any_waiter self.now (any_woken thread self.now.world)) }
-    {
-        if rules.any_waiter {
-            let states = any_woken(alloc, &self.state, thread)?;
-            self.beside(alloc, states)
-        } else {
-            Ok(Vec::new(alloc))
-        }
-    }
-
-    /// By `spurious`: the thread wakes by itself.
-    fn woken_by_itself(&self, alloc: Global, thread: u32, rules: &Rules) -> Result<Vec<Wide>, Stop>
-        requires { thread < length self.now.world.threads }
-        ensures { IfOk result (λ v. v.items ≡ by_rule rules.now.spurious self.now (woken_by_itself thread self.now.world)) }
-    {
-        if rules.spurious {
-            let states = woken_by_itself(alloc, &self.state, thread)?;
-            self.beside(alloc, states)
-        } else {
-            Ok(Vec::new(alloc))
-        }
     }
 
     /// The state once a signal of a thread on a variable is lost; none if it can't be lost.
@@ -126,38 +81,19 @@ impl Wide {
         requires { thread < length self.now.world.threads }
         ensures { IfOk result (λ v. v.items ≡ woken_by_rule rules.now thread self.now) }
     {
-        let mut all = self.any_woken(alloc, thread, rules)?;
-        append(&mut all, self.woken_by_itself(alloc, thread, rules)?)?;
+        let mut all = Vec::new(alloc);
+        if rules.any_waiter {
+            let states = any_woken(alloc, &self.state, thread)?;
+            append(&mut all, self.beside(alloc, states)?)?;
+        }
+        if rules.spurious {
+            let states = woken_by_itself(alloc, &self.state, thread)?;
+            append(&mut all, self.beside(alloc, states)?)?;
+        }
         if rules.lost_signal {
             append(&mut all, self.signal_lost(alloc, thread)?)?;
         }
         Ok(all)
-    }
-
-    /// By `any_consistent`: the thread makes a mutex consistent that it doesn't own.
-    fn mended_by_any(&self, alloc: Global, thread: u32, rules: &Rules) -> Result<Vec<Wide>, Stop>
-        requires { thread < length self.now.world.threads }
-        ensures { IfOk result (λ v. v.items ≡ by_rule rules.now.any_consistent self.now (mended_by_any thread self.now.world)) }
-    {
-        if rules.any_consistent {
-            let states = mended_by_any(alloc, &self.state, thread)?;
-            self.beside(alloc, states)
-        } else {
-            Ok(Vec::new(alloc))
-        }
-    }
-
-    /// By `held_wait`: the thread's wait gives up one of many holds, and is blocked.
-    fn waiting_held(&self, alloc: Global, thread: u32, rules: &Rules) -> Result<Vec<Wide>, Stop>
-        requires { thread < length self.now.world.threads }
-        ensures { IfOk result (λ v. v.items ≡ by_rule rules.now.held_wait self.now (waiting_held thread self.now.world)) }
-    {
-        if rules.held_wait {
-            let states = waiting_held(alloc, &self.state, thread)?;
-            self.beside(alloc, states)
-        } else {
-            Ok(Vec::new(alloc))
-        }
     }
 
     /// A move of a thread by another rule: all states to which it leads.
@@ -165,8 +101,15 @@ impl Wide {
         requires { thread < length self.now.world.threads }
         ensures { IfOk result (λ v. v.items ≡ others_by_rule rules.now thread self.now) }
     {
-        let mut all = self.mended_by_any(alloc, thread, rules)?;
-        append(&mut all, self.waiting_held(alloc, thread, rules)?)?;
+        let mut all = Vec::new(alloc);
+        if rules.any_consistent {
+            let states = mended_by_any(alloc, &self.state, thread)?;
+            append(&mut all, self.beside(alloc, states)?)?;
+        }
+        if rules.held_wait {
+            let states = waiting_held(alloc, &self.state, thread)?;
+            append(&mut all, self.beside(alloc, states)?)?;
+        }
         Ok(all)
     }
 
