@@ -16,6 +16,9 @@ use pif_types::{CondId, Kind, MutexId, Request, Tid};
 /// digits.
 pub const COMMAND_ROOM: usize = 62;
 
+/// How many bytes of room `append_request` asks for. The longest is `timedwait cN mN D`, each number of 10 digits.
+pub const REQUEST_ROOM: usize = 44;
+
 /// Appends the command that adds a mutex of this type, robust or not, with no line feed, at most `COMMAND_ROOM` bytes.
 /// What stands in `out` stays.
 pub fn mutex_text(kind: Kind, robust: bool, out: &mut Text)
@@ -71,12 +74,12 @@ fn append_last(out: &mut Text, number: u32)
     append_number(out, number);
 }
 
-/// Appends a request.
+/// Appends a request as it stands in a script, at most `REQUEST_ROOM` bytes. What stands in `out` stays.
 #[tactic(auto, unfolding(pif_text_model::specs::CommandTexts::request_text))]
-fn append_request(out: &mut Text, request: Request)
-    requires { array_vec_len out.old + 44 ≤ TEXT_ROOM }
+pub fn append_request(out: &mut Text, request: Request)
+    requires { array_vec_len out.old + REQUEST_ROOM ≤ TEXT_ROOM }
     ensures items { out.new.items ≡ out.old.items ++ request_text request }
-    ensures len { array_vec_len out.new ≤ array_vec_len out.old + 44 }
+    ensures len { array_vec_len out.new ≤ array_vec_len out.old + REQUEST_ROOM }
 {
     match request {
         Request::Lock(mutex) => append_on_mutex(out, b"lock ", mutex),

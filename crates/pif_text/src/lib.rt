@@ -6,6 +6,7 @@ mod command_texts;
 mod errors;
 mod kinds;
 mod limits;
+mod lines;
 mod numbers;
 mod questions;
 mod reading;
@@ -15,12 +16,14 @@ mod words;
 mod writing;
 
 pub use command_texts::{
-    COMMAND_ROOM, command_reads_back, command_text, commands_of_lines_are_written, mutex_text,
+    COMMAND_ROOM, REQUEST_ROOM, append_request, command_reads_back, command_text,
+    commands_of_lines_are_written, mutex_text,
 };
 pub use errors::{ERRORS, errno_name, errno_named, errno_of};
 pub use kinds::{DEFAULT_WORD, ERROR_CHECK_WORD, NORMAL_WORD, RECURSIVE_WORD, kind_word};
 pub use limits::default_limits;
-pub use numbers::{number_of, number_reads_back, thread_of};
+pub use lines::{before_feed, is_mark, without_return};
+pub use numbers::{number_behind, number_of, number_reads_back, thread_of};
 pub use pif_text_model::{Added, Addition, Cause, Command, Fact, Question, Reply, Version};
 pub use reading::command_of;
 pub use text::{TEXT_ROOM, Text};
@@ -30,6 +33,6 @@ pub use traces::{
 };
 pub use words::{is_word, split_first};
 pub use writing::{
-    NAMED_ROOM, REPLY_ROOM, append, append_number, append_thread, fault_text, health_word,
-    named_reply_text, reply_text,
+    NAMED_ROOM, REPLY_ROOM, add_fault_word, append, append_number, append_thread, fault_text,
+    health_word, named_reply_text, refusal_word, reply_text,
 };

@@ -1,5 +1,5 @@
 ghost use Rattle.std.specs.Prelude.{◌≡◌, ℕ, ◌<◌, decimal};
-ghost use Rattle.pif_text_model.specs.Numbers.{value_in, number_in, thread_in, mutex_in, cond_in};
+ghost use Rattle.pif_text_model.specs.Numbers.{value_in, name_in, number_in, thread_in, mutex_in, cond_in};
 
 use pif_types::{CondId, MutexId, Tid};
 
@@ -28,6 +28,17 @@ pub fn number_of(word: &[u8]) -> Option<u32>
     match word {
         [] | [b'0', _, ..] => None,
         digits => value_of(digits),
+    }
+}
+
+/// The number of a name: this letter, and right behind it a number that is at least 1. `None` if the word is no such
+/// name.
+pub fn number_behind(letter: u8, word: &[u8]) -> Option<u32>
+    ensures { result ≡ name_in letter word.now }
+{
+    match word {
+        [first, digits @ ..] if *first == letter => number_of(digits).filter(|number| *number > 0),
+        _ => None,
     }
 }
 

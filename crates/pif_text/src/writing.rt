@@ -152,8 +152,8 @@ fn append_hex<const N: usize>(out: &mut ArrayVec<u8, N>, value: u32)
     append(out, hex_text(value).as_slice());
 }
 
-/// Why nothing was added, in one word.
-fn add_fault_of(fault: AddFault) -> &'static [u8]
+/// Why nothing was added, in one word of at most 10 letters, as `toomany`.
+pub fn add_fault_word(fault: AddFault) -> &'static [u8]
     ensures items { result.now ≡ add_fault_word fault }
     ensures len { length result.now ≤ 10 }
 {
@@ -164,8 +164,8 @@ fn add_fault_of(fault: AddFault) -> &'static [u8]
     }
 }
 
-/// Why an event was refused, in one word.
-fn refusal_of(refusal: Refusal) -> &'static [u8]
+/// Why an event was refused, in one word of at most 10 letters, as `busy`.
+pub fn refusal_word(refusal: Refusal) -> &'static [u8]
     ensures items { result.now ≡ refusal_word refusal }
     ensures len { length result.now ≤ 10 }
 {
@@ -238,7 +238,7 @@ fn append_added<const N: usize>(out: &mut ArrayVec<u8, N>, added: Added)
         Added::Thread(thread) => append_thread(out, thread),
         Added::Mutex(mutex) => append_mutex(out, mutex),
         Added::Cond(cond) => append_cond(out, cond),
-        Added::Refused(fault) => append_refused(out, add_fault_of(fault)),
+        Added::Refused(fault) => append_refused(out, add_fault_word(fault)),
     }
 }
 
@@ -256,7 +256,7 @@ fn append_seen<const N: usize>(out: &mut ArrayVec<u8, N>, seen: Seen)
         Seen::Answered(number) => append_answer(out, number),
         Seen::Ended => append(out, b"ended"),
         Seen::Ticked => append(out, b"ticked"),
-        Seen::Refused(refusal) => append_refused(out, refusal_of(refusal)),
+        Seen::Refused(refusal) => append_refused(out, refusal_word(refusal)),
     }
 }
 
