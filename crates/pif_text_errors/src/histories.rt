@@ -1,11 +1,11 @@
 ghost use Rattle.std.specs.Prelude.{◌≤◌, length, IfSome};
 ghost use Rattle.pif_text_errors.specs.SyntaxErrors.{IsIn};
 
-use crate::bytes::{place_of, wrong_blank};
+use crate::bytes::syntax_error_of_bytes;
 use crate::forms::{Form, form_of};
 use crate::lines::{Added, LineSoFar};
 use crate::marks::word_from;
-use crate::near::nearest;
+use crate::near::nearest_name;
 use crate::parts::wrong_with_word;
 use crate::syntax_errors::syntax_error_at;
 use crate::tables::HISTORY;
@@ -22,7 +22,7 @@ pub fn syntax_error_of_front<'a>(
     let spot = word_from(line, 0);
     let word = &line[spot.start..spot.end];
     let wrong = wrong_with_word(word, forms, other);
-    syntax_error_at(line, spot.start, wrong, None, nearest(word, forms))
+    syntax_error_at(line, spot.start, wrong, None, nearest_name(word, forms))
 }
 
 /// The first syntax error of the words of a line of this form, from this place on, or none. They may name what was
@@ -54,17 +54,6 @@ pub fn syntax_error_of_form(
     }
 }
 
-/// The syntax error of the bytes of a line that begins with a word of scripts or histories, whatever its words are.
-pub fn syntax_error_of_blanks(line: &[u8]) -> Option<SyntaxError>
-    ensures { IfSome result (IsIn line.now) }
-{
-    if let Some(place) = place_of(line, b'#') {
-        return Some(syntax_error_at(line, place, Wrong::CommentBehind, None, None));
-    }
-    let place = wrong_blank(line)?;
-    Some(syntax_error_at(line, place, Wrong::Spaces, None, None))
-}
-
 /// Why a line that is right by itself has no place in a history.
 fn misplaced(form: Form) -> Misplaced {
     match form.name {
@@ -80,7 +69,7 @@ fn misplaced(form: Form) -> Misplaced {
 pub fn history_error(line: &[u8]) -> SyntaxError
     ensures { IsIn line.now result }
 {
-    if let Some(syntax_error) = syntax_error_of_blanks(line) {
+    if let Some(syntax_error) = syntax_error_of_bytes(line, Wrong::CommentBehind, true) {
         return syntax_error;
     }
     let spot = word_from(line, 0);

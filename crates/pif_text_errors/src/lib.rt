@@ -33,7 +33,7 @@ mod wrongs;
 
 pub use forms::{Part, Shape};
 pub use histories::history_error;
-pub use near::nearest_name;
+pub use near::{Named, nearest_name};
 pub use places::{line_of_command, line_of_number, without_mark, written_column};
 pub use programs::program_error;
 pub use syntax_errors::SyntaxError;

@@ -1,9 +1,9 @@
 use crate::Wrong;
 use crate::calls::{BEHIND_BEGIN, STATEMENTS, calls};
 use crate::forms::{Form, Part, Rest, Shape, form_of};
-use crate::near::nearest;
+use crate::near::nearest_name;
 use crate::parts::{is_answer, is_cell, near_part, number_named, wrong_with_part, wrong_with_word};
-use crate::tables::{KINDS, OF_CELL, OF_MUTEXES, OF_THREADS, ROBUST, RULE_COUNT, RULES};
+use crate::tables::{KINDS, OF_CELL, OF_MUTEXES, OF_THREADS, RULE_COUNT, RULES};
 use arrayvec::ArrayVec;
 use pif_text::number_of;
 
@@ -158,11 +158,15 @@ impl LineSoFar {
         line
     }
 
-    /// Behind a word whose parts follow, and then this.
+    /// Behind a word whose parts follow, and then this. `robust` may be left out.
     fn begin(&mut self, parts: &'static [Part], behind: Next) {
         self.parts = parts;
         self.behind = behind;
-        self.next = if parts.is_empty() { behind } else { Next::Part };
+        self.next = match parts {
+            [] => behind,
+            [Part::Robust] => Next::Robust,
+            _ => Next::Part,
+        };
     }
 
     /// A wrong word in the form of the line.
@@ -177,11 +181,6 @@ impl LineSoFar {
     /// A word where this part is wanted.
     fn no(&self, part: Part) -> Slip {
         self.slip(Wrong::Not(part), None)
-    }
-
-    /// A word that is none of a table.
-    fn none_of(&self, word: &[u8], forms: &'static [Form], other: Wrong) -> Slip {
-        self.slip(wrong_with_word(word, forms, other), nearest(word, forms))
     }
 
     /// Takes the next part of the form.
@@ -199,55 +198,37 @@ impl LineSoFar {
         Ok(())
     }
 
-    /// Takes a call, behind `begin tN`.
-    fn take_call(&mut self, word: &[u8]) -> Result<(), Slip> {
-        let Some(form) = form_of(word, calls()) else {
-            return Err(self.none_of(word, calls(), Wrong::NoCall));
-        };
-        self.form = form.behind(BEHIND_BEGIN);
-        self.begin(form.parts, Next::End);
-        Ok(())
-    }
-
-    /// Takes a word of a table, behind which this may stand.
-    fn take_word(
+    /// Takes a word of a table, behind whose parts this may stand. `other` is wrong with a word that is none of them.
+    fn take_form(
         &mut self,
         word: &[u8],
         forms: &'static [Form],
         other: Wrong,
         behind: Next,
-    ) -> Result<(), Slip> {
-        match form_of(word, forms) {
-            Some(_) => {
-                self.next = behind;
-                Ok(())
-            }
-            None => Err(self.none_of(word, forms, other)),
-        }
+    ) -> Result<Form, Slip> {
+        let Some(form) = form_of(word, forms) else {
+            let wrong = wrong_with_word(word, forms, other);
+            return Err(self.slip(wrong, nearest_name(word, forms)));
+        };
+        self.form = form.shape();
+        self.begin(form.parts, behind);
+        Ok(form)
     }
 
     /// Takes a word that says something of a subject, behind which a connective may stand.
     fn take_said(&mut self, word: &[u8], forms: &'static [Form], part: Part) -> Result<(), Slip> {
-        let Some(form) = form_of(word, forms) else {
-            return Err(self.none_of(word, forms, Wrong::Not(part)));
-        };
-        self.form = form.shape();
-        self.begin(form.parts, Next::Connective);
+        self.take_form(word, forms, Wrong::Not(part), Next::Connective)?;
         Ok(())
     }
 
     /// Takes a rule.
     fn take_rule(&mut self, word: &[u8]) -> Result<(), Slip> {
         self.form = self.line;
-        let Some(form) = form_of(word, &RULES) else {
-            return Err(self.none_of(word, &RULES, Wrong::NoRule));
-        };
-        if self.rules.iter().any(|name| *name == form.name) {
+        if self.rules.iter().any(|name| word == name.as_bytes()) {
             return Err(self.slip(Wrong::RuleTwice, None));
         }
-        let _ = self.rules.try_push(form.name);
-        self.form = form.shape();
-        self.begin(form.parts, Next::Rules);
+        let rule = self.take_form(word, &RULES, Wrong::NoRule, Next::Rules)?;
+        let _ = self.rules.try_push(rule.name);
         Ok(())
     }
 
@@ -268,19 +249,12 @@ impl LineSoFar {
         if is_end(word) {
             return self.take_end(word, None);
         }
-        let Some(form) = form_of(word, &STATEMENTS) else {
-            return Err(Slip {
-                form: None,
-                ..self.none_of(word, &STATEMENTS, Wrong::NoStatement)
-            });
-        };
-        self.form = form.shape();
+        let front = self.take_form(word, &STATEMENTS, Wrong::NoStatement, Next::Semicolon);
+        let form = front.map_err(|slip| Slip { form: None, ..slip })?;
         self.is_if = form.name == "if";
-        let behind = match form.rest {
-            Rest::Test => Next::Guard(true),
-            _ => Next::Semicolon,
-        };
-        self.begin(form.parts, behind);
+        if let Rest::Test = form.rest {
+            self.next = Next::Guard(true);
+        }
         Ok(())
     }
 
@@ -383,11 +357,16 @@ impl LineSoFar {
     /// Takes the next word, unless it is wrong.
     pub fn take(&mut self, word: &[u8]) -> Result<(), Slip> {
         match self.next {
-            Next::Part => self.take_part(word),
+            Next::Part | Next::Robust => self.take_part(word),
             Next::End => Err(self.slip(Wrong::TooMany, None)),
-            Next::Call => self.take_call(word),
-            Next::Kind => self.take_word(word, &KINDS, Wrong::NoKind, Next::Robust),
-            Next::Robust => self.take_word(word, &ROBUST, Wrong::Not(Part::Robust), Next::End),
+            Next::Call => {
+                let call = self.take_form(word, calls(), Wrong::NoCall, Next::End)?;
+                self.form = call.behind(BEHIND_BEGIN);
+                Ok(())
+            }
+            Next::Kind => self
+                .take_form(word, &KINDS, Wrong::NoKind, Next::End)
+                .map(|_| ()),
             Next::Rule | Next::Rules => self.take_rule(word),
             Next::Tick => self.take_tick(word),
             Next::Statement => self.take_statement(word),

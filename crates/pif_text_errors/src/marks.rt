@@ -1,5 +1,7 @@
 ghost use Rattle.std.specs.Prelude.{◌≤◌, length};
 
+use pif_text::is_mark;
+
 /// Where a word of a line stands: its first byte, and the one behind its last. Both are the end of the line if there is
 /// no word.
 #[derive(Clone, Copy)]
@@ -8,11 +10,6 @@ pub struct Spot {
     pub start: usize,
     /// The place behind the last byte.
     pub end: usize,
-}
-
-/// Whether a byte is a mark, which is a word of its own.
-fn is_mark(byte: u8) -> bool {
-    matches!(byte, b';' | b'{' | b'}' | b'(' | b')' | b':' | b'=')
 }
 
 /// The place of the first byte that is no space, from this one on.

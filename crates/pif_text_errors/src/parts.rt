@@ -1,16 +1,8 @@
 use crate::Wrong;
 use crate::forms::{Form, Part};
-use crate::near::{name_in_capitals, nearest, nearest_error};
+use crate::near::{first_within, nearest_name};
 use crate::tables::ROBUST;
-use pif_text::{errno_named, number_of};
-
-/// The number behind the letter of a name.
-fn digits_of(word: &[u8], letter: u8) -> Option<u32> {
-    match word {
-        [first, digits @ ..] if *first == letter => number_of(digits),
-        _ => None,
-    }
-}
+use pif_text::{ERRORS, errno_named, number_behind, number_of};
 
 /// What is wrong with a word where a name with this letter is wanted.
 fn wrong_with_name(word: &[u8], letter: u8, part: Part) -> Option<Wrong> {
@@ -32,7 +24,7 @@ fn wrong_with_name(word: &[u8], letter: u8, part: Part) -> Option<Wrong> {
 
 /// What is wrong with a word that is no name of this table; `other` if it would be none in small letters either.
 pub fn wrong_with_word(word: &[u8], forms: &'static [Form], other: Wrong) -> Wrong {
-    match name_in_capitals(word, forms) {
+    match first_within(word, forms, 0) {
         Some(_) => Wrong::Capitals,
         None => other,
     }
@@ -50,7 +42,7 @@ pub fn is_answer(word: &[u8]) -> bool {
 
 /// Whether a word is the name of a cell.
 pub fn is_cell(word: &[u8]) -> bool {
-    digits_of(word, b'x').is_some_and(|number| number >= 1 && number <= 64)
+    number_behind(b'x', word).is_some_and(|number| number <= 64)
 }
 
 /// Whether a word that is no name is what this part wants.
@@ -85,8 +77,8 @@ pub fn wrong_with_part(word: &[u8], part: Part) -> Option<Wrong> {
 /// The right word that is nearest to one that is wrong where this part is wanted.
 pub fn near_part(word: &[u8], part: Part) -> Option<&'static str> {
     match part {
-        Part::Robust => nearest(word, &ROBUST),
-        Part::Answer => nearest_error(word),
+        Part::Robust => nearest_name(word, ROBUST.as_slice()),
+        Part::Answer => nearest_name(word, ERRORS.as_slice()),
         _ => None,
     }
 }
@@ -94,9 +86,9 @@ pub fn near_part(word: &[u8], part: Part) -> Option<&'static str> {
 /// The number of the name that a word is where this part is wanted.
 pub fn number_named(word: &[u8], part: Part) -> Option<u32> {
     match part {
-        Part::Thread => digits_of(word, b't'),
-        Part::Mutex => digits_of(word, b'm'),
-        Part::Cond => digits_of(word, b'c'),
+        Part::Thread => number_behind(b't', word),
+        Part::Mutex => number_behind(b'm', word),
+        Part::Cond => number_behind(b'c', word),
         _ => None,
     }
 }

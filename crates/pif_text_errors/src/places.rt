@@ -1,3 +1,5 @@
+use pif_text::without_return;
+
 /// A text without a byte order mark at its front.
 pub fn without_mark(text: &[u8]) -> &[u8] {
     match text {
@@ -8,11 +10,7 @@ pub fn without_mark(text: &[u8]) -> &[u8] {
 
 /// Whether a line of a story has a command: words that don't stand in a comment.
 fn has_words(line: &[u8]) -> bool {
-    let line = match line {
-        [before @ .., b'\r'] => before,
-        _ => line,
-    };
-    for byte in line {
+    for byte in without_return(line) {
         match *byte {
             b' ' | b'\t' => {}
             first => return first != b'#',

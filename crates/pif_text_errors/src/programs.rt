@@ -1,9 +1,8 @@
-ghost use Rattle.std.specs.Prelude.{◌≤◌, length, IfSome};
 ghost use Rattle.pif_text_errors.specs.SyntaxErrors.{IsIn};
 
-use crate::bytes::place_of;
+use crate::bytes::syntax_error_of_bytes;
 use crate::forms::{Form, form_of};
-use crate::histories::{syntax_error_of_blanks, syntax_error_of_form, syntax_error_of_front};
+use crate::histories::{syntax_error_of_form, syntax_error_of_front};
 use crate::lines::Added;
 use crate::marks::word_from;
 use crate::places::without_mark;
@@ -37,21 +36,6 @@ fn added_before(program: &[u8], number: u64) -> Added {
     added
 }
 
-/// The syntax error of the bytes of a line of a program, whatever its words are. If histories have such a line, its
-/// words are separated as theirs are.
-fn syntax_error_of_bytes(line: &[u8], has_one_space: bool) -> Option<SyntaxError>
-    ensures { IfSome result (IsIn line.now) }
-{
-    if has_one_space {
-        return syntax_error_of_blanks(line);
-    }
-    if let Some(place) = place_of(line, b'#') {
-        return Some(syntax_error_at(line, place, Wrong::CommentBehind, None, None));
-    }
-    let place = place_of(line, b'\t')?;
-    Some(syntax_error_at(line, place, Wrong::Tab, None, None))
-}
-
 /// Why a line of this form, which is right by itself, is a fault of this cause.
 fn misplaced(form: Form, cause: Cause) -> Wrong {
     let why = match (form.name, cause) {
@@ -80,8 +64,9 @@ pub fn program_error<'a>(
 {
     let spot = word_from(line, 0);
     let word = &line[spot.start..spot.end];
+    // The words of a line that histories have too are separated as theirs are.
     let has_one_space = form_of(word, &HISTORY).is_some();
-    if let Some(syntax_error) = syntax_error_of_bytes(line, has_one_space) {
+    if let Some(syntax_error) = syntax_error_of_bytes(line, Wrong::CommentBehind, has_one_space) {
         return syntax_error;
     }
     let Some(form) = form_of(word, &PROGRAM) else {

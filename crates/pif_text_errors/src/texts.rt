@@ -1,6 +1,6 @@
 use crate::forms::{Form, form_of};
 use crate::marks::word_from;
-use crate::near::nearest;
+use crate::near::nearest_name;
 use crate::read_command;
 use crate::tables::{COMMANDS, HISTORY, PROGRAM};
 use pif_text::split_answer;
@@ -51,11 +51,6 @@ impl TextKind {
             TextKind::Program => &PROGRAM,
         }
     }
-
-    /// Whether this word begins a line of such a text.
-    fn has_word(self, word: &[u8]) -> bool {
-        form_of(word, self.forms()).is_some()
-    }
 }
 
 /// A text without the blanks at its end.
@@ -81,12 +76,12 @@ fn is_answered(line: &[u8]) -> bool {
 /// The kind of text of which a line is that begins with this word, if lines of the kind that is wanted don't. A word of
 /// three letters or more that is near to one of theirs is taken for a slip, unless scripts alone have it.
 fn kind_of_word(word: &[u8], wanted: TextKind) -> Option<TextKind> {
-    if wanted.has_word(word) {
+    if form_of(word, wanted.forms()).is_some() {
         return None;
     }
-    let is_near = word.len() > 2 && nearest(word, wanted.forms()).is_some();
+    let is_near = word.len() > 2 && nearest_name(word, wanted.forms()).is_some();
     for kind in [TextKind::History, TextKind::Script, TextKind::Program] {
-        if kind.has_word(word) {
+        if form_of(word, kind.forms()).is_some() {
             let is_slip = is_near && kind != TextKind::Script;
             return if is_slip { None } else { Some(kind) };
         }

@@ -1,34 +1,17 @@
-ghost use Rattle.std.specs.Prelude.{◌≡◌, ◌+◌, ◌≤◌, length, IfOk, IfErr, IfSome};
+ghost use Rattle.std.specs.Prelude.{◌≡◌, ◌+◌, ◌≤◌, length, IfOk, IfErr};
 ghost use Rattle.std.specs.Result.{result_ok};
 ghost use Rattle.pif_text_model.specs.Commands.{command_in};
 ghost use Rattle.pif_text_errors.specs.SyntaxErrors.{IsIn};
 
-use crate::bytes::{place_of, wrong_blank};
+use crate::bytes::{place_of, syntax_error_of_bytes};
 use crate::calls::{BEHIND_BEGIN, BEHIND_CALL, calls};
 use crate::forms::{Form, Part, Rest, Shape, form_of};
-use crate::near::nearest;
+use crate::near::nearest_name;
 use crate::parts::{near_part, wrong_with_part, wrong_with_word};
 use crate::syntax_errors::{end_of_word, syntax_error_at};
 use crate::tables::{COMMANDS, KINDS};
 use crate::{SyntaxError, Wrong};
 use pif_text::{Command, command_of};
-
-/// The syntax error of the bytes of a line, whatever its words are.
-fn syntax_error_of_bytes(line: &[u8]) -> Option<SyntaxError>
-    ensures { IfSome result (IsIn line.now) }
-{
-    if line.is_empty() {
-        return Some(syntax_error_at(line, 0, Wrong::Empty, None, None));
-    }
-    if let Some(place) = place_of(line, b'#') {
-        return Some(syntax_error_at(line, place, Wrong::Comment, None, None));
-    }
-    if line.ends_with(b"\r") {
-        return Some(syntax_error_at(line, line.len() - 1, Wrong::CarriageReturn, None, None));
-    }
-    let place = wrong_blank(line)?;
-    Some(syntax_error_at(line, place, Wrong::Spaces, None, None))
-}
 
 /// The syntax error of a word that is no name of a table, where one is wanted.
 fn syntax_error_of_name<'a>(
@@ -43,7 +26,7 @@ fn syntax_error_of_name<'a>(
 {
     let word = &line[place..end_of_word(line, place)];
     let wrong = wrong_with_word(word, forms, other);
-    syntax_error_at(line, place, wrong, form, nearest(word, forms))
+    syntax_error_at(line, place, wrong, form, nearest_name(word, forms))
 }
 
 /// The end of the parts that stand behind the word that ends at `end`, in a command of this form, or their first syntax
@@ -144,7 +127,13 @@ pub fn read_command(line: &[u8]) -> Result<Command, SyntaxError>
     if let Some(command) = command_of(line) {
         return Ok(command);
     }
-    match syntax_error_of_bytes(line) {
+    if line.is_empty() {
+        return Err(syntax_error_at(line, 0, Wrong::Empty, None, None));
+    }
+    if line.ends_with(b"\r") && place_of(line, b'#').is_none() {
+        return Err(syntax_error_at(line, line.len() - 1, Wrong::CarriageReturn, None, None));
+    }
+    match syntax_error_of_bytes(line, Wrong::Comment, true) {
         Some(syntax_error) => Err(syntax_error),
         None => Err(syntax_error_of_words(line)),
     }
