@@ -1,6 +1,6 @@
 ghost use Rattle.std.specs.Prelude.{◌≡◌, ◌≤◌, option_copied};
 ghost use Rattle.pif_model.specs.Calls.{owner_answer};
-ghost use Rattle.pif_text_core.specs.Changes.{cond_stays, doing, doing_by, doing_stays, hold_changes, holds_stay, mutex_stays, priorities_stay, thread_stays, was_there};
+ghost use Rattle.pif_text_core.specs.Changes.{cond_stays, doing, doing_stays, hold_changes, holds_stay, mutex_stays, priorities_stay, thread_stays, was_there};
 ghost use Rattle.pif_text_core.specs.Texts.{held_times};
 
 use crate::counts::mutexes_added;
@@ -9,23 +9,13 @@ use crate::queues::is_same_queue;
 use pif_core::{Core, Order, Status, Woken};
 use pif_types::{CondId, MutexId, Tid};
 
-/// What a thread of this status does, whatever woke it if it is ready.
-fn doing_by(status: Status) -> Status
-    ensures { result ≡ doing_by status }
-{
-    match status {
-        Status::Ready(_) => Status::Ready(Woken::Fresh),
-        status => status,
-    }
-}
-
 /// What a thread does, whatever woke it if it is ready.
 fn doing(core: &Core, thread: Tid) -> Option<Status>
     ensures { result ≡ doing thread core.now }
 {
     match core.status(thread) {
-        Some(status) => Some(doing_by(status)),
-        None => None,
+        Some(Status::Ready(_)) => Some(Status::Ready(Woken::Fresh)),
+        status => status,
     }
 }
 

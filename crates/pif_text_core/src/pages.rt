@@ -110,7 +110,7 @@ impl Page {
     }
 
     /// Appends bytes.
-    fn bytes<W: Write>(&mut self, bytes: &[u8], writer: &mut W)
+    pub(crate) fn bytes<W: Write>(&mut self, bytes: &[u8], writer: &mut W)
         ensures { Tells self.old self.new (W.contents writer.old) (W.contents writer.new) bytes.now }
     {
         for byte in bytes {

@@ -1,6 +1,6 @@
 ghost use Rattle.std.specs.Prelude.{◌≡◌, ◌≤◌, is_some};
 ghost use Rattle.pif_model.specs.Calls.{waiter_answer};
-ghost use Rattle.pif_text_core.specs.Waiting.{awaited, begins_chain, blocker, blocks, has_waiter, mutex_by};
+ghost use Rattle.pif_text_core.specs.Waiting.{awaited, begins_chain, blocker, blocks, has_waiter};
 
 use crate::counts::mutexes_added;
 use crate::holds::{has, owner_of};
@@ -12,18 +12,11 @@ pub fn awaited(core: &Core, thread: Tid) -> Option<MutexId>
     ensures { result ≡ awaited thread core.now }
 {
     match core.status(thread) {
-        Some(status) => mutex_by(status),
+        Some(status) => match status {
+            Status::Queued(mutex) => Some(mutex),
+            _ => None,
+        },
         None => None,
-    }
-}
-
-/// The mutex among whose waiters a thread of this status is.
-fn mutex_by(status: Status) -> Option<MutexId>
-    ensures { result ≡ mutex_by status }
-{
-    match status {
-        Status::Queued(mutex) => Some(mutex),
-        _ => None,
     }
 }
 

@@ -1,6 +1,0 @@
-use Rattle.std.proofs.Common.{append_assoc}
-use Rattle.pif_text_core.proofs.TellingLemmas.{same, then}
-use Rattle.pif_text_core.proofs.calls.show_timed_lock.Goals as goal
-
-pub returns : goal.returns
-returns g c = same (simp append_assoc) (then c.mutex.ensures c.number.ensures)
