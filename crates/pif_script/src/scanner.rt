@@ -5,9 +5,8 @@ ghost use Rattle.pif_script_model.specs.Scripts.{Answers};
 
 use crate::listener::{ANSWER_ROOM, END_ROOM, Listener, OUTPUT_ROOM, Output};
 use arrayvec::ArrayVec;
-use memchr::memchr;
 use pif_script_model::{End, Ending, OpenFault, Stop};
-use pif_text::{Cause, Version, version_of};
+use pif_text::{Cause, Version, before_feed, version_of};
 use std::alloc::Global;
 
 /// The most bytes of a script or a trace.
@@ -15,16 +14,6 @@ pub const MOST_BYTES: u32 = 16_777_216;
 
 /// The most bytes of a line before its LF.
 pub const MOST_LINE: usize = 120;
-
-/// How many bytes stand before the first LF, or all of them if there is none.
-#[inline(always)]
-fn before_feed(bytes: &[u8]) -> usize
-    ensures within { result ≤ length bytes.now }
-    ensures before { (k : ℕ) → k < result → slice_index bytes.now k ≢ 10 }
-    ensures found { result < length bytes.now → slice_index bytes.now result ≡ 10 }
-{
-    memchr(b'\n', bytes).unwrap_or(bytes.len())
-}
 
 /// Reads the bytes of a script, and has its lines answered by an `L`, which one of the first lines makes.
 #[derive(Drop)]
