@@ -41,7 +41,7 @@ fn cause_at(fault: Option<(u64, Cause)>, number: u64) -> Option<Cause>
 
 /// Whether it is printed that a command is refused.
 #[tactic(auto, unfolding(pif_story_model::specs::Verdicts::is_refusal))]
-fn is_refusal(given: &[u8]) -> bool
+pub fn is_refusal(given: &[u8]) -> bool
     ensures { result ≡ is_refusal given.now }
 {
     given.starts_with(b"refused ")

@@ -44,7 +44,7 @@ mod verdicts;
 
 pub use comparing::{compare, count_commands};
 pub use filling::filled_text;
-pub use lines::{commentless, line_at_end, row_of, split_line, without_mark, without_return};
+pub use lines::{commentless, line_at_end, row_of, split_line, without_mark};
 pub use missing::{Known, Missing, Note, noted};
 pub use names::{name_of, names_in};
 pub use plain::{append_plain, plain_story};

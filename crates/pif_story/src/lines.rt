@@ -1,9 +1,8 @@
 ghost use Rattle.std.specs.Prelude.{◌≡◌, ◌≢◌, ◌<◌, ◌≤◌, ◌∷◌, ◌+◌, ℕ, length, slice_index, IfSome, option_copied, option_map};
 ghost use Rattle.std.specs.Option.{option_map_or};
-ghost use Rattle.std.specs.Str.Lines.{strip_carriage_return};
 ghost use Rattle.pif_story_model.specs.Lines.{commentless, without_comment, without_mark, lines, lines_behind, is_blank, without_blanks, is_passed, row_in};
 
-use pif_text::split_answer;
+use pif_text::{split_answer, without_return};
 
 /// A command of a story, and the answer that is written behind it, if there is one.
 pub type Row<'a> = (&'a [u8], Option<&'a [u8]>);
@@ -47,18 +46,6 @@ pub fn split_line(text: &[u8]) -> (&[u8], Option<&[u8]>)
         (&text[..end], Some(&text[end + 1..]))
     } else {
         (text, None)
-    }
-}
-
-/// A line without a CR at its end.
-pub fn without_return(line: &[u8]) -> &[u8]
-    ensures { result.now ≡ strip_carriage_return line.now }
-{
-    let end = line.len();
-    if end > 0 && line[end - 1] == b'\r' {
-        &line[..end - 1]
-    } else {
-        line
     }
 }
 

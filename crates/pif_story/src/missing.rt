@@ -1,7 +1,7 @@
 ghost use Rattle.std.specs.Prelude.{◌≡◌};
 ghost use Rattle.pif_story.specs.Notes.{asked_priority, first_of, known_behind, known_with, missing_cond, missing_in, missing_in_addition, missing_in_event, missing_in_question, missing_in_request, missing_in_run, missing_mutex, missing_thread, nothing_known, noted, one_more};
-ghost use Rattle.pif_story_model.specs.Verdicts.{is_refusal};
 
+use crate::comparing::is_refusal;
 use pif_model::Event;
 use pif_text::{Addition, Command, Question};
 use pif_types::{CondId, MutexId, Request, Tid};
@@ -44,14 +44,6 @@ fn one_more(count: u32) -> u32
     ensures { result ≡ one_more count }
 {
     if count < u32::MAX { count + 1 } else { count }
-}
-
-/// Whether it is printed that a command is refused.
-#[tactic(auto, unfolding(pif_story_model::specs::Verdicts::is_refusal))]
-fn is_refusal(given: &[u8]) -> bool
-    ensures { result ≡ is_refusal given.now }
-{
-    given.starts_with(b"refused ")
 }
 
 impl Known {

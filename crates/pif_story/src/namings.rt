@@ -2,8 +2,8 @@ ghost use Rattle.std.specs.Prelude.{◌≡◌, option_map};
 ghost use Rattle.std.specs.List.{list_all};
 ghost use Rattle.pif_story.specs.Names.{comment_of, is_name, is_name_byte, naming_in, thread_named};
 
-use crate::{commentless, without_return};
-use pif_text::{split_first, thread_of};
+use crate::commentless;
+use pif_text::{split_first, thread_of, without_return};
 use pif_types::Tid;
 
 /// What stands in a line behind its first `#`, without a CR at its end.

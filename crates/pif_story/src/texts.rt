@@ -5,8 +5,8 @@ ghost use Rattle.pif_story.specs.Notes.{begins_with, column_from, ends_word, lin
 use crate::lines::is_blank;
 use crate::missing::{Missing, Note};
 use crate::notes::notes_of;
-use crate::verdicts::append_decimal;
 use crate::{MOST, commentless, split_line, without_mark};
+use pif_text_json::append_decimal;
 use std::alloc::{AllocError, Global};
 
 /// Appends a letter and a number.

@@ -3,10 +3,10 @@ ghost use Rattle.pif_story_model.specs.Lines.{is_no_blank};
 ghost use Rattle.pif_story_model.specs.Verdicts.{differing_line, faulty_line, flaw_line, flaw_of, flaws_of, more_line, ok_line, printable, refusing_line, same_but_blanks, shown, shown_quoted, verdict_text};
 
 use crate::lines::is_blank;
-use itoa::Buffer;
 use pif_script::MOST_LINE;
 use pif_story_model::Flaw;
 use pif_text::{Cause, Text, fault_text};
+use pif_text_json::append_decimal;
 use std::alloc::{AllocError, Global};
 
 /// How many flaws of a story have a line of their own.
@@ -37,14 +37,6 @@ fn append_shown(line: &mut Vec<u8>, text: &[u8]) -> Result<(), AllocError>
     ensures { OnOk result (line.new.items ≡ line.old.items ++ shown text.now) }
 {
     append_printable(line, &text[..MOST_LINE.min(text.len())])
-}
-
-/// Appends a number in decimal digits.
-pub fn append_decimal(line: &mut Vec<u8>, number: u64) -> Result<(), AllocError>
-    ensures { OnOk result (line.new.items ≡ line.old.items ++ decimal number) }
-{
-    let mut buffer = Buffer::new();
-    line.extend_from_slice(buffer.format(number).as_bytes())
 }
 
 /// Appends the line of a story of this name that is ok, and has so many commands.
@@ -122,13 +114,6 @@ fn append_quoted(line: &mut Vec<u8>, quoted: bool, text: &[u8]) -> Result<(), Al
     }
 }
 
-/// Appends a text as it is.
-fn append_text(line: &mut Vec<u8>, text: &[u8]) -> Result<(), AllocError>
-    ensures { OnOk result (line.new.items ≡ line.old.items ++ text.now) }
-{
-    line.extend_from_slice(text)
-}
-
 /// Appends the front of the line of a command, with these words before the number of its line in the story.
 fn append_front(
     text: &mut Vec<u8>,
@@ -154,9 +139,9 @@ fn append_answers(
     ensures { OnOk result (text.new.items
         ≡ text.old.items ++ (codes " = " ++ (shown_quoted quoted written.now ++ (codes ", but the core gives " ++ shown_quoted quoted given.now)))) }
 {
-    append_text(text, b" = ")?;
+    text.extend_from_slice(b" = ")?;
     append_quoted(text, quoted, written)?;
-    append_text(text, b", but the core gives ")?;
+    text.extend_from_slice(b", but the core gives ")?;
     append_quoted(text, quoted, given)?;
     Ok(())
 }
@@ -174,13 +159,10 @@ fn append_difference(
     ensures { OnOk result (text.new.items ≡ text.old.items ++ differing_line name.now number command.now written.now given.now) }
 {
     let quoted = is_same_but_blanks(alloc, written, given)?;
-    append_text(text, name)?;
-    append_text(text, b": differs ")?;
-    append_decimal(text, number)?;
-    append_text(text, b": ")?;
+    append_front(text, name, b": differs ", number)?;
     append_shown(text, command)?;
     append_answers(text, quoted, written, given)?;
-    append_text(text, b"\n")?;
+    text.extend_from_slice(b"\n")?;
     Ok(())
 }
 
