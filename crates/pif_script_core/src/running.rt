@@ -5,7 +5,7 @@ ghost use Rattle.pif_model.specs.Table.{new_table};
 ghost use Rattle.pif_text_model.specs.declared.replies.Fact.TheVariants as fact;
 ghost use Rattle.pif_text_model.specs.Replies.{text_of};
 ghost use Rattle.pif_text_model.specs.Limits.{default_limits};
-ghost use Rattle.pif_script_model.specs.Running.{added_thread, added_mutex, added_cond, addition_answer, addition_after, fact_or_none, was_added, priority_fact, question_answer, run_outcome, command_answer, script, first_answer, limited_answer, answer_or_fault, IsAnswer, Makes};
+ghost use Rattle.pif_script_model.specs.Running.{addition_answer, addition_after, fact_or_none, was_added, priority_fact, question_answer, run_outcome, command_answer, script, first_answer, limited_answer, answer_or_fault, IsAnswer, Makes};
 ghost use Rattle.pif_script_model.specs.Transcripts.{first_limits};
 
 use pif_core::{Core, Seen};
@@ -15,36 +15,9 @@ use pif_text::{
     Added, Addition, Cause, Command, Fact, Question, Reply, Version, command_of, default_limits,
     reply_text,
 };
-use pif_types::{AddFault, CondId, Health, Limits, MutexId, Prio, Request, Tid};
+use pif_types::{Health, Limits, Prio, Request, Tid};
 use std::alloc::Global;
 use std::marker::Model;
-
-fn added_thread(added: Result<Tid, AddFault>) -> Added
-    ensures { result ≡ added_thread added }
-{
-    match added {
-        Ok(thread) => Added::Thread(thread),
-        Err(fault) => Added::Refused(fault),
-    }
-}
-
-fn added_mutex(added: Result<MutexId, AddFault>) -> Added
-    ensures { result ≡ added_mutex added }
-{
-    match added {
-        Ok(mutex) => Added::Mutex(mutex),
-        Err(fault) => Added::Refused(fault),
-    }
-}
-
-fn added_cond(added: Result<CondId, AddFault>) -> Added
-    ensures { result ≡ added_cond added }
-{
-    match added {
-        Ok(cond) => Added::Cond(cond),
-        Err(fault) => Added::Refused(fault),
-    }
-}
 
 /// Makes an addition, and says what it is answered.
 #[tactic(auto, unfolding(pif_script_model::specs::Running::addition_answer, pif_script_model::specs::Running::addition_after))]
@@ -53,9 +26,18 @@ fn add(core: &mut Core, addition: Addition) -> Added
     ensures after { core.new ≡ addition_after addition core.old }
 {
     match addition {
-        Addition::Thread(priority) => added_thread(core.add_thread(priority)),
-        Addition::Mutex(kind, robust) => added_mutex(core.add_mutex(kind, robust)),
-        Addition::Cond(mutex) => added_cond(core.add_cond(mutex)),
+        Addition::Thread(priority) => match core.add_thread(priority) {
+            Ok(thread) => Added::Thread(thread),
+            Err(fault) => Added::Refused(fault),
+        },
+        Addition::Mutex(kind, robust) => match core.add_mutex(kind, robust) {
+            Ok(mutex) => Added::Mutex(mutex),
+            Err(fault) => Added::Refused(fault),
+        },
+        Addition::Cond(mutex) => match core.add_cond(mutex) {
+            Ok(cond) => Added::Cond(cond),
+            Err(fault) => Added::Refused(fault),
+        },
     }
 }
 
