@@ -95,7 +95,7 @@ typedef struct Thread {
     _Atomic int priority;
     _Atomic bool started, never_started, cancelled;
     _Atomic bool is_set; /* a call gives it a priority */
-    bool in_call;
+    _Atomic bool in_call;
     int rounds; /* of the keys' destructors */
     void *(*start)(void *);
     void *argument;

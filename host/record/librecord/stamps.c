@@ -81,6 +81,14 @@ void stamp_begin(Record *record)
     atomic_store_explicit(&record->begin_place, place, memory_order_release);
 }
 
+/* Seen by this thread alone, and by its signal handlers: it needs no order but theirs. */
+static void set_in_call(Thread *thread, bool is_in)
+{
+    atomic_signal_fence(memory_order_seq_cst);
+    atomic_store_explicit(&thread->in_call, is_in, memory_order_relaxed);
+    atomic_signal_fence(memory_order_seq_cst);
+}
+
 /* A call inside of another, as of a signal's handler, or one that the library makes itself. A thread of a history has
    one call open at most, so that all calls on its objects are left out. */
 static void leave_call_out(Object *object, Object *mutex)
@@ -101,16 +109,15 @@ static Record *new_call(What what, Object *object, Object *mutex)
 
     if (thread == NULL)
         return NULL;
-    if (thread->in_call) {
+    if (atomic_load_explicit(&thread->in_call, memory_order_relaxed)) {
         leave_call_out(object, mutex);
         return NULL;
     }
-    thread->in_call = true;
-    atomic_signal_fence(memory_order_seq_cst);
+    set_in_call(thread, true);
     take_the_file();
     Record *record = new_record(thread, what);
     if (record == NULL) {
-        thread->in_call = false;
+        set_in_call(thread, false);
         return NULL;
     }
     record->object = object;
@@ -183,8 +190,7 @@ void answer_call(Record *record, int answer)
     record->answer_time = now();
     record->answer = (int16_t)answer;
     atomic_store_explicit(&record->answer_place, place, memory_order_release);
-    atomic_signal_fence(memory_order_seq_cst);
-    record->thread->in_call = false;
+    set_in_call(record->thread, false);
 }
 
 /* The thread was cancelled inside the call, and runs its cleanup handlers. */
@@ -194,6 +200,6 @@ void leave_call(void *value)
 
     if (record == NULL)
         return;
-    record->thread->in_call = false;
+    set_in_call(record->thread, false);
     atomic_store(&record->thread->cancelled, true);
 }

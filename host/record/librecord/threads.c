@@ -124,9 +124,9 @@ static void round_of_destructors(void *value)
 
     if (!atomic_load(&recording))
         return;
-    if (thread->in_call) { /* no answer comes */
+    if (atomic_load(&thread->in_call)) { /* no answer comes */
         atomic_store(&thread->cancelled, true);
-        thread->in_call = false;
+        atomic_store(&thread->in_call, false);
     }
     if (++thread->rounds < PTHREAD_DESTRUCTOR_ITERATIONS)
         pthread_setspecific(key, thread);
@@ -198,9 +198,9 @@ void pthread_exit(void *result)
 {
     be_ready();
     Thread *thread = atomic_load(&self);
-    if (thread != NULL && thread->in_call) { /* by a signal's handler */
+    if (thread != NULL && atomic_load(&thread->in_call)) { /* by a signal's handler */
         atomic_store(&thread->cancelled, true);
-        thread->in_call = false;
+        atomic_store(&thread->in_call, false);
     }
     real.exit(result);
 }
