@@ -10,8 +10,9 @@
 Once a second it reads what each process of the prover has spent so far, and adds it to the crate and part that the
 process works for; what a process spends in its last second is lost, and so are linking and the runs of programs. Last
 come the sums, and the longest chain: the crates that have to be proved one after the other, with the tests or edits of
-the last. It judges nothing; the status is that of `rt ci`. SIGTERM and Ctrl-C end `rt ci`, too, with status 143 or 130. `--below` prints the sums and the ten dearest parts alone.
-bench/gate_cost.py measures one part after the other, which takes hours.
+the last. It judges nothing; the status is that of `rt ci`. SIGTERM and Ctrl-C end `rt ci`, too, with status 143 or 130.
+`--below` prints the sums and the ten dearest parts alone. bench/gate_cost.py measures one part after the other, which
+takes hours.
 
 `rt ci` runs with RT_JOBS set: one check for each processor, in one process each. Without that it gives idle processors to
 a check that has begun, which then loads its libraries several times: half as many processor seconds more. TMPDIR is in
