@@ -3,9 +3,7 @@ use Rattle.std.proofs.Common.{◌≡◌, ℕ, ◌+◌, ◌<◌, ◌≤◌, Bool,
 use Rattle.std.specs.Prelude.{map, option_and_then}
 use Rattle.std.proofs.lemmas.List.{drop_all, drop_more}
 use Rattle.pif_model.specs.Table.{Table}
-use Rattle.pif_text_model.specs.declared.commands.Command.{Command}
 use Rattle.pif_text_model.specs.declared.replies.Reply.{Reply}
-use Rattle.pif_text_model.specs.Commands.{command_in}
 use Rattle.pif_script_model.specs.Running.{Answer}
 use Rattle.pif_story_model.specs.declared.rows.AnsweredRow.{AnsweredRow}
 use Rattle.pif_story_model.specs.Rows.{AreRowsOf, Asked, asked_by, asked_in}

@@ -34,7 +34,6 @@ mod names;
 mod nodes;
 mod pieces;
 mod queues;
-mod requests;
 mod states;
 mod threads;
 

@@ -1,49 +1,32 @@
-ghost use Rattle.std.specs.Prelude.{◌≡◌, ◌++◌, OnOk, option_map};
-ghost use Rattle.pif_model.specs.Calls.{health_answer, kind_answer, owner_answer};
-ghost use Rattle.pif_text_model.specs.CommandTexts.{kind_word};
+ghost use Rattle.std.specs.Prelude.{◌≡◌, ◌++◌, OnOk};
+ghost use Rattle.pif_model.specs.Calls.{health_answer};
 ghost use Rattle.pif_text_model.specs.Replies.{health_text};
-ghost use Rattle.pif_text_json.specs.Json.{bool_text, or_null, quoted};
-ghost use Rattle.pif_story_states.specs.Objects.{kind_members, mutex_object, owner_members, times, word_members};
+ghost use Rattle.pif_text_json.specs.Json.{or_null, quoted};
+ghost use Rattle.pif_story_states.specs.Objects.{kind_members, mutex_object, owner_members, word_members};
 
 use crate::queues::append_order;
 use pif_core::{Core, Order};
 use pif_text::{health_word, kind_word};
 use pif_text_json::{
-    append_bool, append_decimal, append_name, append_name_or_null, append_null,
-    append_number_or_null, append_quoted,
+    append_bool, append_decimal, append_name, append_null, append_number_or_null, append_quoted,
 };
 use pif_types::MutexId;
 use std::alloc::AllocError;
-
-/// Appends the kind of a mutex.
-fn append_type(core: &Core, mutex: MutexId, out: &mut Vec<u8>) -> Result<(), AllocError>
-    ensures { OnOk result (out.new.items ≡ out.old.items ++ or_null (λ k. quoted (kind_word k.0)) (kind_answer mutex core.now)) }
-{
-    match core.kind(mutex) {
-        Some((kind, _)) => append_quoted(out, kind_word(kind).as_bytes()),
-        None => append_null(out),
-    }
-}
-
-/// Appends whether a mutex is robust.
-fn append_robust(core: &Core, mutex: MutexId, out: &mut Vec<u8>) -> Result<(), AllocError>
-    ensures { OnOk result (out.new.items ≡ out.old.items ++ or_null (λ k. bool_text k.1) (kind_answer mutex core.now)) }
-{
-    match core.kind(mutex) {
-        Some((_, is_robust)) => append_bool(out, is_robust),
-        None => append_null(out),
-    }
-}
 
 /// Appends the kind of a mutex, and whether it is robust, as members.
 #[tactic(auto, unfolding(crate::specs::Objects::kind_members))]
 fn append_kind(core: &Core, mutex: MutexId, out: &mut Vec<u8>) -> Result<(), AllocError>
     ensures { OnOk result (out.new.items ≡ out.old.items ++ kind_members mutex core.now) }
 {
-    out.extend_from_slice(b",\"kind\":")?;
-    append_type(core, mutex, out)?;
-    out.extend_from_slice(b",\"robust\":")?;
-    append_robust(core, mutex, out)
+    match core.kind(mutex) {
+        Some((kind, is_robust)) => {
+            out.extend_from_slice(b",\"kind\":")?;
+            append_quoted(out, kind_word(kind).as_bytes())?;
+            out.extend_from_slice(b",\"robust\":")?;
+            append_bool(out, is_robust)
+        }
+        None => out.extend_from_slice(b",\"kind\":null,\"robust\":null"),
+    }
 }
 
 /// Appends the health of a mutex as `Core::health` has it, by its health word, or `null` if it was never added. Right
@@ -68,35 +51,23 @@ fn append_word(core: &Core, mutex: MutexId, out: &mut Vec<u8>) -> Result<(), All
     append_number_or_null(out, core.word(mutex))
 }
 
-/// The number of the thread that holds a mutex.
-fn owner(core: &Core, mutex: MutexId) -> Option<u32>
-    ensures { result ≡ option_map (λ owner. owner.0) (owner_answer mutex core.now) }
-{
-    match core.owner(mutex) {
-        Some((owner, _)) => Some(owner.get()),
-        None => None,
-    }
-}
-
-/// How often a mutex is held.
-fn times(core: &Core, mutex: MutexId) -> u32
-    ensures { result ≡ times (owner_answer mutex core.now) }
-{
-    match core.owner(mutex) {
-        Some((_, count)) => count,
-        None => 0,
-    }
-}
-
 /// Appends the owner of a mutex, and how often it holds the mutex, as members.
 #[tactic(auto, unfolding(crate::specs::Objects::owner_members))]
 fn append_owner(core: &Core, mutex: MutexId, out: &mut Vec<u8>) -> Result<(), AllocError>
     ensures { OnOk result (out.new.items ≡ out.old.items ++ owner_members mutex core.now) }
 {
-    out.extend_from_slice(b",\"owner\":")?;
-    append_name_or_null(out, b't', owner(core, mutex))?;
-    out.extend_from_slice(b",\"count\":")?;
-    append_decimal(out, u64::from(times(core, mutex)))
+    match core.owner(mutex) {
+        Some((owner, count)) => {
+            out.extend_from_slice(b",\"owner\":")?;
+            append_name(out, b't', owner.get())?;
+            out.extend_from_slice(b",\"count\":")?;
+            append_decimal(out, u64::from(count))
+        }
+        None => {
+            out.extend_from_slice(b",\"owner\":null,\"count\":")?;
+            append_decimal(out, 0)
+        }
+    }
 }
 
 /// Appends a mutex, as an object.

@@ -1,7 +1,7 @@
 ghost use Rattle.std.specs.Prelude.{◌≡◌, ◌++◌, codes, OnOk};
 ghost use Rattle.pif_model.specs.Calls.{status_answer};
 ghost use Rattle.pif_text_model.specs.Replies.{thread_name};
-ghost use Rattle.pif_story_states.specs.Graphs.{base_words, ended_node, fill, is_stopped, living_node, priority_words, stopped_words, thread_node};
+ghost use Rattle.pif_story_states.specs.Graphs.{base_words, ended_node, fill, living_node, priority_words, stopped_words, thread_node};
 
 use crate::pieces::{Name, append_name};
 use pif_core::{Core, Status};
@@ -31,22 +31,12 @@ fn append_priorities(out: &mut Vec<u8>, effective: u32, base: u32) -> Result<(),
     append_base(out, effective, base)
 }
 
-/// Whether a thread of this status is stopped for good.
-fn is_stopped(status: Status) -> bool
-    ensures { result ≡ is_stopped status }
-{
-    match status {
-        Status::Stopped => true,
-        _ => false,
-    }
-}
-
 /// That a thread is stopped for good, if it is.
 fn stopped_words(core: &Core, thread: Tid) -> &'static [u8]
     ensures { result.now ≡ stopped_words (status_answer thread core.now) }
 {
     match core.status(thread) {
-        Some(status) if is_stopped(status) => b"\\nstopped",
+        Some(Status::Stopped) => b"\\nstopped",
         _ => b"",
     }
 }

@@ -1,18 +1,20 @@
 ghost use Rattle.std.specs.Prelude.{◌≡◌, ◌++◌, OnOk, option_and_then};
-ghost use Rattle.pif_model.specs.Calls.{base_answer, effective_answer, status_answer};
+ghost use Rattle.pif_model.specs.Calls.{status_answer};
 ghost use Rattle.pif_story.specs.Names.{name_of};
 ghost use Rattle.pif_text_json.specs.Json.{or_null, quoted};
 ghost use Rattle.pif_text_core.specs.Waiting.{awaited};
 ghost use Rattle.pif_story_states.specs.Objects.{call_member, cond_by, doing_members, priority_members, state_word, thread_object};
 
 use crate::holds::append_holds;
-use crate::names::{append_cond_or_null, append_mutex_or_null};
-use crate::requests::append_request;
+use crate::names::append_mutex_or_null;
 use pif_core::{Core, Status};
 use pif_story::name_of;
+use pif_text::{Text, append_request};
 use pif_text_core::awaited;
-use pif_text_json::{append_name, append_null, append_number_or_null, append_quoted};
-use pif_types::{CondId, Tid};
+use pif_text_json::{
+    append_name, append_name_or_null, append_null, append_number_or_null, append_quoted,
+};
+use pif_types::{Prio, Tid};
 use std::alloc::AllocError;
 
 /// What a thread of this status does, in one word.
@@ -38,23 +40,16 @@ fn append_state(core: &Core, thread: Tid, out: &mut Vec<u8>) -> Result<(), Alloc
     }
 }
 
-/// The condition variable on which a thread is parked.
-fn parked_on(core: &Core, thread: Tid) -> Option<CondId>
+/// The number of the condition variable on which a thread is parked.
+fn parked_on(core: &Core, thread: Tid) -> Option<u32>
     ensures { result ≡ option_and_then cond_by (status_answer thread core.now) }
 {
     match core.status(thread) {
-        Some(status) => cond_by(status),
+        Some(status) => match status {
+            Status::Parked(cond) => Some(cond.get()),
+            _ => None,
+        },
         None => None,
-    }
-}
-
-/// The condition variable on which a thread of this status is parked.
-fn cond_by(status: Status) -> Option<CondId>
-    ensures { result ≡ cond_by status }
-{
-    match status {
-        Status::Parked(cond) => Some(cond),
-        _ => None,
     }
 }
 
@@ -68,7 +63,7 @@ fn append_doing(core: &Core, thread: Tid, out: &mut Vec<u8>) -> Result<(), Alloc
     out.extend_from_slice(b",\"waits_for\":")?;
     append_mutex_or_null(out, awaited(core, thread))?;
     out.extend_from_slice(b",\"parked_on\":")?;
-    append_cond_or_null(out, parked_on(core, thread))?;
+    append_name_or_null(out, b'c', parked_on(core, thread))?;
     Ok(())
 }
 
@@ -78,26 +73,16 @@ fn append_priorities(core: &Core, thread: Tid, out: &mut Vec<u8>) -> Result<(), 
     ensures { OnOk result (out.new.items ≡ out.old.items ++ priority_members thread core.now) }
 {
     out.extend_from_slice(b",\"priority\":")?;
-    append_number_or_null(out, effective(core, thread))?;
+    append_number_or_null(out, level(core.effective(thread)))?;
     out.extend_from_slice(b",\"base\":")?;
-    append_number_or_null(out, base(core, thread))
+    append_number_or_null(out, level(core.base(thread)))
 }
 
-/// The priority at which a thread runs.
-fn effective(core: &Core, thread: Tid) -> Option<u32>
-    ensures { result ≡ effective_answer thread core.now }
+/// The number of a priority, if there is one.
+fn level(priority: Option<Prio>) -> Option<u32>
+    ensures { result ≡ priority }
 {
-    match core.effective(thread) {
-        Some(priority) => Some(priority.get()),
-        None => None,
-    }
-}
-
-/// The priority of a thread's own.
-fn base(core: &Core, thread: Tid) -> Option<u32>
-    ensures { result ≡ base_answer thread core.now }
-{
-    match core.base(thread) {
+    match priority {
         Some(priority) => Some(priority.get()),
         None => None,
     }
@@ -111,10 +96,9 @@ fn append_call(core: &Core, thread: Tid, out: &mut Vec<u8>) -> Result<(), AllocE
     out.extend_from_slice(b",\"call\":")?;
     match core.open_call(thread) {
         Some(request) => {
-            out.push(b'"')?;
-            append_request(out, request)?;
-            out.push(b'"')?;
-            Ok(())
+            let mut text = Text::new();
+            append_request(&mut text, request);
+            append_quoted(out, text.as_slice())
         }
         None => append_null(out),
     }
