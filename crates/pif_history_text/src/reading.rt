@@ -5,9 +5,8 @@ ghost use Rattle.pif_history_text.specs.Reading.{Brings, Closes, Gives, HasNoFee
 use crate::History;
 use crate::heard::MOST_BYTES;
 use arrayvec::ArrayVec;
-use memchr::memchr;
 use pif_script_model::CliFault;
-use pif_text::Cause;
+use pif_text::{Cause, before_feed};
 use std::alloc::Global;
 use std::io::Read;
 
@@ -17,15 +16,6 @@ const CHUNK: usize = 4096;
 /// How many bytes of a line are kept at most: those of the longest text, of a byte order mark and of a CR. A line with
 /// more has a text that is too long.
 const LINE_ROOM: usize = 124;
-
-/// How many bytes stand before the first LF, or all of them, if there is none.
-fn before_feed(bytes: &[u8]) -> usize
-    ensures within { result ≤ length bytes.now }
-    ensures before { (k : ℕ) → k < result → slice_index bytes.now k ≢ 10 }
-    ensures found { result < length bytes.now → slice_index bytes.now result ≡ 10 }
-{
-    memchr(b'\n', bytes).unwrap_or(bytes.len())
-}
 
 /// A history while its text is read.
 #[derive(Drop)]

@@ -1,22 +1,11 @@
 ghost use Rattle.std.specs.Prelude.{◌≡◌};
-ghost use Rattle.std.specs.Str.Lines.{strip_carriage_return};
 ghost use Rattle.pif_story_model.specs.Lines.{is_passed, without_mark};
 ghost use Rattle.pif_history_text.specs.Lines.{text_of_line};
 
+use pif_text::without_return;
+
 /// The most bytes of the text of a line.
 pub const MOST_TEXT: usize = 120;
-
-/// A line without a CR at its end.
-fn without_return(line: &[u8]) -> &[u8]
-    ensures { result.now ≡ strip_carriage_return line.now }
-{
-    let end = line.len();
-    if end > 0 && line[end - 1] == b'\r' {
-        &line[..end - 1]
-    } else {
-        line
-    }
-}
 
 /// A text without a byte order mark at its front.
 #[tactic(auto, unfolding(pif_story_model::specs::Lines::without_mark))]

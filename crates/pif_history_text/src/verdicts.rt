@@ -5,8 +5,8 @@ ghost use Rattle.pif_history_text.specs.Verdicts.{at_number, began_line, colon_l
 use crate::writing::line_text;
 use itoa::Buffer;
 use pif_history_model::{Line, LineRefusal};
-use pif_text::{Cause, Text, fault_text};
-use pif_types::{AddFault, Refusal, Request, Tid};
+use pif_text::{Cause, Text, add_fault_word, fault_text};
+use pif_types::{Request, Tid};
 use std::alloc::AllocError;
 
 /// Appends a number in decimal digits.
@@ -86,19 +86,13 @@ pub fn push_fault(out: &mut Vec<u8>, number: u64, cause: Cause) -> Result<(), Al
     out.extend_from_slice(b"\n")
 }
 
-/// Why no run has a line, in one word.
-fn refusal_word(why: LineRefusal) -> &'static [u8]
+/// Why no run has a line, in one word, as `busy`.
+pub fn refusal_word(why: LineRefusal) -> &'static [u8]
     ensures { result.now ≡ line_refusal_word why }
 {
     match why {
-        LineRefusal::Addition(AddFault::TooMany) => b"toomany",
-        LineRefusal::Addition(AddFault::BadPrio) => b"badprio",
-        LineRefusal::Addition(AddFault::NoSuch) => b"nosuch",
-        LineRefusal::Event(Refusal::Dead) => b"dead",
-        LineRefusal::Event(Refusal::Busy) => b"busy",
-        LineRefusal::Event(Refusal::Idle) => b"idle",
-        LineRefusal::Event(Refusal::NoSuch) => b"nosuch",
-        LineRefusal::Event(Refusal::Past) => b"past",
+        LineRefusal::Addition(fault) => add_fault_word(fault),
+        LineRefusal::Event(refusal) => pif_text::refusal_word(refusal),
     }
 }
 
