@@ -8,6 +8,7 @@ mod drive;
 mod files;
 mod hosts;
 mod judging;
+mod making;
 mod process;
 mod random;
 mod rewriting;

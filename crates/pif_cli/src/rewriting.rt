@@ -5,109 +5,48 @@ ghost use Rattle.pif_cli_messages.specs.Messages.{TellsLine};
 ghost use Rattle.pif_cli.specs.Words.{RewroteFile};
 
 use crate::hosts::{Host, Runtime};
+use crate::making::{mode_of, replace_file};
 use crate::words::do_and_tell;
 use pif_cli_messages::{Input, Unwritten, WatchJob, unwritten_message, words_of};
 use pif_cli_words::Job;
 use pif_job_check::fill;
-use pif_job_shell::Shelf;
+use pif_job_shell::{SaveFault, Shelf};
 use pif_script::{CliFault, read_all};
-use std::alloc::{AllocError, Global};
-use std::fs::{File, OpenFile, Permissions};
-use std::io::{ErrorKind, Write};
+use std::alloc::Global;
+use std::fs;
+use std::fs::Permissions;
+use std::io::Write;
 use std::rt::Files;
-use std::{fs, io};
 
 /// A story as it stands in its file, and the mode of the file.
 type Stored = (Vec<u8>, Permissions);
 
 /// Reads the story in the plain file of this name.
 fn read_story<P: Files>(process: &P, alloc: Global, name: &str) -> Result<Stored, Unwritten> {
-    let metadata = match process.symlink_metadata(name) {
-        Ok(metadata) => metadata,
+    let mode = match mode_of(process, name) {
+        Ok(Some(mode)) => mode,
+        Ok(None) => return Err(Unwritten::NoPlainFile),
         Err(error) => return Err(Unwritten::Unread(words_of(error.kind()))),
     };
-    if !metadata.is_file() {
-        return Err(Unwritten::NoPlainFile);
-    }
     let mut file = match fs::open(process, name) {
         Ok(file) => file,
         Err(error) => return Err(Unwritten::Unread(words_of(error.kind()))),
     };
     match read_all(alloc, &mut file) {
-        Ok(story) => Ok((story, metadata.permissions())),
+        Ok(story) => Ok((story, mode)),
         Err(CliFault::NoMemory) => Err(Unwritten::NoMemory),
         Err(_) => Err(Unwritten::Unread(None)),
     }
 }
 
-/// The name of the new file beside the one of this name.
-fn name_beside(alloc: Global, name: &str) -> Result<String, AllocError> {
-    let mut beside = String::new(alloc);
-    beside.push_str(name)?;
-    beside.push_str(".new")?;
-    Ok(beside)
-}
-
-/// Whether a file could be written, with the reason in the system's words if it couldn't.
-fn written(done: io::Result<()>) -> Result<(), Unwritten> {
-    match done {
-        Ok(()) => Ok(()),
-        Err(error) => Err(Unwritten::Refused(words_of(error.kind()))),
+/// Why a text is not written into a file that was read.
+fn unwritten(why: SaveFault) -> Unwritten {
+    match why {
+        SaveFault::Taken | SaveFault::TakenBeside => Unwritten::Taken,
+        SaveFault::NoPlainFile => Unwritten::NoPlainFile,
+        SaveFault::Refused(why) | SaveFault::Cut(why) => Unwritten::Refused(why),
+        SaveFault::NoMemory => Unwritten::NoMemory,
     }
-}
-
-/// Writes a text to a file that was just made, and has the system keep it.
-fn write_file<F: OpenFile + Write>(
-    file: &mut F,
-    mode: Permissions,
-    text: &[u8],
-) -> Result<(), Unwritten> {
-    written(file.set_permissions(mode))?;
-    written(file.write_all(text))?;
-    written(file.sync_all())
-}
-
-/// Makes a new file of this name and mode with this text. If that fails, there is no such file.
-fn make_file<P: Files>(
-    process: &P,
-    beside: &str,
-    mode: Permissions,
-    text: &[u8],
-) -> Result<(), Unwritten> {
-    let made = match File::create_new(process, beside) {
-        Ok(mut file) => write_file(&mut file, mode, text),
-        Err(error) => {
-            return if error.kind() == ErrorKind::AlreadyExists {
-                Err(Unwritten::Taken)
-            } else {
-                written(Err(error))
-            };
-        }
-    };
-    if made.is_err() {
-        let _ = process.remove_file(beside);
-    }
-    made
-}
-
-/// Puts a text into the place of the file of this name, with this mode: a new file beside it takes its place. If that
-/// fails, the file stays as it is.
-fn replace_file<P: Files>(
-    process: &P,
-    alloc: Global,
-    name: &str,
-    mode: Permissions,
-    text: &[u8],
-) -> Result<(), Unwritten> {
-    let Ok(beside) = name_beside(alloc, name) else {
-        return Err(Unwritten::NoMemory);
-    };
-    make_file(process, beside.as_str(), mode, text)?;
-    let placed = written(process.rename(beside.as_str(), name));
-    if placed.is_err() {
-        let _ = process.remove_file(beside.as_str());
-    }
-    placed
 }
 
 /// Tells `errors` why the file of this name stays as it is. Answers the status: 4 if it is out of memory, else 3.
@@ -144,7 +83,10 @@ fn put_in_place<P: Files>(
     if story.as_slice() == text {
         return Ok(());
     }
-    replace_file(process, alloc, name, mode, text)
+    match replace_file(process, alloc, name, Some(mode), text) {
+        Ok(()) => Ok(()),
+        Err(why) => Err(unwritten(why)),
+    }
 }
 
 /// Tells of what was done with the file of this name. Answers the status.

@@ -1,11 +1,12 @@
+use crate::making::{make_file, mode_of, replace_file};
 use pif_cli_messages::{Input, words_of};
 use pif_job_shell::{LoadFault, SaveFault, Shelf};
 use pif_script::{CliFault, read_all};
 use std::alloc::Global;
+use std::fs;
 use std::fs::File;
-use std::io::{ErrorKind, Write};
+use std::io::ErrorKind;
 use std::rt::Files;
-use std::{fs, io};
 
 /// The files of a process, in which a shell saves its stories.
 #[derive(Drop)]
@@ -20,47 +21,21 @@ impl<'a, P> FileShelf<'a, P> {
     }
 }
 
-/// Why a file was not made.
-fn unmade(kind: ErrorKind) -> SaveFault {
-    if kind == ErrorKind::AlreadyExists {
-        SaveFault::Taken
-    } else {
-        SaveFault::Refused(words_of(kind))
-    }
-}
-
-/// Writes a text into a new file that was opened so.
-fn fill<F: Write + Drop>(opened: io::Result<F>, text: &[u8]) -> Result<(), SaveFault> {
-    match opened {
-        Ok(mut file) => match file.write_all(text) {
-            Ok(()) => Ok(()),
-            Err(error) => Err(SaveFault::Cut(words_of(error.kind()))),
-        },
-        Err(error) => Err(unmade(error.kind())),
-    }
-}
-
 impl<'a, P: Files> Shelf for FileShelf<'a, P> {
     fn save(&self, name: &str, text: &[u8]) -> Result<(), SaveFault> {
-        fill(File::create_new(self.process, name), text)
+        make_file(self.process, name, None, text)
     }
 
     fn replace(&self, alloc: Global, name: &str, text: &[u8]) -> Result<(), SaveFault> {
-        let Ok(beside) = format!(in alloc; "{name}.new") else {
-            return Err(SaveFault::Refused(words_of(ErrorKind::OutOfMemory)));
+        let mode = match mode_of(self.process, name) {
+            Ok(Some(mode)) => Some(mode),
+            Ok(None) => return Err(SaveFault::NoPlainFile),
+            Err(error) => match error.kind() {
+                ErrorKind::NotFound => None,
+                kind => return Err(SaveFault::Refused(words_of(kind))),
+            },
         };
-        let saved = self.save(beside.as_str(), text);
-        if let Err(SaveFault::Cut(_)) = saved {
-            self.remove(beside.as_str());
-        }
-        saved?;
-        match fs::rename(self.process, beside.as_str(), name) {
-            Ok(()) => Ok(()),
-            Err(error) => {
-                self.remove(beside.as_str());
-                Err(SaveFault::Refused(words_of(error.kind())))
-            }
-        }
+        replace_file(self.process, alloc, name, mode, text)
     }
 
     fn load(&self, alloc: Global, name: &str) -> Result<Vec<u8>, LoadFault> {

@@ -304,7 +304,8 @@ load FILE
 const SAVE: &str = "\
 save FILE, save! FILE
   Saves the commands with their answers as a story, for 'pif check FILE'. A file
-  that is there already is left as it is by 'save', and replaced by 'save!'.
+  that is there already is left as it is by 'save', and replaced by 'save!', but
+  for what is no plain file, as a folder or a link. The file keeps its mode.
 ";
 
 /// The help on leaving.

@@ -185,8 +185,17 @@ pub fn say_unsaved(name: &str, why: SaveFault, remark: &mut Remark) {
             remark.show(name.as_bytes());
             remark.say(" is there already, and is left as it is; 'save! FILE' replaces it");
         }
+        SaveFault::TakenBeside => {
+            remark.show(name.as_bytes());
+            remark.say(" stays as it is, since there is a file of its name with '.new' after it");
+        }
+        SaveFault::NoPlainFile => {
+            remark.show(name.as_bytes());
+            remark.say(" is no plain file, and is left as it is");
+        }
         SaveFault::Refused(why) => say_reason(name, why, "cannot be made", remark),
         SaveFault::Cut(why) => say_reason(name, why, "cannot be written whole", remark),
+        SaveFault::NoMemory => say_reason(name, Some("out of memory"), "", remark),
     }
 }
 

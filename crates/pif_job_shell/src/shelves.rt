@@ -5,10 +5,16 @@ use std::alloc::Global;
 pub enum SaveFault {
     /// There is a file of this name already; it is left as it is.
     Taken,
+    /// There is a file already of this name with `.new` after it, which would take the place of the other.
+    TakenBeside,
+    /// What has this name is no plain file, but a folder, a link or a device.
+    NoPlainFile,
     /// The file cannot be made.
     Refused(Option<&'static str>),
-    /// The file was made, and a write failed: a part of the text may stand in it.
+    /// The file was made, and a write failed: it was removed.
     Cut(Option<&'static str>),
+    /// A growth of memory was refused.
+    NoMemory,
 }
 
 /// Why a file was not read.
@@ -26,14 +32,15 @@ pub trait Shelf {
     ///
     /// # Errors
     ///
-    /// Why the text was not saved. A file that was there before is left as it is.
+    /// Why the text was not saved. A file that was there before is left as it is, and else there is none.
     fn save(&self, name: &str, text: &[u8]) -> Result<(), SaveFault>;
 
-    /// Puts this text into the file of this name, which is made if it is not there. It is written beside the file first.
+    /// Puts this text into the plain file of this name, which keeps its mode, and is made if it is not there. It is written
+    /// beside the file first, under its name with `.new` after it.
     ///
     /// # Errors
     ///
-    /// Why the text was not saved. A file that was there before is left as it is.
+    /// Why the text was not saved. What was there before is left as it is.
     fn replace(&self, alloc: Global, name: &str, text: &[u8]) -> Result<(), SaveFault>;
 
     /// The text of the file of this name, or its first 16,777,217 bytes.
