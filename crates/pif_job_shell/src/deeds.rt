@@ -2,6 +2,7 @@
 ghost use Rattle.pif_text_model.specs.Extends.{Stays};
 
 use crate::helps::help_of;
+use crate::keeping::Keeper;
 use crate::loads::load;
 use crate::notes::{note_on, note_on_line};
 use crate::remarks::{
@@ -151,12 +152,21 @@ fn name_wanted(form: &str) -> Remark {
     remark
 }
 
-/// Saves the script so far under the name that these bytes are, if it has a command. Answers what is to be said, and
-/// what was done.
+/// What is said if a session is to be saved where it is kept, in the story of this name, which is removed at its end.
+fn other_name_wanted(kept: &str) -> Remark {
+    let mut remark = Remark::new();
+    remark.say("the shell keeps the session in ");
+    remark.say(kept);
+    remark.say("; save it under another name");
+    remark
+}
+
+/// Saves the script so far under the name that these bytes are, if it has a command and isn't kept there. Answers what
+/// is to be said, and what was done.
 fn save<S: Shelf>(
     alloc: Global,
     shelf: &S,
-    session: &Session,
+    (session, keeper): (&Session, &Keeper),
     name: &[u8],
     replaces: bool,
 ) -> (Remark, Done) {
@@ -169,7 +179,10 @@ fn save<S: Shelf>(
         remark.say("there is nothing to save");
         return (remark, Done::Nothing);
     }
-    save_as(alloc, shelf, session, name, replaces)
+    match keeper.kept_in(name) {
+        Some(kept) => (other_name_wanted(kept), Done::Nothing),
+        None => save_as(alloc, shelf, session, name, replaces),
+    }
 }
 
 /// Begins with the commands of the story of the name that these bytes are, if there is no command yet. Answers what is
@@ -247,10 +260,11 @@ pub fn nothing(written: Result<(), Unwritten>) -> Result<Done, Unwritten> {
     }
 }
 
-/// Does what a line asks for.
+/// Does what a line asks for, of a session that is kept by `keeper`.
 pub fn obey<S: Shelf, W: Write>(
     alloc: Global,
     shelf: &S,
+    keeper: &Keeper,
     session: &mut Session,
     line: &[u8],
     writer: &mut W,
@@ -263,8 +277,8 @@ pub fn obey<S: Shelf, W: Write>(
         Wish::State => nothing(show_state(session, writer)),
         Wish::Undo(count) => tell_done(undo(alloc, session, count), writer),
         Wish::Redo => redo(alloc, session, writer),
-        Wish::Save(name) => tell_done(save(alloc, shelf, session, name, false), writer),
-        Wish::Replace(name) => tell_done(save(alloc, shelf, session, name, true), writer),
+        Wish::Save(name) => tell_done(save(alloc, shelf, (session, keeper), name, false), writer),
+        Wish::Replace(name) => tell_done(save(alloc, shelf, (session, keeper), name, true), writer),
         Wish::Load(name) => tell_done(begin_with(alloc, shelf, session, name), writer),
         Wish::Leave => Ok(Done::Leaves),
         Wish::More(word) => nothing(tell(too_many(word), writer)),

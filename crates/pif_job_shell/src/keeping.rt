@@ -58,6 +58,15 @@ impl Keeper {
         (keeper, remark)
     }
 
+    /// The story in which the session is kept, if the file of this name may be that.
+    pub fn kept_in(&self, name: &str) -> Option<&'static str> {
+        let kept = self.name?;
+        match name.split('/').last() {
+            Some(last) if last == kept => Some(kept),
+            _ => None,
+        }
+    }
+
     /// The session was saved.
     pub fn note_saved(&mut self) {
         self.is_saved = true;

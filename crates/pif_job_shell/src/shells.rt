@@ -37,16 +37,22 @@ const PROMPT: &[u8] = b"> ";
 fn hear<S: Shelf, W: Write>(
     alloc: Global,
     shelf: &S,
-    session: &mut Session,
-    lines: &Lines,
+    talk: &mut Talk,
     writer: &mut W,
 ) -> Result<Done, Unwritten>
     ensures { Stays (W.contents writer.old) (W.contents writer.new) }
 {
-    match lines.found() {
+    match talk.lines.found() {
         Found::Nothing => Ok(Done::Nothing),
         Found::Long => nothing(tell_words(cause_words(Cause::Long), writer)),
-        Found::Line => obey(alloc, shelf, session, lines.line(), writer),
+        Found::Line => obey(
+            alloc,
+            shelf,
+            &talk.keeper,
+            &mut talk.session,
+            talk.lines.line(),
+            writer,
+        ),
     }
 }
 
@@ -59,7 +65,7 @@ fn hear_and_keep<S: Shelf, W: Write>(
 ) -> Result<bool, Unwritten>
     ensures { Stays (W.contents writer.old) (W.contents writer.new) }
 {
-    match hear(alloc, shelf, &mut talk.session, &talk.lines, writer)? {
+    match hear(alloc, shelf, talk, writer)? {
         Done::Nothing => Ok(false),
         Done::Leaves => Ok(true),
         Done::Saved => {
