@@ -23,7 +23,7 @@ pub fn mode_of<P: Files>(process: &P, name: &str) -> io::Result<Option<Permissio
 }
 
 /// The name of the new file beside the one of this name.
-fn name_beside(alloc: Global, name: &str) -> Result<String, AllocError> {
+pub fn name_beside(alloc: Global, name: &str) -> Result<String, AllocError> {
     let mut beside = String::new(alloc);
     beside.push_str(name)?;
     beside.push_str(".new")?;

@@ -1,4 +1,4 @@
-use crate::making::{make_file, mode_of, replace_file};
+use crate::making::{make_file, mode_of, name_beside, replace_file};
 use pif_cli_messages::{Input, words_of};
 use pif_job_shell::{LoadFault, SaveFault, Shelf};
 use pif_script::{CliFault, read_all};
@@ -36,6 +36,13 @@ impl<'a, P: Files> Shelf for FileShelf<'a, P> {
             },
         };
         replace_file(self.process, alloc, name, mode, text)
+    }
+
+    fn is_taken_beside(&self, alloc: Global, name: &str) -> bool {
+        match name_beside(alloc, name) {
+            Ok(beside) => self.process.symlink_metadata(beside.as_str()).is_ok(),
+            Err(_) => false,
+        }
     }
 
     fn load(&self, alloc: Global, name: &str) -> Result<Vec<u8>, LoadFault> {

@@ -24,6 +24,8 @@ pub struct Keeper {
     name: Option<&'static str>,
     /// Whether all that was given is saved under a name of the person's own.
     is_saved: bool,
+    /// Whether the story has the session as it is now.
+    is_kept: bool,
 }
 
 impl Keeper {
@@ -32,14 +34,15 @@ impl Keeper {
         Keeper {
             name: None,
             is_saved: true,
+            is_kept: true,
         }
     }
 
     /// Makes a new file for the session. Answers what is said of it, too.
-    pub fn begin<S: Shelf>(shelf: &S) -> (Keeper, Remark) {
+    pub fn begin<S: Shelf>(alloc: Global, shelf: &S) -> (Keeper, Remark) {
         let mut keeper = Keeper::idle();
         let mut remark = Remark::new();
-        match first_free(shelf) {
+        match first_free(alloc, shelf) {
             Ok(name) => {
                 keeper.name = Some(name);
                 remark.say("the session is kept in ");
@@ -81,18 +84,17 @@ impl Keeper {
     ) -> Option<Remark> {
         self.is_saved = false;
         let name = self.name?;
-        let mut remark = Remark::new();
-        match story_of(alloc, session) {
-            Ok(story) => match shelf.replace(alloc, name, story.as_slice()) {
-                Ok(()) => return None,
-                Err(why) => {
-                    remark.say("the session is not kept: ");
-                    say_unsaved(name, why, &mut remark);
-                }
-            },
-            Err(NoMemory) => remark.say("out of memory: the session is not kept"),
+        let kept = put(alloc, shelf, name, session);
+        self.is_kept = kept.is_ok();
+        match kept {
+            Ok(()) => None,
+            Err(why) => {
+                let mut remark = Remark::new();
+                remark.say("the session is not kept: ");
+                say_unsaved(name, why, &mut remark);
+                Some(remark)
+            }
         }
-        Some(remark)
     }
 
     /// The session ends: what was kept of it is removed if there is no command, or if a person leaves who has saved it.
@@ -104,21 +106,46 @@ impl Keeper {
             return None;
         }
         let mut remark = Remark::new();
-        remark.say("the session is kept in ");
-        remark.say(name);
+        if self.is_kept {
+            remark.say("the session is kept in ");
+            remark.say(name);
+        } else {
+            remark.say("the session is not kept as it is now; ");
+            remark.say(name);
+            remark.say(" is older");
+        }
         Some(remark)
     }
 }
 
-/// Makes a new file of the first of the names that no file has.
+/// Puts the session into the story of this name.
+///
+/// # Errors
+///
+/// Why it is not in it. What was there before is left as it is.
+fn put<S: Shelf>(alloc: Global, shelf: &S, name: &str, session: &Session) -> Result<(), SaveFault> {
+    match story_of(alloc, session) {
+        Ok(story) => shelf.replace(alloc, name, story.as_slice()),
+        Err(NoMemory) => Err(SaveFault::NoMemory),
+    }
+}
+
+/// Makes a new file of the first of the names that no file has, and beside which there is none that `replace` would
+/// write.
 ///
 /// # Errors
 ///
 /// The name that was tried last, and why no file was made.
-fn first_free<S: Shelf>(shelf: &S) -> Result<&'static str, (&'static str, SaveFault)> {
+fn first_free<S: Shelf>(
+    alloc: Global,
+    shelf: &S,
+) -> Result<&'static str, (&'static str, SaveFault)> {
     let mut last = NAMES[0];
     for name in NAMES {
         last = name;
+        if shelf.is_taken_beside(alloc, name) {
+            continue;
+        }
         match shelf.save(name, b"") {
             Ok(()) => return Ok(name),
             Err(SaveFault::Taken) => {}

@@ -135,13 +135,18 @@ fn part_or_go_on<S: Shelf, W: Write>(
 }
 
 /// Greets if there is a prompt, and has the session kept then.
-fn greet<S: Shelf, W: Write>(shelf: &S, talk: &mut Talk, writer: &mut W) -> Result<(), Unwritten>
+fn greet<S: Shelf, W: Write>(
+    alloc: Global,
+    shelf: &S,
+    talk: &mut Talk,
+    writer: &mut W,
+) -> Result<(), Unwritten>
     ensures { Stays (W.contents writer.old) (W.contents writer.new) }
 {
     if !talk.prompt {
         return Ok(());
     }
-    let (keeper, remark) = Keeper::begin(shelf);
+    let (keeper, remark) = Keeper::begin(alloc, shelf);
     talk.keeper = keeper;
     write_text(GREETING, writer)?;
     tell(remark, writer)
@@ -158,7 +163,7 @@ fn converse<S: Shelf, R: Read, W: Write>(
 ) -> Result<(), CliFault>
     ensures { TalksTo (R.remaining reader.old) (R.remaining reader.new) (W.contents writer.old) (W.contents writer.new) result }
 {
-    if greet(shelf, talk, writer).is_err() {
+    if greet(alloc, shelf, talk, writer).is_err() {
         return Err(CliFault::Write);
     }
     for _turn in 0..u64::MAX {

@@ -43,6 +43,10 @@ pub trait Shelf {
     /// Why the text was not saved. What was there before is left as it is.
     fn replace(&self, alloc: Global, name: &str, text: &[u8]) -> Result<(), SaveFault>;
 
+    /// Whether there is a file already of this name with `.new` after it, so that `replace` can write none. If that can't
+    /// be found out, there is none.
+    fn is_taken_beside(&self, alloc: Global, name: &str) -> bool;
+
     /// The text of the file of this name, or its first 16,777,217 bytes.
     ///
     /// # Errors
@@ -65,6 +69,10 @@ impl Shelf for NoShelf {
 
     fn replace(&self, _alloc: Global, _name: &str, _text: &[u8]) -> Result<(), SaveFault> {
         Err(SaveFault::Refused(None))
+    }
+
+    fn is_taken_beside(&self, _alloc: Global, _name: &str) -> bool {
+        false
     }
 
     fn load(&self, _alloc: Global, _name: &str) -> Result<Vec<u8>, LoadFault> {
