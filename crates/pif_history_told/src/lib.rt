@@ -8,6 +8,7 @@
 //! |---|---|
 //! | `leading` | where the steps of a label lead, and by which rule |
 //! | `ways` | which of these a whole run takes |
+//! | `likely` | which are followed at first |
 //! | `following` | a run as a text: its lines, and between them what each move changes |
 //! | `calls` | an open call, and how far it has come |
 //! | `state_objects` | threads, mutexes and condition variables |
@@ -31,6 +32,7 @@ mod calls;
 mod changes;
 mod following;
 mod leading;
+mod likely;
 mod page_script;
 mod page_style;
 mod pages;
