@@ -1,3 +1,4 @@
+use pif_text::without_return;
 use std::str::from_utf8;
 
 /// What a line asks of a shell.
@@ -25,14 +26,6 @@ pub enum Wish<'a> {
     More(&'static str),
     /// Any other line, which is to be a command of scripts.
     Line(&'a [u8]),
-}
-
-/// A line without a CR at its end.
-fn without_return(line: &[u8]) -> &[u8] {
-    match line {
-        [before @ .., b'\r'] => before,
-        _ => line,
-    }
 }
 
 /// What stands behind this word and a space, or nothing if the line is the word alone; `None` if it begins otherwise.
