@@ -9,7 +9,7 @@ use std::io::Read;
 const CHUNK: usize = 4096;
 
 /// A read failed.
-#[derive(Clone, Copy, PartialEq, Eq)]
+#[derive(Clone, Copy)]
 pub struct Unread;
 
 /// What was found where a line may stand.

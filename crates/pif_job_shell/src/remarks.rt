@@ -76,7 +76,7 @@ const OWN_WORDS: [&str; 8] = [
 /// one of the shell's own.
 fn near_of(syntax_error: &SyntaxError<'_>) -> Option<&'static str> {
     match syntax_error.near {
-        None if syntax_error.wrong == Wrong::NoCommand => {
+        None if matches!(syntax_error.wrong, Wrong::NoCommand) => {
             nearest_name(syntax_error.word, OWN_WORDS.as_slice())
         }
         near => near,
@@ -109,7 +109,7 @@ fn say_wrong(syntax_error: &SyntaxError<'_>, remark: &mut Remark) {
         ..*syntax_error
     };
     let _ = write!(remark, "{told}");
-    if syntax_error.wrong == Wrong::NoCommand && near.is_none() {
+    if matches!(syntax_error.wrong, Wrong::NoCommand) && near.is_none() {
         remark.say("; 'help' names them all");
     }
 }

@@ -19,7 +19,7 @@ use std::marker::Model;
 const MOST_COMMANDS: usize = 131_072;
 
 /// Why a command was not accepted.
-#[derive(Clone, Copy, PartialEq, Eq)]
+#[derive(Clone, Copy)]
 pub enum Unplayed {
     /// It is a fault: `Command` for `limits` behind the first command, `Limits` for one with a number out of its range.
     Fault(Cause),
@@ -30,7 +30,7 @@ pub enum Unplayed {
 }
 
 /// Why a line was not accepted.
-#[derive(Clone, Copy, PartialEq, Eq)]
+#[derive(Clone, Copy)]
 pub enum Refusal<'a> {
     /// It is no command.
     SyntaxError(SyntaxError<'a>),
@@ -39,7 +39,7 @@ pub enum Refusal<'a> {
 }
 
 /// Why commands were not taken back.
-#[derive(Clone, Copy, PartialEq, Eq)]
+#[derive(Clone, Copy)]
 pub enum NotUndone {
     /// There are fewer.
     Fewer,
@@ -48,7 +48,7 @@ pub enum NotUndone {
 }
 
 /// Why no command was given again.
-#[derive(Clone, Copy, PartialEq, Eq)]
+#[derive(Clone, Copy)]
 pub enum NotRedone {
     /// None was taken back, or a command was given since.
     Nothing,
@@ -308,7 +308,7 @@ impl Session {
 }
 
 /// The line that was not accepted of those of a script that is loaded, from 1, and why.
-#[derive(Clone, Copy, PartialEq, Eq)]
+#[derive(Clone, Copy)]
 pub struct NotLoaded<'a> {
     /// The number of the line.
     pub number: u64,

@@ -1,7 +1,7 @@
 use std::alloc::Global;
 
 /// Why a text was not saved. Its reason is in the system's words, if there are such.
-#[derive(Clone, Copy, Debug, PartialEq, Eq)]
+#[derive(Clone, Copy)]
 pub enum SaveFault {
     /// There is a file of this name already; it is left as it is.
     Taken,
@@ -18,7 +18,7 @@ pub enum SaveFault {
 }
 
 /// Why a file was not read.
-#[derive(Clone, Copy, Debug, PartialEq, Eq)]
+#[derive(Clone, Copy)]
 pub enum LoadFault {
     /// It cannot be read, for this reason in the system's words, if there are such.
     Unread(Option<&'static str>),

@@ -1,5 +1,5 @@
 /// What stands at a place of a form, between blanks.
-#[derive(Clone, Copy, PartialEq, Eq)]
+#[derive(Clone, Copy)]
 pub enum Part {
     /// The name of a thread.
     Thread,
@@ -109,7 +109,7 @@ pub struct Form {
 }
 
 /// A form as it is told.
-#[derive(Clone, Copy, PartialEq, Eq)]
+#[derive(Clone, Copy)]
 pub struct Shape {
     /// What stands before a call, or nothing.
     pub front: &'static str,

@@ -8,7 +8,7 @@ use std::fmt;
 
 /// The first syntax error of a line that is no command. As a text it is what is wrong, the nearest word, or else what
 /// is allowed in its place, and the form that is wanted, as far as there are such.
-#[derive(Clone, Copy, PartialEq, Eq)]
+#[derive(Clone, Copy)]
 pub struct SyntaxError<'a> {
     /// What is wrong.
     pub wrong: Wrong,

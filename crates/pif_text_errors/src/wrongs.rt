@@ -4,7 +4,7 @@ use crate::tables::{HISTORY, KINDS, OF_MUTEXES, OF_THREADS, PROGRAM, RULES};
 use pif_text::Cause;
 
 /// Why a line has no place where it stands, though it is right by itself.
-#[derive(Clone, Copy, PartialEq, Eq)]
+#[derive(Clone, Copy)]
 pub enum Misplaced {
     /// Limits stand behind another line.
     Limits,
@@ -42,7 +42,7 @@ impl Misplaced {
 }
 
 /// What is wrong with a line that is no command of a script, no line of a history or none of a program.
-#[derive(Clone, Copy, PartialEq, Eq)]
+#[derive(Clone, Copy)]
 pub enum Wrong {
     /// The line is empty.
     Empty,
