@@ -30,11 +30,6 @@ impl Bar {
         }
     }
 
-    /// The thread that holds the mutex now.
-    fn owner_now(&self, core: &Core) -> Option<Tid> {
-        owner_of(core, self.mutex)
-    }
-
     /// Whether it is drawn in this place of the lane of a thread.
     fn takes(&self, owner: Tid, slot: u32) -> bool {
         self.owner == Some(owner) && self.slot == slot
@@ -43,7 +38,7 @@ impl Bar {
     /// Looks at who holds the mutex behind a command, and draws what was before if that changed. From now on it is
     /// drawn in this place.
     fn see(&mut self, core: &Core, slot: u32, moment: Moment, plan: &Plan, sheet: &mut Sheet) {
-        let owner = self.owner_now(core);
+        let owner = owner_of(core, self.mutex);
         let health = health_of(core, self.mutex);
         if owner != self.owner {
             self.close(moment, plan, sheet);
@@ -59,7 +54,7 @@ impl Bar {
 
     /// Looks at who holds the mutex behind a command, and draws nothing.
     fn follow(&mut self, core: &Core, slot: u32, moment: Moment) {
-        let owner = self.owner_now(core);
+        let owner = owner_of(core, self.mutex);
         let health = health_of(core, self.mutex);
         if owner != self.owner {
             self.hold(owner, health, slot, moment);
@@ -115,7 +110,7 @@ impl Bar {
     }
 
     /// Draws that a thread held the mutex up to a moment; nothing if nobody did.
-    fn close(&self, moment: Moment, plan: &Plan, sheet: &mut Sheet) {
+    pub fn close(&self, moment: Moment, plan: &Plan, sheet: &mut Sheet) {
         if let Some(owner) = self.owner {
             self.draw(owner, moment, plan, &mut sheet.bars);
         }
@@ -156,7 +151,7 @@ impl Bar {
 /// Looks at who holds the mutexes, and draws what changed.
 pub fn see_bars(bars: &mut [Bar], core: &Core, moment: Moment, plan: &Plan, sheet: &mut Sheet) {
     for place in 0..bars.len() {
-        let owner = bars[place].owner_now(core);
+        let owner = owner_of(core, bars[place].mutex);
         let slot = free_slot(bars, owner);
         bars[place].see(core, slot, moment, plan, sheet);
     }
@@ -165,7 +160,7 @@ pub fn see_bars(bars: &mut [Bar], core: &Core, moment: Moment, plan: &Plan, shee
 /// Looks at who holds the mutexes, and draws nothing.
 pub fn follow_bars(bars: &mut [Bar], core: &Core, moment: Moment) {
     for place in 0..bars.len() {
-        let owner = bars[place].owner_now(core);
+        let owner = owner_of(core, bars[place].mutex);
         let slot = free_slot(bars, owner);
         bars[place].follow(core, slot, moment);
     }
@@ -184,13 +179,6 @@ fn health_of(core: &Core, mutex: MutexId) -> Health {
         }
         (_, Some(health)) => health,
         _ => Health::Fine,
-    }
-}
-
-/// Draws who holds mutexes at the end.
-pub fn close_bars(bars: &[Bar], moment: Moment, plan: &Plan, sheet: &mut Sheet) {
-    for bar in bars {
-        bar.close(moment, plan, sheet);
     }
 }
 

@@ -148,13 +148,6 @@ pub fn follow_lanes(lanes: &mut [Lane], core: &Core, moment: Moment) {
     }
 }
 
-/// Draws what threads do at the end.
-pub fn close_lanes(lanes: &[Lane], moment: Moment, plan: &Plan, sheet: &mut Sheet) {
-    for lane in lanes {
-        lane.close(moment, plan, sheet);
-    }
-}
-
 /// Draws what a thread did from one moment to another.
 fn draw_band(thread: Tid, look: Look, since: Moment, until: Moment, plan: &Plan, out: &mut Page) {
     let width = plan.length(since.column, until.column);

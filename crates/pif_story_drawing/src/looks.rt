@@ -23,28 +23,18 @@ pub enum Look {
 
 /// What a thread does.
 pub fn look_of(core: &Core, thread: Tid) -> Look {
-    match core.status(thread) {
-        Some(status) => status_look(core, thread, status),
-        None => Look::Absent,
-    }
-}
-
-/// What a thread of this status does.
-fn status_look(core: &Core, thread: Tid, status: Status) -> Look {
+    let Some(status) = core.status(thread) else {
+        return Look::Absent;
+    };
     match status {
-        Status::Ready(_) => ready_look(core, thread),
+        Status::Ready(_) => match core.pick() {
+            Some(picked) if picked.get() == thread.get() => Look::Runs,
+            _ => Look::Ready,
+        },
         Status::Queued(mutex) => Look::Waits(mutex),
         Status::Parked(cond) => Look::Parked(cond),
         Status::Stopped => Look::Stopped,
         Status::Ended => Look::Ended,
-    }
-}
-
-/// What a thread does that may run.
-fn ready_look(core: &Core, thread: Tid) -> Look {
-    match core.pick() {
-        Some(picked) if picked.get() == thread.get() => Look::Runs,
-        _ => Look::Ready,
     }
 }
 

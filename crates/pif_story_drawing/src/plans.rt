@@ -13,8 +13,8 @@ use std::alloc::{AllocError, Global};
 
 /// Where the first column begins, if threads have no names.
 const LEFT: u32 = 48;
-/// Where the first lane begins.
-const TOP: u32 = 88;
+/// The top of all lanes.
+pub const TOP: u32 = 88;
 /// The width of a column.
 const COLUMN: u32 = 40;
 /// The most bars that one lane shows below each other.
@@ -117,8 +117,6 @@ impl Watch for Planner {
             Err(_) => self.failed = true,
         }
     }
-
-    fn end(&mut self, _core: &Core) {}
 }
 
 /// Counts the mutexes that each thread holds, and answers the most that one holds.
@@ -245,11 +243,6 @@ impl Plan {
     /// The top of a bar of a mutex that a thread holds.
     pub fn bar(&self, thread: Tid, slot: u32) -> u32 {
         self.below(thread, 60 + slot.min(MOST_SLOTS) * 12)
-    }
-
-    /// The top of all lanes.
-    pub fn top(&self) -> u32 {
-        TOP
     }
 
     /// Where the lanes end, and the commands begin.

@@ -11,9 +11,6 @@ use std::alloc::Global;
 pub trait Watch {
     /// Looks at the core behind a command.
     fn see(&mut self, row: &Row<'_>, core: &Core);
-
-    /// Looks at the core behind all commands.
-    fn end(&mut self, core: &Core);
 }
 
 /// Plays the commands of a story, by a core to which nothing was added, under the limits that the story begins with, or
@@ -51,7 +48,6 @@ fn play_rows<W: Watch, V: WatchSteps>(
             watch.see(&row, core);
         }
     }
-    watch.end(core);
 }
 
 /// The limits that a story begins with, or else those of scripts.

@@ -22,18 +22,15 @@ impl Row<'_> {
     /// The thread that acts; none if something is added or asked, or if the time goes on.
     pub fn actor(&self) -> Option<Tid> {
         match self.command {
-            Command::Event(event) => actor_of(event),
-            Command::Run(thread, _) => Some(thread),
-            Command::Limits(..) | Command::Add(_) | Command::Ask(_) => None,
+            Command::Event(Event::Begin(thread, _))
+            | Command::Event(Event::Go(thread))
+            | Command::Event(Event::End(thread))
+            | Command::Run(thread, _) => Some(thread),
+            Command::Event(Event::Tick(_))
+            | Command::Limits(..)
+            | Command::Add(_)
+            | Command::Ask(_) => None,
         }
-    }
-}
-
-/// The thread to which an event belongs.
-fn actor_of(event: Event) -> Option<Tid> {
-    match event {
-        Event::Begin(thread, _) | Event::Go(thread) | Event::End(thread) => Some(thread),
-        Event::Tick(_) => None,
     }
 }
 

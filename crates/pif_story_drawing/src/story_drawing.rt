@@ -1,10 +1,10 @@
 use crate::arrows::{draw_actor, write_line};
-use crate::bars::{Bar, close_bars, follow_bars, see_bars};
+use crate::bars::{Bar, follow_bars, see_bars};
 use crate::growing_text::Page;
 use crate::heads::write_drawing;
-use crate::lanes::{Lane, close_lanes, follow_lanes, see_lanes};
+use crate::lanes::{Lane, follow_lanes, see_lanes};
 use crate::looks::Look;
-use crate::plans::{Moment, Plan, plan_of};
+use crate::plans::{Moment, Plan, TOP, plan_of};
 use crate::plays::{Watch, play};
 use crate::rows::{Row, write_reply};
 use crate::sheets::Sheet;
@@ -71,9 +71,20 @@ impl Drawing {
         let count = rows.len();
         let mut half = Part::new(told, count, count, count.saturating_mul(2));
         play(alloc, rows, self, &mut half)?;
+        self.close();
         let mut page = Page::new(alloc);
         write_drawing(&self.plan, names, &self.sheet, &mut page);
         page.text()
+    }
+
+    /// Draws what goes on at the end.
+    fn close(&mut self) {
+        for lane in &self.lanes {
+            lane.close(self.now, &self.plan, &mut self.sheet);
+        }
+        for bar in &self.bars {
+            bar.close(self.now, &self.plan, &mut self.sheet);
+        }
     }
 
     /// Adds the lanes of the threads, of which none was added yet.
@@ -123,27 +134,21 @@ impl Watch for Drawing {
         draw_actor(row, self.now, &self.plan, &mut self.sheet.arrows);
         self.now.column = self.now.column.saturating_add(1);
     }
-
-    /// Draws what goes on at the end.
-    fn end(&mut self, _core: &Core) {
-        close_lanes(&self.lanes, self.now, &self.plan, &mut self.sheet);
-        close_bars(&self.bars, self.now, &self.plan, &mut self.sheet);
-    }
 }
 
 /// Draws where a command stands, and writes it below.
 fn draw_column(row: &Row<'_>, now: Moment, plan: &Plan, out: &mut Page) {
     let x = plan.x(now.column);
-    let (top, axis) = (plan.top(), plan.axis());
+    let axis = plan.axis();
     out.words("<g>");
     write_line(row, out);
     out.fill(
         "<path class=\"grid\" d=\"M{} {}V{}v6\"/><path class=\"reach\" d=\"M{} {}V{}\"/>",
-        &[x, top, axis, x, top, axis],
+        &[x, TOP, axis, x, TOP, axis],
     );
     out.fill(
         "<text class=\"line\" x=\"{}\" y=\"{}\">{}</text>",
-        &[x, top.saturating_sub(6), row.line],
+        &[x, TOP - 6, row.line],
     );
     out.fill(
         "<text class=\"words\" transform=\"translate({} {}) rotate(50)\">",
