@@ -22,8 +22,8 @@ pub fn is_among(threads: &[Tid], thread: Tid) -> bool
     is_number_among(threads, thread.get() as usize)
 }
 
-/// The thread whose line it is, if it is a thread's.
-fn thread_of(line: &Line) -> Option<Tid>
+/// The thread whose line it is; `None` if it is one of no thread.
+pub fn thread_of(line: &Line) -> Option<Tid>
     ensures { result ≡ thread_of line.now }
 {
     match *line {

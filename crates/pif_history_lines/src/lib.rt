@@ -23,7 +23,7 @@ mod untold;
 mod verdicts;
 mod wakeups;
 
-pub use dying::{are_same, dying_after, is_among, is_line_among, is_number_among};
+pub use dying::{are_same, dying_after, is_among, is_line_among, is_number_among, thread_of};
 pub use labels::{answers_of, labels_of, numbers_of, priorities_of};
 pub use later::Later;
 pub use leaving::{Leaving, Role};

@@ -7,6 +7,7 @@ ghost use Rattle.pif_history_told.specs.Why.{open_of, said_of};
 ghost use Rattle.pif_history_told.specs.WhyTexts.{began_text, known_text, unfound_line, unfound_text, why_text};
 
 use crate::verdicts::{Began, Known, Unfound};
+use pif_history_lines::thread_of;
 use pif_history_model::Line;
 use pif_history_text::{
     History, push_began, push_found, push_legal, push_possible, push_possible_undecided,
@@ -15,21 +16,6 @@ use pif_history_text::{
 use pif_text::{Text, append_number};
 use pif_types::{Request, Tid};
 use std::alloc::AllocError;
-
-/// The thread whose line it is, if it is one of a thread.
-fn thread_of(line: &Line) -> Option<Tid>
-    ensures { result ≡ thread_of line.now }
-{
-    match line {
-        Line::Begin(thread, _)
-        | Line::Answer(thread, _)
-        | Line::Dying(thread)
-        | Line::End(thread)
-        | Line::Rests(thread)
-        | Line::Prio(thread, _) => Some(*thread),
-        Line::Thread(_) | Line::Mutex(..) | Line::Cond(_) | Line::Tick(_) => None,
-    }
-}
 
 /// What a line says of the call of a thread.
 enum Says {

@@ -1,14 +1,10 @@
 //! Verdicts as lines of JSON. Each is appended to `out`; if out of memory, a part of it may be.
-ghost use Rattle.std.specs.Prelude.{◌≡◌, ◌++◌, OnOk, codes, decimal, drop, flat_map};
-ghost use Rattle.pif_text_model.specs.Replies.{text_of};
-ghost use Rattle.pif_history_text.specs.Verdicts.{line_refusal_word};
-ghost use Rattle.pif_text_json.specs.Json.{quoted};
+ghost use Rattle.std.specs.Prelude.{◌≡◌, ◌++◌, OnOk, codes, decimal, flat_map};
 ghost use Rattle.pif_history_told.specs.Verdicts.{at_line, at_number, began_member, found_at, found_member, illegal_end, illegal_front, illegal_object, known_member, left_out_member, legal_object, numbers_text, undecided_object};
 
 use pif_history_model::{Line, LineRefusal};
-use pif_history_text::line_text;
-use pif_model::Seen;
-use pif_text::{Added, Reply, Text, reply_text};
+use pif_history_text::{line_text, refusal_word};
+use pif_text::Text;
 use pif_text_json::{append_decimal, append_quoted};
 use pif_types::{Request, Tid};
 use std::alloc::AllocError;
@@ -73,36 +69,6 @@ fn append_at_line(number: u32, line: &Line, out: &mut Vec<u8>) -> Result<(), All
     append_quoted(out, text.as_slice())
 }
 
-/// What a command that is refused so is answered.
-#[tactic(auto, unfolding(pif_text_model::specs::Replies::text_of, pif_text_model::specs::Replies::added_text, pif_text_model::specs::Replies::seen_text))]
-fn reply_of(why: LineRefusal) -> Reply
-    ensures { text_of result ≡ codes "refused " ++ line_refusal_word why }
-{
-    match why {
-        LineRefusal::Addition(fault) => Reply::Added(Added::Refused(fault)),
-        LineRefusal::Event(refusal) => Reply::Seen(Seen::Refused(refusal)),
-    }
-}
-
-/// A text without its first eight bytes.
-fn behind_eight(text: &[u8]) -> &[u8]
-    ensures { result.now ≡ drop 8 text.now }
-{
-    if text.len() < 8 {
-        return &[];
-    }
-    &text[8..]
-}
-
-/// Appends the word for why no run has a line, as a string.
-fn append_why(why: LineRefusal, out: &mut Vec<u8>) -> Result<(), AllocError>
-    ensures { OnOk result (out.new.items ≡ out.old.items ++ quoted (line_refusal_word why)) }
-{
-    let mut text = Text::new();
-    reply_text(reply_of(why), &mut text);
-    append_quoted(out, behind_eight(text.as_slice()))
-}
-
 /// Appends numbers, each behind a comma.
 fn append_further(numbers: &[u32], out: &mut Vec<u8>) -> Result<(), AllocError>
     ensures { OnOk result (out.new.items ≡ out.old.items ++ flat_map (λ k. codes "," ++ decimal k) numbers.now) }
@@ -135,7 +101,7 @@ fn append_known(known: &Known, out: &mut Vec<u8>) -> Result<(), AllocError>
     match known {
         Known::Refused(why) => {
             out.extend_from_slice(b",\"refused\":")?;
-            append_why(*why, out)
+            append_quoted(out, refusal_word(*why))
         }
         Known::Numbers(Some(numbers)) => {
             out.extend_from_slice(b",\"possible\":[")?;
