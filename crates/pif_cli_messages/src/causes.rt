@@ -41,20 +41,6 @@ pub struct Given<'n, 's> {
     pub why: Option<&'static str>,
 }
 
-/// What a person is told of a fault of a job over an input of this name, `-` for the standard input. `notice` keeps the
-/// line that ended the job, if there is one. Of a story that is shown or traced, the line's number is not told.
-///
-/// There is no error, and nothing is written. What has no room in a message is left out.
-pub fn message_of(job: Job, name: &str, fault: JobFault, notice: &Notice) -> Message {
-    let given = Given {
-        job,
-        name,
-        kept: None,
-        why: None,
-    };
-    given.message(fault, notice)
-}
-
 /// Whether a job reads a story, and shows no line of it if its form is at fault.
 fn is_of_story(job: Job) -> bool {
     match job {
@@ -65,7 +51,10 @@ fn is_of_story(job: Job) -> bool {
 }
 
 impl<'n, 's> Given<'n, 's> {
-    /// What a person is told of a fault of the job. `notice` keeps the line that ended it, if there is one.
+    /// What a person is told of a fault of the job. `notice` keeps the line that ended it, if there is one. Of a story
+    /// that is shown or traced, the line's number is not told if its text was not kept.
+    ///
+    /// There is no error, and nothing is written. What has no room in a message is left out.
     pub fn message(&self, fault: JobFault, notice: &Notice) -> Message {
         match fault {
             JobFault::Cli(CliFault::Read) => unread_message(self.name, self.why),
@@ -111,8 +100,12 @@ impl<'n, 's> Given<'n, 's> {
         let mut message = Message::empty();
         let place = self.place_of_fault(number, cause);
         match (self.job, cause) {
-            (Job::Judge(_), _) => self.say_history_fault(&place, number, cause, &mut message),
-            (Job::Explore(_), _) => self.say_program_fault(&place, number, cause, &mut message),
+            (Job::Judge(_), _) => {
+                self.say_text_fault(&place, TextKind::History, number, cause, &mut message)
+            }
+            (Job::Explore(_), _) => {
+                self.say_text_fault(&place, TextKind::Program, number, cause, &mut message)
+            }
             (Job::Replay | Job::Migrate, Cause::Command) => {
                 no_traced(&place, number, notice, &mut message)
             }
@@ -122,11 +115,11 @@ impl<'n, 's> Given<'n, 's> {
                 say_line(&place, 1, size_of_drawing(self.story()), b"", &mut message)
             }
             (job, _) if is_of_story(job) => {
-                let column = column_of(cause, b"");
+                let column = column_of(MOST_LINE, cause, b"");
                 say_line(&place, column, cause_words(cause), b"", &mut message)
             }
             _ => {
-                let column = column_of(cause, notice.line());
+                let column = column_of(MOST_LINE, cause, notice.line());
                 say_line(
                     &place,
                     column,
@@ -139,33 +132,11 @@ impl<'n, 's> Given<'n, 's> {
         message
     }
 
-    /// Says why the line of this number is a fault of a history.
-    fn say_history_fault(
+    /// Says why the line of this number is a fault of a text of this kind: of a history, or of a program.
+    fn say_text_fault(
         &self,
         place: &Place<'_, '_>,
-        number: u64,
-        cause: Cause,
-        message: &mut Message,
-    ) {
-        let line = self.kept.and_then(|kept| kept.line(number));
-        match (cause, line) {
-            (Cause::Command | Cause::Limits, Some(line)) => {
-                say_wrong_line(place, TextKind::History, history_error(line), line, message)
-            }
-            _ => say_line(
-                place,
-                column_of(cause, b""),
-                history_cause(cause),
-                b"",
-                message,
-            ),
-        }
-    }
-
-    /// Says why the line of this number is a fault of a program.
-    fn say_program_fault(
-        &self,
-        place: &Place<'_, '_>,
+        kind: TextKind,
         number: u64,
         cause: Cause,
         message: &mut Message,
@@ -173,16 +144,16 @@ impl<'n, 's> Given<'n, 's> {
         let line = self.kept.and_then(|kept| kept.line(number));
         match (cause, self.kept, line) {
             (Cause::Command | Cause::Limits, Some(kept), Some(line)) => {
-                let syntax_error = program_error(kept.text, number, line, cause);
-                say_wrong_line(place, TextKind::Program, syntax_error, line, message)
+                let syntax_error = match kind {
+                    TextKind::Program => program_error(kept.text, number, line, cause),
+                    _ => history_error(line),
+                };
+                say_wrong_line(place, kind, syntax_error, line, message)
             }
-            _ => say_line(
-                place,
-                program_column(cause),
-                program_cause(cause),
-                b"",
-                message,
-            ),
+            _ => {
+                let column = column_of(most_bytes(kind), cause, b"");
+                say_line(place, column, cause_in(kind, cause), b"", message)
+            }
         }
     }
 
@@ -289,10 +260,19 @@ fn say_line(place: &Place<'_, '_>, column: usize, words: &str, line: &[u8], mess
     show_line(line, message);
 }
 
-/// In which column of a line a fault of this cause stands, which is none of a command.
-fn column_of(cause: Cause, line: &[u8]) -> usize {
+/// How many bytes a line of a text of this kind has at most.
+fn most_bytes(kind: TextKind) -> usize {
+    match kind {
+        TextKind::Program => 500,
+        _ => MOST_LINE,
+    }
+}
+
+/// In which column of a line a fault of this cause stands, which is none of a command. A line has so many bytes at
+/// most.
+fn column_of(most: usize, cause: Cause, line: &[u8]) -> usize {
     match cause {
-        Cause::Long => MOST_LINE + 1,
+        Cause::Long => most.saturating_add(1),
         Cause::Cut => line.len().saturating_add(1),
         _ => 1,
     }
@@ -309,31 +289,20 @@ fn undecided_words(job: Job) -> &'static str {
     }
 }
 
-/// In which column of a line a fault of this cause stands, of a program that is explored.
-fn program_column(cause: Cause) -> usize {
-    match cause {
-        Cause::Long => 501,
-        _ => 1,
-    }
-}
-
-/// The words of a cause, of a program that is explored.
-fn program_cause(cause: Cause) -> &'static str {
-    match cause {
-        Cause::Long => "the line has more than 500 bytes",
-        Cause::Limits => "there is no room left for it, or a number is out of its range",
-        Cause::Command =>
+/// The words of a cause, of a text of this kind: of a history, or of a program that is explored.
+fn cause_in(kind: TextKind, cause: Cause) -> &'static str {
+    match (kind, cause) {
+        (TextKind::Program, Cause::Long) => "the line has more than 500 bytes",
+        (TextKind::Program, Cause::Limits) => {
+            "there is no room left for it, or a number is out of its range"
+        }
+        (TextKind::Program, Cause::Command) =>
             "not a line of a program, or one that stands too late or twice, or names what is not there",
-        _ => cause_words(cause),
-    }
-}
-
-/// The words of a cause, of a history.
-fn history_cause(cause: Cause) -> &'static str {
-    match cause {
-        Cause::Size => "the input has more than 268435456 bytes",
-        Cause::Limits => "the number of recursion is 256 to 4294967295",
-        Cause::Command => "not a line of a history, or one that stands too late or twice",
+        (TextKind::History, Cause::Size) => "the input has more than 268435456 bytes",
+        (TextKind::History, Cause::Limits) => "the number of recursion is 256 to 4294967295",
+        (TextKind::History, Cause::Command) => {
+            "not a line of a history, or one that stands too late or twice"
+        }
         _ => cause_words(cause),
     }
 }
@@ -425,19 +394,12 @@ fn say_wrong_line(
 /// Says why a line of a story is no command there.
 fn no_row(place: &Place<'_, '_>, line: &[u8], message: &mut Message) {
     match wrong_mark(line) {
-        Some(words) => say_line(place, column_of_mark(line), words, line, message),
+        Some(words) => {
+            let mark = line.iter().position(|byte| *byte == b'=').unwrap_or(0);
+            say_line(place, mark.saturating_add(1), words, line, message)
+        }
         None => no_command(place, line, message),
     }
-}
-
-/// The column of the first `=` in a line.
-fn column_of_mark(line: &[u8]) -> usize {
-    for (place, byte) in line.iter().enumerate() {
-        if *byte == b'=' {
-            return place.saturating_add(1);
-        }
-    }
-    1
 }
 
 /// What is wrong with the `=` of a line of a story that is no command and has no ` = `, if there is one.

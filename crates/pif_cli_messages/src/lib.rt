@@ -20,7 +20,7 @@ mod progress;
 mod statuses;
 mod streams;
 
-pub use causes::{Given, Unwritten, message_of, plain_message, unread_message, unwritten_message};
+pub use causes::{Given, Unwritten, plain_message, unread_message, unwritten_message};
 pub use messages::Message;
 pub use notes::Notes;
 pub use progress::{Progress, Unwatched, WatchFiles, WatchJob};

@@ -1,6 +1,7 @@
 //! What a job reads and writes, and what has failed of it.
 
 use memchr::{memchr_iter, memrchr};
+use pif_text::without_return;
 use pif_text_errors::without_mark;
 use std::alloc::Global;
 use std::io;
@@ -48,10 +49,7 @@ impl<'s> Kept<'s> {
         } else {
             whole
         };
-        match line {
-            [before @ .., b'\r'] => Some(before),
-            _ => Some(line),
-        }
+        Some(without_return(line))
     }
 }
 

@@ -2,7 +2,7 @@
 
 use crate::marks::mark_of;
 use arrayvec::ArrayVec;
-use pif_cli_messages::{JobFault, Progress, WatchFiles, message_of};
+use pif_cli_messages::{Given, JobFault, Progress, WatchFiles};
 use pif_cli_words::Job;
 use pif_reach::Watch as WatchStates;
 use pif_script::{CliFault, Notice};
@@ -124,6 +124,12 @@ fn fault_of(text: &str) -> Option<JobFault> {
 /// Tells the errors of the fault of this name.
 pub fn tell_fault<E: Write>(text: &str, errors: &mut E) {
     if let Some(fault) = fault_of(text) {
-        message_of(Job::Run, "-", fault, &Notice::new()).tell(errors);
+        let given = Given {
+            job: Job::Run,
+            name: "-",
+            kept: None,
+            why: None,
+        };
+        given.message(fault, &Notice::new()).tell(errors);
     }
 }
