@@ -17,7 +17,7 @@ use pif_history::{
 use pif_history_lines::{Verdict, answers_of, labels_of, numbers_of, priorities_of};
 use pif_history_model::{HistoryLimits, Label, Line};
 use pif_rules_model::{Rules, no_rules};
-use pif_search::{Effort, Found, Stop, Unwatched, Watch, judge, possible, searches_all_steps};
+use pif_search::{Effort, Found, Stop, Watch, judge, possible, searches_all_steps};
 use pif_types::{Answer, Tid};
 use std::alloc::Global;
 
@@ -169,14 +169,15 @@ pub fn judge_allowing<W: Watch>(
     searched(alloc, rules, limits, lines, states, watch)
 }
 
-/// The candidates that can come behind these lines; none if the search gave up.
-fn next_labels(
+/// The candidates that can come behind these lines; none if the search gave up, or `watch` ended it.
+fn next_labels<W: Watch>(
     alloc: Global,
     rules: &Rules,
     limits: HistoryLimits,
     before: &[Line],
     candidates: &[Label],
     states: usize,
+    watch: &mut W,
 ) -> Result<Option<Vec<Label>>, Stop>
     requires { All (λ x. hides x ≡ false) candidates.now }
     ensures { IfOk result (λ o. IfSome o (λ v. AreNext (WideAdvances rules.now limits) hides (wide_start_of limits) (map (λ x. Shown x) before.now) candidates.now v.items)) }
@@ -192,34 +193,43 @@ fn next_labels(
         lines.as_slice(),
         candidates,
         states,
-        &mut Unwatched,
+        watch,
     )?;
     Ok(found)
 }
 
 /// The answers with which some run, with these rules, shows the lines before, oldest first, and then that the open call
 /// of the thread answered so: of 0 and the errors of calls all that are possible, rising. None if more than `states`
-/// states were made for one line: that says nothing.
+/// states were made for one line, or `watch` ended the search: that says nothing.
 ///
 /// # Errors
 ///
 /// As those of `judge_allowing`.
-pub fn possible_answers_allowing(
+pub fn possible_answers_allowing<W: Watch>(
     alloc: Global,
     rules: &Rules,
     limits: HistoryLimits,
     before: &[Line],
     thread: Tid,
     states: usize,
+    watch: &mut W,
 ) -> Result<Option<Vec<Answer>>, Stop>
     ensures { IfOk result (λ o. IfSome o (λ v. ArePossibleAnswersWith rules.now limits before.now thread v.items)) }
 {
     if are_none(rules) {
-        let plain = possible_answers(alloc, limits, before, thread, states)?;
+        let plain = possible_answers(alloc, limits, before, thread, states, watch)?;
         return Ok(plain);
     }
     let candidates = answers_of(alloc, thread)?;
-    match next_labels(alloc, rules, limits, before, candidates.as_slice(), states)? {
+    match next_labels(
+        alloc,
+        rules,
+        limits,
+        before,
+        candidates.as_slice(),
+        states,
+        watch,
+    )? {
         Some(labels) => Ok(Some(numbers_of(alloc, labels.as_slice())?)),
         None => Ok(None),
     }
@@ -227,27 +237,36 @@ pub fn possible_answers_allowing(
 
 /// The priorities with which some run, with these rules, shows the lines before, oldest first, and then that the thread
 /// has this effective priority: of 1 to 99 all that are possible, rising. None if more than `states` states were made for
-/// one line: that says nothing.
+/// one line, or `watch` ended the search: that says nothing.
 ///
 /// # Errors
 ///
 /// As those of `judge_allowing`.
-pub fn possible_priorities_allowing(
+pub fn possible_priorities_allowing<W: Watch>(
     alloc: Global,
     rules: &Rules,
     limits: HistoryLimits,
     before: &[Line],
     thread: Tid,
     states: usize,
+    watch: &mut W,
 ) -> Result<Option<Vec<u32>>, Stop>
     ensures { IfOk result (λ o. IfSome o (λ v. ArePossiblePrioritiesWith rules.now limits before.now thread v.items)) }
 {
     if are_none(rules) {
-        let plain = possible_priorities(alloc, limits, before, thread, states)?;
+        let plain = possible_priorities(alloc, limits, before, thread, states, watch)?;
         return Ok(plain);
     }
     let candidates = priorities_of(alloc, thread)?;
-    match next_labels(alloc, rules, limits, before, candidates.as_slice(), states)? {
+    match next_labels(
+        alloc,
+        rules,
+        limits,
+        before,
+        candidates.as_slice(),
+        states,
+        watch,
+    )? {
         Some(labels) => Ok(Some(numbers_of(alloc, labels.as_slice())?)),
         None => Ok(None),
     }

@@ -14,15 +14,6 @@ pub enum Form {
     Page,
 }
 
-/// How far searches came in a history.
-#[derive(Clone, Copy)]
-pub struct Reach {
-    /// For so many of its first lines a search found runs.
-    pub shown: usize,
-    /// Whether there is time to look what may stand in the next line.
-    pub looks: bool,
-}
-
 /// How a history is judged.
 #[derive(Clone, Copy)]
 pub struct Judging<'a> {

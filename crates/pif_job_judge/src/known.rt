@@ -10,15 +10,17 @@ use pif_history_model::Line;
 use pif_history_text::History;
 use pif_history_told::Known;
 use pif_script_model::CliFault;
+use pif_search::Watch;
 use std::alloc::Global;
 
 /// What is known of the line behind the first `before` lines of a history, if it isn't refused.
-fn numbers_of(
+fn numbers_of<V: Watch>(
     alloc: Global,
     states: usize,
     history: &History,
     before: usize,
     line: &Line,
+    watch: &mut V,
 ) -> Result<Known, CliFault>
     requires within { before ≤ vec_len history.now.shown }
     requires refused { IsRefusalThere (limits_of (heard_of history.now)) (take before history.now.shown.items) line.now None }
@@ -30,13 +32,13 @@ fn numbers_of(
     let rules = &history.allowed;
     match line {
         Line::Answer(thread, _) => match possible_answers_allowing(
-            alloc, rules, limits, lines, *thread, states,
+            alloc, rules, limits, lines, *thread, states, watch,
         ) {
             Ok(answers) => Ok(Known::Numbers(answers)),
             Err(_) => Err(CliFault::NoMemory),
         },
         Line::Prio(thread, _) => match possible_priorities_allowing(
-            alloc, rules, limits, lines, *thread, states,
+            alloc, rules, limits, lines, *thread, states, watch,
         ) {
             Ok(priorities) => Ok(Known::Numbers(priorities)),
             Err(_) => Err(CliFault::NoMemory),
@@ -45,17 +47,18 @@ fn numbers_of(
     }
 }
 
-/// What is known of the line behind the first `before` lines of a history.
+/// What is known of the line behind the first `before` lines of a history. `watch` may end the search for it.
 ///
 /// # Errors
 ///
 /// `NoMemory`.
-pub fn known_of(
+pub fn known_of<V: Watch>(
     alloc: Global,
     states: usize,
     history: &History,
     before: usize,
     line: &Line,
+    watch: &mut V,
 ) -> Result<Known, CliFault>
     requires { before ≤ vec_len history.now.shown }
     ensures known { IfOk result (IsKnown (heard_of history.now) before line.now) }
@@ -64,7 +67,7 @@ pub fn known_of(
     let lines = &history.shown.as_slice()[..before];
     match refusal(history.limits(), lines, line) {
         Ok(Some(why)) => Ok(Known::Refused(why)),
-        Ok(None) => numbers_of(alloc, states, history, before, line),
+        Ok(None) => numbers_of(alloc, states, history, before, line, watch),
         Err(_) => Err(CliFault::NoMemory),
     }
 }

@@ -6,7 +6,7 @@ ghost use Rattle.pif_history_text.specs.Reading.{IsPaired, heard_of};
 ghost use Rattle.pif_job_judge.specs.Lines.{AppendsLines, TellsIllegal, TellsLegal, TellsRun, TellsUndecided};
 
 use crate::faults::JudgeFault;
-use crate::forms::{Form, Judging, Reach};
+use crate::forms::{Form, Judging};
 use crate::known::known_of;
 use crate::unfound::unfound_at;
 use pif_history_lines::Verdict;
@@ -17,6 +17,7 @@ use pif_history_told::{
 };
 use pif_rules_model::Rules;
 use pif_script_model::CliFault;
+use pif_search::Watch;
 use std::alloc::Global;
 
 /// What is told of a run that shows a history, by the labels of its steps, newest first: nothing if that is not asked
@@ -62,12 +63,13 @@ fn tell_verdict_legal(
 }
 
 /// Appends what is told of a history whose nth line is the first up to which there is no run. Answers how that ends.
-fn tell_illegal(
+fn tell_illegal<V: Watch>(
     alloc: Global,
     asked: &Judging<'_>,
     history: &History,
     count: usize,
     out: &mut Vec<u8>,
+    watch: &mut V,
 ) -> Result<JudgeFault, CliFault>
     requires paired { IsPaired history.now }
     requires within { (1 ≤ count) × (count ≤ vec_len history.now.shown) }
@@ -76,7 +78,14 @@ fn tell_illegal(
 {
     let number = number_at(history, count);
     let line = line_at(history, count);
-    let known = known_of(alloc, asked.states as usize, history, count - 1, &line)?;
+    let known = known_of(
+        alloc,
+        asked.states as usize,
+        history,
+        count - 1,
+        &line,
+        watch,
+    )?;
     let began = began_before(history, count - 1, &line);
     match push_illegal(out, number, line) {
         Ok(()) => {}
@@ -88,22 +97,23 @@ fn tell_illegal(
     }
 }
 
-/// Appends what is told of a history whose search was given up at its nth line, if searches came so far. Answers how that
+/// Appends what is told of a history whose search was given up at its nth line, if searches found runs for so many lines. Answers how that
 /// ends.
-fn tell_undecided(
+fn tell_undecided<V: Watch>(
     alloc: Global,
     asked: &Judging<'_>,
     history: &History,
     count: usize,
-    reach: &Reach,
+    shown: usize,
     out: &mut Vec<u8>,
+    watch: &mut V,
 ) -> Result<JudgeFault, CliFault>
     requires within { (1 ≤ count) × (count ≤ vec_len history.now.numbers) }
     ensures told { IfOk result (TellsUndecided (heard_of history.now) count out.old.items out.new.items) }
     ensures failed { IfErr result (λ fault. fault ≡ CliFault.NoMemory) }
 {
     let number = number_at(history, count);
-    let unfound = unfound_at(alloc, asked.states as usize, history, count, reach)?;
+    let unfound = unfound_at(alloc, asked.states as usize, history, count, shown, watch)?;
     match push_undecided(out, number) {
         Ok(()) => {}
         Err(_) => return Err(CliFault::NoMemory),
@@ -114,18 +124,20 @@ fn tell_undecided(
     }
 }
 
-/// Appends what is told in lines of a history with this verdict, if searches came so far. Answers how that ends.
+/// Appends what is told in lines of a history with this verdict, if searches found runs for so many lines. `watch` may end what is looked
+/// for yet. Answers how that ends.
 ///
 /// # Errors
 ///
 /// `NoMemory`.
-pub fn tell_lines(
+pub fn tell_lines<V: Watch>(
     alloc: Global,
     asked: &Judging<'_>,
     history: &History,
     verdict: Verdict,
-    reach: &Reach,
+    shown: usize,
     out: &mut Vec<u8>,
+    watch: &mut V,
 ) -> Result<Result<(), JudgeFault>, CliFault>
     requires paired { IsPaired history.now }
     requires verdict { IsVerdictWith history.now.allowed (limits_of (heard_of history.now)) history.now.shown.items verdict }
@@ -143,12 +155,12 @@ pub fn tell_lines(
             Ok(()) => Ok(Ok(())),
             Err(fault) => Err(fault),
         },
-        Verdict::Illegal(count) => match tell_illegal(alloc, asked, history, count, out) {
+        Verdict::Illegal(count) => match tell_illegal(alloc, asked, history, count, out, watch) {
             Ok(end) => Ok(Err(end)),
             Err(fault) => Err(fault),
         },
         Verdict::Undecided(count) => {
-            match tell_undecided(alloc, asked, history, count, reach, out) {
+            match tell_undecided(alloc, asked, history, count, shown, out, watch) {
                 Ok(end) => Ok(Err(end)),
                 Err(fault) => Err(fault),
             }

@@ -8,7 +8,7 @@ ghost use Rattle.pif_history_text.specs.Reading.{IsPaired, heard_of};
 ghost use Rattle.pif_job_judge.specs.Objects.{AppendsBefore, AppendsObjects, AppendsSteps, began_with, left_out_of};
 
 use crate::faults::JudgeFault;
-use crate::forms::{Form, Judging, Reach};
+use crate::forms::{Form, Judging};
 use crate::known::known_of;
 use crate::unfound::unfound_at;
 use pif_allow::judge_allowing;
@@ -20,7 +20,7 @@ use pif_history_told::{
     line_at, number_at, run_text,
 };
 use pif_script_model::CliFault;
-use pif_search::Unwatched;
+use pif_search::{Unwatched, Watch};
 use std::alloc::Global;
 
 /// How many lines are left out of a run that shows so many, in this form.
@@ -136,12 +136,13 @@ fn append_legal_history(
 
 /// Appends what is told of a history whose nth line is the first up to which there is no run, and of a run that shows
 /// the lines before it. Answers how that ends.
-fn append_illegal_history(
+fn append_illegal_history<V: Watch>(
     alloc: Global,
     asked: &Judging<'_>,
     history: &History,
     count: usize,
     out: &mut Vec<u8>,
+    watch: &mut V,
 ) -> Result<JudgeFault, CliFault>
     requires paired { IsPaired history.now }
     requires verdict { IsVerdictWith history.now.allowed (limits_of (heard_of history.now)) history.now.shown.items (Illegal count) }
@@ -151,7 +152,7 @@ fn append_illegal_history(
     let states = asked.states as usize;
     let number = number_at(history, count);
     let line = line_at(history, count);
-    let known = known_of(alloc, states, history, count - 1, &line)?;
+    let known = known_of(alloc, states, history, count - 1, &line, watch)?;
     let began = began_with(&known, began_before(history, count - 1, &line));
     let left = left_out(asked.form, count - 1);
     match append_illegal(number, &line, &known, began, written(left)?, out) {
@@ -164,13 +165,14 @@ fn append_illegal_history(
 
 /// Appends what is told of a history that was given up at its nth line, and of a run that shows the lines before it, if
 /// searches came so far. Answers how that ends.
-fn append_undecided_history(
+fn append_undecided_history<V: Watch>(
     alloc: Global,
     asked: &Judging<'_>,
     history: &History,
     count: usize,
-    reach: &Reach,
+    shown: usize,
     out: &mut Vec<u8>,
+    watch: &mut V,
 ) -> Result<JudgeFault, CliFault>
     requires paired { IsPaired history.now }
     requires verdict { IsVerdictWith history.now.allowed (limits_of (heard_of history.now)) history.now.shown.items (Undecided count) }
@@ -179,7 +181,7 @@ fn append_undecided_history(
 {
     let number = number_at(history, count);
     let left = left_out(asked.form, count - 1);
-    let unfound = unfound_at(alloc, asked.states as usize, history, count, reach)?;
+    let unfound = unfound_at(alloc, asked.states as usize, history, count, shown, watch)?;
     match append_undecided(number, &unfound, written(left)?, out) {
         Ok(()) => {}
         Err(_) => return Err(CliFault::NoMemory),
@@ -188,18 +190,20 @@ fn append_undecided_history(
     Ok(JudgeFault::Undecided(u64::from(number)))
 }
 
-/// Appends what is told in lines of JSON of a history with this verdict, if searches came so far. Answers how that ends.
+/// Appends what is told in lines of JSON of a history with this verdict, if searches found runs for so many lines. `watch` may end what is
+/// looked for yet. Answers how that ends.
 ///
 /// # Errors
 ///
 /// `NoMemory`.
-pub fn tell_objects(
+pub fn tell_objects<V: Watch>(
     alloc: Global,
     asked: &Judging<'_>,
     history: &History,
     verdict: Verdict,
-    reach: &Reach,
+    shown: usize,
     out: &mut Vec<u8>,
+    watch: &mut V,
 ) -> Result<Result<(), JudgeFault>, CliFault>
     requires paired { IsPaired history.now }
     requires verdict { IsVerdictWith history.now.allowed (limits_of (heard_of history.now)) history.now.shown.items verdict }
@@ -212,11 +216,11 @@ pub fn tell_objects(
             Ok(Ok(()))
         }
         Verdict::Illegal(count) => {
-            let end = append_illegal_history(alloc, asked, history, count, out)?;
+            let end = append_illegal_history(alloc, asked, history, count, out, watch)?;
             Ok(Err(end))
         }
         Verdict::Undecided(count) => {
-            let end = append_undecided_history(alloc, asked, history, count, reach, out)?;
+            let end = append_undecided_history(alloc, asked, history, count, shown, out, watch)?;
             Ok(Err(end))
         }
     }

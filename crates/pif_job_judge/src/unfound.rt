@@ -2,7 +2,6 @@ ghost use Rattle.std.specs.Prelude.{◌≡◌, ◌≤◌, IfErr, IfOk, vec_len};
 ghost use Rattle.pif_history_text.specs.Reading.{heard_of};
 ghost use Rattle.pif_history_told.specs.Why.{IsUnfound};
 
-use crate::forms::Reach;
 use crate::judging::Numbered;
 use pif_allow::find_run_allowing;
 use pif_history_lines::{answers_of, numbers_of, priorities_of};
@@ -10,7 +9,7 @@ use pif_history_model::{Label, Line};
 use pif_history_text::History;
 use pif_history_told::{Unfound, number_at, unfound_of};
 use pif_script_model::CliFault;
-use pif_search::{Stop, Unwatched, Watch, push};
+use pif_search::{Stop, Watch, push};
 use std::alloc::Global;
 
 /// Looks for the first line up to which a guided search finds no run, by halving: `watch` has for how many lines searches
@@ -46,14 +45,15 @@ pub fn find_further<V: Watch>(
     Ok(())
 }
 
-/// Adds a candidate, if a search finds a run that shows these lines and then it.
-fn add_if_found(
+/// Adds a candidate, if a search finds a run that shows these lines and then it. `watch` may end the search.
+fn add_if_found<V: Watch>(
     alloc: Global,
     states: usize,
     history: &History,
     candidate: &Label,
     lines: &mut Vec<Line>,
     found: &mut Vec<Label>,
+    watch: &mut V,
 ) -> Result<(), Stop> {
     let line = match *candidate {
         Label::Shown(line) => line,
@@ -66,7 +66,7 @@ fn add_if_found(
         history.limits(),
         lines.as_slice(),
         states,
-        &mut Unwatched,
+        watch,
     )?;
     lines.pop();
     if run.is_some() {
@@ -75,22 +75,30 @@ fn add_if_found(
     Ok(())
 }
 
-/// The numbers of these candidates with which a search finds a run behind the first `before` lines of a history.
-fn found_among(
+/// The numbers of these candidates with which a search finds a run behind the first `before` lines of a history. `None`
+/// if `watch` ended a search.
+fn found_among<V: Watch>(
     alloc: Global,
     states: usize,
     history: &History,
     before: usize,
     candidates: &[Label],
-) -> Result<Vec<u32>, Stop>
+    watch: &mut V,
+) -> Result<Option<Vec<u32>>, Stop>
     requires { before ≤ vec_len history.now.shown }
 {
     let mut lines = Vec::from_slice(alloc, &history.shown.as_slice()[..before])?;
     let mut found = Vec::new(alloc);
     for candidate in candidates {
-        add_if_found(alloc, states, history, candidate, &mut lines, &mut found)?;
+        add_if_found(
+            alloc, states, history, candidate, &mut lines, &mut found, watch,
+        )?;
+        if !watch.goes_on() {
+            return Ok(None);
+        }
     }
-    numbers_of(alloc, found.as_slice())
+    let numbers = numbers_of(alloc, found.as_slice())?;
+    Ok(Some(numbers))
 }
 
 /// What may stand in a line as its answer or its priority; none if it has neither.
@@ -102,22 +110,21 @@ fn candidates_of(alloc: Global, line: &Line) -> Result<Option<Vec<Label>>, Stop>
     }
 }
 
-/// The answers or priorities with which a search finds a run up to a line of a history, the nth.
-fn found_at(
+/// The answers or priorities with which a search finds a run up to a line of a history, the nth. `None` if `watch` ended a
+/// search.
+fn found_at<V: Watch>(
     alloc: Global,
     states: usize,
     history: &History,
     place: usize,
+    watch: &mut V,
 ) -> Result<Option<Vec<u32>>, Stop> {
     if place == 0 || place > history.shown.len() {
         return Ok(None);
     }
     let before = place - 1;
     match candidates_of(alloc, &history.shown[before])? {
-        Some(labels) => {
-            let numbers = found_among(alloc, states, history, before, labels.as_slice())?;
-            Ok(Some(numbers))
-        }
+        Some(labels) => found_among(alloc, states, history, before, labels.as_slice(), watch),
         None => Ok(None),
     }
 }
@@ -128,26 +135,21 @@ fn found_at(
 /// # Errors
 ///
 /// `NoMemory`.
-pub fn unfound_at(
+pub fn unfound_at<V: Watch>(
     alloc: Global,
     states: usize,
     history: &History,
     count: usize,
-    reach: &Reach,
+    shown: usize,
+    watch: &mut V,
 ) -> Result<Unfound, CliFault>
     requires within { (1 ≤ count) × (count ≤ vec_len history.now.numbers) }
     ensures there { IfOk result (IsUnfound (heard_of history.now) count) }
     ensures failed { IfErr result (λ fault. fault ≡ CliFault.NoMemory) }
 {
-    let place = unfound_of(history, count, reach.shown);
+    let place = unfound_of(history, count, shown);
     let number = number_at(history, place);
-    if !reach.looks {
-        return Ok(Unfound {
-            number,
-            found: None,
-        });
-    }
-    match found_at(alloc, states, history, place) {
+    match found_at(alloc, states, history, place, watch) {
         Ok(found) => Ok(Unfound { number, found }),
         Err(_) => Err(CliFault::NoMemory),
     }

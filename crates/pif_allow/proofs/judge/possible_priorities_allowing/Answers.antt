@@ -7,18 +7,18 @@ use Rattle.pif_allow.proofs.Settling.{priorities_by, priorities_without}
 use Rattle.pif_allow.proofs.judge.possible_priorities_allowing.Goals as goal
 
 pub returns-then-are_none : goal.returns-then-are_none
-returns-then-are_none c =
+returns-then-are_none g c =
     if_some _ c.in_ok-plain.plain
     (λ v e. priorities_without c.args.rules.now c.args.limits c.args.before.now c.args.thread v.items
     (c.are_none.ensures c.if-are_none.true) (some_of _ c.in_ok-plain.plain v e c.in_ok-plain.ensures))
 
 pub returns-in-Some : goal.returns-in-Some
-returns-in-Some c =
+returns-in-Some g c =
     priorities_by c.args.rules.now c.args.limits c.args.before.now c.args.thread c.in-Some.labels.items _ _
     (c.as_slice.ensures.value ∙ c.in_ok-candidates.ensures)
     (c.in_ok-numbers_of-in-Some.ensures ∙ ap (λ (xs : List Label). numbers_in xs) c.as_slice-in-Some.ensures.value)
     (some_of _ c.in_ok-labels.field-0 c.in-Some.labels c.in-Some.is c.in_ok-labels.ensures)
 
 pub next_labels-requires : goal.next_labels-requires
-next_labels-requires c =
+next_labels-requires g c =
     rw (c.as_slice.ensures.value ∙ c.in_ok-candidates.ensures) (shown_by (λ (p : ℕ). Prio c.args.thread p) (up_to 99))

@@ -4,6 +4,6 @@ use Rattle.pif_job_judge.proofs.JudgingLemmas.{refused_there}
 use Rattle.pif_job_judge.proofs.known.known_of.Goals as goal
 
 pub returns-in-Ok-Some-clause-known : goal.returns-in-Ok-Some-clause-known
-returns-in-Ok-Some-clause-known c =
+returns-in-Ok-Some-clause-known g c =
     refused_there _ _ _ _ c.args.line.now c.in-Ok-Some.field-0 (Some c.in-Ok-Some.why) c.limits.ensures
     (ap (λ (ls : List Line). take c.args.before ls) c.as_slice.ensures.value) c.in-Ok-Some.field-0-is c.in-Ok-Some.ensures

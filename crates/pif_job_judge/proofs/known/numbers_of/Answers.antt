@@ -5,12 +5,12 @@ use Rattle.pif_job_judge.proofs.JudgingLemmas.{answers_known, priorities_known}
 use Rattle.pif_job_judge.proofs.known.numbers_of.Goals as goal
 
 pub returns-in-Ok-clause-known : goal.returns-in-Ok-clause-known
-returns-in-Ok-clause-known c =
+returns-in-Ok-clause-known g c =
     answers_known (heard_of c.args.history.now) c.args.before c.args.line.now c.in-Answer.thread c.in-Answer.field-1 _ _ c.in-Ok.answers
     c.in-Answer.is c.limits-limits.ensures (ap (λ (ls : List Line). take c.args.before ls) c.as_slice.ensures.value) c.requires.refused c.in-Ok.ensures
 
 pub returns-in-Ok-possible_priorities_allowing-clause-known : goal.returns-in-Ok-possible_priorities_allowing-clause-known
-returns-in-Ok-possible_priorities_allowing-clause-known c =
+returns-in-Ok-possible_priorities_allowing-clause-known g c =
     priorities_known (heard_of c.args.history.now) c.args.before c.args.line.now c.in-Prio.thread c.in-Prio.field-1 _ _ c.in-Ok-possible_priorities_allowing.priorities
     c.in-Prio.is c.limits-limits.ensures (ap (λ (ls : List Line). take c.args.before ls) c.as_slice.ensures.value) c.requires.refused
     c.in-Ok-possible_priorities_allowing.ensures

@@ -10,7 +10,7 @@ use Rattle.pif_job_judge.proofs.JudgingLemmas.{told_illegal, told_legal, told_un
 use Rattle.pif_job_judge.proofs.lines.tell_lines.Goals as goal
 
 pub returns-in-Ok-clause-told : goal.returns-in-Ok-clause-told
-returns-in-Ok-clause-told c =
+returns-in-Ok-clause-told g c =
     let form = c.args.asked.now.form in
     let h = heard_of c.args.history.now in
     let tells = c.in-Ok.ensures.told in
@@ -19,7 +19,7 @@ returns-in-Ok-clause-told c =
     (subst (λ (v : Verdict). TellsVerdict form h.allowed (limits_of h) v tells.0) (sym c.in-Legal.is) run) tells.2
 
 pub returns-in-Ok-tell_illegal-clause-told : goal.returns-in-Ok-tell_illegal-clause-told
-returns-in-Ok-tell_illegal-clause-told c =
+returns-in-Ok-tell_illegal-clause-told g c =
     let form = c.args.asked.now.form in
     let h = heard_of c.args.history.now in
     told_illegal form h c.in-Illegal.count c.args.out.now.items c.tell_illegal.new.out.items c.in-Ok-tell_illegal.end
@@ -27,7 +27,7 @@ returns-in-Ok-tell_illegal-clause-told c =
     c.in-Ok-tell_illegal.ensures.told
 
 pub returns-in-Ok-tell_undecided-clause-told : goal.returns-in-Ok-tell_undecided-clause-told
-returns-in-Ok-tell_undecided-clause-told c =
+returns-in-Ok-tell_undecided-clause-told g c =
     let form = c.args.asked.now.form in
     let h = heard_of c.args.history.now in
     told_undecided form h c.in-Undecided.count c.args.out.now.items c.tell_undecided.new.out.items c.in-Ok-tell_undecided.end
@@ -35,19 +35,19 @@ returns-in-Ok-tell_undecided-clause-told c =
     c.in-Ok-tell_undecided.ensures.told
 
 pub tell_illegal-requires-clause-within : goal.tell_illegal-requires-clause-within
-tell_illegal-requires-clause-within c =
+tell_illegal-requires-clause-within g c =
     let h = heard_of c.args.history.now in
     let v = subst (λ (v : Verdict). IsVerdictWith h.allowed (limits_of h) h.shown v) c.in-Illegal.is c.requires.verdict in
     (v.0, omega (arith, v.1, c.args.history.now.shown.ok.0))
 
 pub tell_undecided-requires : goal.tell_undecided-requires
-tell_undecided-requires c =
+tell_undecided-requires g c =
     let h = heard_of c.args.history.now in
     let v = subst (λ (v : Verdict). IsVerdictWith h.allowed (limits_of h) h.shown v) c.in-Undecided.is c.requires.verdict in
     record { within = (v.0, omega (arith, v.1, c.args.history.now.shown.ok.0, c.args.history.now.numbers.ok.0, c.requires.paired)) }
 
 pub tell_verdict_legal-requires : goal.tell_verdict_legal-requires
-tell_verdict_legal-requires c =
+tell_verdict_legal-requires g c =
     let h = heard_of c.args.history.now in
     let v = subst (λ (v : Verdict). IsVerdictWith h.allowed (limits_of h) h.shown v) c.in-Legal.is c.requires.verdict in
     record { run = subst (λ (ls : List Label). IsRun h.allowed (limits_of h) ls) (sym c.as_slice.ensures.value) (v.last, v.run) }

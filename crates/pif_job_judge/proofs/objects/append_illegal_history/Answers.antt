@@ -6,7 +6,7 @@ use Rattle.pif_job_judge.proofs.ObjectLemmas.{illegal_told}
 use Rattle.pif_job_judge.proofs.objects.append_illegal_history.Goals as goal
 
 pub returns-clause-told : goal.returns-clause-told
-returns-clause-told c =
+returns-clause-told g c =
     let known = c.in_ok-known.known in
     let call = c.began_with-began.ensures ∙ ap (λ (o : Option Began). began_with known o) c.began_before.ensures in
     rw c.from.ensures (illegal_told c.args.asked.now.form (heard_of c.args.history.now) c.args.count

@@ -3,7 +3,7 @@ use Rattle.pif_job_judge.proofs.ObjectLemmas.{undecided_told}
 use Rattle.pif_job_judge.proofs.objects.append_undecided_history.Goals as goal
 
 pub returns-clause-told : goal.returns-clause-told
-returns-clause-told c =
+returns-clause-told g c =
     rw c.from.ensures (undecided_told c.args.asked.now.form (heard_of c.args.history.now) c.args.count
     c.number_at-number.result c.in_ok-unfound.unfound c.left_out-left.result c.in_ok-written.field-0 c.args.out.now.items
     c.append_undecided.new.out.items c.append_before.new.out.items c.requires.verdict c.number_at-number.ensures
