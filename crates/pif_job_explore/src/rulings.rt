@@ -52,11 +52,11 @@ pub fn rulings(
 pub fn first_broken(rulings: &[Ruling]) -> Option<u32>
     ensures { result ≡ first_broken rulings.now }
 {
-    match rulings {
-        [] => None,
-        [first, rest @ ..] => match first.verdict {
-            Verdict::Broken(_) => Some(first.number),
-            Verdict::Kept | Verdict::Open => first_broken(rest),
-        },
+    for ruling in rulings {
+        match ruling.verdict {
+            Verdict::Broken(_) => return Some(ruling.number),
+            Verdict::Kept | Verdict::Open => {}
+        }
     }
+    None
 }

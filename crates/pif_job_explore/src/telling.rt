@@ -69,7 +69,7 @@ fn push_unfinished(out: &mut Vec<u8>, count: u32) -> Result<(), Stop>
     push_between(out, b"", u64::from(count), b" schedules were given up\n")
 }
 
-/// Appends how often a schedule came to an outcome that the machine lacks, if one did.
+/// Appends how many final states of schedules had an outcome that the machine lacks, if some had.
 fn push_others(out: &mut Vec<u8>, count: u32) -> Result<(), Stop>
     ensures { OnOk result (out.new.items ≡ out.old.items ++ others_told count) }
 {
@@ -80,7 +80,7 @@ fn push_others(out: &mut Vec<u8>, count: u32) -> Result<(), Stop>
         out,
         b"",
         u64::from(count),
-        b" schedules came to an outcome that is not told\n",
+        b" final states had an outcome that is not told\n",
     )
 }
 
