@@ -1,4 +1,4 @@
-ghost use Rattle.std.specs.Prelude.{◌≡◌, ◌+◌, ◌++◌, get_or, IfOk, OnOk};
+ghost use Rattle.std.specs.Prelude.{◌≡◌, ◌+◌, ◌++◌, IfOk, OnOk};
 ghost use Rattle.pif_history_told.specs.Runs.{comma_behind, line_object, move_object, rule_members, told_line, untold, with_line, with_move, with_step};
 
 use crate::changes::{Change, append_changes};
@@ -6,7 +6,7 @@ use pif_history_model::{Label, Line};
 use pif_history_text::line_text;
 use pif_posix::State;
 use pif_rules::{Rule, name_of};
-use pif_search::Stop;
+use pif_search::{Stop, at_or};
 use pif_text::Text;
 use pif_text_json::{append_bool, append_decimal, append_name, append_quoted};
 use pif_types::Tid;
@@ -50,17 +50,6 @@ pub struct Leap<'a> {
     pub from: &'a State,
     /// The state behind it.
     pub to: &'a State,
-}
-
-/// The number of the line at a place; 0 if there is none.
-fn number_at(numbers: &[u32], place: usize) -> u32
-    ensures { result ≡ get_or numbers.now place 0 }
-{
-    if place < numbers.len() {
-        numbers[place]
-    } else {
-        0
-    }
 }
 
 /// Appends a comma, unless there is nothing yet.
@@ -156,7 +145,7 @@ fn append_told(
         is_whole: (place - frame.from) % WHOLE_LINES == 0,
     };
     append_line(
-        number_at(frame.numbers, place),
+        at_or(frame.numbers, place, 0),
         line,
         moves,
         step.rule,
