@@ -1,7 +1,7 @@
 use pif_script_model::CliFault;
 
 /// Why a history was not found to be legal.
-#[derive(Clone, Copy, Debug, PartialEq, Eq)]
+#[derive(Clone, Copy)]
 pub enum JudgeFault {
     /// A fault as of scripts. `Differs` names the line, from 1, up to which there is no run.
     Cli(CliFault),

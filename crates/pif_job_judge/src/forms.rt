@@ -1,7 +1,7 @@
 use pif_rules_model::Rules;
 
 /// In which form a verdict on a history is told.
-#[derive(Clone, Copy, Debug, PartialEq, Eq)]
+#[derive(Clone, Copy)]
 pub enum Form {
     /// In lines for a person.
     Text,

@@ -1,5 +1,5 @@
 /// What a random script is made of.
-#[derive(Clone, Copy, Debug, PartialEq, Eq)]
+#[derive(Clone, Copy)]
 pub struct Shape {
     /// How many threads are added at first. One that ends, or that can't go on since all rest, is followed by another.
     pub threads: u32,
