@@ -1,7 +1,7 @@
 use pif_script_model::CliFault;
 
 /// Why a program was not found to keep its claims.
-#[derive(Clone, Copy, Debug, PartialEq, Eq)]
+#[derive(Clone, Copy)]
 pub enum ExploreFault {
     /// A fault as of scripts. `Differs` names the line, from 1, of the first claim that is broken.
     Cli(CliFault),
