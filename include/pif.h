@@ -33,7 +33,7 @@ extern "C" {
 #endif
 
 /* The version of this header, of libpif.a and libpif.so, and of pif.pc. Its first number is that of the file to which a
-   program is linked, libpif.so.1: while it stays, no program has to be built again for a new library. */
+   program is linked, libpif.so.1. */
 #define PIF_VERSION "1.0.0"
 
 /* A handle. Its fields are the library's. */
@@ -325,8 +325,8 @@ pif_text pif_check(const uint8_t *name, size_t name_length, const uint8_t *story
 
 /* Judges a history, and writes what `pif judge` prints: whether some run of the POSIX machine shows its lines. It gives
    up at a line for which it would make more than `states` states, as with --states; `pif judge` has 200000 without it,
-   and takes 1 to 16777216. Here any number may be given, and 0 allows no state. It also gives up at a broadcast that has
-   more than 65536 choices of whom it wakes, which are made at once. If `witness` is true, a run that shows a legal
+   and takes 1 to 16777216. Here any number may be given, and 0 allows no state. It also gives up at a broadcast that
+   has more than 65536 choices of whom it wakes, which are made at once. If `witness` is true, a run that shows a legal
    history is written after it, as with --witness. */
 pif_text pif_judge(const uint8_t *history, size_t history_length, uint32_t states, bool witness, uint8_t *room,
                    size_t room_length);

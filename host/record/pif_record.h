@@ -28,14 +28,17 @@
 
    A line has up to four numbers, each by %u. Its text stays where it is and isn't copied.
 
-   Call PIF_FORGET() only while every mutex is free, no call is open, each robust mutex is consistent, no thread is dying
-   or has ended, and each thread has the priority with which it was added. Else right answers may be judged illegal.
+   Call PIF_FORGET() only while every mutex is free, no call is open, each robust mutex is consistent, no thread is
+   dying or has ended, and each thread has the priority with which it was added. Else right answers may be judged
+   illegal.
    Without PIF_CLOCK() write the time again after it, by PIF_LINE("tick %u", time).
 
    If more lines than PIF_RECORD_LINES came since the last PIF_FORGET, the first of them are lost. So is a line over
-   which a thread wrote its own a whole round of the ring late. If more threads, mutexes and variables than
-   PIF_RECORD_ADDED (64) are added, the last of them are lost. Then the dump is no whole history: it says so in comments,
-   and answers how many lines are lost. Define other numbers before the header is included. */
+   which a thread wrote its own a whole round of the ring late. From the second round on a line that a stopped thread
+   hasn't written yet counts as lost, too. Lines that are missing at the end don't count: what stands before them is
+   whole. If more threads, mutexes and variables than PIF_RECORD_ADDED (64) are added, the last of them are lost. Then
+   the dump is no whole history: it says so in comments, and answers how many lines are lost. Define other numbers
+   before the header is included. */
 #ifndef PIF_RECORD_H
 #define PIF_RECORD_H
 
