@@ -110,7 +110,7 @@ Seen.__doc__ = "What became of an event: begun, went, waits, answer, ended, tick
 class Printed(str):
     """What a job prints. `ended` says how the job ended: whole, fault, differs or undecided."""
 
-    def __new__(cls, text, ended):
+    def __new__(cls, text, ended=None):
         printed = super().__new__(cls, text)
         printed.ended = ended
         return printed
@@ -348,7 +348,7 @@ def written(function, *arguments):
         if ended in ("out of memory", "unwritten"):
             raise MemoryError
         if told.wanted <= size:
-            return Printed(room.raw[:told.wanted].decode(), ended)
+            return Printed(room.raw[:told.wanted].decode(errors="backslashreplace"), ended)
         size = told.wanted
 
 

@@ -121,5 +121,5 @@ pub const OUT_OF_MEMORY: u32 = 3;
 pub const UNWRITTEN: u32 = 4;
 /// The text could not be read to its end.
 pub const UNREAD: u32 = 5;
-/// More states were made for a line than may be, and nothing is claimed.
+/// A search was given up at a line, and nothing is claimed.
 pub const UNDECIDED: u32 = 6;

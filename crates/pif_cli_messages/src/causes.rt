@@ -281,7 +281,7 @@ fn column_of(most: usize, cause: Cause, line: &[u8]) -> usize {
 /// What is said if not all was decided.
 fn undecided_words(job: Job) -> &'static str {
     match job {
-        Job::Explore(_) => "there are more states than may be kept",
+        Job::Explore(_) => "there are more states than may be kept or made at once",
         Job::Judge(asked) if asked.seconds.is_some() => {
             "too many states were made to decide it, or the time was over"
         }

@@ -347,7 +347,7 @@ Besides, it knows
   undo          takes the last command back; 'undo N' the last N of them
   redo          gives the command again that was taken back last
   save FILE     saves the commands with their answers as a story, in a new file;
-                'save! FILE' replaces what is there
+                'save! FILE' replaces a plain file
   load FILE     begins with the commands of a story or a script
   exit          ends, and so does 'quit'
 

@@ -11,7 +11,7 @@ use pif_history_machine::{HistoryMachine, Position, entry_of, is_seen};
 use pif_history_model::{HistoryLimits, Label, Line};
 use pif_history_scene::Scene;
 use pif_model::{Entry, Event};
-use pif_search::Stop;
+use pif_search::{Stop, unless_many};
 use pif_types::{Request, Tid};
 use std::alloc::Global;
 
@@ -104,7 +104,10 @@ pub(crate) fn switch(
     ensures { IfOk result (λ b. b ≡ true → Advances machine.now.limits position.old label.now position.new) }
 {
     let variable = used_by(&scene_of(position, later, line), label);
-    let mut positions = machine.behind(alloc, position, label)?;
+    let found = machine.behind(alloc, position, label);
+    let Some(mut positions) = unless_many(found)? else {
+        return Ok(false);
+    };
     let place = best_of(later, positions.as_slice(), line, variable);
     if place >= positions.len() {
         return Ok(false);

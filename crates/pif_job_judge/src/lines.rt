@@ -97,8 +97,8 @@ fn tell_illegal<V: Watch>(
     }
 }
 
-/// Appends what is told of a history whose search was given up at its nth line, if searches found runs for so many lines. Answers how that
-/// ends.
+/// Appends what is told of a history whose search was given up at its nth line, if searches found runs for so many
+/// lines. Answers how that ends.
 fn tell_undecided<V: Watch>(
     alloc: Global,
     asked: &Judging<'_>,
@@ -124,8 +124,8 @@ fn tell_undecided<V: Watch>(
     }
 }
 
-/// Appends what is told in lines of a history with this verdict, if searches found runs for so many lines. `watch` may end what is looked
-/// for yet. Answers how that ends.
+/// Appends what is told in lines of a history with this verdict, if searches found runs for so many lines. `watch` may
+/// end what is looked for yet. Answers how that ends.
 ///
 /// # Errors
 ///

@@ -190,8 +190,8 @@ fn append_undecided_history<V: Watch>(
     Ok(JudgeFault::Undecided(u64::from(number)))
 }
 
-/// Appends what is told in lines of JSON of a history with this verdict, if searches found runs for so many lines. `watch` may end what is
-/// looked for yet. Answers how that ends.
+/// Appends what is told in lines of JSON of a history with this verdict, if searches found runs for so many lines.
+/// `watch` may end what is looked for yet. Answers how that ends.
 ///
 /// # Errors
 ///

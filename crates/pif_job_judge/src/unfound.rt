@@ -110,8 +110,8 @@ fn candidates_of(alloc: Global, line: &Line) -> Result<Option<Vec<Label>>, Stop>
     }
 }
 
-/// The answers or priorities with which a search finds a run up to a line of a history, the nth. `None` if `watch` ended a
-/// search.
+/// The answers or priorities with which a search finds a run up to a line of a history, the nth. `None` if `watch` ended
+/// a search.
 fn found_at<V: Watch>(
     alloc: Global,
     states: usize,

@@ -152,7 +152,7 @@ fn name_wanted(form: &str) -> Remark {
     remark
 }
 
-/// What is said if a session is to be saved where it is kept, in the story of this name, which is removed at its end.
+/// What is said if a session is to be saved into the story in which it is kept. That one is removed at its end.
 fn other_name_wanted(kept: &str) -> Remark {
     let mut remark = Remark::new();
     remark.say("the shell keeps the session in ");

@@ -50,7 +50,7 @@ impl Keeper {
             }
             Err((_, SaveFault::Taken)) => {
                 remark.say(
-                    "the session is not kept: pif-shell-1.story to pif-shell-9.story are there",
+                    "the session is not kept: no name from pif-shell-1.story to pif-shell-9.story is free",
                 );
             }
             Err((name, why)) => {

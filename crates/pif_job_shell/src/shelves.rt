@@ -9,9 +9,9 @@ pub enum SaveFault {
     TakenBeside,
     /// What has this name is no plain file, but a folder, a link or a device.
     NoPlainFile,
-    /// The file cannot be made.
+    /// The file cannot be looked at or made, or the new one can't take its place.
     Refused(Option<&'static str>),
-    /// The file was made, and a write failed: it was removed.
+    /// The file was made, and its mode or its text could not be set: it was removed.
     Cut(Option<&'static str>),
     /// A growth of memory was refused.
     NoMemory,
@@ -35,16 +35,16 @@ pub trait Shelf {
     /// Why the text was not saved. A file that was there before is left as it is, and else there is none.
     fn save(&self, name: &str, text: &[u8]) -> Result<(), SaveFault>;
 
-    /// Puts this text into the plain file of this name, which keeps its mode, and is made if it is not there. It is written
-    /// beside the file first, under its name with `.new` after it.
+    /// Puts this text into the plain file of this name, which keeps its mode, and is made if it is not there. It is
+    /// written beside the file first, under its name with `.new` after it.
     ///
     /// # Errors
     ///
     /// Why the text was not saved. What was there before is left as it is.
     fn replace(&self, alloc: Global, name: &str, text: &[u8]) -> Result<(), SaveFault>;
 
-    /// Whether there is a file already of this name with `.new` after it, so that `replace` can write none. If that can't
-    /// be found out, there is none.
+    /// Whether there is a file already of this name with `.new` after it, so that `replace` can write none. If that
+    /// can't be found out, there is none.
     fn is_taken_beside(&self, alloc: Global, name: &str) -> bool;
 
     /// The text of the file of this name, or its first 16,777,217 bytes.
