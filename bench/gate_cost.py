@@ -313,4 +313,5 @@ def main():
     return 1 if measurement.failed else 0
 
 
-sys.exit(main())
+if __name__ == "__main__":
+    sys.exit(main())
