@@ -24,8 +24,8 @@ ghost use Rattle.pif_kernel_model.specs.Owners.{task_at, waits_on, WaitsFor, wit
 ghost use Rattle.pif_kernel_model.specs.Boosts.{IsThread, base_of, local_of, greatest_base, with_effective, IsRepaired, IsRepairedBut, IsNext, joins, level_after_walk};
 
 use crate::propagate::{PLACES, priority_of, propagate_all};
-use crate::rt_mutexes::RtMutexes;
 use pif_nodes::NodeTable;
+use pif_plain_rtmutex::RtMutexes;
 use pif_runq::RunQueue;
 use pif_types::{Prio, Tid};
 

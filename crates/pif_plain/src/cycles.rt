@@ -2,7 +2,7 @@ ghost use Rattle.std.specs.Prelude.{◌↔◌, IsTrue};
 ghost use Rattle.pif_model.specs.Graph.{Reaches};
 ghost use Rattle.pif_kernel_model.specs.Owners.{WaitsFor};
 
-use crate::rt_mutexes::RtMutexes;
+use pif_plain_rtmutex::RtMutexes;
 use pif_types::Tid;
 
 /// Whether a wait of the thread `t` for the thread `owner` would close a cycle: whether `owner` is `t`, or waits for it

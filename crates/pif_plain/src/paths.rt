@@ -2,8 +2,8 @@ ghost use Rattle.std.specs.Prelude.{◌≡◌, ℕ, ◌<◌, length, unwrap_or};
 ghost use Rattle.pif_model.specs.Graph.{IsPath};
 ghost use Rattle.pif_kernel_model.specs.Owners.{waits_for};
 
-use crate::rt_mutexes::RtMutexes;
 use arrayvec::ArrayVec;
+use pif_plain_rtmutex::RtMutexes;
 use pif_types::Tid;
 
 /// The threads from `start` on along whom each waits for, in order: `start`, the owner of the state on which it is

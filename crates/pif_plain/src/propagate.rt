@@ -2,7 +2,7 @@ ghost use Rattle.std.specs.Prelude.{◌≡◌, ℕ, ◌<◌, max, length, get_or
 ghost use Rattle.pif_kernel_model.specs.Owners.{waits_for};
 ghost use Rattle.pif_kernel_model.specs.Boosts.{greatest_base, priority_at, after_propagation};
 
-use crate::rt_mutexes::RtMutexes;
+use pif_plain_rtmutex::RtMutexes;
 use pif_types::{Prio, Tid};
 
 /// How many places a table by the number of a thread has: one for number 0, and one for each of at most 1,024 threads.

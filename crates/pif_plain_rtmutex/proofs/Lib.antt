@@ -1,0 +1,4 @@
+pub mod StateFieldsLemmas
+pub mod TopLemmas
+pub mod BehindLemmas
+pub mod PriorityLemmas
