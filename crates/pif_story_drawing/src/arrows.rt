@@ -38,17 +38,15 @@ pub fn draw_hand_over(
     );
 }
 
-/// Draws that the thread which acts by a command signalled this one; nothing if it is the same, as behind a deadline.
+/// Draws that the thread which acts by a command signalled this one, which wakes or moves to the waiters of its mutex;
+/// nothing if it is the same, as behind a deadline.
 pub fn draw_signal(row: &Row<'_>, parked: Tid, moment: Moment, plan: &Plan, out: &mut Page) {
-    if let Some(actor) = row.actor() {
-        if actor.get() != parked.get() {
-            draw_signalled(actor, parked, moment, plan, out);
-        }
+    let Some(actor) = row.actor() else {
+        return;
+    };
+    if actor.get() == parked.get() {
+        return;
     }
-}
-
-/// Draws that a thread signalled another, which wakes or moves to the waiters of its mutex.
-fn draw_signalled(actor: Tid, parked: Tid, moment: Moment, plan: &Plan, out: &mut Page) {
     let x = plan.x(moment.column).saturating_add(7);
     let start = plan.band(actor).saturating_add(7);
     let end = plan.band(parked).saturating_add(7);
@@ -80,15 +78,12 @@ fn draw_shaft(class: &str, x: u32, start: u32, end: u32, out: &mut Page) {
 
 /// Draws which thread acts by a command; nothing if none does, or one that is never added.
 pub fn draw_actor(row: &Row<'_>, moment: Moment, plan: &Plan, out: &mut Page) {
-    if let Some(actor) = row.actor() {
-        if actor.get() <= plan.threads {
-            draw_act(actor, row, moment, plan, out);
-        }
+    let Some(actor) = row.actor() else {
+        return;
+    };
+    if actor.get() > plan.threads {
+        return;
     }
-}
-
-/// Draws that this thread acts by a command.
-fn draw_act(actor: Tid, row: &Row<'_>, moment: Moment, plan: &Plan, out: &mut Page) {
     out.fill(
         "<circle class=\"actor\" cx=\"{}\" cy=\"{}\" r=\"4\">",
         &[plan.x(moment.column), plan.band(actor).saturating_add(7)],

@@ -30,41 +30,20 @@ impl Bar {
         }
     }
 
-    /// Whether it is drawn in this place of the lane of a thread.
-    fn takes(&self, owner: Tid, slot: u32) -> bool {
-        self.owner == Some(owner) && self.slot == slot
-    }
-
-    /// Looks at who holds the mutex behind a command, and draws what was before if that changed. From now on it is
-    /// drawn in this place.
+    /// Looks at who holds the mutex behind a command, and if the sheet is open, draws what was before if that changed.
+    /// In the lane of a new owner it is drawn in this place.
     fn see(&mut self, core: &Core, slot: u32, moment: Moment, plan: &Plan, sheet: &mut Sheet) {
         let owner = owner_of(core, self.mutex);
         let health = health_of(core, self.mutex);
-        if owner != self.owner {
+        if owner == self.owner && health == self.health {
+            return;
+        }
+        let slot = if owner == self.owner { self.slot } else { slot };
+        if sheet.is_open {
             self.close(moment, plan, sheet);
             self.draw_given(owner, slot, moment, plan, &mut sheet.arrows);
             self.draw_loss(health, moment, plan, &mut sheet.arrows);
-            self.hold(owner, health, slot, moment);
-        } else if health != self.health {
-            self.close(moment, plan, sheet);
-            self.draw_loss(health, moment, plan, &mut sheet.arrows);
-            self.hold(owner, health, self.slot, moment);
         }
-    }
-
-    /// Looks at who holds the mutex behind a command, and draws nothing.
-    fn follow(&mut self, core: &Core, slot: u32, moment: Moment) {
-        let owner = owner_of(core, self.mutex);
-        let health = health_of(core, self.mutex);
-        if owner != self.owner {
-            self.hold(owner, health, slot, moment);
-        } else if health != self.health {
-            self.hold(owner, health, self.slot, moment);
-        }
-    }
-
-    /// From now on this thread holds the mutex, or nobody does, and it has this health.
-    fn hold(&mut self, owner: Option<Tid>, health: Health, slot: u32, moment: Moment) {
         self.owner = owner;
         self.health = health;
         self.since = moment;
@@ -92,8 +71,8 @@ impl Bar {
         }
     }
 
-    /// Draws that the thread that held the mutex gave it to this one, which must be another. Nothing is drawn if nobody
-    /// held it, or nobody does now.
+    /// Draws that the thread that held the mutex gave it to this one. Nothing is drawn if it is the same, if nobody held
+    /// the mutex, or if nobody does now.
     fn draw_given(
         &self,
         owner: Option<Tid>,
@@ -103,22 +82,20 @@ impl Bar {
         out: &mut Page,
     ) {
         if let (Some(from), Some(to)) = (self.owner, owner) {
-            let start = plan.bar(from, self.slot);
-            let end = plan.bar(to, slot);
-            draw_hand_over(self.mutex, (from, start), (to, end), moment, plan, out);
+            if from.get() != to.get() {
+                let start = plan.bar(from, self.slot);
+                let end = plan.bar(to, slot);
+                draw_hand_over(self.mutex, (from, start), (to, end), moment, plan, out);
+            }
         }
     }
 
     /// Draws that a thread held the mutex up to a moment; nothing if nobody did.
-    pub fn close(&self, moment: Moment, plan: &Plan, sheet: &mut Sheet) {
-        if let Some(owner) = self.owner {
-            self.draw(owner, moment, plan, &mut sheet.bars);
-        }
-    }
-
-    /// Draws that this thread held the mutex up to a moment.
-    fn draw(&self, owner: Tid, until: Moment, plan: &Plan, out: &mut Page) {
-        let (mutex, since) = (self.mutex.get(), self.since);
+    pub fn close(&self, until: Moment, plan: &Plan, sheet: &mut Sheet) {
+        let Some(owner) = self.owner else {
+            return;
+        };
+        let (mutex, since, out) = (self.mutex.get(), self.since, &mut sheet.bars);
         let width = plan.length(since.column, until.column);
         out.fill(
             "<g class=\"h{}\" transform=\"translate({} {})\">",
@@ -148,21 +125,12 @@ impl Bar {
     }
 }
 
-/// Looks at who holds the mutexes, and draws what changed.
+/// Looks at who holds the mutexes, and if the sheet is open, draws what changed.
 pub fn see_bars(bars: &mut [Bar], core: &Core, moment: Moment, plan: &Plan, sheet: &mut Sheet) {
     for place in 0..bars.len() {
         let owner = owner_of(core, bars[place].mutex);
         let slot = free_slot(bars, owner);
         bars[place].see(core, slot, moment, plan, sheet);
-    }
-}
-
-/// Looks at who holds the mutexes, and draws nothing.
-pub fn follow_bars(bars: &mut [Bar], core: &Core, moment: Moment) {
-    for place in 0..bars.len() {
-        let owner = owner_of(core, bars[place].mutex);
-        let slot = free_slot(bars, owner);
-        bars[place].follow(core, slot, moment);
     }
 }
 
@@ -188,7 +156,10 @@ fn free_slot(bars: &[Bar], owner: Option<Tid>) -> u32 {
         return 0;
     };
     for slot in 0..MOST_SLOTS {
-        if !bars.iter().any(|bar| bar.takes(owner, slot)) {
+        let is_taken = bars
+            .iter()
+            .any(|bar| bar.owner == Some(owner) && bar.slot == slot);
+        if !is_taken {
             return slot;
         }
     }

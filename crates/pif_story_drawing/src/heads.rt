@@ -15,7 +15,11 @@ pub fn write_drawing(plan: &Plan, names: &[u8], sheet: &Sheet, out: &mut Page) {
     out.words(STYLE);
     out.words("<rect class=\"page\" width=\"100%\" height=\"100%\"/>\n");
     out.words(LEGEND);
-    write_lanes(plan, names, out);
+    for number in 1..=plan.threads {
+        if let Some(thread) = Tid::new(number) {
+            write_lane(thread, plan, names, out);
+        }
+    }
     write_names(plan, out);
     out.copy(&sheet.columns);
     out.copy(&sheet.bands);
@@ -37,15 +41,6 @@ fn write_head(plan: &Plan, out: &mut Page) {
         "<title>Threads: {}; mutexes: {}; commands: {}</title>\n",
         &[plan.threads, plan.mutexes, plan.columns],
     );
-}
-
-/// Draws the lanes of all threads, with their names.
-fn write_lanes(plan: &Plan, names: &[u8], out: &mut Page) {
-    for number in 1..=plan.threads {
-        if let Some(thread) = Tid::new(number) {
-            write_lane(thread, plan, names, out);
-        }
-    }
 }
 
 /// Draws the lane of a thread, with its name.
@@ -85,15 +80,23 @@ fn write_name(thread: Tid, plan: &Plan, names: &[u8], out: &mut Page) {
     }
 }
 
-/// Writes the names of the lanes again above some of the columns, if there are many columns.
+/// Writes the names of the lanes again above each 24th column behind the first, if there are so many columns.
 fn write_names(plan: &Plan, out: &mut Page) {
     let repeats = plan.columns.saturating_sub(1) / REPEAT;
-    if repeats > 0 {
-        out.words("<defs><g id=\"names\">");
-        write_small_names(plan, out);
-        out.words("</g></defs>");
-        repeat_names(repeats, plan, out);
+    if repeats == 0 {
+        return;
     }
+    out.words("<defs><g id=\"names\">");
+    write_small_names(plan, out);
+    out.words("</g></defs>");
+    for place in 1..=repeats {
+        let columns = place.saturating_mul(REPEAT);
+        out.fill(
+            "<use href=\"#names\" x=\"{}\"/>",
+            &[plan.length(0, columns)],
+        );
+    }
+    out.words("\n");
 }
 
 /// Writes the names of the lanes as they stand above the first column.
@@ -110,16 +113,4 @@ fn write_small_names(plan: &Plan, out: &mut Page) {
             );
         }
     }
-}
-
-/// Shows the names so many times, above each 24th column behind the first.
-fn repeat_names(repeats: u32, plan: &Plan, out: &mut Page) {
-    for place in 1..=repeats {
-        let columns = place.saturating_mul(REPEAT);
-        out.fill(
-            "<use href=\"#names\" x=\"{}\"/>",
-            &[plan.length(0, columns)],
-        );
-    }
-    out.words("\n");
 }

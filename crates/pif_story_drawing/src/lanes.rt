@@ -30,7 +30,8 @@ impl Lane {
         }
     }
 
-    /// Looks at the thread behind a command, and draws what it did before if it does something else now.
+    /// Looks at the thread behind a command, and if the sheet is open, draws what it did before if it does something
+    /// else now.
     pub fn see(
         &mut self,
         row: &Row<'_>,
@@ -41,29 +42,19 @@ impl Lane {
     ) {
         let look = look_of(core, self.thread);
         if look != self.look {
-            self.end_look(moment, plan, sheet);
-            self.draw_turn(&look, row, moment, plan, sheet);
+            if sheet.is_open {
+                self.end_look(moment, plan, sheet);
+                self.draw_turn(&look, row, moment, plan, sheet);
+            }
             self.look = look;
             self.look_since = moment;
         }
         let level = level_of(core, self.thread);
         if level != self.level {
-            self.end_level(moment, plan, sheet);
-            self.draw_step(level, moment, plan, sheet);
-            self.level = level;
-            self.level_since = moment;
-        }
-    }
-
-    /// Looks at the thread behind a command, and draws nothing.
-    fn follow(&mut self, core: &Core, moment: Moment) {
-        let look = look_of(core, self.thread);
-        if look != self.look {
-            self.look = look;
-            self.look_since = moment;
-        }
-        let level = level_of(core, self.thread);
-        if level != self.level {
+            if sheet.is_open {
+                self.end_level(moment, plan, sheet);
+                self.draw_step(level, moment, plan, sheet);
+            }
             self.level = level;
             self.level_since = moment;
         }
@@ -75,18 +66,28 @@ impl Lane {
         self.end_level(moment, plan, sheet);
     }
 
-    /// Draws what the thread did up to a moment, its priorities aside.
-    fn end_look(&self, moment: Moment, plan: &Plan, sheet: &mut Sheet) {
-        if self.look.has_band() {
-            draw_band(
-                self.thread,
-                self.look,
-                self.look_since,
-                moment,
-                plan,
-                &mut sheet.bands,
-            );
+    /// Draws what the thread did up to a moment, its priorities aside; nothing if it was not added yet, or has ended.
+    fn end_look(&self, until: Moment, plan: &Plan, sheet: &mut Sheet) {
+        let (thread, since, out) = (self.thread, self.look_since, &mut sheet.bands);
+        match self.look {
+            Look::Absent | Look::Ended => return,
+            Look::Waits(mutex) => out.fill("<g class=\"h{}\"", &[hue(mutex)]),
+            _ => out.words("<g"),
         }
+        let width = plan.length(since.column, until.column);
+        out.fill(
+            " transform=\"translate({} {})\"><title>t{}: ",
+            &[plan.x(since.column), plan.band(thread), thread.get()],
+        );
+        self.look.write(true, out);
+        out.fill(", lines {} to {}</title>", &[since.line, until.line]);
+        out.words("<rect class=\"");
+        out.words(self.look.class());
+        out.fill("\" width=\"{}\" height=\"15\"/><text class=\"on-", &[width]);
+        out.words(self.look.class());
+        out.words("\" x=\"8\" y=\"11\">");
+        self.look.write(width >= 80, out);
+        out.words("</text></g>\n");
     }
 
     /// Draws the priorities of the thread up to a moment.
@@ -124,54 +125,6 @@ impl Lane {
         if let (Some(before), Some(after)) = (self.level, level) {
             draw_change(self.thread, before, after, moment, plan, &mut sheet.levels);
         }
-    }
-}
-
-/// Looks at all threads behind a command, and draws what changed.
-pub fn see_lanes(
-    lanes: &mut [Lane],
-    row: &Row<'_>,
-    core: &Core,
-    moment: Moment,
-    plan: &Plan,
-    sheet: &mut Sheet,
-) {
-    for place in 0..lanes.len() {
-        lanes[place].see(row, core, moment, plan, sheet);
-    }
-}
-
-/// Looks at all threads behind a command, and draws nothing.
-pub fn follow_lanes(lanes: &mut [Lane], core: &Core, moment: Moment) {
-    for place in 0..lanes.len() {
-        lanes[place].follow(core, moment);
-    }
-}
-
-/// Draws what a thread did from one moment to another.
-fn draw_band(thread: Tid, look: Look, since: Moment, until: Moment, plan: &Plan, out: &mut Page) {
-    let width = plan.length(since.column, until.column);
-    open_band(&look, out);
-    out.fill(
-        " transform=\"translate({} {})\"><title>t{}: ",
-        &[plan.x(since.column), plan.band(thread), thread.get()],
-    );
-    look.write(true, out);
-    out.fill(", lines {} to {}</title>", &[since.line, until.line]);
-    out.words("<rect class=\"");
-    out.words(look.class());
-    out.fill("\" width=\"{}\" height=\"15\"/><text class=\"on-", &[width]);
-    out.words(look.class());
-    out.words("\" x=\"8\" y=\"11\">");
-    look.write(width >= 80, out);
-    out.words("</text></g>\n");
-}
-
-/// Begins a band, in the hue of the mutex for which a thread waits.
-fn open_band(look: &Look, out: &mut Page) {
-    match look {
-        Look::Waits(mutex) => out.fill("<g class=\"h{}\"", &[hue(*mutex)]),
-        _ => out.words("<g"),
     }
 }
 

@@ -52,11 +52,6 @@ impl Look {
         }
     }
 
-    /// Whether it is drawn as a band.
-    pub fn has_band(&self) -> bool {
-        !matches!(self, Look::Absent | Look::Ended)
-    }
-
     /// Writes it in words, or if there is little room only the name of what the thread waits for.
     pub fn write(&self, is_wide: bool, out: &mut Page) {
         match self {

@@ -66,7 +66,13 @@ pub fn plan_of<V: WatchSteps>(
         counts: Vec::new(alloc),
         failed: false,
     };
-    let mut plan = planner.make(alloc, rows, told)?;
+    let count = rows.len();
+    let mut half = Part::new(told, 0, count, count.saturating_mul(2));
+    play(alloc, rows, &mut planner, &mut half)?;
+    if planner.failed {
+        return Err(NoMemory);
+    }
+    let mut plan = planner.plan;
     plan.left = left_of(names, plan.threads);
     Ok(plan)
 }
@@ -82,25 +88,6 @@ struct Planner {
     failed: bool,
 }
 
-impl Planner {
-    /// Plays the commands of a story, and makes the plan.
-    fn make<V: WatchSteps>(
-        &mut self,
-        alloc: Global,
-        rows: &[AnsweredRow<'_>],
-        told: &mut V,
-    ) -> Result<Plan, NoMemory> {
-        let count = rows.len();
-        let mut half = Part::new(told, 0, count, count.saturating_mul(2));
-        play(alloc, rows, self, &mut half)?;
-        if self.failed {
-            Err(NoMemory)
-        } else {
-            Ok(self.plan)
-        }
-    }
-}
-
 impl Watch for Planner {
     fn see(&mut self, row: &Row<'_>, core: &Core) {
         if self.span.is_before(row.line) {
@@ -112,24 +99,19 @@ impl Watch for Planner {
         self.plan.take_priority(row);
         self.plan.threads = core.threads();
         self.plan.mutexes = core.mutexes();
-        match count_held(core, &mut self.counts) {
+        match most_held(core, &mut self.counts) {
             Ok(most) => self.plan.held = self.plan.held.max(most),
             Err(_) => self.failed = true,
         }
     }
 }
 
-/// Counts the mutexes that each thread holds, and answers the most that one holds.
-fn count_held(core: &Core, counts: &mut Vec<u32>) -> Result<u32, AllocError> {
+/// The most mutexes that one thread holds. `counts` is for counting those of each.
+fn most_held(core: &Core, counts: &mut Vec<u32>) -> Result<u32, AllocError> {
     counts.clear();
     for _thread in 0..core.threads() {
         counts.push(0)?;
     }
-    Ok(most_held(core, counts))
-}
-
-/// The most mutexes that one thread holds; adds those of each to `counts`, which are 0.
-fn most_held(core: &Core, counts: &mut [u32]) -> u32 {
     let mut most = 0;
     for number in 1..=core.mutexes() {
         if let Some(place) = owner_place(core, number) {
@@ -139,7 +121,7 @@ fn most_held(core: &Core, counts: &mut [u32]) -> u32 {
             }
         }
     }
-    most
+    Ok(most)
 }
 
 /// The place, from 0, of the thread that holds the mutex of this number.

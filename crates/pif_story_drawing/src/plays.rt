@@ -25,29 +25,17 @@ pub fn play<W: Watch, V: WatchSteps>(
     watch: &mut W,
     told: &mut V,
 ) -> Result<(), NoMemory> {
-    match Core::new(alloc, limits_of(rows)) {
-        Ok(mut core) => {
-            play_rows(&mut core, rows, watch, told);
-            Ok(())
-        }
-        Err(_) => Err(NoMemory),
-    }
-}
-
-/// Plays the commands of a story.
-fn play_rows<W: Watch, V: WatchSteps>(
-    core: &mut Core,
-    rows: &[AnsweredRow<'_>],
-    watch: &mut W,
-    told: &mut V,
-) {
+    let Ok(mut core) = Core::new(alloc, limits_of(rows)) else {
+        return Err(NoMemory);
+    };
     for (place, answered) in rows.iter().enumerate() {
         told.step(place, rows.len());
         if let Some(row) = row_of(answered) {
-            let _reply = obey(core, row.command);
-            watch.see(&row, core);
+            let _reply = obey(&mut core, row.command);
+            watch.see(&row, &core);
         }
     }
+    Ok(())
 }
 
 /// The limits that a story begins with, or else those of scripts.

@@ -4,6 +4,8 @@ use std::alloc::Global;
 /// What was drawn, by layers: what comes later stands above.
 #[derive(Drop)]
 pub struct Sheet {
+    /// Whether what changes is drawn.
+    pub is_open: bool,
     /// The columns with their commands.
     pub columns: Page,
     /// What threads do.
@@ -17,9 +19,10 @@ pub struct Sheet {
 }
 
 impl Sheet {
-    /// A sheet on which nothing was drawn.
+    /// A sheet on which nothing was drawn, and nothing is yet.
     pub fn new(alloc: Global) -> Sheet {
         Sheet {
+            is_open: false,
             columns: Page::new(alloc),
             bands: Page::new(alloc),
             bars: Page::new(alloc),

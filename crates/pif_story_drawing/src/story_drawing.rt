@@ -1,8 +1,8 @@
 use crate::arrows::{draw_actor, write_line};
-use crate::bars::{Bar, follow_bars, see_bars};
+use crate::bars::{Bar, see_bars};
 use crate::growing_text::Page;
 use crate::heads::write_drawing;
-use crate::lanes::{Lane, follow_lanes, see_lanes};
+use crate::lanes::Lane;
 use crate::looks::Look;
 use crate::plans::{Moment, Plan, TOP, plan_of};
 use crate::plays::{Watch, play};
@@ -40,23 +40,18 @@ pub fn drawing_of<V: WatchSteps>(
     told: &mut V,
 ) -> Result<String, NoMemory> {
     let plan = plan_of(alloc, span, names, rows, told)?;
-    let mut drawing = Drawing::new(alloc, *span, plan);
+    let mut drawing = Drawing {
+        span: *span,
+        plan,
+        lanes: Vec::new(alloc),
+        bars: Vec::new(alloc),
+        sheet: Sheet::new(alloc),
+        now: Moment { column: 0, line: 1 },
+    };
     drawing.draw(alloc, names, rows, told)
 }
 
 impl Drawing {
-    /// A drawing of nothing yet.
-    fn new(alloc: Global, span: Span, plan: Plan) -> Drawing {
-        Drawing {
-            span,
-            plan,
-            lanes: Vec::new(alloc),
-            bars: Vec::new(alloc),
-            sheet: Sheet::new(alloc),
-            now: Moment { column: 0, line: 1 },
-        }
-    }
-
     /// Plays the commands of a story, and draws them, in the second half of the steps.
     fn draw<V: WatchSteps>(
         &mut self,
@@ -71,20 +66,15 @@ impl Drawing {
         let count = rows.len();
         let mut half = Part::new(told, count, count, count.saturating_mul(2));
         play(alloc, rows, self, &mut half)?;
-        self.close();
-        let mut page = Page::new(alloc);
-        write_drawing(&self.plan, names, &self.sheet, &mut page);
-        page.text()
-    }
-
-    /// Draws what goes on at the end.
-    fn close(&mut self) {
         for lane in &self.lanes {
             lane.close(self.now, &self.plan, &mut self.sheet);
         }
         for bar in &self.bars {
             bar.close(self.now, &self.plan, &mut self.sheet);
         }
+        let mut page = Page::new(alloc);
+        write_drawing(&self.plan, names, &self.sheet, &mut page);
+        page.text()
     }
 
     /// Adds the lanes of the threads, of which none was added yet.
@@ -116,23 +106,18 @@ impl Watch for Drawing {
             return;
         }
         self.now.line = row.line;
-        if !self.span.has(row.line) {
-            follow_lanes(&mut self.lanes, core, self.now);
-            follow_bars(&mut self.bars, core, self.now);
-            return;
+        self.sheet.is_open = self.span.has(row.line);
+        if self.sheet.is_open {
+            draw_column(row, self.now, &self.plan, &mut self.sheet.columns);
         }
-        draw_column(row, self.now, &self.plan, &mut self.sheet.columns);
-        see_lanes(
-            &mut self.lanes,
-            row,
-            core,
-            self.now,
-            &self.plan,
-            &mut self.sheet,
-        );
+        for lane in self.lanes.iter_mut() {
+            lane.see(row, core, self.now, &self.plan, &mut self.sheet);
+        }
         see_bars(&mut self.bars, core, self.now, &self.plan, &mut self.sheet);
-        draw_actor(row, self.now, &self.plan, &mut self.sheet.arrows);
-        self.now.column = self.now.column.saturating_add(1);
+        if self.sheet.is_open {
+            draw_actor(row, self.now, &self.plan, &mut self.sheet.arrows);
+            self.now.column = self.now.column.saturating_add(1);
+        }
     }
 }
 
