@@ -4,7 +4,7 @@ ghost use Rattle.pif_text_model.specs.Extends.{Stays};
 use crate::helps::help_of;
 use crate::keeping::Keeper;
 use crate::loads::load;
-use crate::notes::{note_on, note_on_line};
+use crate::notes::note_on;
 use crate::remarks::{
     Remark, not_redone_words, say_not_undone, say_refusal, say_unsaved, too_many,
 };
@@ -13,7 +13,7 @@ use crate::shelves::Shelf;
 use crate::stories::story_of;
 use crate::telling::{reply_line, tell, tell_if, tell_words, write_text};
 use crate::wishes::{Wish, count_of, name_of, wish_of};
-use pif_text::{Command, Text, command_text};
+use pif_text::{Command, Reply, Text, command_text};
 use pif_text_core::{Unwritten, write_state};
 use std::alloc::Global;
 use std::io::Write;
@@ -29,13 +29,6 @@ pub enum Done {
     Saved,
     /// The person leaves.
     Leaves,
-}
-
-/// Writes the help on a word.
-fn help<W: Write>(word: &[u8], writer: &mut W) -> Result<(), Unwritten>
-    ensures { Stays (W.contents writer.old) (W.contents writer.new) }
-{
-    write_text(help_of(word).as_bytes(), writer)
 }
 
 /// The names of threads, of which a session knows none.
@@ -88,6 +81,20 @@ fn undo(alloc: Global, session: &mut Session, count: &[u8]) -> (Remark, Done) {
     }
 }
 
+/// Writes what the last command of a session is answered, and what it names that isn't there.
+fn tell_reply<W: Write>(
+    alloc: Global,
+    session: &Session,
+    reply: Reply,
+    writer: &mut W,
+) -> Result<(), Unwritten>
+    ensures { Stays (W.contents writer.old) (W.contents writer.new) }
+{
+    let answered = reply;
+    write_text(reply_line(reply).as_slice(), writer)?;
+    tell_if(note_on(alloc, session, answered), writer)
+}
+
 /// Gives the command again that was taken back last, and writes it and its answer.
 fn redo<W: Write>(alloc: Global, session: &mut Session, writer: &mut W) -> Result<Done, Unwritten>
     ensures { Stays (W.contents writer.old) (W.contents writer.new) }
@@ -95,13 +102,10 @@ fn redo<W: Write>(alloc: Global, session: &mut Session, writer: &mut W) -> Resul
     match session.redo(alloc) {
         Ok((command, reply)) => {
             let mut remark = Remark::new();
-            let again = command;
             remark.say("again: ");
             say_command(command, &mut remark);
             tell(remark, writer)?;
-            let answered = reply;
-            write_text(reply_line(reply).as_slice(), writer)?;
-            tell_if(note_on(alloc, session, again, answered), writer)?;
+            tell_reply(alloc, session, reply, writer)?;
             Ok(Done::Changed)
         }
         Err(why) => {
@@ -229,9 +233,7 @@ fn play<W: Write>(
 {
     match session.take(alloc, line) {
         Ok(reply) => {
-            let answered = reply;
-            write_text(reply_line(reply).as_slice(), writer)?;
-            tell_if(note_on_line(alloc, session, line, answered), writer)?;
+            tell_reply(alloc, session, reply, writer)?;
             Ok(Done::Changed)
         }
         Err(refusal) => {
@@ -240,23 +242,6 @@ fn play<W: Write>(
             tell(remark, writer)?;
             Ok(Done::Nothing)
         }
-    }
-}
-
-/// Writes what is to be said of what was done.
-fn tell_done<W: Write>(said: (Remark, Done), writer: &mut W) -> Result<Done, Unwritten>
-    ensures { Stays (W.contents writer.old) (W.contents writer.new) }
-{
-    let (remark, done) = said;
-    tell(remark, writer)?;
-    Ok(done)
-}
-
-/// Nothing was done but what was written.
-pub fn nothing(written: Result<(), Unwritten>) -> Result<Done, Unwritten> {
-    match written {
-        Ok(()) => Ok(Done::Nothing),
-        Err(why) => Err(why),
     }
 }
 
@@ -271,17 +256,25 @@ pub fn obey<S: Shelf, W: Write>(
 ) -> Result<Done, Unwritten>
     ensures { Stays (W.contents writer.old) (W.contents writer.new) }
 {
-    match wish_of(line) {
-        Wish::Nothing => Ok(Done::Nothing),
-        Wish::Help(word) => nothing(help(word, writer)),
-        Wish::State => nothing(show_state(session, writer)),
-        Wish::Undo(count) => tell_done(undo(alloc, session, count), writer),
-        Wish::Redo => redo(alloc, session, writer),
-        Wish::Save(name) => tell_done(save(alloc, shelf, (session, keeper), name, false), writer),
-        Wish::Replace(name) => tell_done(save(alloc, shelf, (session, keeper), name, true), writer),
-        Wish::Load(name) => tell_done(begin_with(alloc, shelf, session, name), writer),
-        Wish::Leave => Ok(Done::Leaves),
-        Wish::More(word) => nothing(tell(too_many(word), writer)),
-        Wish::Line(line) => play(alloc, session, line, writer),
-    }
+    let (said, done) = match wish_of(line) {
+        Wish::Nothing => return Ok(Done::Nothing),
+        Wish::Leave => return Ok(Done::Leaves),
+        Wish::Help(word) => {
+            write_text(help_of(word).as_bytes(), writer)?;
+            return Ok(Done::Nothing);
+        }
+        Wish::State => {
+            show_state(session, writer)?;
+            return Ok(Done::Nothing);
+        }
+        Wish::Redo => return redo(alloc, session, writer),
+        Wish::Line(line) => return play(alloc, session, line, writer),
+        Wish::Undo(count) => undo(alloc, session, count),
+        Wish::Save(name) => save(alloc, shelf, (session, keeper), name, false),
+        Wish::Replace(name) => save(alloc, shelf, (session, keeper), name, true),
+        Wish::Load(name) => begin_with(alloc, shelf, session, name),
+        Wish::More(word) => (too_many(word), Done::Nothing),
+    };
+    tell(said, writer)?;
+    Ok(done)
 }

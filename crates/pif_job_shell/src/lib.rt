@@ -7,7 +7,7 @@
 //! | `lines` | the lines of an input, one after the other |
 //! | `wishes` | what a line asks of a shell |
 //! | `remarks` | what a shell says: syntax errors, and why a command is not accepted or not taken back |
-//! | `helps`, `answers` | the help on each word |
+//! | `helps` | the help on each word |
 //! | `stories`, `shelves` | the session as a story, and where it is saved |
 //! | `loads` | a session with the commands of a story |
 //! | `notes` | what is said of a command that names what isn't there |
@@ -16,7 +16,6 @@
 //! | `shells` | the talk: line by line, to the end of the input |
 #![tactic(auto)]
 
-mod answers;
 mod deeds;
 mod helps;
 mod keeping;

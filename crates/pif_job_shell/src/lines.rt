@@ -13,7 +13,7 @@ const CHUNK: usize = 4096;
 pub struct Unread;
 
 /// What was found where a line may stand.
-#[derive(Clone, Copy, PartialEq, Eq)]
+#[derive(Clone, Copy)]
 pub enum Found {
     /// Nothing: the input has ended behind the last line.
     Nothing,
@@ -84,29 +84,20 @@ impl Lines {
             let byte = self.chunk[place];
             self.from = place + 1;
             if byte == b'\n' {
-                self.end_line();
+                // A line may be empty.
+                if matches!(self.found, Found::Nothing) {
+                    self.found = Found::Line;
+                }
                 return true;
             }
-            self.take_byte(byte);
+            if self.line.is_full() {
+                self.found = Found::Long;
+            } else {
+                self.line.push(byte);
+                self.found = Found::Line;
+            }
         }
         false
-    }
-
-    /// Takes a byte of a line.
-    fn take_byte(&mut self, byte: u8) {
-        if self.line.is_full() {
-            self.found = Found::Long;
-        } else {
-            self.line.push(byte);
-            self.found = Found::Line;
-        }
-    }
-
-    /// A line has ended, which may be empty.
-    fn end_line(&mut self) {
-        if self.found == Found::Nothing {
-            self.found = Found::Line;
-        }
     }
 
     /// Reads a chunk. Answers whether the input goes on.

@@ -3,7 +3,7 @@
 use crate::remarks::Remark;
 use crate::sessions::Session;
 use pif_story::{Known, append_missing, noted};
-use pif_text::{Command, Reply, Text, reply_text};
+use pif_text::{Reply, Text, reply_text};
 use std::alloc::Global;
 
 /// How many threads, mutexes and condition variables a session has.
@@ -21,7 +21,8 @@ fn known_to(session: &Session) -> Known {
 /// What is said of the last command of a session, which was answered so, if it names what nobody has, or a priority that
 /// is out of range. Such a command has changed nothing, so the session has what it had before. Nothing is said if memory
 /// is refused.
-pub fn note_on(alloc: Global, session: &Session, command: Command, reply: Reply) -> Option<Remark> {
+pub fn note_on(alloc: Global, session: &Session, reply: Reply) -> Option<Remark> {
+    let command = *session.last()?;
     let mut given = Text::new();
     reply_text(reply, &mut given);
     let missing = noted(&known_to(session), command, given.as_slice())?;
@@ -32,12 +33,4 @@ pub fn note_on(alloc: Global, session: &Session, command: Command, reply: Reply)
     let mut remark = Remark::new();
     remark.show(text.as_slice());
     Some(remark)
-}
-
-/// The same of the command of a line.
-pub fn note_on_line(alloc: Global, session: &Session, line: &[u8], reply: Reply) -> Option<Remark> {
-    match pif_text_errors::read_command(line) {
-        Ok(command) => note_on(alloc, session, command, reply),
-        Err(_) => None,
-    }
 }

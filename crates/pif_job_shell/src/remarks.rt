@@ -83,28 +83,16 @@ fn near_of(syntax_error: &SyntaxError<'_>) -> Option<&'static str> {
     }
 }
 
-/// Says why a line is no command: the column, what is wrong, the nearest word and the form of the command, if there are
-/// such.
-fn say_syntax_error(syntax_error: &SyntaxError<'_>, remark: &mut Remark) {
-    remark.say("column ");
-    remark.number(syntax_error.column as u64);
-    remark.say(": ");
-    say_wrong(syntax_error, remark);
-}
-
-/// What is wrong with a line of the shell. Here a line may be a comment, as in a history.
-fn wrong_here(wrong: Wrong) -> Wrong {
-    match wrong {
-        Wrong::Comment => Wrong::CommentBehind,
-        _ => wrong,
-    }
-}
-
-/// Says what is wrong with a line, as `run` does, and that `help` names the commands.
+/// Says what is wrong with a line, as `run` does, with the nearest word and the form of the command, if there are such,
+/// and that `help` names the commands. Here a line may be a comment, as in a history.
 fn say_wrong(syntax_error: &SyntaxError<'_>, remark: &mut Remark) {
     let near = near_of(syntax_error);
+    let wrong = match syntax_error.wrong {
+        Wrong::Comment => Wrong::CommentBehind,
+        wrong => wrong,
+    };
     let told = SyntaxError {
-        wrong: wrong_here(syntax_error.wrong),
+        wrong,
         near,
         ..*syntax_error
     };
@@ -123,10 +111,15 @@ fn unplayed_words(why: Unplayed) -> &'static str {
     }
 }
 
-/// Says why a line is not accepted.
+/// Says why a line is not accepted, of one that is no command with the column.
 pub fn say_refusal(refusal: &Refusal<'_>, remark: &mut Remark) {
     match refusal {
-        Refusal::SyntaxError(syntax_error) => say_syntax_error(syntax_error, remark),
+        Refusal::SyntaxError(syntax_error) => {
+            remark.say("column ");
+            remark.number(syntax_error.column as u64);
+            remark.say(": ");
+            say_wrong(syntax_error, remark);
+        }
         Refusal::Unplayed(why) => remark.say(unplayed_words(*why)),
     }
 }

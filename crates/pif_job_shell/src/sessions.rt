@@ -218,6 +218,11 @@ impl Session {
         self.commands.get(self.standing)
     }
 
+    /// The last command, if there is one.
+    pub fn last(&self) -> Option<&Command> {
+        self.commands.get(self.standing.checked_sub(1)?)
+    }
+
     /// The core behind the commands, or `None` before the first.
     pub fn core(&self) -> Option<&Core>
         ensures { option_copied result ≡ self.now.core }

@@ -1,7 +1,7 @@
 ghost use Rattle.pif_text_model.specs.Extends.{Stays};
 ghost use Rattle.pif_job_shell.specs.Talks.{PartsTo, TalksTo, TurnsTo};
 
-use crate::deeds::{Done, nothing, obey};
+use crate::deeds::{Done, obey};
 use crate::keeping::Keeper;
 use crate::lines::{Found, Lines};
 use crate::sessions::Session;
@@ -44,7 +44,10 @@ fn hear<S: Shelf, W: Write>(
 {
     match talk.lines.found() {
         Found::Nothing => Ok(Done::Nothing),
-        Found::Long => nothing(tell_words(cause_words(Cause::Long), writer)),
+        Found::Long => {
+            tell_words(cause_words(Cause::Long), writer)?;
+            Ok(Done::Nothing)
+        }
         Found::Line => obey(
             alloc,
             shelf,
