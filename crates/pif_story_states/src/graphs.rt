@@ -1,7 +1,7 @@
 ghost use Rattle.std.specs.Prelude.{◌≡◌, ◌++◌, None, List, map, IfOk, OnOk};
 ghost use Rattle.pif_story_model.specs.Rows.{AreRowsOf, asked_in};
 ghost use Rattle.pif_story_model.specs.Stories.{NumberedRow};
-ghost use Rattle.pif_story_states.specs.Stories.{core_after, core_behind, graph_from, graph_if, parts_if};
+ghost use Rattle.pif_story_states.specs.Stories.{core_after, core_behind, graph_from, graph_if};
 
 use crate::cores::append_parts;
 use pif_core::Core;
@@ -57,22 +57,14 @@ fn core_behind<V: WatchSteps>(
     Ok(core)
 }
 
-/// Appends the nodes and edges of a core, if there is one.
-fn append_parts_if(core: &Option<Core>, out: &mut Vec<u8>) -> Result<(), AllocError>
-    ensures { OnOk result (out.new.items ≡ out.old.items ++ parts_if core.now) }
-{
-    match core {
-        Some(core) => append_parts(core, out),
-        None => Ok(()),
-    }
-}
-
 /// Appends the graph of a core, with nothing in it if there is none.
 fn append_graph(core: &Option<Core>, out: &mut Vec<u8>) -> Result<(), AllocError>
     ensures { OnOk result (out.new.items ≡ out.old.items ++ graph_if core.now) }
 {
     out.extend_from_slice(b"digraph waiting {\n  rankdir=LR\n  node [fontname=\"sans-serif\"]\n")?;
-    append_parts_if(core, out)?;
+    if let Some(core) = core {
+        append_parts(core, out)?;
+    }
     out.extend_from_slice(b"}\n")
 }
 

@@ -1,7 +1,5 @@
-ghost use Rattle.std.specs.Prelude.{◌≡◌, ◌++◌, true, map, OnOk};
-ghost use Rattle.pif_model.specs.Calls.{threads_answer};
-ghost use Rattle.pif_text_json.specs.Json.{numbers, separated};
-ghost use Rattle.pif_text_core.specs.Waiting.{begins_chain, conds_added, mutexes_added};
+ghost use Rattle.std.specs.Prelude.{◌≡◌, ◌++◌, true, OnOk};
+ghost use Rattle.pif_text_core.specs.Waiting.{begins_chain};
 ghost use Rattle.pif_story_states.specs.Objects.{chain_array, cond_object, mutex_object, thread_object};
 ghost use Rattle.pif_story_states.specs.States.{order_members, state_line, things_members};
 
@@ -108,41 +106,17 @@ impl Listed for Chains<'_> {
     }
 }
 
-/// Appends the threads of a core, with a comma between them.
-fn append_threads(core: &Core, names: &[u8], out: &mut Vec<u8>) -> Result<(), AllocError>
-    ensures { OnOk result (out.new.items
-        ≡ out.old.items ++ separated (map (thread_object names.now core.now) (numbers (threads_answer core.now)))) }
-{
-    append_list(&Threads { core, names }, core.threads(), out)
-}
-
-/// Appends the mutexes of a core, with a comma between them.
-fn append_mutexes(core: &Core, out: &mut Vec<u8>) -> Result<(), AllocError>
-    ensures { OnOk result (out.new.items
-        ≡ out.old.items ++ separated (map (mutex_object core.now) (numbers (mutexes_added core.now)))) }
-{
-    append_list(&Mutexes(core), mutexes_added(core), out)
-}
-
-/// Appends the condition variables of a core, with a comma between them.
-fn append_conds(core: &Core, out: &mut Vec<u8>) -> Result<(), AllocError>
-    ensures { OnOk result (out.new.items
-        ≡ out.old.items ++ separated (map (cond_object core.now) (numbers (conds_added core.now)))) }
-{
-    append_list(&Conds(core), conds_added(core), out)
-}
-
 /// Appends the threads, mutexes and condition variables of a core, as members.
 #[tactic(auto, unfolding(crate::specs::States::things_members))]
 fn append_things(core: &Core, names: &[u8], out: &mut Vec<u8>) -> Result<(), AllocError>
     ensures { OnOk result (out.new.items ≡ out.old.items ++ things_members names.now core.now) }
 {
     out.extend_from_slice(b",\"threads\":[")?;
-    append_threads(core, names, out)?;
+    append_list(&Threads { core, names }, core.threads(), out)?;
     out.extend_from_slice(b"],\"mutexes\":[")?;
-    append_mutexes(core, out)?;
+    append_list(&Mutexes(core), mutexes_added(core), out)?;
     out.extend_from_slice(b"],\"conds\":[")?;
-    append_conds(core, out)?;
+    append_list(&Conds(core), conds_added(core), out)?;
     out.push(b']')?;
     Ok(())
 }
