@@ -5,6 +5,6 @@ use pif_script_model::CliFault;
 pub enum ExploreFault {
     /// A fault as of scripts. `Differs` names the line, from 1, of the first claim that is broken.
     Cli(CliFault),
-    /// There are more states than may be kept, and no claim was found to be broken.
+    /// There are more states than may be kept or made at once, and no claim was found to be broken.
     Undecided,
 }
