@@ -20,7 +20,7 @@ use pif_history_told::{
     line_at, number_at, run_text,
 };
 use pif_script_model::CliFault;
-use pif_search::{Unwatched, Watch};
+use pif_search::Watch;
 use std::alloc::Global;
 
 /// How many lines are left out of a run that shows so many, in this form.
@@ -83,14 +83,15 @@ fn append_steps(
 }
 
 /// Appends the lines of a run that shows the first `before` lines of a history, but for so many of its first lines;
-/// nothing, if no run was found.
-fn append_before(
+/// nothing, if no run was found. `watch` may end the search for it.
+fn append_before<V: Watch>(
     alloc: Global,
     states: usize,
     history: &History,
     before: usize,
     left_out: usize,
     out: &mut Vec<u8>,
+    watch: &mut V,
 ) -> Result<(), CliFault>
     requires { before ≤ vec_len history.now.shown }
     ensures told { OnOk result (AppendsBefore (heard_of history.now) before left_out out.old.items out.new.items) }
@@ -103,7 +104,7 @@ fn append_before(
         history.limits(),
         lines,
         states,
-        &mut Unwatched,
+        watch,
     ) {
         Ok(Verdict::Legal(witness)) => {
             append_steps(alloc, history, left_out, witness.as_slice(), out)
@@ -159,7 +160,7 @@ fn append_illegal_history<V: Watch>(
         Ok(()) => {}
         Err(_) => return Err(CliFault::NoMemory),
     }
-    append_before(alloc, states, history, count - 1, left, out)?;
+    append_before(alloc, states, history, count - 1, left, out, watch)?;
     Ok(JudgeFault::Cli(CliFault::Differs(u64::from(number))))
 }
 
@@ -179,14 +180,15 @@ fn append_undecided_history<V: Watch>(
     ensures told { IfOk result (λ end. AppendsObjects asked.now.form (heard_of history.now) (Err end) out.old.items out.new.items) }
     ensures failed { IfErr result (λ fault. fault ≡ CliFault.NoMemory) }
 {
+    let states = asked.states as usize;
     let number = number_at(history, count);
     let left = left_out(asked.form, count - 1);
-    let unfound = unfound_at(alloc, asked.states as usize, history, count, shown, watch)?;
+    let unfound = unfound_at(alloc, states, history, count, shown, watch)?;
     match append_undecided(number, &unfound, written(left)?, out) {
         Ok(()) => {}
         Err(_) => return Err(CliFault::NoMemory),
     }
-    append_before(alloc, asked.states as usize, history, count - 1, left, out)?;
+    append_before(alloc, states, history, count - 1, left, out, watch)?;
     Ok(JudgeFault::Undecided(u64::from(number)))
 }
 

@@ -11,7 +11,7 @@ use Rattle.pif_job_judge.proofs.ObjectLemmas.{before_told, before_untold, none_i
 use Rattle.pif_job_judge.proofs.objects.append_before.Goals as goal
 
 pub returns-in-Ok-Legal-clause-told : goal.returns-in-Ok-Legal-clause-told
-returns-in-Ok-Legal-clause-told c =
+returns-in-Ok-Legal-clause-told g c =
     on_ok c.append_steps.result _ _
     (before_told (heard_of c.args.history.now) c.args.before c.args.left_out _ _ c.in-Ok-Legal.witness.items _
     c.args.out.now.items c.append_steps.new.out.items c.limits.ensures
@@ -21,7 +21,7 @@ returns-in-Ok-Legal-clause-told c =
     c.append_steps.ensures.told
 
 pub append_steps-requires : goal.append_steps-requires
-append_steps-requires c =
+append_steps-requires g c =
     let v = subst (λ (v : Verdict). IsVerdictWith c.args.history.now.allowed c.limits.result (take c.args.before c.as_slice.result.now) v)
     c.in-Ok-Legal.field-0-is c.in-Ok-Legal.ensures in
     let run : IsRun c.args.history.now.allowed c.limits.result c.in-Ok-Legal.witness.items = (v.last, v.run) in
@@ -31,13 +31,13 @@ append_steps-requires c =
     }
 
 pub returns-in-Ok-Illegal-clause-told : goal.returns-in-Ok-Illegal-clause-told
-returns-in-Ok-Illegal-clause-told c =
+returns-in-Ok-Illegal-clause-told g c =
     before_untold (heard_of c.args.history.now) c.args.before c.args.left_out _ _ c.in-Ok-Illegal.field-0 c.args.out.now.items
     c.args.out.now.items c.limits.ensures (ap (λ (ls : List Line). take c.args.before ls) c.as_slice.ensures.value)
     c.in-Ok-Illegal.ensures (none_illegal c.in-Ok-Illegal.field-0 _ c.in-Ok-Illegal.field-0-is) refl
 
 pub returns-in-Ok-Undecided-clause-told : goal.returns-in-Ok-Undecided-clause-told
-returns-in-Ok-Undecided-clause-told c =
+returns-in-Ok-Undecided-clause-told g c =
     before_untold (heard_of c.args.history.now) c.args.before c.args.left_out _ _ c.in-Ok-Undecided.field-0 c.args.out.now.items
     c.args.out.now.items c.limits.ensures (ap (λ (ls : List Line). take c.args.before ls) c.as_slice.ensures.value)
     c.in-Ok-Undecided.ensures (none_undecided c.in-Ok-Undecided.field-0 _ c.in-Ok-Undecided.field-0-is) refl
