@@ -8,7 +8,7 @@ use pif_types::{Answer, Errno, Request, Tid};
 use std::alloc::Global;
 
 /// How many positions of a step are followed at first.
-const MOST_FOLLOWED: usize = 64;
+pub const MOST_FOLLOWED: usize = 64;
 
 /// How many labels ahead are looked at.
 const MOST_AHEAD: usize = 4_096;
@@ -95,35 +95,34 @@ fn rank_of(position: &WidePosition, threads: &[Tid]) -> (usize, usize) {
     (left, awake)
 }
 
-/// The places of the positions that are followed at first, by the labels that are left, newest first: all, or those that
-/// are the likeliest.
+/// Of each position whether it is left out, if at most so many are followed: those are the likeliest by the labels that
+/// are left, newest first. Nothing is answered if all are followed.
 ///
 /// # Errors
 ///
 /// Out of memory.
-pub fn likely_places(
+pub fn are_left_out(
     alloc: Global,
     positions: &[WidePosition],
     labels: &[Label],
-) -> Result<Vec<usize>, Stop> {
-    let mut places = Vec::new(alloc);
-    if positions.len() <= MOST_FOLLOWED {
-        for place in 0..positions.len() {
-            push(&mut places, place)?;
-        }
-        return Ok(places);
+    most: usize,
+) -> Result<Vec<bool>, Stop> {
+    let mut left_out = Vec::new(alloc);
+    if positions.len() <= most {
+        return Ok(left_out);
     }
     let threads = to_be_woken(alloc, labels)?;
     let mut ranks = Vec::new(alloc);
     for place in 0..positions.len() {
-        push(
-            &mut ranks,
-            (rank_of(&positions[place], threads.as_slice()), place),
-        )?;
+        let rank = rank_of(&positions[place], threads.as_slice());
+        push(&mut ranks, (rank, place))?;
+        push(&mut left_out, true)?;
     }
     ranks.sort()?;
-    for rank in ranks.as_slice().iter().take(MOST_FOLLOWED) {
-        push(&mut places, rank.1)?;
+    for rank in ranks.as_slice().iter().take(most) {
+        if rank.1 < left_out.len() {
+            left_out[rank.1] = false;
+        }
     }
-    Ok(places)
+    Ok(left_out)
 }
