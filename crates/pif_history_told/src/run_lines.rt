@@ -1,4 +1,4 @@
-ghost use Rattle.std.specs.Prelude.{◌≡◌, ◌+◌, ◌++◌, IfOk, OnOk};
+ghost use Rattle.std.specs.Prelude.{◌≡◌, ◌++◌, OnOk};
 ghost use Rattle.pif_history_told.specs.Runs.{comma_behind, line_object, move_object, rule_members, told_line, untold, with_line, with_move, with_step};
 
 use crate::changes::{Change, append_changes};
@@ -154,16 +154,6 @@ fn append_told(
     )
 }
 
-/// The place behind a place.
-fn next(place: usize) -> Result<usize, Stop>
-    ensures { IfOk result (λ n. n ≡ place + 1) }
-{
-    match place.checked_add(1) {
-        Some(next) => Ok(next),
-        None => Err(Stop::Range),
-    }
-}
-
 impl Telling {
     /// Nothing is told.
     pub fn new(alloc: Global) -> Telling
@@ -196,7 +186,7 @@ impl Telling {
             &mut self.done,
         )?;
         self.pending.clear();
-        self.place = next(self.place)?;
+        self.place = self.place.checked_add(1).ok_or(Stop::Range)?;
         Ok(())
     }
 

@@ -1,6 +1,6 @@
 ghost use Rattle.std.specs.Prelude.{◌≡◌, ◌++◌, OnOk};
 ghost use Rattle.pif_model.specs.World.{mutex_at, variable_at};
-ghost use Rattle.pif_history_told.specs.StateObjects.{cond_object, health_word, holds_of, is_mutex_changed, is_thread_changed, mutex_object, owner_of, same_bool, thread_object};
+ghost use Rattle.pif_history_told.specs.StateObjects.{cond_object, health_word, holds_of, is_mutex_changed, is_thread_changed, mutex_object, owner_of, thread_object};
 
 use crate::calls::{call_members, is_same_call};
 use pif_posix::State;
@@ -27,13 +27,6 @@ pub fn append_thread(state: &State, thread: Tid, out: &mut Vec<u8>) -> Result<()
     out.extend_from_slice(b"}")
 }
 
-/// Whether two are the same.
-fn is_same_bool(one: bool, other: bool) -> bool
-    ensures { result ≡ same_bool one other }
-{
-    if one { other } else { !other }
-}
-
 /// Whether a thread is another one than before.
 #[tactic(auto, unfolding(crate::specs::StateObjects::is_thread_changed))]
 pub fn is_thread_changed(from: &State, to: &State, thread: Tid) -> bool
@@ -41,8 +34,8 @@ pub fn is_thread_changed(from: &State, to: &State, thread: Tid) -> bool
 {
     let at = thread.get() as usize;
     !(is_same_call(thread, from.call(at), to.call(at))
-        && is_same_bool(from.is_living(at), to.is_living(at))
-        && is_same_bool(from.rests(at), to.rests(at))
+        && from.is_living(at) == to.is_living(at)
+        && from.rests(at) == to.rests(at)
         && from.effective(at) == to.effective(at))
 }
 
