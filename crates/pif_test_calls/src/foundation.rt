@@ -2,7 +2,7 @@
 //!
 //! | Module | Tests of |
 //! |---|---|
-//! | `numbers` | `pif_types`: numbers, limits, errors, lists with room |
+//! | `numbers` | `pif_types`: the numbers of errors, and what they say |
 //! | `words` | `pif_word`: words that are taken and released, which no kernel does |
 //! | `sorted_lists` | `pif_plist`: the order of a list, and keys that change |
 //! | `run_queue` | `pif_runq`: who is picked |

@@ -9,7 +9,6 @@ ghost use Rattle.pif_model.specs.PiKernel.{has_seat, is_living, is_ready, seat_a
 ghost use Rattle.pif_model.specs.RobustList.{robust_at};
 ghost use Rattle.pif_kernel_model.specs.Inside.{kernel_of};
 
-use super::driver::{Reply, doing, see};
 use pif_chains_linked::LinkedChains;
 use pif_kernel::{Chains, KernelOn, PiKernel, Status, Took, Woken};
 use pif_plain::PlainChains;
@@ -59,12 +58,38 @@ enum Ask {
     StoreUses(u32, u32),
 }
 
+// What a scene answers. A thread is ready, rests on a mutex or a variable, or has stopped.
+#[derive(Clone, Copy, PartialEq)]
+enum Reply {
+    Done,
+    Owns,
+    Queued,
+    Refused(Errno),
+    Taken(u32),
+    Bits(u32),
+    Ready(Woken),
+    QueuedOn(u32),
+    ParkedOn(u32),
+    Stopped,
+    HasEnded,
+    Prio(u32),
+    Thread(u32),
+    // There is nothing to be read.
+    Nobody,
+}
+
 // What is asked, and what is answered.
 type Steps = &'static [(Ask, Reply)];
 
-// What a new scene is asked: the name of that, the priorities of its threads, how many mutexes it has, and the steps,
-// table after table.
-type Story = (&'static str, &'static [u32], u32, [Steps; 3]);
+// What a new scene is asked.
+struct Story {
+    name: &'static str,
+    // The priorities of its threads.
+    levels: &'static [u32],
+    mutexes: u32,
+    // The steps, table after table.
+    tables: &'static [Steps],
+}
 
 // A kernel with a thread of each of these priorities and room for one more, this first ticket, so many mutexes, and two
 // variables; all words are 0.
@@ -164,7 +189,13 @@ fn read<K: PiKernel + Drop>(scene: &Scene<K>, ask: Ask) -> Option<Reply> {
             }
             Reply::Bits(scene.words.load(cell))
         }
-        Ask::Status(t) => doing(kernel.status(living(kernel, t)?)),
+        Ask::Status(t) => match kernel.status(living(kernel, t)?) {
+            Status::Ready(woken) => Reply::Ready(woken),
+            Status::Queued(m) => Reply::QueuedOn(m.get()),
+            Status::Parked(c) => Reply::ParkedOn(c.get()),
+            Status::Stopped => Reply::Stopped,
+            Status::Ended => Reply::HasEnded,
+        },
         Ask::Effective(t) => Reply::Prio(kernel.effective(Tid::new(t)?)?.get()),
         Ask::Base(t) => Reply::Prio(kernel.base(living(kernel, t)?).get()),
         Ask::Waiter(m, place) => Reply::Thread(kernel.waiter(MutexId::new(m)?, place)?.get()),
@@ -250,38 +281,17 @@ fn ready<K: PiKernel + Drop>(kernel: &K, number: u32) -> Option<Tid>
     }
 }
 
-// Asks all that stands in these tables in turn, and sees that each answer is the one beside it.
-fn check<K: PiKernel + Drop>(
-    rt: &impl Abort,
-    scene: &mut Scene<K>,
-    name: &str,
-    tables: [Steps; 3],
-) {
-    let mut place = 0_u32;
-    for steps in tables {
-        for (ask, reply) in steps {
-            see(rt, answer(scene, *ask), Some(*reply), name, place);
-            place = place.saturating_add(1);
+// Asks all that stands in the tables of a story, and sees that each answer is the one beside it.
+fn check<K: PiKernel + Drop>(rt: &impl Abort, scene: &mut Scene<K>, story: &Story) {
+    for (table, steps) in story.tables.iter().enumerate() {
+        for (place, (ask, reply)) in steps.iter().enumerate() {
+            let is_met = answer(scene, *ask) == Some(*reply);
+            assert!(rt; is_met, "{}, at place {place} of table {table}", story.name);
         }
     }
 }
 
-// Does so with each of these stories.
-fn play_all<R: Abort>(rt: &R, alloc: Global, stories: &[Story]) -> Result<(), Fail> {
-    for story in stories {
-        play(rt, alloc, story)?;
-    }
-    Ok(())
-}
-
-// Does so with this story, on either kernel.
-fn play<R: Abort>(rt: &R, alloc: Global, story: &Story) -> Result<(), Fail> {
-    play_on::<PlainChains, R>(rt, alloc, story, 1)?;
-    play_on::<LinkedChains, R>(rt, alloc, story, 1)?;
-    Ok(())
-}
-
-// The same on one of them, with this first ticket. Answers the next one then.
+// Plays a story on a kernel with this first ticket. Answers the next one then.
 fn play_on<C: Chains + Drop, R: Abort>(
     rt: &R,
     alloc: Global,
@@ -290,15 +300,28 @@ fn play_on<C: Chains + Drop, R: Abort>(
 ) -> Result<u64, Fail>
     requires { 1 ≤ first_ticket }
 {
-    let (name, levels, mutexes, tables) = *story;
-    let mut scene: Scene<KernelOn<C>> = new_scene(alloc, levels, mutexes, first_ticket)?;
-    check(rt, &mut scene, name, tables);
+    let mut scene: Scene<KernelOn<C>> = new_scene(
+        alloc,
+        story.levels,
+        story.mutexes,
+        first_ticket,
+    )?;
+    check(rt, &mut scene, story);
     Ok(scene.kernel.next_ticket())
 }
 
-static NOBODY_RUNS: [(Ask, Reply); 1] = [(Ask::Pick, Reply::Nobody)];
+// Does so on either kernel.
+fn play<R: Abort>(rt: &R, alloc: Global, story: &Story, first_ticket: u64) -> Result<[u64; 2], Fail>
+    requires { 1 ≤ first_ticket }
+{
+    let plain = play_on::<PlainChains, R>(rt, alloc, story, first_ticket)?;
+    let linked = play_on::<LinkedChains, R>(rt, alloc, story, first_ticket)?;
+    Ok([plain, linked])
+}
 
-static FREE_MUTEX: [(Ask, Reply); 5] = [
+const NOBODY_RUNS: Steps = &[(Ask::Pick, Reply::Nobody)];
+
+const FREE_MUTEX: Steps = &[
     (Ask::Pick, Reply::Thread(1)),
     (Ask::Effective(1), Reply::Prio(10)),
     (Ask::Status(1), Reply::Ready(Woken::Fresh)),
@@ -306,14 +329,14 @@ static FREE_MUTEX: [(Ask, Reply); 5] = [
     (Ask::Word(1), Reply::Bits(1)),
 ];
 
-static STOPS: [(Ask, Reply); 3] = [
+const STOPS: Steps = &[
     (Ask::Stop(1), Reply::Done),
     (Ask::Pick, Reply::Nobody),
     (Ask::Status(1), Reply::Stopped),
 ];
 
 // lock_pi by thread 1 of three, on words that no thread wrote.
-static STORED_WORDS: [(Ask, Reply); 19] = [
+const STORED_WORDS: Steps = &[
     (Ask::Lock(1, 2), Reply::Refused(Errno::Fault)),
     (Ask::Store(1, 0x0000_0001), Reply::Done),
     (Ask::Lock(1, 1), Reply::Refused(Errno::Deadlock)),
@@ -336,22 +359,8 @@ static STORED_WORDS: [(Ask, Reply); 19] = [
     (Ask::Word(1), Reply::Bits(0x0000_0000)),
 ];
 
-#[test]
-fn kernel_on_stored_words(rt: HostRuntime) -> Result<(), Fail> {
-    play(
-        &rt,
-        rt.alloc(),
-        &(
-            "kernel_on_stored_words",
-            &[10, 10, 10],
-            1,
-            [&STORED_WORDS, &[], &[]],
-        ),
-    )
-}
-
 // trylock_pi and unlock_pi by thread 1 of three, on words that no thread wrote.
-static ANY_WORDS: [(Ask, Reply); 24] = [
+const ANY_WORDS: Steps = &[
     (Ask::TryLock(1, 2), Reply::Refused(Errno::Fault)),
     (Ask::Store(1, 0x0000_0001), Reply::Done),
     (Ask::TryLock(1, 1), Reply::Refused(Errno::Deadlock)),
@@ -379,29 +388,15 @@ static ANY_WORDS: [(Ask, Reply); 24] = [
     (Ask::Status(3), Reply::QueuedOn(1)),
 ];
 
-#[test]
-fn kernel_refusals_on_any_words(rt: HostRuntime) -> Result<(), Fail> {
-    play(
-        &rt,
-        rt.alloc(),
-        &(
-            "kernel_refusals_on_any_words",
-            &[10, 10, 10],
-            1,
-            [&ANY_WORDS, &[], &[]],
-        ),
-    )
-}
-
 // Thread 1 holds mutex 1, thread 2 holds mutex 2 and waits for mutex 1, and thread 3 waits for mutex 2.
-static CHAIN: [(Ask, Reply); 4] = [
+const CHAIN: Steps = &[
     (Ask::Lock(1, 1), Reply::Owns),
     (Ask::Lock(2, 2), Reply::Owns),
     (Ask::Lock(2, 1), Reply::Queued),
     (Ask::Lock(3, 2), Reply::Queued),
 ];
 
-static BOOSTED: [(Ask, Reply); 5] = [
+const BOOSTED: Steps = &[
     (Ask::Effective(1), Reply::Prio(99)),
     (Ask::Effective(2), Reply::Prio(99)),
     (Ask::Status(3), Reply::QueuedOn(2)),
@@ -409,7 +404,7 @@ static BOOSTED: [(Ask, Reply); 5] = [
     (Ask::Lock(1, 2), Reply::Refused(Errno::Deadlock)),
 ];
 
-static PATHS: [(Ask, Reply); 8] = [
+const PATHS: Steps = &[
     (Ask::Path(3, 0), Reply::Thread(3)),
     (Ask::Path(3, 1), Reply::Thread(2)),
     (Ask::Path(3, 2), Reply::Thread(1)),
@@ -420,14 +415,14 @@ static PATHS: [(Ask, Reply); 8] = [
     (Ask::Path(4, 0), Reply::Nobody),
 ];
 
-static UNLOCKED: [(Ask, Reply); 4] = [
+const UNLOCKED: Steps = &[
     (Ask::Unlock(1, 1), Reply::Done),
     (Ask::Effective(1), Reply::Prio(1)),
     (Ask::Status(2), Reply::Ready(Woken::Owns)),
     (Ask::Pick, Reply::Thread(2)),
 ];
 
-static PRIORITY_SET: [(Ask, Reply); 9] = [
+const PRIORITY_SET: Steps = &[
     (Ask::Lock(1, 1), Reply::Owns),
     (Ask::Lock(2, 1), Reply::Queued),
     (Ask::Lock(3, 1), Reply::Queued),
@@ -441,7 +436,7 @@ static PRIORITY_SET: [(Ask, Reply); 9] = [
 
 // Thread 1 holds mutex 1, for which threads 2, 3 and 4, of priorities 20, 50 and 20, wait in that order. Threads 5 and
 // 6, of priorities 30 and 40, are parked on variable 1, and thread 7, of priority 50, is ready.
-static WAITING: [(Ask, Reply); 6] = [
+const WAITING: Steps = &[
     (Ask::Lock(1, 1), Reply::Owns),
     (Ask::Lock(2, 1), Reply::Queued),
     (Ask::Lock(3, 1), Reply::Queued),
@@ -451,7 +446,7 @@ static WAITING: [(Ask, Reply); 6] = [
 ];
 
 // The greatest effective priority comes first, and equals in arrival: thread 1 joined level 50 behind thread 7.
-static PLACES: [(Ask, Reply); 13] = [
+const PLACES: Steps = &[
     (Ask::Waiter(1, 0), Reply::Thread(3)),
     (Ask::Waiter(1, 1), Reply::Thread(2)),
     (Ask::Waiter(1, 2), Reply::Thread(4)),
@@ -468,7 +463,7 @@ static PLACES: [(Ask, Reply); 13] = [
 ];
 
 // The word of the mutex on the list of thread 1, which ends, has the number of thread 2.
-static OF_ANOTHER: [(Ask, Reply); 6] = [
+const OF_ANOTHER: Steps = &[
     (Ask::Store(1, 0x0000_0002), Reply::Done),
     (Ask::End(1, 1), Reply::Done),
     (Ask::Word(1), Reply::Bits(0x0000_0002)),
@@ -477,8 +472,8 @@ static OF_ANOTHER: [(Ask, Reply); 6] = [
     (Ask::Pick, Reply::Thread(2)),
 ];
 
-// It has its own.
-static OF_ITS_OWN: [(Ask, Reply); 6] = [
+// It has its own, and is marked.
+const OF_ITS_OWN: Steps = &[
     (Ask::Store(1, 0xc000_0001), Reply::Done),
     (Ask::End(1, 1), Reply::Done),
     (Ask::Word(1), Reply::Bits(0xc000_0000)),
@@ -487,33 +482,8 @@ static OF_ITS_OWN: [(Ask, Reply); 6] = [
     (Ask::Pick, Reply::Thread(2)),
 ];
 
-// And marks one of its own.
-#[test]
-fn exit_leaves_words_of_others(rt: HostRuntime) -> Result<(), Fail> {
-    play(
-        &rt,
-        rt.alloc(),
-        &(
-            "exit_leaves_words_of_others",
-            &[20, 10],
-            1,
-            [&OF_ANOTHER, &[], &[]],
-        ),
-    )?;
-    play(
-        &rt,
-        rt.alloc(),
-        &(
-            "exit_leaves_words_of_others",
-            &[20, 10],
-            1,
-            [&OF_ITS_OWN, &[], &[]],
-        ),
-    )
-}
-
 // Thread 1 ends as the owner of mutex 1, for which threads 2 and 3 wait.
-static OWNED: [(Ask, Reply); 8] = [
+const OWNED: Steps = &[
     (Ask::Lock(1, 1), Reply::Owns),
     (Ask::Lock(2, 1), Reply::Queued),
     (Ask::Lock(3, 1), Reply::Queued),
@@ -524,61 +494,99 @@ static OWNED: [(Ask, Reply); 8] = [
     (Ask::Pick, Reply::Thread(3)),
 ];
 
+static STORIES: [Story; 13] = [
+    Story {
+        name: "kernel_on_stored_words",
+        levels: &[10, 10, 10],
+        mutexes: 1,
+        tables: &[STORED_WORDS],
+    },
+    Story {
+        name: "kernel_refusals_on_any_words",
+        levels: &[10, 10, 10],
+        mutexes: 1,
+        tables: &[ANY_WORDS],
+    },
+    Story {
+        name: "exit_leaves_words_of_others",
+        levels: &[20, 10],
+        mutexes: 1,
+        tables: &[OF_ANOTHER],
+    },
+    Story {
+        name: "exit_marks_a_word_of_its_own",
+        levels: &[20, 10],
+        mutexes: 1,
+        tables: &[OF_ITS_OWN],
+    },
+    Story {
+        name: "nobody_runs_in_a_new_kernel",
+        levels: &[],
+        mutexes: 1,
+        tables: &[NOBODY_RUNS],
+    },
+    Story {
+        name: "a_thread_takes_a_free_mutex",
+        levels: &[10],
+        mutexes: 1,
+        tables: &[FREE_MUTEX],
+    },
+    Story {
+        name: "a_thread_that_stops_is_not_picked",
+        levels: &[10],
+        mutexes: 1,
+        tables: &[STOPS],
+    },
+    Story {
+        name: "boosts_go_through_a_chain",
+        levels: &[1, 2, 99],
+        mutexes: 2,
+        tables: &[CHAIN, BOOSTED],
+    },
+    Story {
+        name: "paths_go_up_a_chain",
+        levels: &[1, 2, 99],
+        mutexes: 2,
+        tables: &[CHAIN, PATHS],
+    },
+    Story {
+        name: "who_unlocks_loses_the_boost",
+        levels: &[1, 2, 99],
+        mutexes: 2,
+        tables: &[CHAIN, UNLOCKED],
+    },
+    Story {
+        name: "priority_is_set_and_places_stay",
+        levels: &[10, 20, 20],
+        mutexes: 1,
+        tables: &[PRIORITY_SET],
+    },
+    Story {
+        name: "places_are_read_in_order",
+        levels: &[10, 20, 50, 20, 30, 40, 50],
+        mutexes: 1,
+        tables: &[WAITING, PLACES],
+    },
+    Story {
+        name: "exit_hands_over_to_the_next_waiter",
+        levels: &[10, 10, 20],
+        mutexes: 1,
+        tables: &[OWNED],
+    },
+];
+
 #[test]
 fn kernels_answer_each_call(rt: HostRuntime) -> Result<(), Fail> {
-    play_all(
-        &rt,
-        rt.alloc(),
-        &[
-            (
-                "nobody_runs_in_a_new_kernel",
-                &[],
-                1,
-                [&NOBODY_RUNS, &[], &[]],
-            ),
-            (
-                "a_thread_takes_a_free_mutex",
-                &[10],
-                1,
-                [&FREE_MUTEX, &[], &[]],
-            ),
-            (
-                "a_thread_that_stops_is_not_picked",
-                &[10],
-                1,
-                [&STOPS, &[], &[]],
-            ),
-            (
-                "boosts_go_through_a_chain",
-                &[1, 2, 99],
-                2,
-                [&CHAIN, &BOOSTED, &[]],
-            ),
-            ("paths_go_up_a_chain", &[1, 2, 99], 2, [&CHAIN, &PATHS, &[]]),
-            (
-                "who_unlocks_loses_the_boost",
-                &[1, 2, 99],
-                2,
-                [&CHAIN, &UNLOCKED, &[]],
-            ),
-            (
-                "priority_is_set_and_places_stay",
-                &[10, 20, 20],
-                1,
-                [&PRIORITY_SET, &[], &[]],
-            ),
-            (
-                "places_are_read_in_order",
-                &[10, 20, 50, 20, 30, 40, 50],
-                1,
-                [&WAITING, &PLACES, &[]],
-            ),
-            (
-                "exit_hands_over_to_the_next_waiter",
-                &[10, 10, 20],
-                1,
-                [&OWNED, &[], &[]],
-            ),
-        ],
-    )
+    let tables: [&[Story]; 4] = [
+        &STORIES,
+        &conditions::STORIES,
+        &expiries::STORIES,
+        &parked::STORIES,
+    ];
+    for stories in tables {
+        for story in stories {
+            play(&rt, rt.alloc(), story, 1)?;
+        }
+    }
+    Ok(())
 }

@@ -6,12 +6,9 @@
 //! | `foundation` | types, words, robust lists, sorted lists, the run queue and `pif_queue` |
 //! | `seen` | none: it compares what was read with what is wanted, and makes threads and priorities |
 //! | `kernels` | both kernels: each call on any words, boosts, parked threads, deadlines and ends, and random calls |
-//! | `driver` | none: it answers what is asked of the parts, step by step, with either kernel |
 //! | `random_calls` | `pif_mutex` and `pif_cond` over both kernels: calls in any interleaving have the same answers on both |
 #![tactic(auto)]
 
-#[cfg(test)]
-mod driver;
 #[cfg(test)]
 mod foundation;
 #[cfg(test)]

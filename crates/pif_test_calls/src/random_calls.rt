@@ -1,14 +1,19 @@
 //! Random events on both kernels: calls in any interleaving, one step at a time, the end of threads at any point, and
 //! time that goes on. Each event has the same answer on both, and leaves the same words, statuses, priorities and
 //! orders.
-ghost use Rattle.std.specs.Prelude.{◌≤◌};
+ghost use Rattle.std.specs.Prelude.{◌≡◌, ◌≤◌, true};
+ghost use Rattle.pif_model.specs.PiKernel.{is_living};
+ghost use Rattle.pif_model.specs.Table.{has_thread, has_mutex, has_cond, line_at};
+ghost use Rattle.pif_model.specs.Lines.{is_open};
+ghost use Rattle.pif_model.specs.Posix.{names_known};
 
-use super::driver::{Ask, At, Reply, Wish, answer, new_parts, see_at};
+use crate::seen::{priority, thread};
 use pif_chains_linked::LinkedChains;
 use pif_kernel::{Chains, KernelOn, PiKernel};
-use pif_mutex::Parts;
+use pif_model::Line;
+use pif_mutex::{Parts, Progress};
 use pif_plain::PlainChains;
-use pif_types::{Kind, Limits};
+use pif_types::{CondId, Kind, Limits, MutexId, Prio, Request, Tid};
 use rand_core::{Rng, SeedableRng};
 use rand_xoshiro::SplitMix64;
 use std::alloc::Global;
@@ -20,118 +25,194 @@ const THREADS: u32 = 8;
 /// The mutexes that are locked: two of one bucket, and two of another. Between them are others.
 const LOCKED: [u32; 5] = [1, 2, 3, 65, 66];
 
+/// Mutex 1 is that of variable 1, and this that of variable 2.
+const SECOND: u32 = 65;
+
 const LISTS: u32 = 400;
 
 const EVENTS: u32 = 200;
 
-/// Asks both parts, and sees that they answer the same. Whether it could be asked.
-fn ask<A: PiKernel + Drop, B: PiKernel + Drop>(
-    rt: &impl Abort,
-    plain: &mut Parts<A>,
-    linked: &mut Parts<B>,
-    at: At,
-    ask: Ask,
-) -> bool {
-    let reply = answer(plain, ask);
-    see_at(rt, answer(linked, ask), reply, at);
-    reply.is_some()
+/// Parts on a kernel of these chains, with this first ticket, to which nothing was added.
+fn new_parts<C: Chains + Drop>(alloc: Global, first_ticket: u64) -> Result<Parts<KernelOn<C>>, Fail>
+    requires { 1 ≤ first_ticket }
+{
+    let limits = Limits::new(THREADS, 66, 2, 100).ok_or("limits")?;
+    let kernel: KernelOn<C> = KernelOn::new(alloc, limits, first_ticket)?;
+    Ok(Parts::new(alloc, limits, kernel)?)
 }
 
 /// Adds mutexes of random kinds, two variables, and threads of random priorities, of which many are equal.
-fn fill<A: PiKernel + Drop, B: PiKernel + Drop>(
-    rt: &impl Abort,
-    plain: &mut Parts<A>,
-    linked: &mut Parts<B>,
-    at: At,
-    rng: &mut SplitMix64,
-) {
+fn fill<K: PiKernel + Drop>(rng: &mut SplitMix64, parts: &mut Parts<K>) {
     for _ in 0..66 {
+        let kind = match rng.next_u32() % 8 {
+            0 | 1 => Kind::Recursive,
+            2 => Kind::Normal,
+            _ => Kind::ErrorCheck,
+        };
         let robust = rng.next_u32() % 2 == 0;
-        ask(rt, plain, linked, at, Ask::AddMutex(kind(rng), robust));
+        let limits = parts.limits();
+        if parts.mutexes() < limits.mutexes() {
+            parts.add_mutex(kind, robust);
+        }
     }
-    ask(rt, plain, linked, at, Ask::AddCond(1));
-    ask(rt, plain, linked, at, Ask::AddCond(65));
+    for number in [1, SECOND] {
+        let limits = parts.limits();
+        if number <= parts.mutexes()
+            && parts.conds() < limits.conds()
+            && let Some(m) = MutexId::new(number)
+        {
+            parts.add_cond(m);
+        }
+    }
     for _ in 0..THREADS {
-        let level = 1 + rng.next_u32() % 6 * 15;
-        ask(rt, plain, linked, at, Ask::AddThread(level));
-    }
-}
-
-/// A random event.
-fn event<K: PiKernel + Drop>(rng: &mut SplitMix64, plain: &mut Parts<K>, time: &mut u32) -> Ask {
-    let m = LOCKED[(rng.next_u32() % 5) as usize];
-    // The owner by the word, or nobody's number.
-    let owner = match answer(plain, Ask::Word(m)) {
-        Some(Reply::Bits(bits)) => bits & 0x3fff_ffff,
-        _ => 0,
-    };
-    let t = 1 + rng.next_u32() % THREADS;
-    match rng.next_u32() % 64 {
-        0 => Ask::End(t),
-        1 | 2 => {
-            *time = time.saturating_add(1);
-            Ask::Tick(*time)
-        }
-        3..=14 => Ask::Call(t, wish(rng, m, *time)),
-        15..=18 => Ask::Call(owner, Wish::Unlock(m)),
-        19..=30 => Ask::Begin(t, wish(rng, m, *time)),
-        _ => Ask::Go(t),
-    }
-}
-
-/// Sees that both have the same words, statuses, priorities and orders.
-fn compare<A: PiKernel + Drop, B: PiKernel + Drop>(
-    rt: &impl Abort,
-    plain: &mut Parts<A>,
-    linked: &mut Parts<B>,
-    at: At,
-) {
-    ask(rt, plain, linked, at, Ask::Pick);
-    for m in LOCKED {
-        for read in [Ask::Word(m), Ask::Waiter(m, 0), Ask::Waiter(m, 1)] {
-            ask(rt, plain, linked, at, read);
-        }
-    }
-    for place in 0..THREADS {
-        for read in [
-            Ask::Status(1 + place),
-            Ask::Effective(1 + place),
-            Ask::Ready(place),
-            Ask::Parked(1, place),
-            Ask::Parked(2, place),
-        ] {
-            ask(rt, plain, linked, at, read);
+        let prio = priority(1 + rng.next_u32() % 6 * 15);
+        let limits = parts.limits();
+        if parts.threads() < limits.threads() {
+            parts.add_thread(prio);
         }
     }
 }
 
-fn kind(rng: &mut SplitMix64) -> Kind {
-    match rng.next_u32() % 8 {
-        0 | 1 => Kind::Recursive,
-        2 => Kind::Normal,
-        _ => Kind::ErrorCheck,
+/// Whether a thread was added, lives, and has a call open or none, as asked.
+fn may_act<K: PiKernel + Drop>(parts: &Parts<K>, t: Tid, calling: bool) -> bool
+    ensures known { result ≡ true → has_thread parts.now t ≡ true }
+    ensures living { result ≡ true → is_living parts.now.kernel t ≡ true }
+    ensures open { result ≡ true → is_open (line_at parts.now t) ≡ calling }
+{
+    t.get() <= parts.threads() && parts.is_living(t) && parts.is_open(t) == calling
+}
+
+/// Whether the mutex and the variable that a call names were added.
+fn names_known<K: PiKernel + Drop>(parts: &Parts<K>, request: &Request) -> bool
+    ensures { result ≡ true → names_known (has_mutex parts.now) (has_cond parts.now) request.now ≡ true }
+{
+    match *request {
+        Request::Lock(m)
+        | Request::TryLock(m)
+        | Request::Unlock(m)
+        | Request::Consistent(m)
+        | Request::TimedLock(m, _) => m.get() <= parts.mutexes(),
+        Request::Wait(c, m) | Request::TimedWait(c, m, _) => {
+            c.get() <= parts.conds() && m.get() <= parts.mutexes()
+        }
+        Request::Signal(c) | Request::Broadcast(c) => c.get() <= parts.conds(),
+        Request::SetPrio(_, _) => true,
     }
+}
+
+/// A thread begins a call, if that is not refused.
+fn begin<K: PiKernel + Drop>(parts: &mut Parts<K>, t: Tid, request: Request) -> Option<()> {
+    if may_act(parts, t, false) && names_known(parts, &request) {
+        parts.begin(t, request);
+        Some(())
+    } else {
+        None
+    }
+}
+
+/// A thread takes one step of its open call. `None` if it has none.
+fn go<K: PiKernel + Drop>(parts: &mut Parts<K>, t: Tid) -> Option<Progress> {
+    if !may_act(parts, t, true) {
+        return None;
+    }
+    match parts.line(t) {
+        Line::At(Request::Wait(_, _) | Request::Signal(_) | Request::Broadcast(_), _) => {
+            Some(pif_cond::advance(parts, t))
+        }
+        _ => Some(pif_mutex::advance(parts, t)),
+    }
+}
+
+/// A thread begins a call, and goes on up to the first step that isn't `Went`: its number, and what it comes to.
+fn call<K: PiKernel + Drop>(
+    parts: &mut Parts<K>,
+    t: Tid,
+    request: Request,
+) -> Option<(u32, Progress)> {
+    begin(parts, t, request)?;
+    for step in 1..=8 {
+        match go(parts, t)? {
+            Progress::Went => (),
+            progress => return Some((step, progress)),
+        }
+    }
+    None
 }
 
 /// A random request, on this mutex or on a variable.
-fn wish(rng: &mut SplitMix64, m: u32, time: u32) -> Wish {
+fn request(rng: &mut SplitMix64, m: MutexId, time: u32) -> Option<Request> {
     let deadline = time.saturating_add(rng.next_u32() % 3);
-    match rng.next_u32() % 32 {
-        0..=9 => Wish::Lock(m),
-        10 | 11 => Wish::TryLock(m),
-        12 | 13 => Wish::TimedLock(m, deadline),
-        14 | 15 => Wish::Unlock(m),
-        16 => Wish::Consistent(m),
-        17..=20 => Wish::Wait(1, 1),
-        21 | 22 => Wish::Wait(2, 65),
-        23 => Wish::Wait(1, m),
-        24 => Wish::TimedWait(1, 1, deadline),
-        25 | 26 => Wish::Signal(1),
-        27 => Wish::Signal(2),
-        28 => Wish::Broadcast(1),
-        29 => Wish::Broadcast(2),
-        _ => Wish::SetPrio(1 + rng.next_u32() % THREADS, rng.next_u32() % 12 * 9),
+    let (c, other, first) = (CondId::new(1)?, CondId::new(2)?, MutexId::new(1)?);
+    Some(match rng.next_u32() % 32 {
+        0..=9 => Request::Lock(m),
+        10 | 11 => Request::TryLock(m),
+        12 | 13 => Request::TimedLock(m, deadline),
+        14 | 15 => Request::Unlock(m),
+        16 => Request::Consistent(m),
+        17..=20 => Request::Wait(c, first),
+        21 | 22 => Request::Wait(other, MutexId::new(SECOND)?),
+        23 => Request::Wait(c, m),
+        24 => Request::TimedWait(c, first, deadline),
+        25 | 26 => Request::Signal(c),
+        27 => Request::Signal(other),
+        28 => Request::Broadcast(c),
+        29 => Request::Broadcast(other),
+        _ => Request::SetPrio(
+            thread(1 + rng.next_u32() % THREADS),
+            rng.next_u32() % 12 * 9,
+        ),
+    })
+}
+
+/// A random event. Of a step or of a whole call, the number of the last step, and what it came to. `None` if it can't
+/// happen.
+fn event<K: PiKernel + Drop>(
+    rng: &mut SplitMix64,
+    parts: &mut Parts<K>,
+) -> Option<(u32, Progress)> {
+    let m = MutexId::new(LOCKED[(rng.next_u32() % 5) as usize])?;
+    let t = thread(1 + rng.next_u32() % THREADS);
+    let time = parts.time();
+    match rng.next_u32() % 64 {
+        0 if parts.is_living(t) => parts.end(t),
+        0 => return None,
+        1 | 2 => parts.tick(time.saturating_add(1)),
+        3..=14 => return call(parts, t, request(rng, m, time)?),
+        15..=18 => {
+            // The owner by the word, or nobody.
+            let owner = Tid::new(parts.word(m)? & 0x3fff_ffff)?;
+            return call(parts, owner, Request::Unlock(m));
+        }
+        19..=30 => begin(parts, t, request(rng, m, time)?)?,
+        _ => return Some((1, go(parts, t)?)),
     }
+    Some((0, Progress::Went))
+}
+
+/// Whether both have the same words, statuses, priorities and orders.
+fn agree<A: PiKernel + Drop, B: PiKernel + Drop>(plain: &Parts<A>, linked: &Parts<B>) -> bool {
+    let mut same = plain.pick() == linked.pick();
+    for number in LOCKED {
+        if let Some(m) = MutexId::new(number) {
+            same = same && plain.word(m) == linked.word(m);
+            same = same && plain.waiter(m, 0) == linked.waiter(m, 0);
+            same = same && plain.waiter(m, 1) == linked.waiter(m, 1);
+        }
+    }
+    for place in 0..THREADS {
+        let t = thread(1 + place);
+        same = same
+            && t.get() <= u32::min(plain.threads(), linked.threads())
+            && plain.status(t) == linked.status(t);
+        same = same && plain.effective(t) == linked.effective(t);
+        same = same && plain.ready(place) == linked.ready(place);
+        for number in 1..=2 {
+            if let Some(c) = CondId::new(number) {
+                same = same && plain.parked(c, place) == linked.parked(c, place);
+            }
+        }
+    }
+    same
 }
 
 /// Plays the random list of events of a seed on new parts, and counts those that could happen. The first ticket is so
@@ -142,46 +223,31 @@ fn play_list<A: Chains + Drop, B: Chains + Drop, R: Abort>(
     seed: u32,
     events: &mut u32,
 ) -> Result<(), Fail> {
-    let mut rng = SplitMix64::seed_from_u64(u64::from(seed));
-    let limits = Limits::new(THREADS, 66, 2, 100).ok_or("limits")?;
-    let first = u64::MAX - u64::from(rng.next_u32() % 64);
-    let mut plain = new_parts::<A>(alloc, limits, first)?;
-    play_beside::<KernelOn<A>, B, R>(rt, alloc, seed, &mut rng, &mut plain, first, events)
-}
-
-/// The same with the parts on the plain kernel, which has this first ticket.
-fn play_beside<A: PiKernel + Drop, B: Chains + Drop, R: Abort>(
-    rt: &R,
-    alloc: Global,
-    seed: u32,
-    rng: &mut SplitMix64,
-    plain: &mut Parts<A>,
-    first: u64,
-    events: &mut u32,
-) -> Result<(), Fail>
-    requires { 1 ≤ first }
-{
-    let mut linked = new_parts::<B>(alloc, plain.limits(), first)?;
-    play_events(rt, seed, rng, plain, &mut linked, events);
+    let first = u64::MAX - u64::from(seed % 64);
+    let mut plain = new_parts::<A>(alloc, first)?;
+    let mut linked = new_parts::<B>(alloc, first)?;
+    play_events(rt, seed, &mut plain, &mut linked, events);
     Ok(())
 }
 
 fn play_events<A: PiKernel + Drop, B: PiKernel + Drop>(
     rt: &impl Abort,
     seed: u32,
-    rng: &mut SplitMix64,
     plain: &mut Parts<A>,
     linked: &mut Parts<B>,
     events: &mut u32,
 ) {
-    let mut time = 0;
-    fill(rt, plain, linked, (seed, 0), rng);
-    for number in 0..EVENTS {
-        let event = event(rng, plain, &mut time);
-        if ask(rt, plain, linked, (seed, number), event) {
+    let mut rng = SplitMix64::seed_from_u64(u64::from(seed));
+    let mut again = SplitMix64::seed_from_u64(u64::from(seed));
+    fill(&mut rng, plain);
+    fill(&mut again, linked);
+    for place in 0..EVENTS {
+        let come = event(&mut rng, plain);
+        let is_same = event(&mut again, linked) == come && agree(plain, linked);
+        assert!(rt; is_same, "seed {seed}, at place {place}");
+        if come.is_some() {
             *events = events.saturating_add(1);
         }
-        compare(rt, plain, linked, (seed, number));
     }
 }
 

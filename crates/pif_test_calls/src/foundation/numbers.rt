@@ -1,27 +1,9 @@
 use crate::seen::see;
-use pif_types::{AddFault, Errno, Limits, NoMemory, Prio, Refusal, Tid, push_within, with_room};
+use pif_types::{AddFault, Errno, NoMemory, Refusal};
 use std::alloc::Global;
 use std::fmt::Display;
 use std::process::Abort;
 use std::test::Fail;
-
-#[test]
-fn numbers_and_limits_lie_in_their_ranges(rt: HostRuntime) {
-    let threads = [Tid::new(0).is_some(), Tid::new(7).is_some()];
-    see(&rt, threads, [false, true], 0);
-    let levels = [
-        Prio::new(0).is_some(),
-        Prio::new(99).is_some(),
-        Prio::new(100).is_some(),
-    ];
-    see(&rt, levels, [false, true, false], 1);
-    let limits = [
-        Limits::new(1024, 0, 256, 4294967295).is_some(),
-        Limits::new(0, 1, 1, 1).is_some(),
-        Limits::new(1, 1, 1, 0).is_some(),
-    ];
-    see(&rt, limits, [true, false, false], 2);
-}
 
 /// Each error, with its number on Linux on x86-64 and the name that <errno.h> gives it.
 static ERRORS: [(Errno, u32, &str); 11] = [
@@ -50,15 +32,6 @@ fn check_printed<D: Display>(
     Ok(())
 }
 
-#[test]
-fn errors_have_the_numbers_and_names_of_errno_h(rt: HostRuntime) -> Result<(), Fail> {
-    for (error, number, name) in ERRORS {
-        see(&rt, error.number(), number, number);
-        check_printed(&rt, rt.alloc(), &error, name)?;
-    }
-    Ok(())
-}
-
 static FAULTS: [(AddFault, &str); 3] = [
     (AddFault::TooMany, "too many"),
     (AddFault::BadPrio, "bad priority"),
@@ -73,7 +46,11 @@ static REFUSALS: [(Refusal, &str); 4] = [
 ];
 
 #[test]
-fn other_errors_say_what_they_are(rt: HostRuntime) -> Result<(), Fail> {
+fn errors_have_their_numbers_and_say_what_they_are(rt: HostRuntime) -> Result<(), Fail> {
+    for (error, number, name) in ERRORS {
+        see(&rt, error.number(), number, number);
+        check_printed(&rt, rt.alloc(), &error, name)?;
+    }
     for (fault, text) in FAULTS {
         check_printed(&rt, rt.alloc(), &fault, text)?;
     }
@@ -81,13 +58,4 @@ fn other_errors_say_what_they_are(rt: HostRuntime) -> Result<(), Fail> {
         check_printed(&rt, rt.alloc(), &refusal, text)?;
     }
     check_printed(&rt, rt.alloc(), &NoMemory, "out of memory")
-}
-
-#[test]
-fn lists_have_the_room_that_was_asked_for(rt: HostRuntime) -> Result<(), Fail> {
-    let mut items: Vec<u32> = with_room(rt.alloc(), 2)?;
-    push_within(&mut items, 7);
-    push_within(&mut items, 9);
-    assert!(rt; items.as_slice() == [7, 9].as_slice());
-    Ok(())
 }

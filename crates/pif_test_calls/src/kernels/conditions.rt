@@ -1,13 +1,11 @@
 //! Parking on condition variables, and what takes threads from them: requeues, by the word of the mutex as it is then,
 //! and the end of a thread.
-use super::super::driver::Reply;
-use super::{Ask, play, play_all};
+use super::{Ask, Reply, Steps, Story};
 use pif_kernel::Woken;
 use pif_types::Errno;
-use std::test::Fail;
 
 // Nobody has number 9. A priority is tested before the thread.
-static REFUSALS: [(Ask, Reply); 17] = [
+const REFUSALS: Steps = &[
     (Ask::SetPrio(9, 0), Reply::Refused(Errno::Invalid)),
     (Ask::SetPrio(9, 100), Reply::Refused(Errno::Invalid)),
     (Ask::SetPrio(9, 10), Reply::Refused(Errno::NoSuchThread)),
@@ -30,7 +28,7 @@ static REFUSALS: [(Ask, Reply); 17] = [
 
 // It is to be taken, also for mutex 2; also if the variable or the mutex isn't there, if the count isn't 1, or if the
 // word of the variable is another.
-static REQUEUES: [(Ask, Reply); 6] = [
+const REQUEUES: Steps = &[
     (Ask::Requeue(3, 1, 1, 2, 0), Reply::Refused(Errno::Fault)),
     (Ask::Requeue(1, 0, 3, 2, 0), Reply::Refused(Errno::Fault)),
     (Ask::Requeue(1, 0, 2, 2, 0), Reply::Refused(Errno::Invalid)),
@@ -41,7 +39,7 @@ static REQUEUES: [(Ask, Reply); 6] = [
 
 // Thread 3 queues on mutex 1, so that there is an owner state of thread 2, and then the word says otherwise: no number,
 // that of another living thread, and that of nobody. Nobody is parked on variable 2.
-static STATES: [(Ask, Reply); 13] = [
+const STATES: Steps = &[
     (Ask::Lock(2, 1), Reply::Owns),
     (Ask::Lock(3, 1), Reply::Queued),
     (Ask::Store(1, 0x0000_0000), Reply::Done),
@@ -58,42 +56,14 @@ static STATES: [(Ask, Reply); 13] = [
 ];
 
 // After two uses: a requeue of two at first, and one that was told of one use.
-static LAST_USES: [(Ask, Reply); 3] = [
+const LAST_USES: Steps = &[
     (Ask::StoreUses(1, 2), Reply::Done),
     (Ask::Requeue(1, 2, 1, 2, 0), Reply::Refused(Errno::Invalid)),
     (Ask::Requeue(1, 1, 1, 1, 0), Reply::Refused(Errno::Again)),
 ];
 
-#[test]
-fn uses_of_a_variable_run_out(rt: HostRuntime) -> Result<(), Fail> {
-    play(
-        &rt,
-        rt.alloc(),
-        &(
-            "uses_of_a_variable_run_out",
-            &[10],
-            1,
-            [&LAST_USES, &[], &[]],
-        ),
-    )
-}
-
-#[test]
-fn set_prio_and_requeue_refusals(rt: HostRuntime) -> Result<(), Fail> {
-    play(
-        &rt,
-        rt.alloc(),
-        &(
-            "set_prio_and_requeue_refusals",
-            &[10, 10, 10],
-            2,
-            [&REFUSALS, &REQUEUES, &STATES],
-        ),
-    )
-}
-
 // The word of mutex 1 has both flags and no number. It gets that of the thread, and keeps OWNER_DIED alone.
-static OWNS: [(Ask, Reply); 6] = [
+const OWNS: Steps = &[
     (Ask::Store(1, 0xc000_0000), Reply::Done),
     (Ask::Park(2, 1, 0, 1), Reply::Done),
     (Ask::Requeue(1, 0, 1, 1, 0), Reply::Taken(1)),
@@ -103,7 +73,7 @@ static OWNS: [(Ask, Reply); 6] = [
 ];
 
 // Thread 1 parks before thread 3, which has the same priority, locks. It is queued behind it, and wakes behind it.
-static QUEUES: [(Ask, Reply); 11] = [
+const QUEUES: Steps = &[
     (Ask::Park(1, 1, 0, 1), Reply::Done),
     (Ask::Lock(3, 1), Reply::Queued),
     (Ask::Effective(2), Reply::Prio(20)),
@@ -118,7 +88,7 @@ static QUEUES: [(Ask, Reply); 11] = [
 ];
 
 // The word of mutex 2 has the number of nobody, and then that of the thread itself.
-static WAKES: [(Ask, Reply); 10] = [
+const WAKES: Steps = &[
     (Ask::Store(2, 0xc000_03ff), Reply::Done),
     (Ask::Park(2, 2, 0, 2), Reply::Done),
     (Ask::Requeue(2, 0, 2, 1, 0), Reply::Taken(1)),
@@ -132,7 +102,7 @@ static WAKES: [(Ask, Reply); 10] = [
 ];
 
 // Thread 2 waits for thread 1, which is parked: it can't queue behind thread 2, and is woken.
-static CYCLE: [(Ask, Reply); 9] = [
+const CYCLE: Steps = &[
     (Ask::Lock(1, 2), Reply::Owns),
     (Ask::Lock(2, 1), Reply::Owns),
     (Ask::Park(1, 1, 0, 1), Reply::Done),
@@ -146,7 +116,7 @@ static CYCLE: [(Ask, Reply); 9] = [
 
 // Thread 1 ends as the owner of mutex 2, which isn't on its robust list. Thread 3 is queued on it, so that the owner
 // state of thread 1 stays, and thread 2 is parked for it.
-static LOST: [(Ask, Reply); 9] = [
+const LOST: Steps = &[
     (Ask::Lock(1, 2), Reply::Owns),
     (Ask::Lock(3, 2), Reply::Queued),
     (Ask::Park(2, 1, 0, 2), Reply::Done),
@@ -159,14 +129,14 @@ static LOST: [(Ask, Reply); 9] = [
 ];
 
 // Threads 2 to 5, of priorities 20, 30, 30 and 20, are parked on variable 1 for mutex 1, which has no owner.
-static PARKED: [(Ask, Reply); 4] = [
+const PARKED: Steps = &[
     (Ask::Park(2, 1, 0, 1), Reply::Done),
     (Ask::Park(3, 1, 0, 1), Reply::Done),
     (Ask::Park(4, 1, 0, 1), Reply::Done),
     (Ask::Park(5, 1, 0, 1), Reply::Done),
 ];
 
-static GREATEST_FIRST: [(Ask, Reply); 12] = [
+const GREATEST_FIRST: Steps = &[
     (Ask::Store(1, 0x4000_0000), Reply::Done),
     (Ask::Requeue(1, 0, 1, 1, 1), Reply::Taken(2)),
     (Ask::Word(1), Reply::Bits(0xc000_0003)),
@@ -183,7 +153,7 @@ static GREATEST_FIRST: [(Ask, Reply); 12] = [
 
 // Thread 2, the owner of mutex 1, waits for thread 1, which is parked as threads 3 and 4 are. The first that is taken
 // is thread 3: it boosts both, and so thread 1 goes before thread 4.
-static EACH_ANEW: [(Ask, Reply); 13] = [
+const EACH_ANEW: Steps = &[
     (Ask::Lock(1, 2), Reply::Owns),
     (Ask::Lock(2, 1), Reply::Owns),
     (Ask::Park(1, 1, 0, 1), Reply::Done),
@@ -200,7 +170,7 @@ static EACH_ANEW: [(Ask, Reply); 13] = [
 ];
 
 // Thread 2 is parked as the owner of mutex 2: who locks it boosts thread 2, which goes before thread 3 then.
-static BOOSTED: [(Ask, Reply); 7] = [
+const BOOSTED: Steps = &[
     (Ask::Lock(2, 2), Reply::Owns),
     (Ask::Park(2, 1, 0, 1), Reply::Done),
     (Ask::Park(3, 1, 0, 1), Reply::Done),
@@ -212,7 +182,7 @@ static BOOSTED: [(Ask, Reply); 7] = [
 
 // Thread 5 parks before thread 6, which has the same priority: it goes behind it while it has a lower one, and keeps
 // its place among equals.
-static SET: [(Ask, Reply); 8] = [
+const SET: Steps = &[
     (Ask::Park(5, 2, 0, 3), Reply::Done),
     (Ask::Park(6, 2, 0, 3), Reply::Done),
     (Ask::SetPrio(5, 5), Reply::Done),
@@ -223,22 +193,8 @@ static SET: [(Ask, Reply); 8] = [
     (Ask::Status(6), Reply::ParkedOn(2)),
 ];
 
-#[test]
-fn parked_thread_is_rekeyed(rt: HostRuntime) -> Result<(), Fail> {
-    play(
-        &rt,
-        rt.alloc(),
-        &(
-            "parked_thread_is_rekeyed",
-            &[10, 10, 15, 40, 10, 10],
-            3,
-            [&BOOSTED, &SET, &[]],
-        ),
-    )
-}
-
 // A thread that ends while it is parked leaves its variable, and loses no wake-up of the next.
-static BOTH_PARKED: [(Ask, Reply); 6] = [
+const BOTH_PARKED: Steps = &[
     (Ask::Park(1, 1, 0, 1), Reply::Done),
     (Ask::Park(2, 1, 0, 1), Reply::Done),
     (Ask::End(1, 1), Reply::Done),
@@ -248,7 +204,7 @@ static BOTH_PARKED: [(Ask, Reply); 6] = [
 ];
 
 // Equals are taken in the order in which they were parked, also once one of them went up and down again.
-static EQUALS: [(Ask, Reply); 12] = [
+const EQUALS: Steps = &[
     (Ask::Park(3, 1, 0, 1), Reply::Done),
     (Ask::Park(2, 1, 0, 1), Reply::Done),
     (Ask::SetPrio(2, 30), Reply::Done),
@@ -263,54 +219,65 @@ static EQUALS: [(Ask, Reply); 12] = [
     (Ask::Parked(2, 0), Reply::Nobody),
 ];
 
-#[test]
-fn requeues_answer_by_the_word(rt: HostRuntime) -> Result<(), Fail> {
-    play_all(
-        &rt,
-        rt.alloc(),
-        &[
-            (
-                "the_word_says_what_a_taken_thread_gets",
-                &[10, 20, 10],
-                2,
-                [&OWNS, &QUEUES, &WAKES],
-            ),
-            (
-                "requeue_into_a_cycle_wakes",
-                &[10, 20],
-                2,
-                [&CYCLE, &[], &[]],
-            ),
-            (
-                "requeue_to_a_lost_mutex_wakes",
-                &[10, 20, 30],
-                2,
-                [&LOST, &[], &[]],
-            ),
-            (
-                "requeue_takes_greatest_first",
-                &[10, 20, 30, 30, 20],
-                1,
-                [&PARKED, &GREATEST_FIRST, &[]],
-            ),
-            (
-                "requeue_judges_anew_for_each",
-                &[10, 5, 50, 30],
-                2,
-                [&EACH_ANEW, &[], &[]],
-            ),
-            (
-                "exit_leaves_the_variable",
-                &[20, 10],
-                1,
-                [&BOTH_PARKED, &[], &[]],
-            ),
-            (
-                "equals_are_taken_in_order_of_parking",
-                &[10, 10, 10],
-                1,
-                [&EQUALS, &[], &[]],
-            ),
-        ],
-    )
-}
+pub(super) static STORIES: [Story; 10] = [
+    Story {
+        name: "uses_of_a_variable_run_out",
+        levels: &[10],
+        mutexes: 1,
+        tables: &[LAST_USES],
+    },
+    Story {
+        name: "set_prio_and_requeue_refusals",
+        levels: &[10, 10, 10],
+        mutexes: 2,
+        tables: &[REFUSALS, REQUEUES, STATES],
+    },
+    Story {
+        name: "parked_thread_is_rekeyed",
+        levels: &[10, 10, 15, 40, 10, 10],
+        mutexes: 3,
+        tables: &[BOOSTED, SET],
+    },
+    Story {
+        name: "the_word_says_what_a_taken_thread_gets",
+        levels: &[10, 20, 10],
+        mutexes: 2,
+        tables: &[OWNS, QUEUES, WAKES],
+    },
+    Story {
+        name: "requeue_into_a_cycle_wakes",
+        levels: &[10, 20],
+        mutexes: 2,
+        tables: &[CYCLE],
+    },
+    Story {
+        name: "requeue_to_a_lost_mutex_wakes",
+        levels: &[10, 20, 30],
+        mutexes: 2,
+        tables: &[LOST],
+    },
+    Story {
+        name: "requeue_takes_greatest_first",
+        levels: &[10, 20, 30, 30, 20],
+        mutexes: 1,
+        tables: &[PARKED, GREATEST_FIRST],
+    },
+    Story {
+        name: "requeue_judges_anew_for_each",
+        levels: &[10, 5, 50, 30],
+        mutexes: 2,
+        tables: &[EACH_ANEW],
+    },
+    Story {
+        name: "exit_leaves_the_variable",
+        levels: &[20, 10],
+        mutexes: 1,
+        tables: &[BOTH_PARKED],
+    },
+    Story {
+        name: "equals_are_taken_in_order_of_parking",
+        levels: &[10, 10, 10],
+        mutexes: 1,
+        tables: &[EQUALS],
+    },
+];

@@ -1,14 +1,12 @@
 //! Deadlines that are reached while a thread is queued, parked or stopped: what it leaves, the priorities of the chain
 //! above it, and where it stands in the run queue.
-use super::super::driver::Reply;
-use super::{Ask, play_all};
+use super::{Ask, Reply, Steps, Story};
 use pif_kernel::Woken;
-use std::test::Fail;
 
 const EXPIRED: Reply = Reply::Ready(Woken::Expired);
 
 // Thread 2 waits for mutex 1 of thread 1, twice. WAITERS stays, and nobody trusts it.
-static QUEUED: [(Ask, Reply); 14] = [
+const QUEUED: Steps = &[
     (Ask::Lock(1, 1), Reply::Owns),
     (Ask::Lock(2, 1), Reply::Queued),
     (Ask::Effective(1), Reply::Prio(50)),
@@ -26,7 +24,7 @@ static QUEUED: [(Ask, Reply); 14] = [
 ];
 
 // Thread 3 is parked on variable 1, behind thread 2, and then on it alone.
-static PARKED: [(Ask, Reply); 9] = [
+const PARKED: Steps = &[
     (Ask::Park(2, 1, 0, 1), Reply::Done),
     (Ask::Park(3, 1, 0, 1), Reply::Done),
     (Ask::Expire(2), Reply::Done),
@@ -39,7 +37,7 @@ static PARKED: [(Ask, Reply); 9] = [
 ];
 
 // Thread 4 has stopped, and then may run, take a mutex and stop again.
-static STOPPED: [(Ask, Reply); 6] = [
+const STOPPED: Steps = &[
     (Ask::Stop(4), Reply::Done),
     (Ask::Expire(4), Reply::Done),
     (Ask::Status(4), EXPIRED),
@@ -50,14 +48,14 @@ static STOPPED: [(Ask, Reply); 6] = [
 
 // Thread 1 holds mutex 1, on which thread 2 is queued; thread 3 is parked, and thread 4 has stopped. All are of the
 // priority of thread 5. Who expires joins behind those that are there.
-static ALL_REST: [(Ask, Reply); 4] = [
+const ALL_REST: Steps = &[
     (Ask::Lock(1, 1), Reply::Owns),
     (Ask::Lock(2, 1), Reply::Queued),
     (Ask::Park(3, 1, 0, 1), Reply::Done),
     (Ask::Stop(4), Reply::Done),
 ];
 
-static EXPIRE: [(Ask, Reply); 8] = [
+const EXPIRE: Steps = &[
     (Ask::Expire(4), Reply::Done),
     (Ask::Expire(2), Reply::Done),
     (Ask::Expire(3), Reply::Done),
@@ -69,7 +67,7 @@ static EXPIRE: [(Ask, Reply); 8] = [
 ];
 
 // Thread 1 was boosted by thread 2. It falls behind thread 3, which has its priority, and thread 2 runs first.
-static BOOST_LOST: [(Ask, Reply); 7] = [
+const BOOST_LOST: Steps = &[
     (Ask::Lock(1, 1), Reply::Owns),
     (Ask::Lock(2, 1), Reply::Queued),
     (Ask::Pick, Reply::Thread(1)),
@@ -81,7 +79,7 @@ static BOOST_LOST: [(Ask, Reply); 7] = [
 
 // Thread 1, of priority 10, holds mutex 1. Thread 2, of priority 20, holds mutex 2 and waits for mutex 1. Threads 3 and
 // 4, of priorities 30 and 40, wait for mutex 2.
-static WAITING: [(Ask, Reply); 7] = [
+const WAITING: Steps = &[
     (Ask::Lock(1, 1), Reply::Owns),
     (Ask::Lock(2, 2), Reply::Owns),
     (Ask::Lock(2, 1), Reply::Queued),
@@ -91,7 +89,7 @@ static WAITING: [(Ask, Reply); 7] = [
     (Ask::Effective(2), Reply::Prio(40)),
 ];
 
-static BOOST_FALLS: [(Ask, Reply); 10] = [
+const BOOST_FALLS: Steps = &[
     (Ask::Expire(4), Reply::Done),
     (Ask::Effective(1), Reply::Prio(30)),
     (Ask::Effective(2), Reply::Prio(30)),
@@ -105,7 +103,7 @@ static BOOST_FALLS: [(Ask, Reply); 10] = [
 ];
 
 // Thread 2 leaves the middle of the chain, and those that wait for it boost it still, and thread 1 no longer.
-static BOOST_KEPT: [(Ask, Reply); 6] = [
+const BOOST_KEPT: Steps = &[
     (Ask::Expire(2), Reply::Done),
     (Ask::Effective(1), Reply::Prio(10)),
     (Ask::Effective(2), Reply::Prio(40)),
@@ -114,42 +112,35 @@ static BOOST_KEPT: [(Ask, Reply); 6] = [
     (Ask::Waiter(2, 1), Reply::Thread(3)),
 ];
 
-#[test]
-fn deadlines_are_reached_in_each_state(rt: HostRuntime) -> Result<(), Fail> {
-    play_all(
-        &rt,
-        rt.alloc(),
-        &[
-            (
-                "expiry_ends_each_kind_of_waiting",
-                &[10, 50, 20, 30],
-                1,
-                [&QUEUED, &PARKED, &STOPPED],
-            ),
-            (
-                "who_expires_runs_behind_its_equals",
-                &[20, 20, 20, 20, 20],
-                1,
-                [&ALL_REST, &EXPIRE, &[]],
-            ),
-            (
-                "who_loses_a_boost_by_expiry_runs_behind_its_equals",
-                &[10, 50, 10],
-                1,
-                [&BOOST_LOST, &[], &[]],
-            ),
-            (
-                "boost_falls_with_each_waiter_that_expires",
-                &[10, 20, 30, 40],
-                2,
-                [&WAITING, &BOOST_FALLS, &[]],
-            ),
-            (
-                "who_expires_keeps_the_boost_of_its_own_waiters",
-                &[10, 20, 30, 40],
-                2,
-                [&WAITING, &BOOST_KEPT, &[]],
-            ),
-        ],
-    )
-}
+pub(super) static STORIES: [Story; 5] = [
+    Story {
+        name: "expiry_ends_each_kind_of_waiting",
+        levels: &[10, 50, 20, 30],
+        mutexes: 1,
+        tables: &[QUEUED, PARKED, STOPPED],
+    },
+    Story {
+        name: "who_expires_runs_behind_its_equals",
+        levels: &[20, 20, 20, 20, 20],
+        mutexes: 1,
+        tables: &[ALL_REST, EXPIRE],
+    },
+    Story {
+        name: "who_loses_a_boost_by_expiry_runs_behind_its_equals",
+        levels: &[10, 50, 10],
+        mutexes: 1,
+        tables: &[BOOST_LOST],
+    },
+    Story {
+        name: "boost_falls_with_each_waiter_that_expires",
+        levels: &[10, 20, 30, 40],
+        mutexes: 2,
+        tables: &[WAITING, BOOST_FALLS],
+    },
+    Story {
+        name: "who_expires_keeps_the_boost_of_its_own_waiters",
+        levels: &[10, 20, 30, 40],
+        mutexes: 2,
+        tables: &[WAITING, BOOST_KEPT],
+    },
+];

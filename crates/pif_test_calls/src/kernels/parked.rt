@@ -1,12 +1,10 @@
 //! Who is taken from a variable, and mutexes whose owner states a kernel may find through one bucket.
-use super::super::driver::Reply;
-use super::{Ask, play};
+use super::{Ask, Reply, Steps, Story};
 use pif_kernel::Woken;
-use std::test::Fail;
 
 // Threads 2, 3 and 4, of priorities 10, 30 and 20, are parked on variable 1 for mutex 1. Thread 1, of priority 5, takes
 // the mutex.
-static WAITS: [(Ask, Reply); 9] = [
+const WAITS: Steps = &[
     (Ask::Park(2, 1, 0, 1), Reply::Done),
     (Ask::Park(3, 1, 0, 1), Reply::Done),
     (Ask::Park(4, 1, 0, 1), Reply::Done),
@@ -19,7 +17,7 @@ static WAITS: [(Ask, Reply); 9] = [
 ];
 
 // All are queued on it, and get it in the order of their priorities.
-static BROADCAST: [(Ask, Reply); 13] = [
+const BROADCAST: Steps = &[
     (Ask::Requeue(1, 1, 1, 1, 1024), Reply::Taken(3)),
     (Ask::Parked(1, 0), Reply::Nobody),
     (Ask::Word(1), Reply::Bits(0x8000_0001)),
@@ -35,22 +33,8 @@ static BROADCAST: [(Ask, Reply); 13] = [
     (Ask::Word(1), Reply::Bits(0x0000_0000)),
 ];
 
-#[test]
-fn broadcast_wakes_by_priority(rt: HostRuntime) -> Result<(), Fail> {
-    play(
-        &rt,
-        rt.alloc(),
-        &(
-            "broadcast_wakes_by_priority",
-            &[5, 10, 30, 20],
-            1,
-            [&WAITS, &BROADCAST, &[]],
-        ),
-    )
-}
-
 // Thread 3 parks after thread 2, which has a lower priority, and gets the mutex, which is free.
-static GREATEST: [(Ask, Reply); 6] = [
+const GREATEST: Steps = &[
     (Ask::Park(2, 1, 0, 1), Reply::Done),
     (Ask::Park(3, 1, 0, 1), Reply::Done),
     (Ask::Requeue(1, 0, 1, 1, 0), Reply::Taken(1)),
@@ -59,22 +43,8 @@ static GREATEST: [(Ask, Reply); 6] = [
     (Ask::Status(2), Reply::ParkedOn(1)),
 ];
 
-#[test]
-fn signal_takes_greatest_priority(rt: HostRuntime) -> Result<(), Fail> {
-    play(
-        &rt,
-        rt.alloc(),
-        &(
-            "signal_takes_greatest_priority",
-            &[10, 10, 30],
-            1,
-            [&GREATEST, &[], &[]],
-        ),
-    )
-}
-
 // Mutexes 1 and 65 are both held by a thread for which one of priority 20 waits. What becomes of one leaves the other.
-static HELD: [(Ask, Reply); 9] = [
+const HELD: Steps = &[
     (Ask::Lock(1, 1), Reply::Owns),
     (Ask::Lock(2, 1), Reply::Queued),
     (Ask::Lock(3, 65), Reply::Owns),
@@ -87,7 +57,7 @@ static HELD: [(Ask, Reply); 9] = [
 ];
 
 // The state of mutex 65 came later, and is gone. It comes again, and then that of mutex 1 goes.
-static AGAIN: [(Ask, Reply); 9] = [
+const AGAIN: Steps = &[
     (Ask::Lock(3, 65), Reply::Queued),
     (Ask::Unlock(1, 1), Reply::Done),
     (Ask::Word(1), Reply::Bits(0x8000_0002)),
@@ -99,16 +69,23 @@ static AGAIN: [(Ask, Reply); 9] = [
     (Ask::Waiter(65, 0), Reply::Nobody),
 ];
 
-#[test]
-fn two_mutexes_of_one_bucket(rt: HostRuntime) -> Result<(), Fail> {
-    play(
-        &rt,
-        rt.alloc(),
-        &(
-            "two_mutexes_of_one_bucket",
-            &[10, 20, 10, 20],
-            65,
-            [&HELD, &AGAIN, &[]],
-        ),
-    )
-}
+pub(super) static STORIES: [Story; 3] = [
+    Story {
+        name: "broadcast_wakes_by_priority",
+        levels: &[5, 10, 30, 20],
+        mutexes: 1,
+        tables: &[WAITS, BROADCAST],
+    },
+    Story {
+        name: "signal_takes_greatest_priority",
+        levels: &[10, 10, 30],
+        mutexes: 1,
+        tables: &[GREATEST],
+    },
+    Story {
+        name: "two_mutexes_of_one_bucket",
+        levels: &[10, 20, 10, 20],
+        mutexes: 65,
+        tables: &[HELD, AGAIN],
+    },
+];

@@ -1,9 +1,6 @@
 //! Random lists of kernel calls on both kernels, on words that no library wrote too: each call has the same answer on
 //! both, and leaves the same words, statuses, priorities and pick.
-ghost use Rattle.std.specs.Prelude.{◌≤◌};
-
-use super::super::driver::{At, Reply, see_at};
-use super::{Ask, Scene, answer, new_scene, read};
+use super::{Ask, Reply, Scene, answer, new_scene, read};
 use pif_chains_linked::LinkedChains;
 use pif_kernel::{Chains, KernelOn, PiKernel};
 use pif_plain::PlainChains;
@@ -21,6 +18,9 @@ const LISTS: u32 = 1000;
 
 const ASKED: u32 = 250;
 
+// The seed of a random list, and a place in it.
+type At = (u32, u32);
+
 // Asks both kernels, and sees that they answer the same. Whether it could be asked: a call may want a ready thread.
 fn ask<A: PiKernel + Drop, B: PiKernel + Drop>(
     rt: &impl Abort,
@@ -30,57 +30,37 @@ fn ask<A: PiKernel + Drop, B: PiKernel + Drop>(
     ask: Ask,
 ) -> bool {
     let reply = answer(plain, ask);
-    see_at(rt, answer(linked, ask), reply, at);
+    let (seed, place) = at;
+    assert!(rt;
+        answer(linked, ask) == reply,
+        "seed {seed}, at place {place}"
+    );
     reply.is_some()
-}
-
-// Sees that both have the same words, statuses, priorities and pick.
-fn compare<A: PiKernel + Drop, B: PiKernel + Drop>(
-    rt: &impl Abort,
-    plain: &mut Scene<A>,
-    linked: &mut Scene<B>,
-    at: At,
-) {
-    ask(rt, plain, linked, at, Ask::Pick);
-    for number in 1..THREADS + 1 {
-        for read in [
-            Ask::Status(number),
-            Ask::Effective(number),
-            Ask::Word(number),
-        ] {
-            ask(rt, plain, linked, at, read);
-        }
-    }
 }
 
 // A random call or end, of a random thread and mutex, or by the one whose number is in the word of the mutex.
 fn random<K: PiKernel + Drop>(rng: &mut SplitMix64, plain: &Scene<K>) -> Ask {
     let t = 1 + rng.next_u32() % THREADS;
     let m = 1 + rng.next_u32() % MUTEXES;
-    if rng.next_u32() % 64 == 0 {
-        return Ask::End(t, m);
-    }
-    match read(plain, Ask::Word(m)) {
-        Some(Reply::Bits(bits)) => call(rng, t, m, bits & 0x3fff_ffff),
-        _ => call(rng, t, m, 0),
-    }
-}
-
-fn call(rng: &mut SplitMix64, t: u32, m: u32, holder: u32) -> Ask {
     let c = 1 + rng.next_u32() % 2;
-    match rng.next_u32() % 32 {
-        0..=9 => Ask::Lock(t, m),
-        10 => Ask::TryLock(t, m),
-        11..=16 => Ask::Unlock(holder, m),
-        17..=19 => Ask::Park(t, c, 0, c),
-        20 => Ask::Park(t, c, rng.next_u32() % 2, m),
-        21 | 22 => Ask::Requeue(c, 0, c, 1, rng.next_u32() % 3),
-        23 => Ask::Requeue(c, 0, m, rng.next_u32() % 2, t),
-        24 | 25 => Ask::SetPrio(t, rng.next_u32() % 12 * 9),
-        26..=28 => Ask::Expire(t),
-        29 => Ask::Stop(t),
-        30 => Ask::Store(m, word(rng, t)),
-        _ => Ask::StoreUses(c, rng.next_u32() % 8 / 7),
+    let holder = match read(plain, Ask::Word(m)) {
+        Some(Reply::Bits(bits)) => bits & 0x3fff_ffff,
+        _ => 0,
+    };
+    match rng.next_u32() % 65 {
+        0..=19 => Ask::Lock(t, m),
+        20 | 21 => Ask::TryLock(t, m),
+        22..=33 => Ask::Unlock(holder, m),
+        34..=39 => Ask::Park(t, c, 0, c),
+        40 | 41 => Ask::Park(t, c, rng.next_u32() % 2, m),
+        42..=45 => Ask::Requeue(c, 0, c, 1, rng.next_u32() % 3),
+        46 | 47 => Ask::Requeue(c, 0, m, rng.next_u32() % 2, t),
+        48..=51 => Ask::SetPrio(t, rng.next_u32() % 12 * 9),
+        52..=57 => Ask::Expire(t),
+        58 | 59 => Ask::Stop(t),
+        60 | 61 => Ask::Store(m, word(rng, t)),
+        62 | 63 => Ask::StoreUses(c, rng.next_u32() % 8 / 7),
+        _ => Ask::End(t, m),
     }
 }
 
@@ -109,26 +89,12 @@ fn play_list<A: Chains + Drop, B: Chains + Drop, R: Abort>(
     }
     let first = u64::MAX - u64::from(rng.next_u32() % 64);
     let mut plain: Scene<KernelOn<A>> = new_scene(alloc, &levels, MUTEXES, first)?;
-    play_beside::<KernelOn<A>, B, R>(rt, seed, &mut rng, &mut plain, &levels, first, calls)
-}
-
-// The same with the scene on the plain kernel, which has these priorities and this first ticket.
-fn play_beside<A: PiKernel + Drop, B: Chains + Drop, R: Abort>(
-    rt: &R,
-    seed: u32,
-    rng: &mut SplitMix64,
-    plain: &mut Scene<A>,
-    levels: &[u32],
-    first: u64,
-    calls: &mut u32,
-) -> Result<(), Fail>
-    requires { 1 ≤ first }
-{
-    let mut linked: Scene<KernelOn<B>> = new_scene(plain.alloc, levels, MUTEXES, first)?;
-    play_calls(rt, seed, rng, plain, &mut linked, calls);
+    let mut linked: Scene<KernelOn<B>> = new_scene(alloc, &levels, MUTEXES, first)?;
+    play_calls(rt, seed, &mut rng, &mut plain, &mut linked, calls);
     Ok(())
 }
 
+// Behind each call both have the same words, statuses, priorities and pick.
 fn play_calls<A: PiKernel + Drop, B: PiKernel + Drop>(
     rt: &impl Abort,
     seed: u32,
@@ -137,12 +103,21 @@ fn play_calls<A: PiKernel + Drop, B: PiKernel + Drop>(
     linked: &mut Scene<B>,
     calls: &mut u32,
 ) {
-    for number in 0..ASKED {
+    for place in 0..ASKED {
         let call = random(rng, plain);
-        if ask(rt, plain, linked, (seed, number), call) {
+        if ask(rt, plain, linked, (seed, place), call) {
             *calls = calls.saturating_add(1);
         }
-        compare(rt, plain, linked, (seed, number));
+        ask(rt, plain, linked, (seed, place), Ask::Pick);
+        for number in 1..THREADS + 1 {
+            for read in [
+                Ask::Status(number),
+                Ask::Effective(number),
+                Ask::Word(number),
+            ] {
+                ask(rt, plain, linked, (seed, place), read);
+            }
+        }
     }
 }
 

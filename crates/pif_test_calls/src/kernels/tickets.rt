@@ -1,15 +1,9 @@
 //! Tickets that come to their last number: those of waiters, and those of parked threads.
-use super::super::driver::{Reply, see};
-use super::{Ask, Story, play_on};
-use pif_chains_linked::LinkedChains;
-use pif_kernel::Chains;
-use pif_plain::PlainChains;
-use std::alloc::Global;
-use std::process::Abort;
+use super::{Ask, Reply, Steps, Story, play};
 use std::test::Fail;
 
 // Four threads of priority 10 lock mutex 1 in turn, and then unlock it in turn.
-static HAND_OVERS: [(Ask, Reply); 12] = [
+const HAND_OVERS: Steps = &[
     (Ask::Lock(1, 1), Reply::Owns),
     (Ask::Lock(2, 1), Reply::Queued),
     (Ask::Lock(3, 1), Reply::Queued),
@@ -26,7 +20,7 @@ static HAND_OVERS: [(Ask, Reply); 12] = [
 
 // Threads 3, 1, 4 and 2 of priority 10 park on variable 1 in that order. Each gets a greater priority and its own
 // again, which puts it where its ticket says, and they stand as before. Then all are taken for mutex 1.
-static PARKED_IN_TURN: [(Ask, Reply); 23] = [
+const PARKED_IN_TURN: Steps = &[
     (Ask::Park(3, 1, 0, 1), Reply::Done),
     (Ask::Park(1, 1, 0, 1), Reply::Done),
     (Ask::Park(4, 1, 0, 1), Reply::Done),
@@ -52,42 +46,34 @@ static PARKED_IN_TURN: [(Ask, Reply); 23] = [
     (Ask::Waiter(1, 3), Reply::Nobody),
 ];
 
+static STORIES: [Story; 2] = [
+    Story {
+        name: "tickets_of_waiters",
+        levels: &[10, 10, 10, 10],
+        mutexes: 1,
+        tables: &[HAND_OVERS],
+    },
+    Story {
+        name: "tickets_of_parked_threads",
+        levels: &[10, 10, 10, 10],
+        mutexes: 1,
+        tables: &[PARKED_IN_TURN],
+    },
+];
+
+// Three threads wait for a mutex, with tickets that begin at the last four. Those of waiters and those of parked
+// threads both begin there, and the next one of a waiter is seen then.
 #[test]
 fn tickets_are_renumbered(rt: HostRuntime) -> Result<(), Fail> {
-    let stories: [Story; 2] = [
-        (
-            "tickets of waiters",
-            &[10, 10, 10, 10],
-            1,
-            [&HAND_OVERS, &[], &[]],
-        ),
-        (
-            "tickets of parked threads",
-            &[10, 10, 10, 10],
-            1,
-            [&PARKED_IN_TURN, &[], &[]],
-        ),
-    ];
-    play_late::<PlainChains, HostRuntime>(&rt, rt.alloc(), &stories)?;
-    play_late::<LinkedChains, HostRuntime>(&rt, rt.alloc(), &stories)
-}
-
-// Plays stories in which three threads wait for a mutex, with tickets that begin at the last four. Those of waiters and
-// those of parked threads both begin there, and the next one of a waiter is seen then.
-fn play_late<C: Chains + Drop, R: Abort>(
-    rt: &R,
-    alloc: Global,
-    stories: &[Story],
-) -> Result<(), Fail> {
-    for story in stories {
+    for story in &STORIES {
         for (first, next) in [
             (18446744073709551612, 18446744073709551615),
             (18446744073709551613, 4),
             (18446744073709551614, 4),
             (18446744073709551615, 4),
         ] {
-            let ticket = Reply::Ticket(play_on::<C, R>(rt, alloc, story, first)?);
-            see(rt, Some(ticket), Some(Reply::Ticket(next)), story.0, 0);
+            let tickets = play(&rt, rt.alloc(), story, first)?;
+            assert!(rt; tickets == [next, next], "{} from {first}", story.name);
         }
     }
     Ok(())
