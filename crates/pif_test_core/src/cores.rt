@@ -1,13 +1,12 @@
 //! Readers of a core: how many there are, the time, who rests, and which call is open, of which a script says nothing,
 //! and the others once. What a script can say of the same scenes is in crates/pif_test_transcripts/data/cores.txt.
-use super::driver::{Scene, Turn, Wish, play_all};
+use super::driver::{Scene, Turn, Wish};
 use pif_core::Seen;
 use pif_types::{Kind, Refusal};
-use std::test::Fail;
 
 const DONE: Seen = Seen::Answered(0);
 
-static SCENES: [Scene; 7] = [
+pub(crate) static SCENES: [Scene; 7] = [
     // Thread 1 holds mutex 1, for which thread 2, of higher priority, waits.
     Scene {
         name: "holder_is_boosted_until_it_unlocks",
@@ -140,8 +139,3 @@ static SCENES: [Scene; 7] = [
         ],
     },
 ];
-
-#[test]
-fn one_who_looks_sees_who_does_what(rt: HostRuntime) -> Result<(), Fail> {
-    play_all(&rt, rt.alloc(), &SCENES)
-}

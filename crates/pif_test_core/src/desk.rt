@@ -1,7 +1,8 @@
-//! What no clause says: that calls of real threads overlap, that clients sleep and are woken, how many entries each call
-//! makes, what refused memory leaves, and that rooms settle with the clients that were there, and with no others.
+//! What no clause says: that calls of real threads overlap, that clients sleep and are woken, how many entries each
+//! call makes, what refused memory leaves, and that rooms settle with the clients that were there, and with no others.
 //!
-//! A test is a scene (`scenes`), which is a table of deeds (`deeds`) at a desk that is watched (`watch`).
+//! A test is a scene (`scenes`), which has a name. It is a table of deeds (`deeds`) at a desk that is watched
+//! (`watch`).
 mod counts;
 mod deeds;
 mod memory;
@@ -12,3 +13,25 @@ mod stress;
 mod threads;
 mod ticks;
 mod watch;
+
+use scenes::{Scene, play};
+use std::test::Fail;
+
+#[test]
+fn what_is_done_at_a_desk_comes_to_this(rt: HostRuntime) -> Result<(), Fail> {
+    let tables: [&[Scene]; 7] = [
+        &counts::SCENES,
+        &memory::SCENES,
+        &receipts::SCENES,
+        &sleepers::SCENES,
+        &stress::SCENES,
+        &threads::SCENES,
+        &ticks::SCENES,
+    ];
+    for scenes in tables {
+        for scene in scenes {
+            play(&rt, scene)?;
+        }
+    }
+    Ok(())
+}

@@ -1,4 +1,6 @@
 //! What the tables of the tests are made of, by numbers, and the core on which each is played.
+use crate::uses::ways_out;
+use crate::{cores, uses};
 use pif_core::{Core, Event, Seen};
 use pif_core_callers::{
     Awaited, Held, Next, add_under, finish_lock, lock_and_hold, lock_and_repair, next_after,
@@ -6,7 +8,6 @@ use pif_core_callers::{
 };
 use pif_model::{Status, Woken};
 use pif_types::{AddFault, CondId, Health, Kind, Limits, MutexId, Prio, Request, Tid};
-use std::alloc::Global;
 use std::process::Abort;
 use std::test::Fail;
 
@@ -157,18 +158,18 @@ fn shows(core: &Core, turn: Turn) -> Option<bool> {
 fn shows_thread(core: &Core, turn: Turn) -> Option<bool> {
     match turn {
         Turn::Base(t, level) => Some(core.base(Tid::new(t)?) == Prio::new(level)),
-        Turn::IsReady(t) => Some(does(core, Tid::new(t)?, Status::Ready(Woken::Fresh))),
-        Turn::IsQueued(t, m) => Some(does(core, Tid::new(t)?, Status::Queued(MutexId::new(m)?))),
-        Turn::IsParked(t, c) => Some(does(core, Tid::new(t)?, Status::Parked(CondId::new(c)?))),
+        Turn::IsReady(t) => Some(core.status(Tid::new(t)?) == Some(Status::Ready(Woken::Fresh))),
+        Turn::IsQueued(t, m) => {
+            Some(core.status(Tid::new(t)?) == Some(Status::Queued(MutexId::new(m)?)))
+        }
+        Turn::IsParked(t, c) => {
+            Some(core.status(Tid::new(t)?) == Some(Status::Parked(CondId::new(c)?)))
+        }
         Turn::Waiting(t, rests) => Some(core.waiting(Tid::new(t)?) == rests),
         Turn::Open(t, wish) => Some(core.open_call(Tid::new(t)?) == request(wish)),
         Turn::Path(t, numbers) => Some(have(core.path(Tid::new(t)?).as_slice(), numbers)),
         _ => None,
     }
-}
-
-fn does(core: &Core, t: Tid, status: Status) -> bool {
-    core.status(t) == Some(status)
 }
 
 /// Whether these threads have these numbers.
@@ -190,16 +191,6 @@ pub struct Scene {
     pub turns: &'static [Turn],
 }
 
-/// Plays each of these scenes on a core of its own.
-pub fn play_all(rt: &impl Abort, alloc: Global, scenes: &[Scene]) -> Result<(), Fail> {
-    for scene in scenes {
-        let limits = Limits::new(4, 2, 1, 2).ok_or("limits")?;
-        let mut core = Core::new(alloc, limits)?;
-        play(rt, &mut core, scene)?;
-    }
-    Ok(())
-}
-
 /// The turns of a scene go as they say. The value is 5 at first.
 fn play(rt: &impl Abort, core: &mut Core, scene: &Scene) -> Result<(), AddFault> {
     let mut value = 5;
@@ -210,6 +201,19 @@ fn play(rt: &impl Abort, core: &mut Core, scene: &Scene) -> Result<(), AddFault>
     for (place, turn) in scene.turns.iter().enumerate() {
         let goes = goes(core, &mut value, *turn) == Some(true);
         assert!(rt; goes, "another answer at row {place} of {}", scene.name);
+    }
+    Ok(())
+}
+
+#[test]
+fn turns_of_a_core_go_as_they_say(rt: HostRuntime) -> Result<(), Fail> {
+    let tables: [&[Scene]; 3] = [&cores::SCENES, &uses::SCENES, &ways_out::SCENES];
+    for scenes in tables {
+        for scene in scenes {
+            let limits = Limits::new(4, 2, 1, 2).ok_or("limits")?;
+            let mut core = Core::new(rt.alloc(), limits)?;
+            play(&rt, &mut core, scene)?;
+        }
     }
     Ok(())
 }

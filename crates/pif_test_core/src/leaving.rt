@@ -1,13 +1,9 @@
 //! A client that meets a fault ends, or is given up if it is refused memory for that.
-use crate::drives::is_out_of_memory;
 use pif_desk::{Desk, DeskFault, NoPause};
 use pif_job_drive::{DriveFault, Ending, drive_book, end_of};
 use pif_types::{AddFault, Limits, MutexId, Refusal};
-use std::alloc::Global;
-use std::process::Abort;
 use std::sync::Wait;
 use std::test::Fail;
-use std::thread::Threads;
 
 /// The most entries by which a journal is filled.
 const MOST: u32 = 10_000;
@@ -24,27 +20,23 @@ fn refuse_growth(rt: &impl Wait, desk: &Desk<NoPause>) -> Result<(), DeskFault> 
     Ok(())
 }
 
-/// This is so.
-fn holds(rt: &impl Abort, is_so: Result<bool, DeskFault>) {
-    assert_eq!(rt; is_so, Ok(true));
-}
-
 /// Whether a client that is refused memory for good, since the journal is full, is given up, with no entry made.
-fn is_given_up<R: Wait + Abort>(rt: &R, desk: &Desk<NoPause>) -> Result<bool, DeskFault> {
+fn is_given_up(rt: &impl Wait, desk: &Desk<NoPause>) -> Result<bool, DeskFault> {
     desk.set_growth(rt, 1);
     let client = desk.enter(rt, 1)?;
     refuse_growth(rt, desk)?;
     let before = desk.entries(rt);
     let fault = Err(DeskFault::NoMemory);
-    is_out_of_memory(rt, &end_of(rt, desk, MutexId::default(), client, fault));
-    Ok(desk.entries(rt) == before)
+    let ended = end_of(rt, desk, MutexId::default(), client, fault);
+    let is_out_of_memory = matches!(ended, Ending::Fault(DriveFault::NoMemory));
+    Ok(is_out_of_memory && desk.entries(rt) == before)
 }
 
 #[test]
 fn a_client_that_cannot_end_is_given_up(rt: HostRuntime) -> Result<(), Fail> {
     let limits = Limits::new(1, 0, 0, 1).ok_or("limits")?;
     let desk = Desk::new(rt.alloc(), limits, NoPause)?;
-    holds(&rt, is_given_up(&rt, &desk));
+    assert!(&rt; is_given_up(&rt, &desk) == Ok(true));
     Ok(())
 }
 
@@ -66,22 +58,17 @@ fn a_refused_client_ends_unsettled(rt: HostRuntime) -> Result<(), Fail> {
         DeskFault::NotAdded(AddFault::TooMany),
     ];
     for fault in faults {
-        holds(&rt, is_told(&rt, &desk, fault));
+        assert!(&rt; is_told(&rt, &desk, fault) == Ok(true));
     }
     Ok(())
-}
-
-/// A drive of so many clients is refused as unsettled.
-fn is_refused<R: Threads + Wait + Sync>(rt: &R, alloc: Global, clients: u32) -> bool {
-    let drive = drive_book(alloc, rt, clients, NoPause);
-    drive.err() == Some(DriveFault::Unsettled)
 }
 
 #[test]
 fn a_drive_has_1_to_99_clients(rt: HostRuntime) {
     for clients in [0, 100, 1025, u32::MAX] {
+        let refused = drive_book(rt.alloc(), &rt, clients, NoPause).err();
         assert!(&rt;
-            is_refused(&rt, rt.alloc(), clients),
+            refused == Some(DriveFault::Unsettled),
             "of {clients} clients"
         );
     }

@@ -1,11 +1,10 @@
 //! The callers to copy from. Two threads, of priority 10 and 50, take turns; below are the ways out of each caller.
-mod ways_out;
+pub(crate) mod ways_out;
 
-use super::driver::{Scene, Turn, Wish, play_all};
+use super::driver::{Scene, Turn, Wish};
 use pif_core::Seen;
 use pif_core_callers::{Awaited, Held, Next};
 use pif_types::{Health, Kind, Refusal};
-use std::test::Fail;
 
 const DONE: Seen = Seen::Answered(0);
 
@@ -67,7 +66,7 @@ const TURNS: &[Turn] = &[
     Turn::Event(2, Next::LetOthersGo),
 ];
 
-static SCENES: [Scene; 5] = [
+pub(crate) static SCENES: [Scene; 5] = [
     Scene {
         name: "who_locks_holds",
         kind: Kind::Normal,
@@ -104,8 +103,3 @@ static SCENES: [Scene; 5] = [
         turns: TURNS,
     },
 ];
-
-#[test]
-fn callers_do_what_they_are_for(rt: HostRuntime) -> Result<(), Fail> {
-    play_all(&rt, rt.alloc(), &SCENES)
-}

@@ -93,24 +93,8 @@ pub(super) enum Deed {
 /// The number of the thread whose client does it, 0 for nobody; what it does; and what that comes to.
 pub(super) type Row = (u32, Deed, Result<u32, DeskFault>);
 
-/// What a deed of this thread comes to. Who is refused memory asks again at desks that say so.
+/// What a deed of this thread comes to.
 pub(super) fn take<R: Wait + Clock + Abort + AllocGlobal>(
-    rt: &R,
-    desk: &Desk<Watch>,
-    clients: &mut Vec<Client>,
-    number: u32,
-    deed: Deed,
-) -> Result<u32, DeskFault> {
-    match take_once(rt, desk, clients, number, deed) {
-        Err(DeskFault::NoMemory) if desk.pause().asks_again => {
-            take_once(rt, desk, clients, number, deed)
-        }
-        come => come,
-    }
-}
-
-/// The same, asked once.
-fn take_once<R: Wait + Clock + Abort + AllocGlobal>(
     rt: &R,
     desk: &Desk<Watch>,
     clients: &mut Vec<Client>,
@@ -120,7 +104,7 @@ fn take_once<R: Wait + Clock + Abort + AllocGlobal>(
     match deed {
         Deed::Enter(count, prio) => return enter(rt, desk, clients, count, prio),
         Deed::Lose => clients.clear(),
-        Deed::Swap => swap(rt, clients),
+        Deed::Swap => swap(rt, rt.alloc(), clients).expect(rt, "there is no other client"),
         _ => {
             for client in clients.iter_mut() {
                 if client.thread().get() == number {
@@ -153,17 +137,11 @@ fn enter(
 }
 
 /// The second client of another desk takes the place of all.
-fn swap<R: Wait + Abort + AllocGlobal>(rt: &R, clients: &mut Vec<Client>) {
-    clients.clear();
-    let client = stranger(rt, rt.alloc()).expect(rt, "there is no other client");
-    clients.push(client).expect(rt, "out of memory");
-}
-
-/// The second client of another desk.
-fn stranger<R: Wait>(rt: &R, alloc: Global) -> Option<Client> {
+fn swap<R: Wait>(rt: &R, alloc: Global, clients: &mut Vec<Client>) -> Option<()> {
     let desk = Desk::new(alloc, Limits::new(2, 1, 1, 1)?, NoPause).ok()?;
     let _first = desk.enter(rt, 10).ok()?;
-    desk.enter(rt, 10).ok()
+    clients.clear();
+    clients.push(desk.enter(rt, 10).ok()?).ok()
 }
 
 /// What a client's deed comes to.
@@ -223,11 +201,6 @@ fn add<R: Wait + Clock + Abort>(rt: &R, desk: &Desk<Watch>, deed: Deed) -> Resul
     Ok(0)
 }
 
-/// How many entries the journal has.
-fn entries_of(rt: &impl Wait, desk: &Desk<Watch>) -> u32 {
-    u32::try_from(desk.entries(rt)).unwrap_or(u32::MAX)
-}
-
 /// Makes mutexes until the journal has room for just so many entries, and refuses its growth from then on.
 fn fill(rt: &impl Wait, desk: &Desk<Watch>, left: usize) -> Result<(), DeskFault> {
     for _ in 0..MOST {
@@ -237,9 +210,7 @@ fn fill(rt: &impl Wait, desk: &Desk<Watch>, left: usize) -> Result<(), DeskFault
         let _mutex = desk.make_mutex(rt, Kind::Normal, false)?;
     }
     desk.set_growth(rt, usize::MAX);
-    desk.pause()
-        .mark
-        .store(entries_of(rt, desk), Ordering::SeqCst);
+    desk.pause().mark.store(desk.entries(rt), Ordering::SeqCst);
     Ok(())
 }
 
@@ -247,7 +218,10 @@ fn fill(rt: &impl Wait, desk: &Desk<Watch>, left: usize) -> Result<(), DeskFault
 fn count<R: Wait + Clock>(rt: &R, desk: &Desk<Watch>, deed: Deed) -> Option<u32> {
     let watch = desk.pause();
     Some(match deed {
-        Deed::Entries => entries_of(rt, desk).wrapping_sub(watch.mark.load(Ordering::SeqCst)),
+        Deed::Entries => {
+            let before = watch.mark.load(Ordering::SeqCst);
+            u32::try_from(desk.entries(rt).wrapping_sub(before)).ok()?
+        }
         Deed::Pauses => watch.events.load(Ordering::SeqCst),
         Deed::Refusals => watch.refused.load(Ordering::SeqCst),
         Deed::HasRoom(least) => u32::from(desk.spare_entries(rt) >= least),

@@ -1,5 +1,6 @@
 //! Scenes at a desk, each a table of what is done there.
-use super::deeds::{Row, serve, take};
+use super::deeds::{NO_MEMORY, Row, serve, take};
+use super::stress;
 use super::watch::Watch;
 use crate::driver::{Wish, request};
 use arrayvec::ArrayVec;
@@ -28,10 +29,26 @@ pub(super) enum Turn {
     Goes,
     /// The client's thread begins this call, of which the client doesn't know.
     Turns(Wish),
+    /// The client ends inside a call, unless it has ended.
+    Dies,
+}
+
+/// How a room settles with its clients.
+pub(super) enum End {
+    /// So many calls were answered.
+    Answered(u64),
+    /// However many were.
+    Settles,
+    /// It doesn't: the log of this thread's client isn't its calls, this thread was never added, or a client is
+    /// missing.
+    Differs(u32),
+    Stranger(u32),
+    Count,
 }
 
 /// What happens at a desk.
 pub(super) struct Scene {
+    pub(super) name: &'static str,
     /// How many threads, mutexes and variables there may be, and how often a variable may be signalled.
     pub(super) limits: [u32; 4],
     /// Thread 1 is held after the first of its events that is answered so. None is answered `Ticked`.
@@ -46,7 +63,8 @@ pub(super) struct Scene {
     pub(super) after: &'static [Row],
     /// What each client does in the room, and what that is answered.
     pub(super) inside: &'static [(Turn, Seen)],
-    /// The trace of the book has this part so often.
+    pub(super) ends: End,
+    /// The trace of the book has this part so often. It is not written if that is never.
     pub(super) told: (&'static str, usize),
     /// What a replay of the trace prints; it is not replayed if that is nothing.
     pub(super) verdict: &'static str,
@@ -54,6 +72,7 @@ pub(super) struct Scene {
 
 /// Nothing happens, at a desk with room for much.
 pub(super) const EMPTY: Scene = Scene {
+    name: "",
     limits: [64, 64, 1, 9],
     held_after: Seen::Ticked,
     asks_again: false,
@@ -61,28 +80,28 @@ pub(super) const EMPTY: Scene = Scene {
     beside: &[],
     after: &[],
     inside: &[],
+    ends: End::Answered(0),
     told: ("pif-trace 2\n", 1),
     verdict: "",
 };
 
-/// All of this at a desk. In the end its room settles so: so many calls were answered, or this is why it doesn't.
+/// All of this at a desk.
 pub(super) fn play<R: Threads + Wait + Clock + Abort + AllocGlobal + Sync>(
     rt: &R,
     scene: &Scene,
-    expected: Result<u64, Why>,
 ) -> Result<(), Fail> {
     let desk = desk_of(rt.alloc(), scene)?;
     let mut clients = act(rt, &desk, scene)?;
     let mut room = desk.into_room();
     for (turn, seen) in scene.inside {
-        turn_all(rt, &mut room, &mut clients, *turn, *seen);
+        turn_all(rt, scene, &mut room, &mut clients, *turn, *seen);
     }
-    end(rt, room, clients, scene, expected);
+    settle(rt, scene, room, clients);
     Ok(())
 }
 
 /// The desk of a scene.
-pub(super) fn desk_of(alloc: Global, scene: &Scene) -> Result<Desk<Watch>, Fail> {
+fn desk_of(alloc: Global, scene: &Scene) -> Result<Desk<Watch>, Fail> {
     let [threads, mutexes, conds, signals] = scene.limits;
     let limits = Limits::new(threads, mutexes, conds, signals).ok_or("limits")?;
     let watch = Watch::new(scene.held_after, scene.asks_again);
@@ -96,7 +115,7 @@ pub(super) fn desk_of(alloc: Global, scene: &Scene) -> Result<Desk<Watch>, Fail>
 }
 
 /// Does what happens at the desk: the clients that are there then.
-pub(super) fn act<R: Threads + Wait + Clock + Abort + AllocGlobal + Sync>(
+fn act<R: Threads + Wait + Clock + Abort + AllocGlobal + Sync>(
     rt: &R,
     desk: &Desk<Watch>,
     scene: &Scene,
@@ -105,40 +124,44 @@ pub(super) fn act<R: Threads + Wait + Clock + Abort + AllocGlobal + Sync>(
         Err(NoMemory) if scene.asks_again => with_room(rt.alloc(), 2)?,
         made => made?,
     };
-    take_all(rt, desk, &mut clients, scene.before);
+    take_all(rt, scene, desk, &mut clients, scene.before);
     if !scene.beside.is_empty() {
-        clients = serve_beside(rt, desk, clients, scene.beside)?;
+        clients = serve_beside(rt, scene, desk, clients)?;
     }
-    take_all(rt, desk, &mut clients, scene.after);
+    take_all(rt, scene, desk, &mut clients, scene.after);
     Ok(clients)
 }
 
-/// These rows come to what they say.
+/// These rows come to what they say. Who is refused memory asks again at desks that say so.
 fn take_all<R: Wait + Clock + Abort + AllocGlobal>(
     rt: &R,
+    scene: &Scene,
     desk: &Desk<Watch>,
     clients: &mut Vec<Client>,
     rows: &[Row],
 ) {
     for (place, (number, deed, expected)) in rows.iter().enumerate() {
-        let come = take(rt, desk, clients, *number, *deed);
-        assert_eq!(rt; come, *expected, "at row {place}");
+        let mut come = take(rt, desk, clients, *number, *deed);
+        if scene.asks_again && come == NO_MEMORY {
+            come = take(rt, desk, clients, *number, *deed);
+        }
+        assert!(rt; come == *expected, "{}, at row {place}", scene.name);
     }
 }
 
 /// Each client does its rows, in a thread of its own.
 fn serve_beside<R: Threads + Wait + Clock + Abort + Sync>(
     rt: &R,
+    scene: &Scene,
     desk: &Desk<Watch>,
     clients: Vec<Client>,
-    rows: &'static [Row],
 ) -> Result<Vec<Client>, AllocError> {
     thread::map_vec(
         rt,
         clients,
         &|client| {
             let mut client = client;
-            serve_all(rt, desk, &mut client, rows);
+            serve_all(rt, scene, desk, &mut client);
             client
         },
     )
@@ -147,14 +170,14 @@ fn serve_beside<R: Threads + Wait + Clock + Abort + Sync>(
 /// The rows of this client come to what they say.
 fn serve_all<R: Wait + Clock + Abort>(
     rt: &R,
+    scene: &Scene,
     desk: &Desk<Watch>,
     client: &mut Client,
-    rows: &[Row],
 ) {
-    for (place, (number, deed, expected)) in rows.iter().enumerate() {
+    for (place, (number, deed, expected)) in scene.beside.iter().enumerate() {
         if client.thread().get() == *number {
             let come = serve(rt, desk, client, *deed);
-            assert_eq!(rt; come, *expected, "at row {place} of thread {number}");
+            assert!(rt; come == *expected, "{}, at row {place} beside", scene.name);
         }
     }
 }
@@ -162,6 +185,7 @@ fn serve_all<R: Wait + Clock + Abort>(
 /// Each client does this in the room, and is answered so.
 fn turn_all(
     rt: &impl Abort,
+    scene: &Scene,
     room: &mut Room,
     clients: &mut Vec<Client>,
     turn: Turn,
@@ -177,43 +201,55 @@ fn turn_all(
                 let request = request(wish).expect(rt, "no request");
                 room.turn(Event::Begin(client.thread(), request))
             }
+            Turn::Dies => stress::end_inside(room, client),
         };
-        assert_eq!(rt; seen, Ok(expected));
+        assert!(rt; seen == Ok(expected), "{}", scene.name);
     }
 }
 
-/// The room settles so with these clients.
-fn end<R: Abort + AllocGlobal>(
-    rt: &R,
-    room: Room,
-    clients: Vec<Client>,
-    scene: &Scene,
-    expected: Result<u64, Why>,
-) {
-    match room.settle(clients) {
+/// The room settles with these clients as the scene says.
+fn settle<R: Abort + AllocGlobal>(rt: &R, scene: &Scene, room: Room, clients: Vec<Client>) {
+    let come = match room.settle(clients) {
         Ok(book) => {
-            is_end(rt, Ok(book.answered), expected);
-            check_book(rt, &book, scene);
+            if scene.told.1 > 0 {
+                check_book(rt, scene, &book);
+            }
+            Ok(book.answered)
         }
-        Err(unsettled) => is_end(rt, Err(unsettled.why), expected),
+        Err(unsettled) => Err(unsettled.why),
+    };
+    assert!(rt; is_met(&scene.ends, &come), "{}: {come:?}", scene.name);
+}
+
+/// Whether a room settles so.
+fn is_met(end: &End, come: &Result<u64, Why>) -> bool {
+    match (end, come) {
+        (End::Answered(wanted), Ok(answered)) => answered == wanted,
+        (End::Settles, Ok(_)) | (End::Count, Err(Why::Count)) => true,
+        (End::Differs(wanted), Err(Why::Differs(t))) => t.get() == *wanted,
+        (End::Stranger(wanted), Err(Why::Stranger(t))) => t.get() == *wanted,
+        _ => false,
     }
 }
 
-/// How a room settles is as expected.
-fn is_end(rt: &impl Abort, end: Result<u64, Why>, expected: Result<u64, Why>) {
-    assert_eq!(rt; end, expected);
-}
-
-/// The trace of a book has what the scene tells, and is replayed if that is asked.
-fn check_book<R: Abort + AllocGlobal>(rt: &R, book: &Book, scene: &Scene) {
+/// The trace of a book has what the scene tells, and is replayed if that is asked, a second time if memory was refused.
+fn check_book<R: Abort + AllocGlobal>(rt: &R, scene: &Scene, book: &Book) {
     let mut trace = Kept::new();
     let mut output = Kept::new();
     let written = write_trace(book.limits, book.entries.as_slice(), &mut trace);
     let told = times_in(trace.as_slice(), scene.told.0.as_bytes());
-    assert_eq!(rt; (written, told), (Ok(()), scene.told.1));
+    assert!(rt;
+        written.is_ok() && told == scene.told.1,
+        "{}: {told}",
+        scene.name
+    );
     if !scene.verdict.is_empty() {
-        let replayed = replay_again(rt.alloc(), &trace, &mut output);
-        assert!(rt; replayed.is_ok() && output.as_slice() == scene.verdict.as_bytes());
+        let mut replayed = replay(rt.alloc(), &mut trace.as_slice(), &mut output);
+        if replayed == Err(CliFault::NoMemory) {
+            replayed = replay(rt.alloc(), &mut trace.as_slice(), &mut output);
+        }
+        let is_same = replayed.is_ok() && output.as_slice() == scene.verdict.as_bytes();
+        assert!(rt; is_same, "{}: {replayed:?}", scene.name);
     }
 }
 
@@ -228,12 +264,4 @@ fn times_in(text: &[u8], part: &[u8]) -> usize {
         }
     }
     times
-}
-
-/// Replays a trace, at the second time if memory was refused.
-fn replay_again(alloc: Global, trace: &Kept, output: &mut Kept) -> Result<(), CliFault> {
-    match replay(alloc, &mut trace.as_slice(), output) {
-        Err(CliFault::NoMemory) => replay(alloc, &mut trace.as_slice(), output),
-        ended => ended,
-    }
 }

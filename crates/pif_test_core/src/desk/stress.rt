@@ -1,16 +1,15 @@
 //! Eight real threads on three robust mutexes and a condition variable, one that wakes them, and then calls that end at
 //! each of their steps.
 use super::deeds::{Deed, call};
-use super::scenes::{EMPTY, Scene, act, desk_of};
+use super::scenes::{EMPTY, End, Scene, Turn};
 use super::watch::Watch;
 use crate::chance::next;
 use crate::driver::{Wish, request};
-use pif_desk::{Act, Client, Desk, DeskFault, Room};
+use pif_desk::{Act, Client, Desk, DeskFault, Room, Seen};
 use pif_types::{Kind, NoMemory};
 use std::process::Abort;
 use std::sync::Wait;
 use std::sync::atomic::Ordering;
-use std::test::Fail;
 
 /// How many clients make calls by chance.
 const THREADS: u32 = 8;
@@ -20,44 +19,6 @@ const CALLS: u32 = 200;
 
 /// After how many steps less than this a client ends inside a call.
 const STEPS: u32 = 19;
-
-/// Three mutexes with a variable, and the clients: those that make calls by chance, of which an odd one gives up what
-/// it holds before it quits; one that wakes them; and 38 that do nothing yet.
-static CHANCE: Scene = Scene {
-    limits: [64, 3, 1, u32::MAX],
-    before: &[
-        (0, Deed::Mutex(Kind::ErrorCheck, true), Ok(1)),
-        (0, Deed::Mutex(Kind::Recursive, true), Ok(2)),
-        (0, Deed::Mutex(Kind::ErrorCheck, true), Ok(3)),
-        (0, Deed::Cond(1), Ok(1)),
-        (0, Deed::Enter(47, 10), Ok(47)),
-    ],
-    beside: &[
-        (1, Deed::Chance, Ok(0)),
-        (1, Deed::GiveUp, Ok(0)),
-        (1, Deed::Quit, Ok(0)),
-        (2, Deed::Chance, Ok(0)),
-        (2, Deed::Quit, Ok(0)),
-        (3, Deed::Chance, Ok(0)),
-        (3, Deed::GiveUp, Ok(0)),
-        (3, Deed::Quit, Ok(0)),
-        (4, Deed::Chance, Ok(0)),
-        (4, Deed::Quit, Ok(0)),
-        (5, Deed::Chance, Ok(0)),
-        (5, Deed::GiveUp, Ok(0)),
-        (5, Deed::Quit, Ok(0)),
-        (6, Deed::Chance, Ok(0)),
-        (6, Deed::Quit, Ok(0)),
-        (7, Deed::Chance, Ok(0)),
-        (7, Deed::GiveUp, Ok(0)),
-        (7, Deed::Quit, Ok(0)),
-        (8, Deed::Chance, Ok(0)),
-        (8, Deed::Quit, Ok(0)),
-        (9, Deed::WakeOthers, Ok(0)),
-        (9, Deed::Quit, Ok(0)),
-    ],
-    ..EMPTY
-};
 
 /// The request that a number stands for, with one of three mutexes.
 fn wish_of(seed: u64) -> Wish {
@@ -127,32 +88,60 @@ fn play(room: &mut Room, client: &mut Client, wish: Wish, steps: u32) -> Result<
     Ok(())
 }
 
-/// Each of the clients that have made no call ends, one step later in its call than the one before: the first in a
-/// lock, the others, which take the mutex first, in a wait.
-fn end_all(room: &mut Room, clients: &mut Vec<Client>) -> Result<(), NoMemory> {
-    let mut begun = 0u32;
-    for client in clients.iter_mut() {
-        if client.thread().get() > THREADS + 1 {
-            if begun < STEPS {
-                play(room, client, Wish::Lock(1), begun)?;
-            } else {
-                play(room, client, Wish::Lock(1), 24)?;
-                play(room, client, Wish::Wait(1, 1), begun % STEPS)?;
-            }
-            room.play(client, Act::End)?;
-            begun = begun.wrapping_add(1);
-        }
+/// A client ends, unless it has ended. Each of those that have made no call does so one step later in a call than the
+/// one before: the first in a lock, the others, which take the mutex first, in a wait.
+pub(super) fn end_inside(room: &mut Room, client: &mut Client) -> Result<Seen, NoMemory> {
+    let Some(begun) = client.thread().get().checked_sub(THREADS + 2) else {
+        return Ok(Seen::Ended);
+    };
+    if begun < STEPS {
+        play(room, client, Wish::Lock(1), begun)?;
+    } else {
+        play(room, client, Wish::Lock(1), 24)?;
+        play(room, client, Wish::Wait(1, 1), begun % STEPS)?;
     }
-    Ok(())
+    room.play(client, Act::End)
 }
 
-/// The threads run at a desk. Then each client ends inside a call, if it has not ended, and all settle.
-#[test]
-fn eight_threads_settle(rt: HostRuntime) -> Result<(), Fail> {
-    let desk = desk_of(rt.alloc(), &CHANCE)?;
-    let mut clients = act(&rt, &desk, &CHANCE)?;
-    let mut room = desk.into_room();
-    end_all(&mut room, &mut clients)?;
-    assert!(&rt; room.settle(clients).is_ok(), "it does not settle");
-    Ok(())
-}
+/// Three mutexes with a variable, and the clients: those that make calls by chance, of which an odd one gives up what
+/// it holds before it quits; one that wakes them; and 38 that end inside calls then.
+pub(super) static SCENES: [Scene; 1] = [Scene {
+    name: "eight_threads_settle",
+    limits: [64, 3, 1, u32::MAX],
+    before: &[
+        (0, Deed::Mutex(Kind::ErrorCheck, true), Ok(1)),
+        (0, Deed::Mutex(Kind::Recursive, true), Ok(2)),
+        (0, Deed::Mutex(Kind::ErrorCheck, true), Ok(3)),
+        (0, Deed::Cond(1), Ok(1)),
+        (0, Deed::Enter(47, 10), Ok(47)),
+    ],
+    beside: &[
+        (1, Deed::Chance, Ok(0)),
+        (1, Deed::GiveUp, Ok(0)),
+        (1, Deed::Quit, Ok(0)),
+        (2, Deed::Chance, Ok(0)),
+        (2, Deed::Quit, Ok(0)),
+        (3, Deed::Chance, Ok(0)),
+        (3, Deed::GiveUp, Ok(0)),
+        (3, Deed::Quit, Ok(0)),
+        (4, Deed::Chance, Ok(0)),
+        (4, Deed::Quit, Ok(0)),
+        (5, Deed::Chance, Ok(0)),
+        (5, Deed::GiveUp, Ok(0)),
+        (5, Deed::Quit, Ok(0)),
+        (6, Deed::Chance, Ok(0)),
+        (6, Deed::Quit, Ok(0)),
+        (7, Deed::Chance, Ok(0)),
+        (7, Deed::GiveUp, Ok(0)),
+        (7, Deed::Quit, Ok(0)),
+        (8, Deed::Chance, Ok(0)),
+        (8, Deed::Quit, Ok(0)),
+        (9, Deed::WakeOthers, Ok(0)),
+        (9, Deed::Quit, Ok(0)),
+    ],
+    // Then each client ends inside a call, if it has not ended, and all settle.
+    inside: &[(Turn::Dies, Seen::Ended)],
+    ends: End::Settles,
+    told: ("", 0),
+    ..EMPTY
+}];

@@ -1,9 +1,8 @@
 //! Two real threads at one desk, of which the first is held inside its call while the second makes one.
 use super::deeds::{Deed, LOCK, Row, STALLED};
-use super::scenes::{EMPTY, Scene, play};
+use super::scenes::{EMPTY, End, Scene};
 use crate::driver::Wish;
 use pif_desk::Seen;
-use std::test::Fail;
 
 /// Two clients and two mutexes.
 const TWO: &[Row] = &[
@@ -19,48 +18,43 @@ const LOCKS: &[Row] = &[
     (2, Deed::Call(Wish::Lock(2)), Ok(0)),
 ];
 
-/// Thread 1 is held once its call has begun.
-static OVERLAP: Scene = Scene {
-    held_after: Seen::Begun,
-    before: TWO,
-    beside: LOCKS,
-    after: &[(0, Deed::Entries, Ok(10))],
-    told: (
-        "begin t1 lock m1 = begun\n\
-         begin t2 lock m2 = begun\n\
-         go t2 = went\n\
-         go t2 = answer 0\n\
-         go t1 = went\n\
-         go t1 = answer 0\n",
-        1,
-    ),
-    ..EMPTY
-};
-
-#[test]
-fn calls_of_two_threads_overlap(rt: HostRuntime) -> Result<(), Fail> {
-    play(&rt, &OVERLAP, Ok(2))
-}
-
-/// Thread 1 is held after the first step of its call.
-static STEPS: Scene = Scene {
-    held_after: Seen::Went,
-    before: TWO,
-    beside: LOCKS,
-    after: &[(0, Deed::Entries, Ok(10))],
-    told: (
-        "begin t1 lock m1 = begun\n\
-         go t1 = went\n\
-         begin t2 lock m2 = begun\n\
-         go t2 = went\n\
-         go t2 = answer 0\n\
-         go t1 = answer 0\n",
-        1,
-    ),
-    ..EMPTY
-};
-
-#[test]
-fn each_step_of_a_call_is_an_event_of_its_own(rt: HostRuntime) -> Result<(), Fail> {
-    play(&rt, &STEPS, Ok(2))
-}
+pub(super) static SCENES: [Scene; 2] = [
+    // Thread 1 is held once its call has begun.
+    Scene {
+        name: "calls_of_two_threads_overlap",
+        ends: End::Answered(2),
+        held_after: Seen::Begun,
+        before: TWO,
+        beside: LOCKS,
+        after: &[(0, Deed::Entries, Ok(10))],
+        told: (
+            "begin t1 lock m1 = begun\n\
+             begin t2 lock m2 = begun\n\
+             go t2 = went\n\
+             go t2 = answer 0\n\
+             go t1 = went\n\
+             go t1 = answer 0\n",
+            1,
+        ),
+        ..EMPTY
+    },
+    // Thread 1 is held after the first step of its call.
+    Scene {
+        name: "each_step_of_a_call_is_an_event_of_its_own",
+        ends: End::Answered(2),
+        held_after: Seen::Went,
+        before: TWO,
+        beside: LOCKS,
+        after: &[(0, Deed::Entries, Ok(10))],
+        told: (
+            "begin t1 lock m1 = begun\n\
+             go t1 = went\n\
+             begin t2 lock m2 = begun\n\
+             go t2 = went\n\
+             go t2 = answer 0\n\
+             go t1 = answer 0\n",
+            1,
+        ),
+        ..EMPTY
+    },
+];

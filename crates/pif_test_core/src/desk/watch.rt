@@ -1,7 +1,7 @@
 //! What clients do after each event: it is counted, and thread 1 may be held.
 use pif_desk::{Pause, Seen};
 use pif_types::Tid;
-use std::sync::atomic::{AtomicU32, Ordering};
+use std::sync::atomic::{AtomicU32, AtomicUsize, Ordering};
 use std::thread::yield_now;
 
 /// How often thread 1, while it is held, looks whether it may go on.
@@ -15,7 +15,7 @@ pub(super) struct Watch {
     /// Who is refused memory asks again.
     pub(super) asks_again: bool,
     /// How many entries the journal had when its growth was refused.
-    pub(super) mark: AtomicU32,
+    pub(super) mark: AtomicUsize,
     pub(super) held: AtomicU32,
     answered: AtomicU32,
     pub(super) waits: AtomicU32,
@@ -30,23 +30,13 @@ impl Watch {
         Watch {
             after,
             asks_again,
-            mark: AtomicU32::new(0),
+            mark: AtomicUsize::new(0),
             held: AtomicU32::new(0),
             answered: AtomicU32::new(0),
             waits: AtomicU32::new(0),
             ends: AtomicU32::new(0),
             events: AtomicU32::new(0),
             refused: AtomicU32::new(0),
-        }
-    }
-
-    /// Lets others run until a call of another thread was answered.
-    fn hold(&self) {
-        for _ in 0..LOOKS {
-            if self.answered.load(Ordering::SeqCst) > 0 {
-                return;
-            }
-            yield_now();
         }
     }
 }
@@ -68,7 +58,13 @@ impl Pause for Watch {
             _ => {}
         }
         if t.get() == 1 && seen == self.after && self.held.fetch_add(1, Ordering::SeqCst) == 0 {
-            self.hold();
+            // It lets others run until a call of another thread was answered.
+            for _ in 0..LOOKS {
+                if self.answered.load(Ordering::SeqCst) > 0 {
+                    return;
+                }
+                yield_now();
+            }
         }
     }
 }

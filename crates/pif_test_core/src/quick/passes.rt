@@ -35,15 +35,18 @@ pub(super) struct Course {
     pub(super) ended: AtomicU32,
 }
 
-/// Waits until a round has come.
-pub(super) fn wait_for_round<R: Wait>(rt: &R, last: &AtomicU32, round: u32) {
-    for _ in rt.forever() {
+/// How often a pass looks whether a round has come, for many seconds in all.
+const LOOKS: u32 = 100_000_000;
+
+/// Waits until a round has come, which has to: nobody waits for a pass that is left asleep.
+pub(super) fn wait_for_round(rt: &impl Abort, last: &AtomicU32, round: u32) {
+    for _ in 0..LOOKS {
         if last.load(Ordering::SeqCst) >= round {
             return;
         }
         yield_now();
     }
-    unreachable!()
+    panic!(rt; "the round {round} does not come: a pass was left asleep");
 }
 
 /// What this pass does.

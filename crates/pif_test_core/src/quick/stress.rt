@@ -1,12 +1,13 @@
 //! Many turns of many passes: no addition is lost.
-ghost use Rattle.std.specs.Prelude.{◌≡◌, ◌<◌, ◌≤◌, All, IfOk};
+ghost use Rattle.std.specs.Prelude.{◌≡◌, ◌<◌, ◌≤◌, All, IfOk, vec_len};
 ghost use Rattle.pif_quick.specs.Quick.{word_count, held_word, IsPassOf, IsIdle, IsIdleBut, IsTurnOf};
 
 use crate::chance::next;
 use pif_quick::{Held, Pass, Quick};
-use std::alloc::{AllocError, Global};
+use std::alloc::AllocError;
 use std::process::Abort;
 use std::sync::Wait;
+use std::sync::atomic::{AtomicU64, Ordering};
 use std::test::Fail;
 use std::thread;
 use std::thread::Threads;
@@ -77,27 +78,25 @@ fn take_turn<R: Wait>(rt: &R, quick: &Quick<u64>, pass: &mut Pass<u64>, turn: Tu
     unlock_by(rt, quick, pass, held, turn);
 }
 
-/// Takes so many turns by chance. Answers what was added to each word.
-fn take_turns<R: Wait>(rt: &R, quick: &Quick<u64>, pass: &mut Pass<u64>) -> [u64; WORDS]
+/// What was added to each word.
+type Sums = [AtomicU64; WORDS];
+
+/// Takes so many turns by chance, and adds to the sums what it added to each word.
+fn take_turns<R: Wait>(rt: &R, quick: &Quick<u64>, pass: &mut Pass<u64>, sums: &Sums)
     requires { IsPassOf quick.now pass.old × IsIdle pass.old × (4 ≤ word_count quick.now) }
     ensures { IsPassOf quick.now pass.new × IsIdle pass.new }
 {
-    let mut sums = [0u64; WORDS];
+    let mut mine = [0u64; WORDS];
     let mut seed = u64::from(pass.number());
     for _ in 0..TURNS {
         seed = next(seed);
         let turn = turn_of(seed);
         take_turn(rt, quick, pass, turn);
-        sums[turn.word] = sums[turn.word].wrapping_add(turn.by);
+        mine[turn.word] = mine[turn.word].wrapping_add(turn.by);
     }
-    sums
-}
-
-/// A pass that has taken its turns, and what it added to each word.
-#[derive(Drop)]
-struct Done {
-    pass: Pass<u64>,
-    sums: [u64; WORDS],
+    for m in 0..WORDS {
+        sums[m].fetch_add(mine[m], Ordering::SeqCst);
+    }
 }
 
 /// Each pass takes its turns in a thread of its own.
@@ -105,20 +104,21 @@ fn run<R: Threads + Wait + Sync>(
     rt: &R,
     quick: &Quick<u64>,
     passes: Vec<Pass<u64>>,
-) -> Result<Vec<Done>, AllocError>
+    sums: &Sums,
+) -> Result<Vec<Pass<u64>>, AllocError>
     requires { All (λ p. IsPassOf quick.now p × IsIdle p) passes.items × (4 ≤ word_count quick.now) }
-    ensures { IfOk result (λ done. All (λ d. IsPassOf quick.now d.pass × IsIdle d.pass) done.items) }
+    ensures { IfOk result (λ done. All (λ p. IsPassOf quick.now p × IsIdle p) done.items) }
 {
     thread::map_vec(
         rt,
         passes,
-        &|pass| -> Done
+        &|pass| -> Pass<u64>
             requires { IsPassOf quick.now pass × IsIdle pass × (4 ≤ word_count quick.now) }
-            ensures { IsPassOf quick.entry.now result.pass × IsIdle result.pass }
+            ensures { IsPassOf quick.entry.now result × IsIdle result }
         {
             let mut pass = pass;
-            let sums = take_turns(rt, quick, &mut pass);
-            Done { pass, sums }
+            take_turns(rt, quick, &mut pass, sums);
+            pass
         },
     )
 }
@@ -128,6 +128,7 @@ fn meet_all(quick: &Quick<u64>, one: &mut Pass<u64>, others: &mut Vec<Pass<u64>>
     requires one { IsPassOf quick.now one.old × IsIdle one.old }
     requires others { All (λ p. IsPassOf quick.now p × IsIdle p) others.old.items }
     ensures one { IsPassOf quick.now one.new × IsIdle one.new }
+    ensures counted { vec_len others.new ≡ vec_len others.old }
     ensures others { All (λ p. IsPassOf quick.now p × IsIdle p) others.new.items }
 {
     for k in 0..others.len() {
@@ -135,44 +136,27 @@ fn meet_all(quick: &Quick<u64>, one: &mut Pass<u64>, others: &mut Vec<Pass<u64>>
     }
 }
 
-/// Adds the sums of one pass to those of all.
-fn add(totals: &mut [u64; WORDS], sums: &[u64; WORDS]) {
-    for m in 0..WORDS {
-        totals[m] = totals[m].wrapping_add(sums[m]);
-    }
-}
-
 /// All passes meet in pairs, and each word then has what they added to it together.
-fn settle(
-    rt: &impl Abort,
-    alloc: Global,
-    quick: &Quick<u64>,
-    done: Vec<Done>,
-) -> Result<(), AllocError>
-    requires { All (λ d. IsPassOf quick.now d.pass × IsIdle d.pass) done.items × (4 ≤ word_count quick.now) }
+fn settle(rt: &impl Abort, quick: &Quick<u64>, passes: Vec<Pass<u64>>, sums: &Sums)
+    requires { All (λ p. IsPassOf quick.now p × IsIdle p) passes.items × (4 ≤ word_count quick.now) }
 {
-    let mut done = done;
-    let mut totals = [0u64; WORDS];
-    let mut met = Vec::new(alloc);
-    while let Some(one) = done.pop() {
-        let Done { mut pass, sums } = one;
-        meet_all(quick, &mut pass, &mut met);
-        add(&mut totals, &sums);
-        met.push(pass)?;
+    let mut others = passes;
+    while let Some(mut one) = others.pop() {
+        meet_all(quick, &mut one, &mut others);
+        if others.is_empty() {
+            check_values(rt, quick, &mut one, sums);
+        }
     }
-    if let Some(mut pass) = met.pop() {
-        check_values(rt, quick, &mut pass, &totals);
-    }
-    Ok(())
 }
 
-/// Each word is free, and has this value.
-fn check_values(rt: &impl Abort, quick: &Quick<u64>, pass: &mut Pass<u64>, values: &[u64; WORDS])
+/// Each word is free, and has what was added to it.
+fn check_values(rt: &impl Abort, quick: &Quick<u64>, pass: &mut Pass<u64>, sums: &Sums)
     requires { IsPassOf quick.now pass.old × (4 ≤ word_count quick.now) }
 {
     for m in 0..WORDS {
+        let sum = sums[m].load(Ordering::SeqCst);
         match quick.try_lock(pass, m) {
-            Some(held) => assert_eq!(rt; *held.value(), values[m], "of the word {m}"),
+            Some(held) => assert!(rt; *held.value() == sum, "of the word {m}"),
             None => panic!(rt; "the word {m} is not free"),
         }
     }
@@ -180,9 +164,15 @@ fn check_values(rt: &impl Abort, quick: &Quick<u64>, pass: &mut Pass<u64>, value
 
 #[test]
 fn no_addition_is_lost(rt: HostRuntime) -> Result<(), Fail> {
+    let sums = [
+        AtomicU64::new(0),
+        AtomicU64::new(0),
+        AtomicU64::new(0),
+        AtomicU64::new(0),
+    ];
     let values = [0; WORDS].to_vec(rt.alloc())?;
     let (quick, passes) = Quick::open(rt.alloc(), values, 8)?;
-    let done = run(&rt, &quick, passes)?;
-    settle(&rt, rt.alloc(), &quick, done)?;
+    let passes = run(&rt, &quick, passes, &sums)?;
+    settle(&rt, &quick, passes, &sums);
     Ok(())
 }

@@ -9,12 +9,9 @@ use super::turns::hand_over;
 use pif_quick::{Pass, Quick};
 use std::hint::spin_loop;
 use std::process::Abort;
-use std::rt::Clock;
 use std::sync::Wait;
 use std::sync::atomic::Ordering;
 use std::test::Fail;
-use std::thread;
-use std::time::Duration;
 
 /// How often one pass gives the word up while the other comes for it.
 pub(super) const FREED: u32 = 2_000;
@@ -25,56 +22,9 @@ pub(super) const HANDED: u32 = 40;
 /// By how many pauses of the processor the rounds differ in how long the word is held.
 const PAUSES: u32 = 64;
 
-/// How often the holder looks whether the other pass has gone on, a millisecond each time.
-const LOOKS: u32 = 5_000;
-
-/// Lets some time pass.
-fn linger(pauses: u32) {
-    for _ in 0..pauses {
-        spin_loop();
-    }
-}
-
-/// Locks the word 0 and writes the round's number, lets the other pass come, and unlocks the word: as soon as it is
-/// marked, or a little later. Nobody locks it then but the other pass.
-fn give_up<R: Wait + Clock + Abort>(
-    rt: &R,
-    quick: &Quick<u64>,
-    pass: &mut Pass<u64>,
-    course: &Course,
-    round: u32,
-    hands: bool,
-)
-    requires { IsPassOf quick.now pass.old × (1 < word_count quick.now) }
-    ensures { IsPassOf quick.now pass.new }
-{
-    let mut held = quick.lock(rt, pass, 0);
-    let value = held.value_mut();
-    *value = u64::from(round);
-    course.begun.store(round, Ordering::SeqCst);
-    if hands {
-        hand_over(rt, quick, pass, held);
-        wait_for_other(rt, course, round);
-    } else {
-        linger(round % PAUSES);
-        quick.unlock(rt, pass, held);
-        wait_for_round(rt, &course.ended, round);
-    }
-}
-
-/// Waits until the second pass has unlocked the word, which has to come: the word was handed to it.
-fn wait_for_other<R: Clock + Abort>(rt: &R, course: &Course, round: u32) {
-    for _ in 0..LOOKS {
-        if course.ended.load(Ordering::SeqCst) >= round {
-            return;
-        }
-        let _ = thread::sleep(rt, Duration::from_millis(1));
-    }
-    panic!(rt; "a pass was left asleep");
-}
-
-/// So many rounds of the first pass.
-pub(super) fn give_up_always<R: Wait + Clock + Abort>(
+/// So many rounds of the first pass. It locks the word 0 and writes the round's number, lets the other pass come, and
+/// unlocks the word: as soon as it is marked, or a little later. Nobody locks it then but the other pass.
+pub(super) fn give_up_always<R: Wait + Abort>(
     rt: &R,
     quick: &Quick<u64>,
     pass: &mut Pass<u64>,
@@ -85,30 +35,23 @@ pub(super) fn give_up_always<R: Wait + Clock + Abort>(
     requires { IsPassOf quick.now pass.old × (1 < word_count quick.now) }
 {
     for round in 1..=rounds {
-        give_up(rt, quick, pass, course, round, hands);
+        let mut held = quick.lock(rt, pass, 0);
+        let value = held.value_mut();
+        *value = u64::from(round);
+        course.begun.store(round, Ordering::SeqCst);
+        if hands {
+            hand_over(rt, quick, pass, held);
+        } else {
+            for _ in 0..round % PAUSES {
+                spin_loop();
+            }
+            quick.unlock(rt, pass, held);
+        }
+        wait_for_round(rt, &course.ended, round);
     }
 }
 
-/// Comes for the word 0 while the other pass has it. Answers its value.
-fn come<R: Wait>(
-    rt: &R,
-    quick: &Quick<u64>,
-    pass: &mut Pass<u64>,
-    course: &Course,
-    round: u32,
-) -> u64
-    requires { IsPassOf quick.now pass.old × (1 < word_count quick.now) }
-    ensures { IsPassOf quick.now pass.new }
-{
-    wait_for_round(rt, &course.begun, round);
-    let held = quick.lock(rt, pass, 0);
-    let value = *held.value();
-    quick.unlock(rt, pass, held);
-    course.ended.store(round, Ordering::SeqCst);
-    value
-}
-
-/// So many rounds of the second pass, which reads in each what the first has written.
+/// So many rounds of the second pass. It comes for the word 0 while the first has it, and reads what that has written.
 pub(super) fn come_always<R: Wait + Abort>(
     rt: &R,
     quick: &Quick<u64>,
@@ -119,7 +62,12 @@ pub(super) fn come_always<R: Wait + Abort>(
     requires { IsPassOf quick.now pass.old × (1 < word_count quick.now) }
 {
     for round in 1..=rounds {
-        assert_eq!(rt; come(rt, quick, pass, course, round), u64::from(round));
+        wait_for_round(rt, &course.begun, round);
+        let held = quick.lock(rt, pass, 0);
+        let value = *held.value();
+        quick.unlock(rt, pass, held);
+        course.ended.store(round, Ordering::SeqCst);
+        assert!(rt; value == u64::from(round), "{value} in the round {round}");
     }
 }
 

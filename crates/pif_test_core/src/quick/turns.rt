@@ -67,17 +67,6 @@ pub(super) fn hand_over<R: Wait + Abort>(
     }
 }
 
-/// Locks the word 0, which may take a while, and unlocks it. Answers its value.
-fn wait_and_read<R: Wait>(rt: &R, quick: &Quick<u64>, pass: &mut Pass<u64>) -> u64
-    requires own { IsPassOf quick.now pass.old × IsIdle pass.old × (1 < word_count quick.now) }
-    ensures own { IsPassOf quick.now pass.new × IsIdle pass.new }
-{
-    let held = quick.lock(rt, pass, 0);
-    let value = *held.value();
-    quick.unlock(rt, pass, held);
-    value
-}
-
 /// A pass holds the word 0 until another waits for it, and hands it over. Answers what the other read.
 fn contend<R: Threads + Wait + Abort + Sync>(
     rt: &R,
@@ -105,7 +94,9 @@ fn contend<R: Threads + Wait + Abort + Sync>(
             ensures { IsPassOf quick.entry.now result.0 × IsIdle result.0 }
         {
             let mut two = two;
-            let value = wait_and_read(rt, quick, &mut two);
+            let held = quick.lock(rt, &mut two, 0);
+            let value = *held.value();
+            quick.unlock(rt, &mut two, held);
             (two, value)
         },
     );
@@ -125,28 +116,15 @@ fn try_to_meet<R: Threads + Wait + Abort + Sync>(
     let mut one = one;
     let mut two = two;
     let mut held = try_it(rt, quick, &mut one);
-    assert_eq!(rt; *held.value(), 5);
+    assert!(rt; *held.value() == 5);
     *held.value_mut() = 7;
     assert!(rt; quick.try_lock(&mut two, 0).is_none());
     assert!(rt; !quick.marked(&mut two, 0));
     let (mut one, mut two, read) = contend(rt, quick, one, held, two);
-    assert_eq!(rt; read, 7);
-    find_seven(rt, quick, &mut one);
+    let held = try_it(rt, quick, &mut one);
+    assert!(rt; read == 7 && *held.value() == 7);
+    assert!(rt; quick.unlock_quiet(&mut one, held).is_ok());
     quick.meet(&mut one, &mut two);
-}
-
-/// Locks the word 0, which has 7 now, and unlocks it quietly.
-fn find_seven(rt: &impl Abort, quick: &Quick<u64>, pass: &mut Pass<u64>)
-    requires own { IsPassOf quick.now pass.old × (1 < word_count quick.now) }
-    ensures own { IsPassOf quick.now pass.new }
-{
-    match quick.try_lock(pass, 0) {
-        Some(held) => {
-            assert_eq!(rt; *held.value(), 7);
-            assert!(rt; quick.unlock_quiet(pass, held).is_ok());
-        }
-        None => panic!(rt; "the word was not left free"),
-    }
 }
 
 /// The same by the last two of these passes.

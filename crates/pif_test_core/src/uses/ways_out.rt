@@ -1,11 +1,10 @@
 //! Each way out of the callers that do more than one call: what is answered, what is protected, and who owns the mutex.
 
 use super::{DONE, IN_ORDER};
-use crate::driver::{Scene, Turn, Wish, play_all};
+use crate::driver::{Scene, Turn, Wish};
 use pif_core::Seen;
 use pif_core_callers::{Awaited, Held};
 use pif_types::{Health, Kind, Refusal};
-use std::test::Fail;
 
 const BUSY: Seen = Seen::Refused(Refusal::Busy);
 
@@ -125,7 +124,7 @@ const DIED: &[Turn] = &[
     Turn::Owner(1, 1, 1),
 ];
 
-static SCENES: [Scene; 5] = [
+pub(crate) static SCENES: [Scene; 5] = [
     Scene {
         name: "each_way_out_of_an_addition",
         kind: Kind::ErrorCheck,
@@ -162,8 +161,3 @@ static SCENES: [Scene; 5] = [
         turns: DIED,
     },
 ];
-
-#[test]
-fn callers_end_by_each_way_out(rt: HostRuntime) -> Result<(), Fail> {
-    play_all(&rt, rt.alloc(), &SCENES)
-}

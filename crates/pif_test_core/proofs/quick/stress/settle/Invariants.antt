@@ -3,10 +3,7 @@ use Rattle.pif_quick.specs.Quick.{IsPassOf, IsIdle}
 use Rattle.pif_test_core.proofs.quick.stress.settle.Given as goal
 
 abbrev pub invariant-loop-one : goal.invariant-loop-one
-invariant-loop-one g l = record {
-  done : All (λ d. IsPassOf l.quick d.pass × IsIdle d.pass) l.done.items;
-  met : All (λ p. IsPassOf l.quick p × IsIdle p) l.met.items;
-}
+invariant-loop-one g l = All (λ p. IsPassOf l.quick p × IsIdle p) l.others.items
 
 abbrev pub decreases-loop-one : goal.decreases-loop-one
-decreases-loop-one g l = vec_len l.done
+decreases-loop-one g l = vec_len l.others
