@@ -50,64 +50,34 @@ struct Scene {
     mode: Mode,
 }
 
-fn new_scene(alloc: Global, seed: u64, mode: Mode) -> Result<Scene, Stop> {
-    // The check has to be told of the type of events, which entries hold.
-    let _event: Option<Event> = None;
-    let cloud = Cloud::new(alloc, LIMITS)?;
-    let limits = Limits::new(LIMITS.threads, LIMITS.mutexes, LIMITS.conds, LIMITS.signals);
-    match Core::new(alloc, limits.ok_or(Stop::Range)?) {
-        Ok(core) => Ok(Scene {
-            core,
-            cloud,
-            rng: SplitMix64::seed_from_u64(seed),
-            mode,
-        }),
-        Err(_) => Err(Stop::NoMemory),
-    }
-}
-
-/// Adds a mutex of a random kind to both.
-fn add_mutex(scene: &mut Scene) -> Result<(), Stop> {
-    let kind = match scene.rng.next_u32() % 3 {
-        0 => Kind::Normal,
-        1 => Kind::Recursive,
-        _ => Kind::ErrorCheck,
-    };
-    let robust = scene.rng.next_u32() % 2 == 0;
-    match scene.core.add_mutex(kind, robust) {
-        Ok(mutex) => scene.cloud.enter(&Entry::Mutex(mutex, kind, robust)),
-        Err(_) => Err(Stop::NoMemory),
-    }
-}
-
-/// Adds a thread of a random priority, of which many are equal, to both.
-fn add_thread(scene: &mut Scene) -> Result<(), Stop> {
-    let level = 1 + scene.rng.next_u32() % 4 * 15;
-    match (scene.core.add_thread(level), Prio::new(level)) {
-        (Ok(thread), Some(prio)) => scene.cloud.enter(&Entry::Thread(thread, prio)),
-        _ => Err(Stop::NoMemory),
-    }
-}
-
-/// Adds a variable that is bound to this mutex to both.
-fn add_cond(scene: &mut Scene, mutex: u32) -> Result<(), Stop> {
-    match MutexId::new(mutex) {
-        Some(mutex) => match scene.core.add_cond(mutex) {
-            Ok(cond) => scene.cloud.enter(&Entry::Cond(cond, mutex)),
-            Err(_) => Err(Stop::NoMemory),
-        },
-        None => Err(Stop::Range),
-    }
-}
-
+/// Adds mutexes of random kinds, two variables, and threads of random priorities, of which many are equal, to both.
 fn fill(scene: &mut Scene) -> Result<(), Stop> {
+    let Scene {
+        core,
+        cloud,
+        rng,
+        ..
+    } = scene;
     for _ in 0..MUTEXES {
-        add_mutex(scene)?;
+        let kind = match rng.next_u32() % 3 {
+            0 => Kind::Normal,
+            1 => Kind::Recursive,
+            _ => Kind::ErrorCheck,
+        };
+        let robust = rng.next_u32() % 2 == 0;
+        let mutex = core.add_mutex(kind, robust).ok().ok_or(Stop::NoMemory)?;
+        cloud.enter(&Entry::Mutex(mutex, kind, robust))?;
     }
-    add_cond(scene, 1)?;
-    add_cond(scene, 2)?;
+    for number in [1, 2] {
+        let mutex = MutexId::new(number).ok_or(Stop::Range)?;
+        let cond = core.add_cond(mutex).ok().ok_or(Stop::NoMemory)?;
+        cloud.enter(&Entry::Cond(cond, mutex))?;
+    }
     for _ in 0..THREADS {
-        add_thread(scene)?;
+        let level = 1 + rng.next_u32() % 4 * 15;
+        let thread = core.add_thread(level).ok().ok_or(Stop::NoMemory)?;
+        let prio = Prio::new(level).ok_or(Stop::Range)?;
+        cloud.enter(&Entry::Thread(thread, prio))?;
     }
     Ok(())
 }
@@ -132,8 +102,11 @@ fn request(rng: &mut SplitMix64, mutex: MutexId, cond: CondId, time: u32) -> Opt
     })
 }
 
-/// A random event of a thread.
-fn random_event(scene: &mut Scene, thread: Tid, mutex: MutexId, cond: CondId) -> Option<Event> {
+/// A random event. None if nobody has a number of it.
+fn random_event(scene: &mut Scene) -> Option<Event> {
+    let thread = Tid::new(1 + scene.rng.next_u32() % THREADS)?;
+    let mutex = MutexId::new(1 + scene.rng.next_u32() % MUTEXES)?;
+    let cond = CondId::new(1 + scene.rng.next_u32() % 2)?;
     let time = scene.core.time();
     Some(match scene.rng.next_u32() % 48 {
         0 => Event::End(thread),
@@ -144,40 +117,29 @@ fn random_event(scene: &mut Scene, thread: Tid, mutex: MutexId, cond: CondId) ->
     })
 }
 
-/// Whether the open call of a thread may wake others, which may then go on too.
-fn may_wake(core: &Core, thread: Tid) -> bool {
-    match core.open_call(thread) {
+/// A thread goes on in both, and any moves of it happen, also of those that its open call may wake. What the core
+/// answered, the machine allows.
+fn go(rt: &impl Abort, scene: &mut Scene, thread: Tid, seens: &mut Seens) -> Result<Seen, Stop> {
+    let wakes = match scene.core.open_call(thread) {
         Some(Request::Signal(_)) | Some(Request::Broadcast(_)) => true,
         _ => false,
-    }
-}
-
-/// A thread makes any moves, and so do those that it may wake.
-fn move_on(cloud: &mut Cloud, thread: Tid, wakes: bool) -> Result<(), Stop> {
-    if wakes {
-        cloud.close(&[1, 2, 3, 4])
-    } else {
-        cloud.close(&[thread.get()])
-    }
-}
-
-/// A thread goes on in both. What the core answered, the machine allows.
-fn go(rt: &impl Abort, scene: &mut Scene, thread: Tid, seens: &mut Seens) -> Result<Seen, Stop> {
-    let wakes = may_wake(&scene.core, thread);
+    };
     let seen = scene.core.step(Event::Go(thread));
-    match seen {
-        Seen::Refused(refusal) => scene
-            .cloud
-            .keep(&Sight::Refused(Event::Go(thread), refusal)),
-        Seen::Answered(answer) => {
-            move_on(&mut scene.cloud, thread, wakes)?;
-            see_answer(rt, scene, thread, answer, seens)?;
-        }
-        _ => {
-            move_on(&mut scene.cloud, thread, wakes)?;
-            let sight = Sight::Rests(thread.get(), seen == Seen::Waits);
-            scene.cloud.keep(&sight);
-        }
+    if let Seen::Refused(refusal) = seen {
+        let sight = Sight::Refused(Event::Go(thread), refusal);
+        scene.cloud.keep(&sight);
+        return Ok(seen);
+    }
+    if wakes {
+        scene.cloud.close(&[1, 2, 3, 4])?;
+    } else {
+        scene.cloud.close(&[thread.get()])?;
+    }
+    if let Seen::Answered(answer) = seen {
+        see_answer(rt, scene, thread, answer, seens)?;
+    } else {
+        let sight = Sight::Rests(thread.get(), seen == Seen::Waits);
+        scene.cloud.keep(&sight);
     }
     Ok(seen)
 }
@@ -201,16 +163,6 @@ fn see_answer(
         .enter(&Entry::Step(Event::Go(thread), Seen::Answered(answer)))
 }
 
-/// An event that is no go happens in both.
-fn happen(scene: &mut Scene, event: &Event) -> Result<Seen, Stop> {
-    let seen = scene.core.step(*event);
-    match seen {
-        Seen::Refused(refusal) => scene.cloud.keep(&Sight::Refused(*event, refusal)),
-        _ => scene.cloud.enter(&Entry::Step(*event, seen))?,
-    }
-    Ok(seen)
-}
-
 /// A thread goes on. If calls are whole, it does so until its call is answered or waits.
 fn go_on(rt: &impl Abort, scene: &mut Scene, thread: Tid, seens: &mut Seens) -> Result<(), Stop> {
     for _ in 0..24 {
@@ -223,27 +175,19 @@ fn go_on(rt: &impl Abort, scene: &mut Scene, thread: Tid, seens: &mut Seens) -> 
 
 /// An event happens in both. If calls are whole, one that begins goes on.
 fn see(rt: &impl Abort, scene: &mut Scene, event: &Event, seens: &mut Seens) -> Result<(), Stop> {
-    match *event {
-        Event::Go(thread) => go_on(rt, scene, thread, seens),
-        Event::Begin(thread, _) => {
-            if happen(scene, event)? == Seen::Begun && scene.mode == Mode::Whole {
-                go_on(rt, scene, thread, seens)?;
-            }
-            Ok(())
-        }
-        _ => {
-            happen(scene, event)?;
-            Ok(())
-        }
+    if let Event::Go(thread) = *event {
+        return go_on(rt, scene, thread, seens);
     }
-}
-
-/// Whether the deadline of the open call of a thread is reached: then the core says that it may go on.
-fn is_late(core: &Core, thread: Tid) -> bool {
-    match core.open_call(thread) {
-        Some(Request::TimedLock(_, deadline)) => deadline <= core.time(),
-        Some(Request::TimedWait(_, _, deadline)) => deadline <= core.time(),
-        _ => false,
+    let seen = scene.core.step(*event);
+    match seen {
+        Seen::Refused(refusal) => scene.cloud.keep(&Sight::Refused(*event, refusal)),
+        _ => scene.cloud.enter(&Entry::Step(*event, seen))?,
+    }
+    match *event {
+        Event::Begin(thread, _) if seen == Seen::Begun && scene.mode == Mode::Whole => {
+            go_on(rt, scene, thread, seens)
+        }
+        _ => Ok(()),
     }
 }
 
@@ -255,28 +199,24 @@ fn compare(scene: &mut Scene, thread: Tid) {
         let sight = Sight::Effective(thread.get(), prio.get());
         scene.cloud.keep(&sight);
     }
-    match scene.core.waiting(thread) {
-        Some(true) => scene.cloud.keep(&Sight::Rests(thread.get(), true)),
-        Some(false) if !is_late(&scene.core, thread) => {
-            scene.cloud.keep(&Sight::Rests(thread.get(), false));
+    // Once the deadline of its open call is reached, the core says that it may go on.
+    let is_late = match scene.core.open_call(thread) {
+        Some(Request::TimedLock(_, deadline) | Request::TimedWait(_, _, deadline)) => {
+            deadline <= scene.core.time()
         }
-        _ => {}
+        _ => false,
+    };
+    if let Some(rests) = scene.core.waiting(thread)
+        && (rests || !is_late)
+    {
+        scene.cloud.keep(&Sight::Rests(thread.get(), rests));
     }
 }
 
 /// A random event happens, and both are compared.
 fn play_event(rt: &impl Abort, scene: &mut Scene, seens: &mut Seens) -> Result<(), Stop> {
-    let thread = Tid::new(1 + scene.rng.next_u32() % THREADS);
-    let mutex = MutexId::new(1 + scene.rng.next_u32() % MUTEXES);
-    let cond = CondId::new(1 + scene.rng.next_u32() % 2);
-    let event = match (thread, mutex, cond) {
-        (Some(thread), Some(mutex), Some(cond)) => random_event(scene, thread, mutex, cond),
-        _ => None,
-    };
-    match event {
-        Some(event) => see(rt, scene, &event, seens)?,
-        None => return Err(Stop::Range),
-    }
+    let event = random_event(scene).ok_or(Stop::Range)?;
+    see(rt, scene, &event, seens)?;
     for number in 1..THREADS + 1 {
         if let Some(thread) = Tid::new(number) {
             compare(scene, thread);
@@ -294,7 +234,16 @@ fn play_list(
     mode: Mode,
     seens: &mut Seens,
 ) -> Result<(), Stop> {
-    let mut scene = new_scene(alloc, seed, mode)?;
+    // The check has to be told of the type of events, which entries hold.
+    let _event: Option<Event> = None;
+    let limits = Limits::new(LIMITS.threads, LIMITS.mutexes, LIMITS.conds, LIMITS.signals);
+    let core = Core::new(alloc, limits.ok_or(Stop::Range)?).ok();
+    let mut scene = Scene {
+        core: core.ok_or(Stop::NoMemory)?,
+        cloud: Cloud::new(alloc, LIMITS)?,
+        rng: SplitMix64::seed_from_u64(seed),
+        mode,
+    };
     play_events(rt, &mut scene, seed, seens)
 }
 

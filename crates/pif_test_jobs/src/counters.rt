@@ -1,42 +1,26 @@
-ghost use Rattle.std.specs.Prelude.{◌≡◌, ◌<◌, ◌+◌, ◌∷◌, [], IfOk, IfSome, None};
+//! The machine of `searches`: a counter that rises unseen and says its count. Its lamp is switched unseen.
+ghost use Rattle.std.specs.Prelude.{◌≡◌, ◌<◌, ◌+◌, ◌∷◌, [], Some, None, IfOk, IfSome};
 ghost use Rattle.pif_test_jobs.specs.Counting.{Counts, is_hidden};
-ghost use Rattle.pif_test_jobs.specs.declared.counters.Label.TheVariants.{Say};
 
 use pif_search::{Machine, Stop, one};
 use std::alloc::Global;
 
-/// What a counter does.
-#[derive(Clone, Copy, Drop)]
-pub enum Label {
-    /// It rises by 1.
-    Rise,
-    /// Its lamp is switched.
-    Switch,
-    /// It says its count.
-    Say(u32),
-}
+/// The count of a counter, and whether its lamp is on.
+pub type Counter = (u32, bool);
 
-/// A counter, and a lamp that is switched at any time.
-#[derive(Clone, Copy, Drop)]
-pub struct Counter {
-    pub count: u32,
-    pub lamp: bool,
-}
+/// What a counter does: it says this count, or it does what is not seen.
+pub type Label = Option<u32>;
 
-impl Counter {
-    /// One more, up to a top.
-    fn risen(self, top: u32) -> Option<Counter>
-        ensures some { IfSome result (λ t. (self.count < top) × (t.count ≡ self.count + 1) × (t.lamp ≡ self.lamp)) }
-        ensures none { result ≡ None → self.count < top → ⊥ }
-    {
-        if self.count < top {
-            Some(Counter {
-                count: self.count + 1,
-                lamp: self.lamp,
-            })
-        } else {
-            None
-        }
+/// One more, up to a top.
+fn risen(from: &Counter, top: u32) -> Option<Counter>
+    ensures some { IfSome result (λ t. (from.now.0 < top) × (t.0 ≡ from.now.0 + 1) × (t.1 ≡ from.now.1)) }
+    ensures none { result ≡ None → from.now.0 < top → ⊥ }
+{
+    let (count, lamp) = *from;
+    if count < top {
+        Some((count + 1, lamp))
+    } else {
+        None
     }
 }
 
@@ -52,10 +36,10 @@ fn two<T: Drop>(alloc: Global, first: T, second: T) -> Result<Vec<T>, Stop>
 
 /// The counter itself, if this is its count.
 fn said(alloc: Global, from: &Counter, label: &Label) -> Result<Vec<Counter>, Stop>
-    ensures { IfOk result (λ v. (label.now ≡ Say from.now.count → v.items ≡ from.now ∷ []) × ((label.now ≡ Say from.now.count → ⊥) → v.items ≡ [])) }
+    ensures { IfOk result (λ v. (label.now ≡ Some from.now.0 → v.items ≡ from.now ∷ []) × ((label.now ≡ Some from.now.0 → ⊥) → v.items ≡ [])) }
 {
     match *label {
-        Label::Say(count) if count == from.count => one(alloc, *from),
+        Some(count) if count == from.0 => one(alloc, *from),
         _ => Ok(Vec::new(alloc)),
     }
 }
@@ -80,17 +64,14 @@ impl Machine for Whole {
     ghost covers = { λ m u t. u ≡ t };
 
     fn moves(&self, alloc: Global, from: &Counter) -> Result<Vec<(Label, Counter)>, Stop> {
-        let switched = Counter {
-            count: from.count,
-            lamp: !from.lamp,
-        };
-        match from.risen(self.top) {
+        let switched = (from.0, !from.1);
+        match risen(from, self.top) {
             Some(risen) => {
-                let steps = two(alloc, (Label::Switch, switched), (Label::Rise, risen))?;
+                let steps = two(alloc, (None, switched), (None, risen))?;
                 Ok(steps)
             }
             None => {
-                let steps = one(alloc, (Label::Switch, switched))?;
+                let steps = one(alloc, (None, switched))?;
                 Ok(steps)
             }
         }
@@ -102,10 +83,10 @@ impl Machine for Whole {
     }
 
     fn is_same(&self, kept: &Counter, other: &Counter) -> bool {
-        kept.count == other.count && kept.lamp == other.lamp
+        kept.0 == other.0 && kept.1 == other.1
     }
 
     fn key(&self, state: &Counter) -> u64 {
-        u64::from(state.count)
+        u64::from(state.0)
     }
 }

@@ -11,6 +11,7 @@
 //! | `random` | `pif_job_random`: what follows an end in a random script |
 //! | `streams` | none: the stream, which moves few bytes a call or fails once where it is told to |
 //! | `searches` | `pif_search`: verdicts and numbers of states that were worked out by hand |
+//! | `told` | none: what a search tells `searches` and `plays` |
 //! | `counters` | none: the machine of `searches`, a counter with a lamp |
 //! | `beside` | `pif_posix`: the machine beside a core, on random events |
 //! | `cloud` | none: all states in which the POSIX machine may be, after what was seen |
@@ -23,7 +24,8 @@
 mod beside;
 #[cfg(test)]
 mod cloud;
-pub mod counters;
+#[cfg(test)]
+mod counters;
 #[cfg(test)]
 mod notices;
 #[cfg(test)]
@@ -38,5 +40,7 @@ mod searches;
 mod sizes;
 #[cfg(test)]
 mod streams;
+#[cfg(test)]
+mod told;
 #[cfg(test)]
 mod traces;

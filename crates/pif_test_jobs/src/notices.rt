@@ -29,46 +29,30 @@ enum Noting {
     Show,
 }
 
-/// Does it with a story.
-fn note_story(
-    noting: Noting,
-    alloc: Global,
-    reader: &mut Stream<'_>,
-    writer: &mut Stream<'_>,
-    notice: &mut Notice,
-) -> Result<(), CliFault> {
-    match noting {
-        Noting::Strict => check_strictly(alloc, b"story", reader, writer, notice),
-        Noting::Fill => fill_noting(alloc, b"story", reader, writer, notice),
-        Noting::FillSeveral => fill_as_one_of_several(alloc, b"story", reader, writer, notice),
-        Noting::Trace => trace_story(alloc, reader, writer, notice),
-        Noting::Show => {
-            show_noting(Detail::Changes, alloc, b"story", reader, writer, notice)?;
-            Ok(())
-        }
-        _ => {
-            check_noting(alloc, b"story", reader, writer, notice)?;
-            Ok(())
-        }
-    }
-}
-
 /// Does it with a text. Behind 64 bytes a read fails.
 fn note(noting: Noting, alloc: Global, text: &str, notice: &mut Notice) -> Result<(), CliFault> {
     let parts = [(text, 1)];
     let mut input = Stream::failing(&parts, 64, Some(ErrorKind::TimedOut));
     let mut output = Stream::new(&[]);
+    let (reader, writer) = (&mut input, &mut output);
     match noting {
-        Noting::Keep => {
-            notice.keep_command(text.as_bytes());
-            Ok(())
+        Noting::Keep => notice.keep_command(text.as_bytes()),
+        Noting::Run => run_noting(alloc, reader, writer, notice)?,
+        Noting::Replay => replay_noting(alloc, reader, writer, notice)?,
+        Noting::Migrate => migrate_noting(alloc, reader, writer, notice)?,
+        Noting::TraceScript => trace_noting(alloc, reader, writer, notice)?,
+        Noting::Strict => check_strictly(alloc, b"story", reader, writer, notice)?,
+        Noting::Fill => fill_noting(alloc, b"story", reader, writer, notice)?,
+        Noting::FillSeveral => fill_as_one_of_several(alloc, b"story", reader, writer, notice)?,
+        Noting::Trace => trace_story(alloc, reader, writer, notice)?,
+        Noting::Show => {
+            show_noting(Detail::Changes, alloc, b"story", reader, writer, notice)?;
         }
-        Noting::Run => run_noting(alloc, &mut input, &mut output, notice),
-        Noting::Replay => replay_noting(alloc, &mut input, &mut output, notice),
-        Noting::Migrate => migrate_noting(alloc, &mut input, &mut output, notice),
-        Noting::TraceScript => trace_noting(alloc, &mut input, &mut output, notice),
-        _ => note_story(noting, alloc, &mut input, &mut output, notice),
+        Noting::Check => {
+            check_noting(alloc, b"story", reader, writer, notice)?;
+        }
     }
+    Ok(())
 }
 
 /// What is done first: it stays if nothing is kept.

@@ -1,6 +1,7 @@
 //! Histories of six threads that lock, try and unlock a mutex, wait and signal: how often a player plays their lines
 //! until it finds a run, and how few states an exact search makes of calls that are open at once.
-use pif_history::{Watch, find_run, judge_lines};
+use crate::told::Told;
+use pif_history::{find_run, judge_lines};
 use pif_history_lines::Verdict;
 use pif_history_model::{HistoryLimits, Line};
 use pif_search::{Stop, push};
@@ -37,27 +38,6 @@ const DONE: Seen = Seen::Answered(0);
 
 /// What is seen of threads, one after another.
 type Sight = (u32, Seen);
-
-/// How often a first line came, and the most states behind a line since then.
-#[derive(Drop)]
-struct Told {
-    plays: usize,
-    states: usize,
-}
-
-impl Watch for Told {
-    fn goes_on(&mut self) -> bool {
-        true
-    }
-
-    fn line(&mut self, line: usize, states: usize) {
-        if line == 1 {
-            self.plays = self.plays.saturating_add(1);
-            self.states = 0;
-        }
-        self.states = usize::max(self.states, states);
-    }
-}
 
 /// Two threads wait, and one signal wakes both. Then two others wait. One more, which waits until a deadline, is blocked
 /// behind the next signal. So the last signal has to wake one of the two, and the one before must leave it blocked.
@@ -203,19 +183,8 @@ fn line_of(thread: u32, seen: Seen) -> Option<Line> {
     Some(Line::Begin(thread, request))
 }
 
-/// Adds the lines that tell this.
-fn tell(lines: &mut Vec<Line>, sights: &[Sight]) -> Result<(), Stop> {
-    // The check has to be told of the type of requests, which lines hold.
-    let _no_request: Option<Request> = None;
-    for (thread, seen) in sights {
-        let line = line_of(*thread, *seen).ok_or(Stop::Range)?;
-        push(lines, line)?;
-    }
-    Ok(())
-}
-
-/// The threads, a mutex, and a variable that is bound to it.
-fn additions(alloc: Global) -> Result<Vec<Line>, Stop> {
+/// Lines that add the threads, a mutex, and a variable that is bound to it, and then tell these parts.
+fn lines_of(alloc: Global, parts: &[&[Sight]]) -> Result<Vec<Line>, Stop> {
     // The check has to be told of the type of requests, which lines hold.
     let _no_request: Option<Request> = None;
     let mut lines = Vec::new(alloc);
@@ -223,21 +192,25 @@ fn additions(alloc: Global) -> Result<Vec<Line>, Stop> {
         push(&mut lines, Line::Thread(10))?;
     }
     push(&mut lines, Line::Mutex(Kind::Normal, false))?;
-    let mutex = MutexId::new(1).ok_or(Stop::Range)?;
-    push(&mut lines, Line::Cond(mutex))?;
+    push(&mut lines, Line::Cond(MutexId::default()))?;
+    for sights in parts {
+        for (thread, seen) in *sights {
+            let line = line_of(*thread, *seen).ok_or(Stop::Range)?;
+            push(&mut lines, line)?;
+        }
+    }
     Ok(lines)
 }
 
 /// How often the lines that tell this are played until a run is found; none if none is.
 fn plays_until_found(alloc: Global, sights: &[Sight]) -> Result<Option<usize>, Stop> {
-    let mut lines = additions(alloc)?;
-    tell(&mut lines, sights)?;
-    let mut told = Told {
-        plays: 0,
-        states: 0,
-    };
+    let lines = lines_of(alloc, &[sights])?;
+    let mut told = Told::new(usize::MAX);
     let found = find_run(alloc, LIMITS, lines.as_slice(), 10_000, &mut told)?;
-    Ok(found.map(|_| told.plays))
+    match found {
+        Some(_) => Ok(Some(told.plays)),
+        None => Ok(None),
+    }
 }
 
 #[test]
@@ -264,17 +237,11 @@ fn lines_are_played_again_if_a_wake_up_must_be_chosen(rt: HostRuntime) -> Result
 /// The most states after a line of the last search, which is exact, if it says that the last line of these parts alone
 /// is impossible.
 fn most_states(alloc: Global, parts: &[&[Sight]]) -> Result<Option<usize>, Stop> {
-    let mut lines = additions(alloc)?;
-    for part in parts {
-        tell(&mut lines, part)?;
-    }
-    let mut told = Told {
-        plays: 0,
-        states: 0,
-    };
+    let lines = lines_of(alloc, parts)?;
+    let mut told = Told::new(usize::MAX);
     let verdict = judge_lines(alloc, LIMITS, lines.as_slice(), 10_000, &mut told)?;
     Ok(match verdict {
-        Verdict::Illegal(n) if n == lines.len() => Some(told.states),
+        Verdict::Illegal(n) if n == lines.len() => Some(told.greatest),
         _ => None,
     })
 }
@@ -282,26 +249,22 @@ fn most_states(alloc: Global, parts: &[&[Sight]]) -> Result<Option<usize>, Stop>
 /// A wait that has begun is fresh, has found the mutex, has joined those that are blocked, or has given the mutex up:
 /// that makes 4 states behind its line. The waits before it have all given the mutex up, or it wouldn't have been locked
 /// since. Behind the next lock's begin there is one more: the lock has taken the mutex, which the wait gave up.
-#[test]
-fn blocked_waits_make_few_states(rt: HostRuntime) -> Result<(), Stop> {
-    for count in 1..7_usize {
-        let wanted = if count == 1 { 4 } else { 5 };
-        let most = most_states(rt.alloc(), &[&WAITS[..3 * count], &REFUSED[1..]])?;
-        assert!(rt; most == Some(wanted), "{count}");
-    }
-    Ok(())
-}
-
+///
 /// A trylock that has begun is fresh, or has failed at once: that makes 2 states behind its line, since those before it
 /// have failed. The lock before them made 2, too: it was fresh, or had the mutex.
 #[test]
-fn busy_trylocks_make_few_states(rt: HostRuntime) -> Result<(), Stop> {
+fn open_calls_make_few_states(rt: HostRuntime) -> Result<(), Stop> {
+    for count in 1..7_usize {
+        let wanted = if count == 1 { 4 } else { 5 };
+        let most = most_states(rt.alloc(), &[&WAITS[..3 * count], &REFUSED[1..]])?;
+        assert!(rt; most == Some(wanted), "{count} waits");
+    }
     for count in 0..6_usize {
         let most = most_states(
             rt.alloc(),
             &[&OWNED, &TRIES[..count], &BUSY[..count], &REFUSED],
         )?;
-        assert!(rt; most == Some(2), "{count}");
+        assert!(rt; most == Some(2), "{count} trylocks");
     }
     Ok(())
 }

@@ -14,9 +14,9 @@ const ENDING: Shape = Shape {
     times: false,
 };
 
-/// How many mutexes and variables are added; how many ends there are before the last line, and how many of them another
-/// thread follows.
-fn counts(script: &str) -> [usize; 4] {
+/// Counts the mutexes and variables that are added, the ends before the last line, and how many of these another thread
+/// follows. More mutexes and variables are added than there are at a time, and another thread follows each end.
+fn check_followed(rt: &impl Abort, script: &str) {
     let mut counts: [usize; 4] = [0; 4];
     let mut was_end = false;
     for line in script.lines() {
@@ -31,12 +31,6 @@ fn counts(script: &str) -> [usize; 4] {
         }
         was_end = line.starts_with("end ");
     }
-    counts
-}
-
-/// Checks that more mutexes and variables are added than there are at a time, and that another thread follows each end.
-fn check_followed(rt: &impl Abort, script: &str) {
-    let counts = counts(script);
     let [mutexes, conds, ends, followed] = counts;
     let is_added = mutexes > 3 && conds > 1 && ends > 0;
     assert!(rt; is_added && followed == ends, "{counts:?}");

@@ -2,14 +2,12 @@ ghost use Rattle.std.specs.Prelude.{◌≡◌, false, IfOk, All};
 ghost use Rattle.pif_test_jobs.specs.Counting.{is_hidden};
 
 use crate::counters::{Counter, Label, Whole};
-use pif_search::{Stop, Unwatched, Verdict, Watch, judge, possible, searches_all_steps};
+use crate::told::Told;
+use pif_search::{Stop, Unwatched, Verdict, judge, possible, searches_all_steps};
 use std::alloc::Global;
 
 /// How a counter starts.
-const START: Counter = Counter {
-    count: 0,
-    lamp: false,
-};
+const START: Counter = (0, false);
 
 /// What is expected of lines.
 #[derive(Clone, Copy, PartialEq)]
@@ -20,32 +18,13 @@ enum Expected {
     Undecided(usize),
 }
 
-/// Keeps the lines and the states of which it was told last, and ends a search behind `most` lines.
-#[derive(Drop)]
-struct Told {
-    lines: usize,
-    states: usize,
-    most: usize,
-}
-
-impl Watch for Told {
-    fn line(&mut self, line: usize, states: usize) {
-        self.lines = line;
-        self.states = states;
-    }
-
-    fn goes_on(&mut self) -> bool {
-        self.lines < self.most
-    }
-}
-
 /// That the counter says these counts.
 fn says(alloc: Global, counts: &[u32]) -> Result<Vec<Label>, Stop>
     ensures { IfOk result (λ v. All (λ l. is_hidden l ≡ false) v.items) }
 {
     let mut lines = Vec::new(alloc);
     for count in counts {
-        match lines.push(Label::Say(*count)) {
+        match lines.push(Some(*count)) {
             Ok(()) => {}
             Err(_) => return Err(Stop::NoMemory),
         }
@@ -64,11 +43,7 @@ fn search(alloc: Global, asked: &Asked) -> Result<Found, Stop> {
     let (counts, limit, most) = *asked;
     let machine = Whole { top: 5 };
     let lines = says(alloc, counts)?;
-    let mut told = Told {
-        lines: 0,
-        states: 0,
-        most,
-    };
+    let mut told = Told::new(most);
     searches_all_steps(&machine, &START);
     let expected = match judge(&machine, alloc, START, lines.as_slice(), limit, &mut told)? {
         Verdict::Legal(run) => Expected::Legal(run.len()),
@@ -114,7 +89,7 @@ static ROWS: [(Asked, Found); 11] = [
     ((&[1, 3, 3], 1000, 2), (Expected::Undecided(3), 2, 6)),
 ];
 
-/// It asks a second time if memory was refused at the first, and so does what follows.
+/// It asks a second time if memory was refused at the first. What is asked last is how many counts can be said next.
 #[test]
 fn searches_find_what_was_worked_out_by_hand(rt: HostRuntime) -> Result<(), Stop> {
     for (row, (asked, wanted)) in ROWS.iter().enumerate() {
@@ -124,11 +99,6 @@ fn searches_find_what_was_worked_out_by_hand(rt: HostRuntime) -> Result<(), Stop
         };
         assert!(rt; found? == *wanted, "row {row}");
     }
-    Ok(())
-}
-
-#[test]
-fn next_counts_are_possible(rt: HostRuntime) -> Result<(), Stop> {
     let rows: [(&[u32], usize, usize); 3] = [(&[3], 1000, 2), (&[3, 1], 1000, 0), (&[3], 4, 99)];
     for (counts, limit, wanted) in rows {
         let found = match search_next(rt.alloc(), counts, limit) {

@@ -74,20 +74,23 @@ impl<'a> Stream<'a> {
         is_through && !self.is_other
     }
 
-    /// How many bytes a call may move, or `None` if it fails.
-    fn share(&mut self) -> Option<usize> {
+    /// How many bytes a call may move: none, or an error, if it fails.
+    fn share(&mut self) -> io::Result<usize> {
         if self.has_failed {
-            return Some(self.late);
-        }
-        if self.done >= self.most {
-            self.has_failed = true;
-            return None;
+            return Ok(self.late);
         }
         let left = self.most.saturating_sub(self.done);
+        if left == 0 {
+            self.has_failed = true;
+            return match self.failure {
+                Some(kind) => Err(io::Error::from(kind)),
+                None => Ok(0),
+            };
+        }
         if self.done < self.turn {
-            Some(left.min(self.early))
+            Ok(left.min(self.early))
         } else {
-            Some(left.min(self.late))
+            Ok(left.min(self.late))
         }
     }
 
@@ -133,26 +136,14 @@ impl<'a> Stream<'a> {
 
 impl Read for Stream<'_> {
     fn read(&mut self, buf: &mut [u8]) -> io::Result<usize> {
-        let Some(share) = self.share() else {
-            return match self.failure {
-                Some(kind) => Err(io::Error::from(kind)),
-                None => Ok(0),
-            };
-        };
-        let count = buf.len().min(share);
+        let count = buf.len().min(self.share()?);
         Ok(self.give(&mut buf[..count]).min(count))
     }
 }
 
 impl Write for Stream<'_> {
     fn write(&mut self, buf: &[u8]) -> io::Result<usize> {
-        let Some(share) = self.share() else {
-            return match self.failure {
-                Some(kind) => Err(io::Error::from(kind)),
-                None => Ok(0),
-            };
-        };
-        let count = buf.len().min(share);
+        let count = buf.len().min(self.share()?);
         self.take(&buf[..count]);
         Ok(count)
     }
