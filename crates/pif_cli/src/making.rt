@@ -43,15 +43,6 @@ fn write_file<F: OpenFile + Write>(
     file.sync_all()
 }
 
-/// Why a new file was not made.
-fn unmade(kind: ErrorKind) -> SaveFault {
-    if kind == ErrorKind::AlreadyExists {
-        SaveFault::Taken
-    } else {
-        SaveFault::Refused(words_of(kind))
-    }
-}
-
 /// Makes a new file of this name with this text, of this mode if there is one.
 ///
 /// # Errors
@@ -65,7 +56,10 @@ pub fn make_file<P: Files>(
 ) -> Result<(), SaveFault> {
     let written = match File::create_new(process, name) {
         Ok(mut file) => write_file(&mut file, mode, text),
-        Err(error) => return Err(unmade(error.kind())),
+        Err(error) => match error.kind() {
+            ErrorKind::AlreadyExists => return Err(SaveFault::Taken),
+            kind => return Err(SaveFault::Refused(words_of(kind))),
+        },
     };
     match written {
         Ok(()) => Ok(()),

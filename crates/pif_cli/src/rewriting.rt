@@ -39,16 +39,6 @@ fn read_story<P: Files>(process: &P, alloc: Global, name: &str) -> Result<Stored
     }
 }
 
-/// Why a text is not written into a file that was read.
-fn unwritten(why: SaveFault) -> Unwritten {
-    match why {
-        SaveFault::Taken | SaveFault::TakenBeside => Unwritten::Taken,
-        SaveFault::NoPlainFile => Unwritten::NoPlainFile,
-        SaveFault::Refused(why) | SaveFault::Cut(why) => Unwritten::Refused(why),
-        SaveFault::NoMemory => Unwritten::NoMemory,
-    }
-}
-
 /// Tells `errors` why the file of this name stays as it is. Answers the status: 4 if it is out of memory, else 3.
 fn tell_unwritten<E: Write>(name: &str, why: Unwritten, errors: &mut E) -> u8
     ensures status { (result ≡ 3) ⊎ (result ≡ 4) }
@@ -85,7 +75,10 @@ fn put_in_place<P: Files>(
     }
     match replace_file(process, alloc, name, Some(mode), text) {
         Ok(()) => Ok(()),
-        Err(why) => Err(unwritten(why)),
+        Err(SaveFault::Taken | SaveFault::TakenBeside) => Err(Unwritten::Taken),
+        Err(SaveFault::NoPlainFile) => Err(Unwritten::NoPlainFile),
+        Err(SaveFault::Refused(why) | SaveFault::Cut(why)) => Err(Unwritten::Refused(why)),
+        Err(SaveFault::NoMemory) => Err(Unwritten::NoMemory),
     }
 }
 
