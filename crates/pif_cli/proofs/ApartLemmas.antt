@@ -25,6 +25,7 @@ use Rattle.pif_cli.specs.declared.apart.Judged.{Judged}
 use Rattle.pif_cli_messages.specs.declared.statuses.JobFault.{JobFault}
 use Rattle.pif_cli_messages.specs.declared.statuses.JobFault.TheVariants.{Cli}
 use Rattle.pif_cli.specs.Apart.{AreApart, IsApart, IsJudged, WritesJudged}
+use Rattle.pif_cli.specs.Names.{shown_name}
 use Rattle.pif_cli.specs.Words.{Did, DidFile, JudgesAs, JudgesNamed, as_judged, form_of}
 use Rattle.pif_cli_messages.specs.Messages.{TellsOf}
 use Rattle.pif_cli_messages.specs.Statuses.{job_status}
@@ -105,7 +106,7 @@ as-before (Ok x) end is e = cc
 as-before (Err (judge.Cli f)) end is e = cc
 as-before (Err (judge.Undecided line)) end is e = cc
 
--- what was judged of a history of this name is written again
+-- what was judged of a history that is told under this name is written again
 pub written-again : (asked : Judging) (name : Text) (judged : Judged) (held holds : Option (List ℕ)) (result : Result (Unit {0}) JobFault)
     → (made : IsJudged asked name judged) → WritesJudged judged held holds result
     → JudgesNamed asked name made.0 made.1 held holds result
@@ -136,37 +137,38 @@ written-again asked name judged held holds result made written =
     ]
 
 -- what is found at a place is of the file of this place
-apart-at : {A : Type 0} (name : A → Text) (job : Job) (files : List A) (found : List Apart) (i : ℕ) (file : A)
-    (one : Option (Bor Apart)) → AreApart name job files found → IsItemAt found i one
-    → IfSome one (λ x. IsApart job (name (slice_index_or files i file)) x.now)
-apart-at name job files found i file None are item = tt
-apart-at name job files found i file (Some one) are item =
-    subst (λ (x : Apart). IsApart job (name (slice_index_or files i file)) x) (sym item.1) (are i file one.now item.3.0)
+apart-at : (job : Job) (names : List Text) (found : List Apart) (i : ℕ) (name : Text) (one : Option (Bor Apart))
+    → AreApart job names found → IsItemAt found i one
+    → IfSome one (λ x. IsApart job (slice_index_or names i name) x.now)
+apart-at job names found i name None are item = tt
+apart-at job names found i name (Some one) are item =
+    subst (λ (x : Apart). IsApart job (slice_index_or names i name) x) (sym item.1) (are i name one.now item.3.0)
 
 -- what was done with the first files of a list was done with files of the list
-pub apart-front : {A : Type 0} (name : A → Text) (job : Job) (k : ℕ) (files : List A) (found : List Apart)
-    → AreApart name job (take k files) found → AreApart name job files found
-apart-front {A} name job k files found are i file one lt = by_order (cases_lt i k)
+pub apart-front : (job : Job) (k : ℕ) (names : List Text) (found : List Apart) → AreApart job (take k names) found
+    → AreApart job names found
+apart-front job k names found are i name one lt = by_order (cases_lt i k)
   where
-    at : A
-    at = slice_index_or files i file
+    at : Text
+    at = slice_index_or names i name
 
-    by_order : ((i < k) ⊎ (k ≤ i)) → IsApart job (name at) (slice_index_or found i one)
+    by_order : ((i < k) ⊎ (k ≤ i)) → IsApart job at (slice_index_or found i one)
     by_order (inl l) =
-        subst (λ (x : A). IsApart job (name x) (slice_index_or found i one)) (get_or-take k files i file l) (are i file one lt)
+        subst (λ (x : Text). IsApart job x (slice_index_or found i one)) (get_or-take k names i name l) (are i name one lt)
     by_order (inr m) =
-        subst (λ (x : A). IsApart job (name x) (slice_index_or found i one))
-        (get_or_past (take k files) i at (omega (arith, length-take k files))) (are i at one lt)
+        subst (λ (x : Text). IsApart job x (slice_index_or found i one))
+        (get_or_past (take k names) i at (omega (arith, length-take k names))) (are i at one lt)
 
 -- what is found of the file at a place, of those that were taken from an earlier place on
-pub apart-ahead : {A : Type 0} (name : A → Text) (job : Job) (files : List A) (begin place : ℕ) (found : List Apart) (file : A)
-    (one : Option (Bor Apart)) → begin ≤ place → AreApart name job (drop begin files) found → IsItemAt found (place - begin) one
-    → IfSome one (λ x. IsApart job (name (slice_index_or files place file)) x.now)
-apart-ahead {A} name job files begin place found file one past are item =
-    let at : slice_index_or (drop begin files) (place - begin) file ≡ slice_index_or files place file =
-    get_or-drop begin files (place - begin) file ∙ ap (λ i. slice_index_or files i file) (omega (arith, past)) in
-    subst (λ (x : A). IfSome one (λ (y : Bor Apart). IsApart job (name x) y.now)) at
-    (apart-at name job (drop begin files) found (place - begin) file one are item)
+pub apart-ahead : (job : Job) (names : List Text) (begin place : ℕ) (found : List Apart) (name : Text) (one : Option (Bor Apart))
+    → begin ≤ place → name ≡ slice_index_or names place name → AreApart job (drop begin names) found
+    → IsItemAt found (place - begin) one → IfSome one (λ x. IsApart job name x.now)
+apart-ahead job names begin place found name one past is are item =
+    let at : slice_index_or (drop begin names) (place - begin) name ≡ name =
+    get_or-drop begin names (place - begin) name
+    ∙ (ap (λ i. slice_index_or names i name) (omega (arith, past)) ∙ sym is) in
+    subst (λ (x : Text). IfSome one (λ (y : Bor Apart). IsApart job x y.now)) at
+    (apart-at job (drop begin names) found (place - begin) name one are item)
 
 -- a job that was done has no notes
 no-notes : (notes : List ℕ) (done : Result (Unit {0}) JobFault) → notes ≡ [] → OnOk done (notes ≡ [])
@@ -181,7 +183,7 @@ pub did-judged : (job : Job) (name : Text) (judged : Judged) (held holds errors_
 unfolding IsApart
 did-judged job name judged held holds errors_held errors_hold done status one written is told =
     let asked : Judging = one.0 in
-    let made : IsJudged asked name judged = one.2 in
+    let made : IsJudged asked (shown_name name) judged = one.2 in
     let did : Did (Judge asked) name made.0 made.1 held holds errors_held errors_hold status =
-    (done, [], written-again asked name judged held holds done made written, no-notes [] done refl, is, told) in
+    (done, [], written-again asked (shown_name name) judged held holds done made written, no-notes [] done refl, is, told) in
     subst (λ (j : Job). DidFile j name held holds errors_held errors_hold status) (sym one.1) (inl (made.0, made.1, did))

@@ -1,6 +1,6 @@
 -- A job over several files in turn.
-use Rattle.std.proofs.Common.{◌≡◌, ◌+◌, ℕ, ◌<◌, ◌≤◌, ◌==◌, Bool, true, false, cond, List, [], ◌∷◌, ◌++◌, Option, get_or, length, map, refl, sym, take, ap, ◌∙◌, subst, eqb-true}
-use Rattle.std.proofs.lemmas.List.{map_push, take_all, take_more}
+use Rattle.std.proofs.Common.{◌≡◌, ◌+◌, ℕ, ◌<◌, ◌≤◌, ◌==◌, Bool, true, false, cond, List, [], ◌∷◌, ◌++◌, Option, get_or, length, refl, sym, take, ap, ◌∙◌, subst, eqb-true}
+use Rattle.std.proofs.lemmas.List.{take_all, take_more}
 use Rattle.clap.specs.Words.{Text}
 use Rattle.pif_cli_words.specs.declared.jobs.Job.{Job}
 use Rattle.pif_cli.specs.Words.{DidAll, DidOver, first_status}
@@ -39,22 +39,16 @@ DidAll-more rewrite job (first ∷ names) name a b c h i j d e f s t all one = (
 )
 
 -- the next file of a list
-pub DidAll-next : {A : Type 0} (name : A → Text) (rewrite : Bool) (job : Job) (files : List A) (n : ℕ) (x : A)
-    (a b c h i j d e f : Option (List ℕ)) (s t : ℕ)
-    → n < length files → DidAll rewrite job (map name (take n files)) a b h i d e s
-    → DidOver rewrite job (name (get_or files n x)) b c i j e f t
-    → DidAll rewrite job (map name (take (n + 1) files)) a c h j d f (first_status s t)
-DidAll-next name rewrite job files n x a b c h i j d e f s t lt all one =
-    let file : Text = name (get_or files n x) in
-    let names : map name (take (n + 1) files) ≡ map name (take n files) ++ file ∷ [] =
-    ap (map name) (take_more files n x lt) ∙ map_push name (take n files) (get_or files n x) in
-    subst (λ l. DidAll rewrite job l a c h j d f (first_status s t)) (sym names)
-    (DidAll-more rewrite job (map name (take n files)) file a b c h i j d e f s t all one)
+pub DidAll-next : (rewrite : Bool) (job : Job) (names : List Text) (n : ℕ) (x : Text) (a b c h i j d e f : Option (List ℕ)) (s t : ℕ)
+    → n < length names → x ≡ get_or names n x → DidAll rewrite job (take n names) a b h i d e s
+    → DidOver rewrite job x b c i j e f t → DidAll rewrite job (take (n + 1) names) a c h j d f (first_status s t)
+DidAll-next rewrite job names n x a b c h i j d e f s t lt is all one =
+    subst (λ l. DidAll rewrite job l a c h j d f (first_status s t))
+    (ap (λ (y : Text). take n names ++ y ∷ []) is ∙ sym (take_more names n x lt))
+    (DidAll-more rewrite job (take n names) x a b c h i j d e f s t all one)
 
 -- all files of a list were gone through
-pub DidAll-done : {A : Type 0} (name : A → Text) (rewrite : Bool) (job : Job) (files : List A) (n : ℕ)
-    (a c h j d f : Option (List ℕ)) (s : ℕ)
-    → length files ≤ n → DidAll rewrite job (map name (take n files)) a c h j d f s
-    → DidAll rewrite job (map name files) a c h j d f s
-DidAll-done name rewrite job files n a c h j d f s past all =
-    subst (λ l. DidAll rewrite job (map name l) a c h j d f s) (take_all n files past) all
+pub DidAll-done : (rewrite : Bool) (job : Job) (names : List Text) (n : ℕ) (a c h j d f : Option (List ℕ)) (s : ℕ)
+    → length names ≤ n → DidAll rewrite job (take n names) a c h j d f s → DidAll rewrite job names a c h j d f s
+DidAll-done rewrite job names n a c h j d f s past all =
+    subst (λ l. DidAll rewrite job l a c h j d f s) (take_all n names past) all

@@ -12,9 +12,10 @@ use Rattle.pif_cli.specs.declared.apart.Apart.TheVariants as apart
 use Rattle.pif_cli.specs.declared.apart.Judged.{Judged}
 use Rattle.pif_cli_messages.specs.declared.statuses.JobFault.{JobFault}
 use Rattle.pif_cli_messages.specs.declared.statuses.JobFault.TheVariants.{Cli}
+use Rattle.pif_cli.specs.Names.{shown_name}
 use Rattle.pif_cli.specs.Words.{JudgesNamed}
 
--- a history of this name was judged into an empty text, of whose bytes nothing is known
+-- a history that is told under this name was judged into an empty text, of whose bytes nothing is known
 abbrev pub IsJudged : Judging → (name : Text) → Judged → Type 0
 IsJudged asked name judged =
     (before : Option (List ℕ)) × (after : Option (List ℕ))
@@ -23,13 +24,14 @@ IsJudged asked name judged =
 -- what was done apart with the file of this name was done for this job
 unfoldable pub IsApart : Job → (name : Text) → Apart → Type 0
 IsApart job name apart.Left = Unit {0}
-IsApart job name (apart.Judged judged) = (asked : Judging) × (job ≡ Judge asked) × IsJudged asked name judged
+IsApart job name (apart.Judged judged) =
+    (asked : Judging) × (job ≡ Judge asked) × IsJudged asked (shown_name name) judged
 
--- the same of each of these files of which it is said what was done, by their places
-abbrev pub AreApart : {A : Type 0} → (name : A → Text) → Job → (files : List A) → List Apart → Type 0
-AreApart {A} name job files found =
-    (i : ℕ) (file : A) (one : Apart) → i < length found
-    → IsApart job (name (slice_index_or files i file)) (slice_index_or found i one)
+-- the same of each of the files of these names of which it is said what was done, by their places
+abbrev pub AreApart : Job → (names : List Text) → List Apart → Type 0
+AreApart job names found =
+    (i : ℕ) (name : Text) (one : Apart) → i < length found
+    → IsApart job (slice_index_or names i name) (slice_index_or found i one)
 
 -- A text that ended so is written. If it is one to which a write failed, memory was refused for it, and nothing is
 -- written. Else all of it is, or a proper part.

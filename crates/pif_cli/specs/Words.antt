@@ -34,6 +34,7 @@ use Rattle.pif_cli_words.specs.Words.{files_of, inputs_of, job_of, refusals_of, 
 use Rattle.pif_cli_messages.specs.declared.statuses.JobFault.{JobFault}
 use Rattle.pif_cli_messages.specs.declared.statuses.JobFault.TheVariants.{Cli, Undecided}
 use Rattle.pif_cli_messages.specs.Messages.{TellsLine, TellsOf, notes_text}
+use Rattle.pif_cli.specs.Names.{shown_name}
 use Rattle.pif_cli.specs.Random.{WritesRandom}
 use Rattle.pif_cli_messages.specs.Statuses.{job_status}
 use Rattle.pif_cli.specs.Driving.{Drives}
@@ -69,7 +70,7 @@ JudgesAs asked name before after held holds done =
     MatchBool asked.least (JudgesLeastTo asked.allowed before after held holds (front_of name form.Text) done)
     (JudgesTo (form_of asked) asked.allowed before after held holds (front_of name (form_of asked)) done)
 
--- a history of this name was judged; its name is told if there are several
+-- a history was judged that is told under this name if there are several
 abbrev pub JudgesNamed : Judging → (name : Text) → (before after held holds : Option (List ℕ))
     → Result (Unit {0}) JobFault → Type 0
 JudgesNamed asked name before after held holds result =
@@ -89,7 +90,8 @@ ExploresAsked asked before after held holds result =
     (done : Result (Unit {0}) ExploreFault) × ExploresTo asked.witness asked.core before after held holds done
     × (result ≡ as_explored done)
 
--- a job over an input of this name, by the bytes that were read and written; `random` and `drive` read nothing
+-- a job over an input that is told under this name, by the bytes that were read and written; `random` and `drive` read
+-- nothing
 abbrev pub Does : Job → (name : Text) → (before after held holds : Option (List ℕ)) → Result (Unit {0}) JobFault
     → Type 0
 Does Run name before after held holds result = EndsAsCli (RunsTo before after held holds) result
@@ -111,14 +113,14 @@ Does (Random recipe) name before after held holds result =
     Keeps before after × WritesRandom recipe.lines held holds result
 Does (Drive clients) name before after held holds result = Keeps before after × Drives clients held holds result
 
--- a script of this name was run, and these are told as the notes on it
+-- a script was run, and these are told as the notes on it, under this name
 abbrev pub RunsTold : (name : Text) → (before after held holds : Option (List ℕ)) → (notes : List ℕ) → Type 0
 RunsTold name before after held holds notes =
     (found : Option (List ℕ)) × RunsNoting name before after held holds found × (notes ≡ notes_text found)
 
--- the notes of a job that was done over an input of this name: those on the script that was run, or the story that was
--- checked, or shown; other jobs have none. A strict check that is done has none either, since each refusal has its
--- answer
+-- the notes of a job that was done over an input that is told under this name: those on the script that was run, or the
+-- story that was checked, or shown; other jobs have none. A strict check that is done has none either, since each
+-- refusal has its answer
 abbrev pub HasNotes : Job → (name : Text) → (before after held holds : Option (List ℕ)) → (notes : List ℕ) → Type 0
 HasNotes Run name before after held holds notes = RunsTold name before after held holds notes
 HasNotes Check name before after held holds notes =
@@ -126,11 +128,11 @@ HasNotes Check name before after held holds notes =
 HasNotes (Show detail) name before after held holds notes = ShowsNoting name before after held holds (Ok notes)
 HasNotes job name before after held holds notes = notes ≡ []
 
--- the job was done, and the errors were told how it ended
+-- the job was done over an input of this name, and the errors were told how it ended
 abbrev pub Did : Job → (name : Text) → (before after held holds errors_held errors_hold : Option (List ℕ)) → ℕ → Type 0
 Did job name before after held holds errors_held errors_hold status =
-    (result : Result (Unit {0}) JobFault) × (notes : List ℕ) × Does job name before after held holds result
-    × OnOk result (HasNotes job name before after held holds notes) × (status ≡ job_status result)
+    (result : Result (Unit {0}) JobFault) × (notes : List ℕ) × Does job (shown_name name) before after held holds result
+    × OnOk result (HasNotes job (shown_name name) before after held holds notes) × (status ≡ job_status result)
     × TellsOf notes result errors_held errors_hold
 
 -- the standard input is no file into which something can be written, which is said

@@ -3,11 +3,13 @@
 ghost use Rattle.std.specs.Prelude.{◌≡◌, ◌<◌, ◌≤◌, ◌-◌, [], IfOk, drop, length, vec_len};
 ghost use Rattle.std.specs.Slice.{IsItemAt};
 ghost use Rattle.pif_cli.specs.Apart.{AreApart, IsApart, IsJudged, WritesJudged};
+ghost use Rattle.pif_cli.specs.Names.{shown_name};
 
 use crate::hosts::Runtime;
 use crate::judging::judge_input;
+use crate::names::Name;
 use pif_cli_messages::{JobFault, Kept, Unwatched};
-use pif_cli_words::{Job, Judging, STANDARD_NAME};
+use pif_cli_words::{Job, Judging};
 use pif_history_text::MOST_BYTES;
 use pif_script::{CliFault, write_whole};
 use std::alloc::{AllocError, Global};
@@ -127,11 +129,11 @@ fn bytes_of<R: Read>(alloc: Global, reader: &mut R) -> Option<Vec<u8>> {
 }
 
 /// The bytes of the file of this name; none of the standard input, and if they can't be had.
-fn content_of<P: Files>(alloc: Global, process: &P, name: &str) -> Option<Vec<u8>> {
-    if name == STANDARD_NAME {
+fn content_of<P: Files>(alloc: Global, process: &P, name: &Name<'_>) -> Option<Vec<u8>> {
+    if name.is_standard() {
         return None;
     }
-    let mut file = fs::open(process, name).ok()?;
+    let mut file = fs::open(process, name.given()).ok()?;
     bytes_of(alloc, &mut file)
 }
 
@@ -139,11 +141,11 @@ fn content_of<P: Files>(alloc: Global, process: &P, name: &str) -> Option<Vec<u8
 fn contents_of<P: Files>(
     alloc: Global,
     process: &P,
-    names: &[&str],
+    names: &[Name<'_>],
 ) -> Result<Vec<Option<Vec<u8>>>, AllocError> {
     let mut contents = Vec::new(alloc);
     for name in names {
-        contents.push(content_of(alloc, process, *name))?;
+        contents.push(content_of(alloc, process, name))?;
     }
     Ok(contents)
 }
@@ -153,10 +155,10 @@ fn judge_bytes<P: Runtime>(
     alloc: Global,
     process: &P,
     asked: Judging,
-    name: &str,
+    name: &Name<'_>,
     bytes: &[u8],
 ) -> Judged
-    ensures { IsJudged asked name.now result }
+    ensures { IsJudged asked (shown_name name.now) result }
 {
     let mut reader = bytes;
     let mut text = Vec::new(alloc);
@@ -179,7 +181,7 @@ fn judge_apart<P: Runtime>(
     alloc: Global,
     process: &P,
     asked: Judging,
-    name: &str,
+    name: &Name<'_>,
     content: Option<&Option<Vec<u8>>>,
 ) -> Apart
     ensures { IsApart (Job.Judge asked) name.now result }
@@ -193,7 +195,7 @@ fn judge_apart<P: Runtime>(
 }
 
 /// As many as there are names, with which nothing was done.
-fn left_alone(alloc: Global, names: &[&str]) -> Result<Vec<Apart>, AllocError>
+fn left_alone(alloc: Global, names: &[Name<'_>]) -> Result<Vec<Apart>, AllocError>
     ensures { IfOk result (λ found. vec_len found ≡ length names.now) }
 {
     let mut found = Vec::new(alloc);
@@ -209,20 +211,20 @@ fn judge_in_threads<P: Runtime + Sync>(
     process: &P,
     asked: Judging,
     jobs: usize,
-    names: &[&str],
+    names: &[Name<'_>],
     contents: &[Option<Vec<u8>>],
     found: &mut [Apart],
 )
     requires jobs { 0 < jobs }
     requires each { length found.old ≡ length names.now }
-    ensures { AreApart (λ name. name.now) (Job.Judge asked) names.now found.new }
+    ensures { AreApart (Job.Judge asked) names.now found.new }
 {
     thread::for_each_mut(
         process,
         found,
         jobs,
         &|place, one| {
-            *one = judge_apart(alloc, process, asked, names[place], contents.get(place));
+            *one = judge_apart(alloc, process, asked, &names[place], contents.get(place));
         },
     );
 }
@@ -234,9 +236,9 @@ fn done_apart<P: Files + Runtime + Sync>(
     process: &P,
     job: Job,
     jobs: usize,
-    names: &[&str],
+    names: &[Name<'_>],
 ) -> Vec<Apart>
-    ensures { AreApart (λ name. name.now) job names.now result.items }
+    ensures { AreApart job names.now result.items }
 {
     if jobs < 2 {
         return Vec::new(alloc);
@@ -295,14 +297,14 @@ impl Ahead {
         &mut self,
         process: &P,
         job: Job,
-        names: &[&str],
+        names: &[Name<'_>],
         place: usize,
     )
         requires place { place < length names.now }
         requires begin { self.old.begin ≤ place }
-        requires apart { AreApart (λ name. name.now) job (drop self.old.begin names.now) self.old.found.items }
+        requires apart { AreApart job (drop self.old.begin names.now) self.old.found.items }
         ensures begin { self.new.begin ≤ place }
-        ensures apart { AreApart (λ name. name.now) job (drop self.new.begin names.now) self.new.found.items }
+        ensures apart { AreApart job (drop self.new.begin names.now) self.new.found.items }
     {
         if place < self.end {
             return;

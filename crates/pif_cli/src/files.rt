@@ -6,19 +6,18 @@ ghost use Rattle.pif_cli.specs.Words.{DidAll, DidFile, DidOver, EndsIf, first_st
 
 use crate::apart::{Ahead, Apart, Judged, write_judged};
 use crate::hosts::{Host, Runtime};
+use crate::names::{Name, names_of};
 use crate::rewriting::rewrite_file;
 use crate::told::Told;
-use crate::words::{do_and_tell, refuse, refuse_input, tell_end};
+use crate::words::{do_and_tell, fail, refuse, refuse_input, tell_end};
 use pif_cli_messages::{Given, Input, WatchFiles, WatchJob, unread_message, words_of};
-use pif_cli_words::{Asked, Job, STANDARD_NAME, near_command, read_words};
+use pif_cli_words::{Asked, Job, near_command, read_words};
 use pif_job_shell::Shelf;
+use pif_script::CliFault;
 use std::convert::AsStr;
 use std::fs;
 use std::io::{ErrorKind, Read, Write};
 use std::rt::Files;
-
-/// The inputs of a job whose words name no files.
-const STANDARD_INPUT: [&str; 1] = [STANDARD_NAME];
 
 /// Tells `errors` that the file of this name cannot be opened, for this reason. Answers the status.
 fn fail_to_open<E: Write>(name: &str, why: ErrorKind, errors: &mut E) -> u8
@@ -32,7 +31,7 @@ fn fail_to_open<E: Write>(name: &str, why: ErrorKind, errors: &mut E) -> u8
 /// Writes what was judged of the history of this name, and tells the errors how that ended. Answers the status.
 fn end_judged<P, S, W: Write, E: Write, V>(
     job: Job,
-    name: &str,
+    name: &Name<'_>,
     judged: &Judged,
     host: &mut Host<P, S, W, E, V>,
 ) -> u8
@@ -45,7 +44,7 @@ fn end_judged<P, S, W: Write, E: Write, V>(
     let done = write_judged(judged, host.output);
     let given = Given {
         job,
-        name,
+        name: name.given(),
         kept: judged.kept(),
         why: None,
     };
@@ -56,7 +55,7 @@ fn end_judged<P, S, W: Write, E: Write, V>(
 /// the standard input. Answers the status.
 fn do_one<P: Files + Runtime + Sync, S: Shelf, R: Read, W: Write, E: Write, V: WatchJob>(
     asked: &Asked,
-    name: &str,
+    name: &Name<'_>,
     apart: Option<&Apart>,
     input: &mut Input<R>,
     host: &mut Host<P, S, W, E, V>,
@@ -68,7 +67,7 @@ fn do_one<P: Files + Runtime + Sync, S: Shelf, R: Read, W: Write, E: Write, V: W
         (W.contents host.old.output.now) (W.contents host.new.output.now) (E.contents host.old.errors.now)
         (E.contents host.new.errors.now) result }
 {
-    match (name == STANDARD_NAME, asked.rewrites) {
+    match (name.is_standard(), asked.rewrites) {
         (true, true) => return refuse_input(host.errors),
         (true, false) => return do_and_tell(asked.job, name, input, host),
         (false, true) => return rewrite_file(name, host),
@@ -77,9 +76,9 @@ fn do_one<P: Files + Runtime + Sync, S: Shelf, R: Read, W: Write, E: Write, V: W
     if let Some(Apart::Judged(judged)) = apart {
         return end_judged(asked.job, name, judged, host);
     }
-    match fs::open(host.process, name) {
+    match fs::open(host.process, name.given()) {
         Ok(file) => do_and_tell(asked.job, name, &mut Input::new(file), host),
-        Err(error) => fail_to_open(name, error.kind(), host.errors),
+        Err(error) => fail_to_open(name.given(), error.kind(), host.errors),
     }
 }
 
@@ -90,18 +89,8 @@ fn first_status(first: u8, second: u8) -> u8
     if first == 0 { second } else { first }
 }
 
-/// The inputs of a job over these files: the standard input if there is none.
-fn inputs_of<'a>(files: &'a [&'a str]) -> &'a [&'a str]
-    ensures { map (λ name. name.now) result.now ≡ inputs_of (map (λ file. file.now) files.now) }
-{
-    match files {
-        [] => STANDARD_INPUT.as_slice(),
-        [_, ..] => files,
-    }
-}
-
-/// Does what is asked for over each file in turn, of which who watches is told, or over `input` if there is none.
-/// Histories are judged side by side before their turns. Answers the first status that is not 0, if there is one.
+/// Does what is asked for over each input of these names in turn, of which who watches is told. `input` is the standard
+/// input. Histories are judged side by side before their turns. Answers the first status that is not 0, if there is one.
 fn do_all<
     P: Files + Runtime + Sync,
     S: Shelf,
@@ -109,20 +98,19 @@ fn do_all<
     W: Write,
     E: Write,
     V: WatchFiles + WatchJob,
->(asked: &Asked, input: &mut Input<R>, host: &mut Host<P, S, W, E, V>) -> u8
+>(asked: &Asked, names: &[Name<'_>], input: &mut Input<R>, host: &mut Host<P, S, W, E, V>) -> u8
     ensures same_output { host.new.output.ghost_name ≡ host.old.output.ghost_name }
     ensures same_errors { host.new.errors.ghost_name ≡ host.old.errors.ghost_name }
-    ensures did { DidAll asked.now.rewrites asked.now.job (inputs_of (map (λ file. file.now) asked.now.files.items))
+    ensures did { DidAll asked.now.rewrites asked.now.job names.now
         (R.remaining input.old) (R.remaining input.new) (W.contents host.old.output.now)
         (W.contents host.new.output.now) (E.contents host.old.errors.now) (E.contents host.new.errors.now) result }
 {
-    let names = inputs_of(asked.files.as_slice());
     let mut ahead = Ahead::new(host.alloc, host.process, asked.job, names.len());
     let mut status = 0;
     for (place, name) in names.iter().enumerate() {
         ahead.reach(host.process, asked.job, names, place);
         host.watch.file(place, names.len());
-        let ended = do_one(asked, *name, ahead.at(place), input, host);
+        let ended = do_one(asked, name, ahead.at(place), input, host);
         status = first_status(status, ended);
     }
     status
@@ -151,7 +139,10 @@ pub fn command_over_files<
 {
     let mut room = Vec::new(host.alloc);
     match read_words(host.alloc, words, &mut room) {
-        Ok(asked) => do_all(&asked, input, host),
+        Ok(asked) => match names_of(host.alloc, asked.files.as_slice()) {
+            Ok(names) => do_all(&asked, names.as_slice(), input, host),
+            Err(_) => fail(CliFault::NoMemory, host.errors),
+        },
         Err(error) => {
             let near = near_command(words);
             refuse(host.alloc, error, near, host.output, host.errors)

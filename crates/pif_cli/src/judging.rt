@@ -1,7 +1,9 @@
 //! `judge`: a history, judged in the form and the time that the words ask for.
 ghost use Rattle.std.specs.Prelude.{◌≡◌, Some, None, if◌then◌else◌, option_copied};
+ghost use Rattle.pif_cli.specs.Names.{shown_name};
 ghost use Rattle.pif_cli.specs.Words.{JudgesAs, JudgesNamed, as_judged, form_of};
 
+use crate::names::Name;
 use crate::times::Timed;
 use pif_cli_messages::JobFault;
 use pif_job_judge::{Form, JudgeFault, Judging, Watch, judge, judge_least};
@@ -21,10 +23,10 @@ fn as_judged(done: Result<(), JudgeFault>) -> Result<(), JobFault>
 }
 
 /// The name that is told of a history, if there are several.
-fn told_name(several: bool, name: &str) -> Option<&[u8]>
-    ensures { option_copied result ≡ if several then Some name.now else None }
+fn told_name<'n>(several: bool, name: &'n Name<'_>) -> Option<&'n [u8]>
+    ensures { option_copied result ≡ if several then Some (shown_name name.now) else None }
 {
-    if several { Some(name.as_bytes()) } else { None }
+    if several { Some(name.shown()) } else { None }
 }
 
 /// The form in which a verdict is told.
@@ -71,12 +73,12 @@ pub fn judge_input<C: Clock, R: Read, W: Write, V: Watch>(
     alloc: Global,
     clock: &C,
     asked: pif_cli_words::Judging,
-    name: &str,
+    name: &Name<'_>,
     input: &mut R,
     output: &mut W,
     watch: &mut V,
 ) -> Result<(), JobFault>
-    ensures { JudgesNamed asked name.now (R.remaining input.old) (R.remaining input.new) (W.contents output.old) (W.contents output.new) result }
+    ensures { JudgesNamed asked (shown_name name.now) (R.remaining input.old) (R.remaining input.new) (W.contents output.old) (W.contents output.new) result }
 {
     let told = told_name(asked.several, name);
     let mut timed = Timed::new(clock, asked.seconds, watch);

@@ -9,6 +9,7 @@ mod files;
 mod hosts;
 mod judging;
 mod making;
+mod names;
 mod process;
 mod random;
 mod rewriting;

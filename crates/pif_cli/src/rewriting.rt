@@ -6,6 +6,7 @@ ghost use Rattle.pif_cli.specs.Words.{RewroteFile};
 
 use crate::hosts::{Host, Runtime};
 use crate::making::{mode_of, replace_file};
+use crate::names::Name;
 use crate::words::do_and_tell;
 use pif_cli_messages::{Input, Unwritten, WatchJob, unwritten_message, words_of};
 use pif_cli_words::Job;
@@ -100,7 +101,7 @@ fn tell_written<E: Write>(name: &str, done: Result<(), Unwritten>, errors: &mut 
 /// file, can't be read, or can't be written, of which the errors are told in one line. It is not written if the answers
 /// are there.
 pub fn rewrite_file<P: Files + Runtime + Sync, S: Shelf, W: Write, E: Write, V: WatchJob>(
-    name: &str,
+    name: &Name<'_>,
     host: &mut Host<P, S, W, E, V>,
 ) -> u8
     ensures same_output { host.new.output.ghost_name ≡ host.old.output.ghost_name }
@@ -108,20 +109,20 @@ pub fn rewrite_file<P: Files + Runtime + Sync, S: Shelf, W: Write, E: Write, V: 
     ensures did { RewroteFile name.now (W.contents host.old.output.now) (W.contents host.new.output.now)
         (E.contents host.old.errors.now) (E.contents host.new.errors.now) result }
 {
-    let (process, alloc) = (host.process, host.alloc);
-    let stored = match read_story(process, alloc, name) {
+    let (process, alloc, given) = (host.process, host.alloc, name.given());
+    let stored = match read_story(process, alloc, given) {
         Ok(stored) => stored,
-        Err(why) => return tell_unwritten(name, why, host.errors),
+        Err(why) => return tell_unwritten(given, why, host.errors),
     };
-    match filled(alloc, name, stored.0.as_slice()) {
+    match filled(alloc, given, stored.0.as_slice()) {
         Ok(Some(text)) => {
-            let done = put_in_place(process, alloc, name, stored, text.as_slice());
-            tell_written(name, done, host.errors)
+            let done = put_in_place(process, alloc, given, stored, text.as_slice());
+            tell_written(given, done, host.errors)
         }
         Ok(None) => {
             let mut input = Input::new(stored.0.as_slice());
             do_and_tell(Job::Fill, name, &mut input, host)
         }
-        Err(why) => tell_unwritten(name, why, host.errors),
+        Err(why) => tell_unwritten(given, why, host.errors),
     }
 }

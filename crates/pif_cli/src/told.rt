@@ -4,8 +4,10 @@ ghost use Rattle.pif_script_model.specs.Running.{RunsTo};
 ghost use Rattle.pif_story_model.specs.Checks.{TellsTo, check_telling};
 ghost use Rattle.pif_story_model.specs.Showing.{ShowsStoryTo};
 ghost use Rattle.pif_story.specs.Notes.{ShowsNoting, TellsNoting};
+ghost use Rattle.pif_cli.specs.Names.{shown_name};
 ghost use Rattle.pif_cli.specs.Words.{EndsAsCli, RunsTold};
 
+use crate::names::Name;
 use pif_cli_messages::{JobFault, Notes};
 use pif_job_check::check_noting;
 use pif_job_run::{run_noted, show_noting};
@@ -40,14 +42,14 @@ impl Told {
     /// Runs the script of this name, and keeps the notes on it.
     pub fn run<R: Read, W: Write>(
         &mut self,
-        name: &str,
+        name: &Name<'_>,
         input: &mut R,
         output: &mut W,
     ) -> Result<(), JobFault>
         ensures did { EndsAsCli (RunsTo (R.remaining input.old) (R.remaining input.new) (W.contents output.old) (W.contents output.new)) result }
-        ensures noted { OnOk result (RunsTold name.now (R.remaining input.old) (R.remaining input.new) (W.contents output.old) (W.contents output.new) self.new.notes) }
+        ensures noted { OnOk result (RunsTold (shown_name name.now) (R.remaining input.old) (R.remaining input.new) (W.contents output.old) (W.contents output.new) self.new.notes) }
     {
-        match run_noted(self.alloc, name.as_bytes(), input, output, &mut self.notice) {
+        match run_noted(self.alloc, name.shown(), input, output, &mut self.notice) {
             Ok(found) => {
                 self.notes = Notes::if_any(found);
                 Ok(())
@@ -59,14 +61,14 @@ impl Told {
     /// Checks the story of this name, and keeps the notes on it.
     pub fn check<R: Read, W: Write>(
         &mut self,
-        name: &str,
+        name: &Name<'_>,
         input: &mut R,
         output: &mut W,
     ) -> Result<(), JobFault>
-        ensures did { EndsAsCli (TellsTo (check_telling name.now) (R.remaining input.old) (R.remaining input.new) (W.contents output.old) (W.contents output.new)) result }
-        ensures noted { OnOk result (TellsNoting name.now (check_telling name.now) (R.remaining input.old) (R.remaining input.new) (W.contents output.old) (W.contents output.new) (Ok self.new.notes)) }
+        ensures did { EndsAsCli (TellsTo (check_telling (shown_name name.now)) (R.remaining input.old) (R.remaining input.new) (W.contents output.old) (W.contents output.new)) result }
+        ensures noted { OnOk result (TellsNoting (shown_name name.now) (check_telling (shown_name name.now)) (R.remaining input.old) (R.remaining input.new) (W.contents output.old) (W.contents output.new) (Ok self.new.notes)) }
     {
-        match check_noting(self.alloc, name.as_bytes(), input, output, &mut self.notice) {
+        match check_noting(self.alloc, name.shown(), input, output, &mut self.notice) {
             Ok(text) => {
                 self.notes = Notes::of(text);
                 Ok(())
@@ -79,15 +81,15 @@ impl Told {
     pub fn show<R: Read, W: Write>(
         &mut self,
         detail: Detail,
-        name: &str,
+        name: &Name<'_>,
         input: &mut R,
         output: &mut W,
     ) -> Result<(), JobFault>
         ensures did { EndsAsCli (ShowsStoryTo (R.remaining input.old) (R.remaining input.new) (W.contents output.old) (W.contents output.new)) result }
-        ensures noted { OnOk result (ShowsNoting name.now (R.remaining input.old) (R.remaining input.new) (W.contents output.old) (W.contents output.new) (Ok self.new.notes)) }
+        ensures noted { OnOk result (ShowsNoting (shown_name name.now) (R.remaining input.old) (R.remaining input.new) (W.contents output.old) (W.contents output.new) (Ok self.new.notes)) }
     {
         let notice = &mut self.notice;
-        match show_noting(detail, self.alloc, name.as_bytes(), input, output, notice) {
+        match show_noting(detail, self.alloc, name.shown(), input, output, notice) {
             Ok(text) => {
                 self.notes = Notes::of(text);
                 Ok(())

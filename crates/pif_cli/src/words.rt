@@ -4,11 +4,13 @@ ghost use Rattle.pif_cli_words.specs.Words.{refusals_of, rewrites, job_of, name_
 ghost use Rattle.pif_job_draw.specs.Pictures.{DrawsTo};
 ghost use Rattle.pif_cli_messages.specs.Messages.{TellsAt, TellsFault, TellsLine, TellsNotes, TellsOf};
 ghost use Rattle.pif_cli_messages.specs.Statuses.{fault_status, job_status};
+ghost use Rattle.pif_cli.specs.Names.{shown_name};
 ghost use Rattle.pif_cli.specs.Words.{Did, Does, EndsAsCli, HasNotes, as_job, EndsBy, HadNoMemory, RefusedFor, RefusesInput, Shows, ShowsHelp, ExploresAsked, as_explored};
 
 use crate::drive::drive;
 use crate::hosts::{Host, Runtime};
 use crate::judging::judge_input;
+use crate::names::Name;
 use crate::random::write_random;
 use crate::told::Told;
 use clap::error::ErrorKind;
@@ -90,7 +92,7 @@ fn draw_input<R: Read, W: Write, V: WatchSteps>(
 /// Does a job over an input of this name. `told` keeps the line that ends it, and its notes.
 fn do_job<P: Runtime + Sync, S: Shelf, R: Read, W: Write, E, V: WatchJob>(
     job: Job,
-    name: &str,
+    name: &Name<'_>,
     input: &mut R,
     host: &mut Host<P, S, W, E, V>,
     told: &mut Told,
@@ -99,12 +101,12 @@ fn do_job<P: Runtime + Sync, S: Shelf, R: Read, W: Write, E, V: WatchJob>(
     ensures same_output { host.new.output.ghost_name ≡ host.old.output.ghost_name }
     ensures same_errors { host.new.errors.ghost_name ≡ host.old.errors.ghost_name }
     ensures untold { host.new.errors.now ≡ host.old.errors.now }
-    ensures did { Does job name.now (R.remaining input.old) (R.remaining input.new) (W.contents host.old.output.now)
+    ensures did { Does job (shown_name name.now) (R.remaining input.old) (R.remaining input.new) (W.contents host.old.output.now)
         (W.contents host.new.output.now) result }
-    ensures noted { OnOk result (HasNotes job name.now (R.remaining input.old) (R.remaining input.new)
+    ensures noted { OnOk result (HasNotes job (shown_name name.now) (R.remaining input.old) (R.remaining input.new)
         (W.contents host.old.output.now) (W.contents host.new.output.now) told.new.notes) }
 {
-    let (alloc, called, output) = (host.alloc, name.as_bytes(), &mut *host.output);
+    let (alloc, called, output) = (host.alloc, name.shown(), &mut *host.output);
     let notice = &mut told.notice;
     match job {
         Job::Run => told.run(name, input, output),
@@ -196,7 +198,7 @@ pub fn tell_end<P, S, W: Write, E: Write, V>(
 /// job, also if standard error cannot be written.
 pub fn do_and_tell<P: Runtime + Sync, S: Shelf, R: Read, W: Write, E: Write, V: WatchJob>(
     job: Job,
-    name: &str,
+    name: &Name<'_>,
     input: &mut Input<R>,
     host: &mut Host<P, S, W, E, V>,
 ) -> u8
@@ -210,7 +212,7 @@ pub fn do_and_tell<P: Runtime + Sync, S: Shelf, R: Read, W: Write, E: Write, V: 
     let done = do_job(job, name, &mut *input, host, &mut told);
     let given = Given {
         job,
-        name,
+        name: name.given(),
         kept: input.kept(),
         why: input.why(),
     };
@@ -358,7 +360,9 @@ pub fn command<T: Runtime + Sync, S: AsStr, R: Read, W: Write, E: Write>(
             if asked.rewrites {
                 return refuse_input(errors);
             }
-            let name = first_name(asked.files.as_slice());
+            let Ok(name) = Name::new(alloc, first_name(asked.files.as_slice())) else {
+                return fail(CliFault::NoMemory, errors);
+            };
             let mut host = Host {
                 alloc,
                 process: rt,
@@ -369,7 +373,7 @@ pub fn command<T: Runtime + Sync, S: AsStr, R: Read, W: Write, E: Write>(
                 watch: &mut Unwatched,
                 told_of_output: false,
             };
-            do_and_tell(asked.job, name, input, &mut host)
+            do_and_tell(asked.job, &name, input, &mut host)
         }
         Err(error) => refuse(alloc, error, near_command(words), output, errors),
     }

@@ -1,4 +1,4 @@
-use Rattle.std.proofs.Common.{◌≡◌, ◌≤◌, drop, map, take}
+use Rattle.std.proofs.Common.{◌≡◌, ◌≤◌, drop, take}
 use Rattle.pif_cli.specs.Apart.{AreApart}
 use Rattle.pif_cli.specs.Words.{DidAll}
 use Rattle.pif_cli.proofs.files.do_all.Given as goal
@@ -9,8 +9,8 @@ invariant-loop-place g l =
     (l.host.output.ghost_name ≡ l.initial.host.output.ghost_name)
     × (l.host.errors.ghost_name ≡ l.initial.host.errors.ghost_name)
     × (l.ahead.begin ≤ l.place)
-    × AreApart (λ name. name.now) l.asked.job (drop l.ahead.begin l.names) l.ahead.found.items
-    × DidAll l.asked.rewrites l.asked.job (map (λ name. name.now) (take l.place l.names))
+    × AreApart l.asked.job (drop l.ahead.begin l.names) l.ahead.found.items
+    × DidAll l.asked.rewrites l.asked.job (take l.place l.names)
     (g.R.Read.remaining l.initial.input) (g.R.Read.remaining l.input) (g.W.Write.contents l.initial.host.output.now)
     (g.W.Write.contents l.host.output.now) (g.E.Write.contents l.initial.host.errors.now)
     (g.E.Write.contents l.host.errors.now) l.status
