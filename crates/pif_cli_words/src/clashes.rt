@@ -1,7 +1,7 @@
 //! Words that `clap` takes one by one, and that ask for what cannot be had together.
 ghost use Rattle.std.specs.Prelude.{◌≡◌, ◌∷◌, [], Some};
 ghost use Rattle.clap.specs.Words.{HasKind, found_of, rows_of};
-ghost use Rattle.pif_cli_words.specs.Words.{checking_clash, clash_by, clash_kinds, drawing_clash, form_clash, has_form, json_clash, judging_clash};
+ghost use Rattle.pif_cli_words.specs.Words.{checking_clash, clash_by, clash_kinds, drawing_clash, form_clash, has_form, judging_clash};
 
 use crate::commands::program;
 use crate::options::{has_several, is_given, small_number_between};
@@ -62,16 +62,10 @@ impl Clash {
     pub fn error(self, alloc: Global) -> clap::Error
         ensures { HasKind (clash_kinds (Some self)) result }
     {
-        match program(alloc) {
-            Ok(mut pif) => self.told(&mut *pif),
-            Err(failed) => clap::Error::from(failed),
-        }
-    }
-
-    /// The same, of the program that was made.
-    fn told(self, pif: &mut clap::Command) -> clap::Error
-        ensures { HasKind (clash_kinds (Some self)) result }
-    {
+        let mut pif = match program(alloc) {
+            Ok(pif) => pif,
+            Err(failed) => return clap::Error::from(failed),
+        };
         match pif.error(self.kind(), self.words()) {
             Ok(error) => error,
             Err(failed) => clap::Error::from(failed),
@@ -79,27 +73,21 @@ impl Clash {
     }
 }
 
-/// How lines of JSON clash with what else was given to `judge`.
-fn json_clash(given: &clap::ArgMatches) -> Option<Clash>
-    ensures { result ≡ json_clash (rows_of (found_of given.now)) }
-{
-    if is_given(given, "json") && is_given(given, "witness") {
-        Some(Clash::Json)
-    } else {
-        None
-    }
-}
-
 /// How the form of a verdict clashes with what else was given to `judge`.
 fn form_clash(given: &clap::ArgMatches) -> Option<Clash>
     ensures { result ≡ form_clash (rows_of (found_of given.now)) }
 {
-    if !is_given(given, "html") {
-        json_clash(given)
-    } else if is_given(given, "json") || is_given(given, "witness") {
-        Some(Clash::Forms)
-    } else if has_several(given) {
-        Some(Clash::Files)
+    let (json, witness) = (is_given(given, "json"), is_given(given, "witness"));
+    if is_given(given, "html") {
+        if json || witness {
+            Some(Clash::Forms)
+        } else if has_several(given) {
+            Some(Clash::Files)
+        } else {
+            None
+        }
+    } else if json && witness {
+        Some(Clash::Json)
     } else {
         None
     }

@@ -4,7 +4,7 @@ ghost use Rattle.std.specs.Prelude.{◌≡◌, false};
 ghost use Rattle.clap.specs.Words.{App, new_app, rule_of, with_rule, with_subcommand};
 ghost use Rattle.pif_cli_words.specs.Commands.{IsApp, IsCommand, IsMade};
 ghost use Rattle.pif_cli_words.specs.Options.{flag_rule, number_rule};
-ghost use Rattle.pif_cli_words.specs.Words.{bare_program, check_app, clients_rule, draw_app, drive_app, explore_app, file_rule, files_rule, judge_app, program, show_app, with_job, with_runs, with_states, with_traces};
+ghost use Rattle.pif_cli_words.specs.Words.{bare_program, check_app, clients_rule, draw_app, drive_app, explore_app, file_rule, files_rule, judge_app, program, show_app, with_job};
 
 use crate::helps::{
     ABOUT, ABOUT_ALL, ABOUT_ALLOW, ABOUT_CHECK, ABOUT_CLIENTS, ABOUT_CORE, ABOUT_DOT, ABOUT_DRAW,
@@ -109,19 +109,11 @@ fn bare_program<'a>(alloc: Global) -> Made<'a>
     boxed(alloc, Ok(command))
 }
 
-/// The file of a command over one input.
-fn file_given<'a>(alloc: Global) -> clap::Arg<'a>
-    ensures rule { rule_of result ≡ file_rule }
-    ensures local { result.global ≡ false }
-{
-    clap::Arg::new(alloc, "FILE").help(ABOUT_FILE)
-}
-
 /// A command with the file of one input.
 fn with_file<'a>(alloc: Global, made: Made<'a>) -> Made<'a>
     ensures { (app : App) → IsApp app made.entry → IsApp (with_rule app file_rule) result }
 {
-    with_arg(alloc, made, file_given(alloc))
+    with_arg(alloc, made, clap::Arg::new(alloc, "FILE").help(ABOUT_FILE))
 }
 
 /// The program with one more command over one input, which has this name and these texts.
@@ -158,16 +150,27 @@ fn show_command<'a>(alloc: Global) -> Made<'a>
     with_file(alloc, dot)
 }
 
-/// A command with an option for a line of the story.
-fn with_line<'a>(alloc: Global, made: Made<'a>, name: &'a str, help: &'a str) -> Made<'a>
-    ensures { (app : App) → IsApp app made.entry → IsApp (with_rule app (number_rule name.now 1 4294967295)) result }
+/// A command with an option for a number from `low` to `high`, which help calls `value`.
+fn with_number<'a>(
+    alloc: Global,
+    made: Made<'a>,
+    name: &'a str,
+    value: &'a str,
+    low: u64,
+    high: u64,
+    help: &'a str,
+) -> Made<'a>
+    ensures { (app : App) → IsApp app made.entry → IsApp (with_rule app (number_rule name.now low high)) result }
 {
     with_arg(
         alloc,
         made,
-        number_given(alloc, name, "L", 1, 4_294_967_295, help),
+        number_given(alloc, name, value, low, high, help),
     )
 }
+
+/// The last line of a story that can be named.
+const MOST_LINE: u64 = 4_294_967_295;
 
 /// The command `draw`.
 fn draw_command<'a>(alloc: Global) -> Made<'a>
@@ -175,8 +178,8 @@ fn draw_command<'a>(alloc: Global) -> Made<'a>
 {
     let draw = described(alloc, "draw", ABOUT_DRAW, USAGE_DRAW, MORE_DRAW);
     let html = with_flag(alloc, draw, "html", ABOUT_HTML);
-    let from = with_line(alloc, html, "from", ABOUT_FROM);
-    let to = with_line(alloc, from, "to", ABOUT_TO);
+    let from = with_number(alloc, html, "from", "L", 1, MOST_LINE, ABOUT_FROM);
+    let to = with_number(alloc, from, "to", "L", 1, MOST_LINE, ABOUT_TO);
     with_file(alloc, to)
 }
 
@@ -189,20 +192,6 @@ fn check_command<'a>(alloc: Global) -> Made<'a>
     let print = with_flag(alloc, strict, "print", ABOUT_PRINT);
     let write = with_flag(alloc, print, "write", ABOUT_WRITE);
     with_arg(alloc, write, files_given(alloc, ABOUT_FILES))
-}
-
-/// A command with an option for a number from `low` to `high`.
-fn with_number<'a>(
-    alloc: Global,
-    made: Made<'a>,
-    name: &'a str,
-    low: u64,
-    high: u64,
-    help: &'a str,
-) -> Made<'a>
-    ensures { (app : App) → IsApp app made.entry → IsApp (with_rule app (number_rule name.now low high)) result }
-{
-    with_arg(alloc, made, number_given(alloc, name, "N", low, high, help))
 }
 
 /// The command `judge`.
@@ -224,8 +213,8 @@ fn judge_command<'a>(alloc: Global) -> Made<'a>
         "200000",
         ABOUT_STATES,
     );
-    let seconds = with_number(alloc, states, "seconds", 0, 86_400, ABOUT_SECONDS);
-    let jobs = with_number(alloc, seconds, "jobs", 1, 64, ABOUT_JOBS);
+    let seconds = with_number(alloc, states, "seconds", "N", 0, 86_400, ABOUT_SECONDS);
+    let jobs = with_number(alloc, seconds, "jobs", "N", 1, 64, ABOUT_JOBS);
     let allow = with_arg(alloc, jobs, rules_given(alloc, ABOUT_ALLOW));
     with_arg(alloc, allow, files_given(alloc, ABOUT_HISTORIES))
 }
@@ -239,52 +228,8 @@ fn explore_command<'a>(alloc: Global) -> Made<'a>
     let states = with_chosen(
         alloc, witness, "states", "N", 1, 16_777_216, "1000000", ABOUT_KEPT,
     );
-    let core = with_number(alloc, states, "core", 1, 1_000_000, ABOUT_CORE);
+    let core = with_number(alloc, states, "core", "N", 1, 1_000_000, ABOUT_CORE);
     with_file(alloc, core)
-}
-
-/// The program with the commands that run a script and show its states.
-fn with_states<'a>(alloc: Global, pif: Made<'a>) -> Made<'a>
-    ensures { (app : App) → IsApp app pif.entry → IsApp (with_states app) result }
-{
-    let run = with_job(alloc, pif, "run", ABOUT_RUN, USAGE_RUN, MORE_RUN);
-    let show = with_command(alloc, run, show_command(alloc));
-    with_command(alloc, show, draw_command(alloc))
-}
-
-/// The program with the commands over scripts and stories that show answers.
-fn with_runs<'a>(alloc: Global, pif: Made<'a>) -> Made<'a>
-    ensures { (app : App) → IsApp app pif.entry → IsApp (with_runs app) result }
-{
-    let states = with_states(alloc, pif);
-    let shell = described(alloc, "shell", ABOUT_SHELL, USAGE_SHELL, MORE_SHELL);
-    let shells = with_command(alloc, states, shell);
-    let checks = with_command(alloc, shells, check_command(alloc));
-    let judges = with_command(alloc, checks, judge_command(alloc));
-    with_command(alloc, judges, explore_command(alloc))
-}
-
-/// The program with the commands over traces.
-fn with_traces<'a>(alloc: Global, pif: Made<'a>) -> Made<'a>
-    ensures { (app : App) → IsApp app pif.entry → IsApp (with_traces app) result }
-{
-    let replay = with_job(
-        alloc,
-        pif,
-        "replay",
-        ABOUT_REPLAY,
-        USAGE_REPLAY,
-        MORE_REPLAY,
-    );
-    let trace = with_job(alloc, replay, "trace", ABOUT_TRACE, USAGE_TRACE, MORE_TRACE);
-    with_job(
-        alloc,
-        trace,
-        "migrate",
-        ABOUT_MIGRATE,
-        USAGE_MIGRATE,
-        MORE_MIGRATE,
-    )
 }
 
 /// How many clients `drive` has.
@@ -310,8 +255,32 @@ fn drive_command<'a>(alloc: Global) -> Made<'a>
 pub fn program<'a>(alloc: Global) -> Made<'a>
     ensures { IsApp program result }
 {
-    let runs = with_runs(alloc, bare_program(alloc));
-    let traces = with_traces(alloc, runs);
-    let random = with_command(alloc, traces, random_command(alloc));
+    let bare = bare_program(alloc);
+    let run = with_job(alloc, bare, "run", ABOUT_RUN, USAGE_RUN, MORE_RUN);
+    let show = with_command(alloc, run, show_command(alloc));
+    let draw = with_command(alloc, show, draw_command(alloc));
+    let shell_alone = described(alloc, "shell", ABOUT_SHELL, USAGE_SHELL, MORE_SHELL);
+    let shell = with_command(alloc, draw, shell_alone);
+    let check = with_command(alloc, shell, check_command(alloc));
+    let judge = with_command(alloc, check, judge_command(alloc));
+    let explore = with_command(alloc, judge, explore_command(alloc));
+    let replay = with_job(
+        alloc,
+        explore,
+        "replay",
+        ABOUT_REPLAY,
+        USAGE_REPLAY,
+        MORE_REPLAY,
+    );
+    let trace = with_job(alloc, replay, "trace", ABOUT_TRACE, USAGE_TRACE, MORE_TRACE);
+    let migrate = with_job(
+        alloc,
+        trace,
+        "migrate",
+        ABOUT_MIGRATE,
+        USAGE_MIGRATE,
+        MORE_MIGRATE,
+    );
+    let random = with_command(alloc, migrate, random_command(alloc));
     with_command(alloc, random, drive_command(alloc))
 }

@@ -1,7 +1,7 @@
 //! Jobs: what the words ask for, and over which files.
 ghost use Rattle.std.specs.Prelude.{◌≡◌, [], IfOk, Some, map};
 ghost use Rattle.clap.specs.Words.{FailsBy, found_of, rows_of};
-ghost use Rattle.pif_cli_words.specs.Words.{refusals_of, job_of, job_named, checking_in, filling_in, rewrites, rewrites_by, files_in, files_of, first_name, drawn_in, exploring_in, judging_in, shown_in};
+ghost use Rattle.pif_cli_words.specs.Words.{refusals_of, job_of, job_named, checking_in, rewrites, rewrites_by, files_in, files_of, first_name, drawn_in, exploring_in, judging_in, shown_in};
 
 use crate::clashes::clash_in;
 use crate::commands::program;
@@ -223,23 +223,14 @@ fn checking_in(given: &clap::ArgMatches) -> Job
 {
     if is_given(given, "write") {
         Job::Fill
+    } else if is_given(given, "print") && has_several(given) {
+        Job::FillSeveral
     } else if is_given(given, "print") {
-        filling_in(given)
+        Job::Fill
     } else if is_given(given, "strict") {
         Job::Strict
     } else {
         Job::Check
-    }
-}
-
-/// How `check --print` fills its stories in.
-fn filling_in(given: &clap::ArgMatches) -> Job
-    ensures { result ≡ filling_in (rows_of (found_of given.now)) }
-{
-    if has_several(given) {
-        Job::FillSeveral
-    } else {
-        Job::Fill
     }
 }
 

@@ -3,7 +3,7 @@ ghost use Rattle.std.specs.Prelude.{◌≡◌};
 ghost use Rattle.clap.specs.Words.{App, found_of, rows_of, with_rule};
 ghost use Rattle.pif_cli_words.specs.Commands.{IsApp};
 ghost use Rattle.pif_cli_words.specs.Options.{chosen_rule, needed_rule};
-ghost use Rattle.pif_cli_words.specs.Random.{random_app, recipe_in, shape_in, with_counts, with_flags, with_size};
+ghost use Rattle.pif_cli_words.specs.Random.{random_app, recipe_in, shape_in};
 
 use crate::commands::{Made, described, with_arg, with_flag};
 use crate::helps::{
@@ -61,40 +61,19 @@ pub fn with_chosen<'a>(
 /// The highest seed.
 const MOST_SEED: u64 = 18_446_744_073_709_551_615;
 
-/// The command `random` with the options that must be given: the seed, and how many lines there are.
-fn with_size<'a>(alloc: Global, random: Made<'a>) -> Made<'a>
-    ensures { (app : App) → IsApp app random.entry → IsApp (with_size app) result }
-{
-    let seed = with_needed(alloc, random, "seed", "N", 0, MOST_SEED, ABOUT_SEED);
-    with_needed(alloc, seed, "lines", "L", 1, 262_144, ABOUT_LINES)
-}
-
-/// The same with the options that say how many threads, mutexes and condition variables there are.
-fn with_counts<'a>(alloc: Global, random: Made<'a>) -> Made<'a>
-    ensures { (app : App) → IsApp app random.entry → IsApp (with_counts app) result }
-{
-    let threads = with_chosen(alloc, random, "threads", "T", 1, 1_024, "4", ABOUT_THREADS);
-    let mutexes = with_chosen(alloc, threads, "mutexes", "M", 0, 1_024, "3", ABOUT_MUTEXES);
-    with_chosen(alloc, mutexes, "conds", "C", 0, 256, "1", ABOUT_CONDS)
-}
-
-/// The same with the options that say what happens.
-fn with_flags<'a>(alloc: Global, random: Made<'a>) -> Made<'a>
-    ensures { (app : App) → IsApp app random.entry → IsApp (with_flags app) result }
-{
-    let robust = with_flag(alloc, random, "robust", ABOUT_ROBUST);
-    let ends = with_flag(alloc, robust, "ends", ABOUT_ENDS);
-    with_flag(alloc, ends, "times", ABOUT_TIMES)
-}
-
-/// The command `random`.
+/// The command `random`: the options that must be given, how much of each there is, and what happens.
 pub fn random_command<'a>(alloc: Global) -> Made<'a>
     ensures { IsApp random_app result }
 {
     let random = described(alloc, "random", ABOUT_RANDOM, USAGE_RANDOM, MORE_RANDOM);
-    let size = with_size(alloc, random);
-    let counts = with_counts(alloc, size);
-    with_flags(alloc, counts)
+    let seed = with_needed(alloc, random, "seed", "N", 0, MOST_SEED, ABOUT_SEED);
+    let lines = with_needed(alloc, seed, "lines", "L", 1, 262_144, ABOUT_LINES);
+    let threads = with_chosen(alloc, lines, "threads", "T", 1, 1_024, "4", ABOUT_THREADS);
+    let mutexes = with_chosen(alloc, threads, "mutexes", "M", 0, 1_024, "3", ABOUT_MUTEXES);
+    let conds = with_chosen(alloc, mutexes, "conds", "C", 0, 256, "1", ABOUT_CONDS);
+    let robust = with_flag(alloc, conds, "robust", ABOUT_ROBUST);
+    let ends = with_flag(alloc, robust, "ends", ABOUT_ENDS);
+    with_flag(alloc, ends, "times", ABOUT_TIMES)
 }
 
 /// What a script is made of, by what was given to `random`.
