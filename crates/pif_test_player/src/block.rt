@@ -230,11 +230,13 @@ fn has_told(known: &Counts, told: &Counts) -> bool {
 /// Whether each text that stands behind this mark is a part of what was written.
 fn holds_parts(lines: &str, mark: &str, written: &[u8]) -> bool {
     let written = from_utf8(written).unwrap_or("");
-    lines
-        .split('\n')
-        .map(mark_of)
-        .filter(|line| line.0 == mark)
-        .all(|line| written.contains(line.1))
+    for line in lines.split('\n') {
+        let (found, part) = mark_of(line);
+        if found == mark && !written.contains(part) {
+            return false;
+        }
+    }
+    true
 }
 
 /// Whether each text that stands behind a mark `has` stands in what was written as often as it says.
@@ -243,11 +245,13 @@ fn holds_counts(alloc: Global, lines: &str, written: &[u8]) -> bool {
     behind.append(b"\n");
     behind.append(written);
     let written = from_utf8(behind.text()).unwrap_or("");
-    lines
-        .split('\n')
-        .map(mark_of)
-        .filter(|line| line.0 == "has")
-        .all(|line| is_counted(alloc, written, line.1))
+    for line in lines.split('\n') {
+        let (mark, text) = mark_of(line);
+        if mark == "has" && !is_counted(alloc, written, text) {
+            return false;
+        }
+    }
+    true
 }
 
 /// Whether the text behind a number stands so often in what was written, or at all behind `some`.

@@ -19,38 +19,9 @@ pub struct Deed<'a> {
 }
 
 impl<'a> Deed<'a> {
-    /// The deed of this line, which does not fail.
-    pub fn of(line: &'a str) -> Deed<'a> {
-        let (what, text) = line.split_once(' ').unwrap_or((line, ""));
-        Deed {
-            what,
-            text,
-            why: None,
-        }
-    }
-
-    /// The same, but that it fails so.
-    pub fn failing(self, why: ErrorKind) -> Deed<'a> {
-        Deed {
-            what: self.what,
-            text: self.text,
-            why: Some(why),
-        }
-    }
-
-    /// Whether it asks this of a file of this name.
-    fn asks(&self, alloc: Global, what: &str, name: &str) -> bool {
-        self.what == what && escaped(alloc, self.text).text() == name.as_bytes()
-    }
-
-    /// Whether it stands in no order: a file is opened at any time.
-    fn is_open(&self) -> bool {
-        self.what == "each"
-    }
-
-    /// Whether the file of the first name gets the second.
-    fn renames(&self, from: &str, to: &str) -> bool {
-        self.what == "rename" && self.text.split_once(' ') == Some((from, to))
+    /// Whether it asks this, of a file of this name or with these bytes.
+    fn asks(&self, alloc: Global, what: &str, text: &[u8]) -> bool {
+        self.what == what && escaped(alloc, self.text).text() == text
     }
 
     /// What it is answered.
@@ -62,32 +33,36 @@ impl<'a> Deed<'a> {
     }
 }
 
-/// The deeds that stand in the lines of a block.
+/// The deeds that stand in the lines of a block. The last one fails by what has the name behind a mark `fails`.
 fn deeds_of(lines: &str) -> ArrayVec<Deed<'_>, 16> {
     let mut deeds = ArrayVec::new();
     for line in lines.split('\n') {
         match mark_of(line) {
-            ("file", text) => {
-                let _ = deeds.try_push(Deed::of(text));
+            ("file", deed) => {
+                let (what, text) = mark_of(deed);
+                let _ = deeds.try_push(Deed {
+                    what,
+                    text,
+                    why: None,
+                });
             }
-            ("fails", name) => fail_last(&mut deeds, name),
+            ("fails", name) => if let Some(deed) = deeds.pop() {
+                let _ = deeds.try_push(Deed {
+                    what: deed.what,
+                    text: deed.text,
+                    why: kind_of(name),
+                });
+            },
             _ => {}
         }
     }
     deeds
 }
 
-/// The last deed fails by what has this name.
-fn fail_last(deeds: &mut ArrayVec<Deed<'_>, 16>, name: &str) {
-    if let (Some(deed), Some(why)) = (deeds.pop(), kind_of(name)) {
-        let _ = deeds.try_push(deed.failing(why));
-    }
-}
-
-/// The deeds of a block that come one after the other.
+/// The deeds of a block that come one after the other: not a file that is opened at any time.
 fn deeds_in_order(lines: &str) -> ArrayVec<Deed<'_>, 16> {
     let mut deeds = ArrayVec::new();
-    for deed in deeds_of(lines).iter().filter(|deed| !deed.is_open()) {
+    for deed in deeds_of(lines).iter().filter(|deed| deed.what != "each") {
         let _ = deeds.try_push(*deed);
     }
     deeds
@@ -131,7 +106,7 @@ impl<'t> List<'t> {
     fn at_any_time(&self, name: &str) -> Option<Deed<'t>> {
         deeds_of(self.lines)
             .iter()
-            .find(|deed| deed.asks(self.alloc, "each", name))
+            .find(|deed| deed.asks(self.alloc, "each", name.as_bytes()))
             .copied()
     }
 
@@ -144,7 +119,7 @@ impl<'t> List<'t> {
     /// The files are asked this of a file of this name.
     fn ask(&self, what: &str, name: &str) -> io::Result<()> {
         match self.next() {
-            Some(deed) if deed.asks(self.alloc, what, name) => deed.answer(),
+            Some(deed) if deed.asks(self.alloc, what, name.as_bytes()) => deed.answer(),
             _ => Err(self.miss()),
         }
     }
@@ -165,6 +140,7 @@ impl<'t> List<'t> {
 
     /// What this name has, without following a link.
     pub fn look(&self, name: &str) -> io::Result<Metadata> {
+        let name = name.as_bytes();
         match self.next() {
             Some(deed) if deed.asks(self.alloc, "link", name) => Ok(Metadata::of_symlink(0)),
             Some(deed) if deed.asks(self.alloc, "folder", name) => Ok(Metadata::of_dir()),
@@ -179,7 +155,8 @@ impl<'t> List<'t> {
     /// The file of the first name gets the second.
     pub fn rename(&self, from: &str, to: &str) -> io::Result<()> {
         match self.next() {
-            Some(deed) if deed.renames(from, to) => deed.answer(),
+            Some(deed) if deed.what == "rename" && deed.text.split_once(' ') == Some((from, to)) =>
+                { deed.answer() }
             _ => Err(self.miss()),
         }
     }
@@ -194,12 +171,6 @@ impl<'t> List<'t> {
         self.next.load(Ordering::SeqCst) == deeds_in_order(self.lines).len()
             && !self.is_other.load(Ordering::SeqCst)
     }
-}
-
-/// The number of times, and the text, of a file that has a text so many times.
-fn times_of(text: &str) -> (usize, &str) {
-    let (times, text) = text.split_once(' ').unwrap_or(("", text));
-    (times.parse::<usize>().unwrap_or(0), text)
 }
 
 /// How a text is given.
@@ -289,8 +260,8 @@ impl<'l, 't> Source<'l, 't> {
         let (deed, times, text) = match self.list.next() {
             Some(deed) if deed.what == "text" => (deed, 1, deed.text),
             Some(deed) if deed.what == "texts" => {
-                let (times, text) = times_of(deed.text);
-                (deed, times, text)
+                let (times, text) = deed.text.split_once(' ').unwrap_or(("", deed.text));
+                (deed, times.parse::<usize>().unwrap_or(0), text)
             }
             _ => return Err(self.list.miss()),
         };
@@ -336,15 +307,10 @@ impl Read for Source<'_, '_> {
     }
 }
 
-/// Whether a deed is that this is written.
-fn writes(alloc: Global, deed: &Deed<'_>, bytes: &[u8]) -> bool {
-    deed.what == "write" && escaped(alloc, deed.text).text() == bytes
-}
-
 impl Write for Source<'_, '_> {
     fn write(&mut self, buf: &[u8]) -> io::Result<usize> {
         match self.list.next() {
-            Some(deed) if writes(self.list.alloc, &deed, buf) => {
+            Some(deed) if deed.asks(self.list.alloc, "write", buf) => {
                 deed.answer()?;
                 Ok(buf.len())
             }
