@@ -2,14 +2,13 @@
 use Rattle.std.proofs.Common.{◌≡◌, ◌⊎◌, ℕ, ◌<◌, ◌≤◌, Bool, true, false, if◌then◌else◌, length, Option, Some, None, IsSome, IfSome, IfNone, ◌+◌, ◌↔◌, option_map, option_and_then, refl, sym, ◌∙◌, ap, subst, inl, inr, arith}
 use Rattle.std.proofs.lemmas.Bool.{false≢true, true≢false, cases_lt}
 use Rattle.std.proofs.lemmas.Bool.Decides.{nat_tests}
-use Rattle.std.proofs.lemmas.List.{get_or_past}
 use Rattle.pif_nodes_model.specs.declared.keys.Key.{Key}
 use Rattle.pif_nodes_model.specs.Order.{comes_before}
 use Rattle.pif_nodes_model.proofs.OrderLemmas.{not_before-past, not_before-self}
-use Rattle.pif_kernel_model.specs.Owners.{Wait, Task, Owners, no_task, task_at, state_of, waits_on, rank_of, AreSoundOwners}
+use Rattle.pif_kernel_model.specs.Owners.{Wait, Task, Owners, task_at, waits_on, rank_of, AreSoundOwners}
 use Rattle.pif_kernel_model.specs.Behind.{IsLast, IsBehind}
 use Rattle.pif_plain_rtmutex.specs.Standing.{rank_on, standing, leads, later, standing_behind}
-use Rattle.pif_plain_rtmutex.proofs.TopLemmas.{standing-from, standing-some}
+use Rattle.pif_plain_rtmutex.proofs.TopLemmas.{standing-from, standing-some, waits-within}
 
 -- of the threads below n, none leads this one, which stands behind t, or is 0
 pub record IsFirstBehind (v : Owners) (t n first : ℕ) : Type 0 where
@@ -18,16 +17,6 @@ pub record IsFirstBehind (v : Owners) (t n first : ℕ) : Type 0 where
 
 not_after : (a b : Key) → comes_before a b ≡ true → comes_before b a ≡ false
 not_after a b h = grind (arith, nat_tests)
-
--- who waits has a seat
-waits-within : (v : Owners) (k t : ℕ) → waits_on v t ≡ Some k → t < length v.seats
-waits-within v k t w = by_number (cases_lt t (length v.seats))
-  where
-    by_number : ((t < length v.seats) ⊎ (length v.seats ≤ t)) → t < length v.seats
-    by_number (inl l) = l
-    by_number (inr m) =
-        let none : waits_on v t ≡ None = ap state_of (get_or_past v.seats t no_task m) in
-        absurd (cc)
 
 -- what t waits for
 waits-some : (v : Owners) (t : ℕ) → IsSome (waits_on v t) → (w : Wait) × ((task_at v t).wait ≡ Some w)

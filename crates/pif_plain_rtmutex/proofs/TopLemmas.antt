@@ -37,7 +37,7 @@ pub record IsFirst (v : Owners) (k n first : ℕ) : Type 0 where
   pub stands : (first ≡ 0) ⊎ IsSome (standing v k first)
 
 -- who waits has a seat
-waits-within : (v : Owners) (k t : ℕ) → waits_on v t ≡ Some k → t < length v.seats
+pub waits-within : (v : Owners) (k t : ℕ) → waits_on v t ≡ Some k → t < length v.seats
 waits-within v k t w = by_number (cases_lt t (length v.seats))
   where
     by_number : ((t < length v.seats) ⊎ (length v.seats ≤ t)) → t < length v.seats
