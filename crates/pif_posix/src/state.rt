@@ -12,7 +12,6 @@ use pif_types::{Health, Kind};
 use std::marker::Model;
 
 /// A state of the POSIX machine.
-#[derive(Drop)]
 pub struct State {
     pub(crate) threads: Vec<Task>,
     pub(crate) mutexes: Vec<Lockable>,
@@ -20,6 +19,20 @@ pub struct State {
     pub(crate) waiters: Vec<(u32, u32)>,
     pub(crate) signals: u32,
     pub(crate) time: u32,
+}
+
+// A destructor of its own: what owns a state calls it, and has not to be proved to let go of each of its lists.
+impl Drop for State {
+    fn drop(self) {
+        let State {
+            threads: _,
+            mutexes: _,
+            variables: _,
+            waiters: _,
+            signals: _,
+            time: _,
+        } = self;
+    }
 }
 
 impl Model for State {
