@@ -44,12 +44,7 @@ impl State {
                 self.place_of_mutex(mutex.get())?;
                 Ok(self.check_wait(thread, variable, mutex.get()))
             }
-            Request::Signal(cond) => {
-                self.place_of_variable(cond.get())?;
-                self.use_variable(thread, cond.get())?;
-                Ok(true)
-            }
-            Request::Broadcast(cond) => {
+            Request::Signal(cond) | Request::Broadcast(cond) => {
                 self.place_of_variable(cond.get())?;
                 self.use_variable(thread, cond.get())?;
                 Ok(true)

@@ -222,9 +222,7 @@ impl State {
             if all.len() >= MOST_AT_ONCE {
                 return Err(Stop::Many);
             }
-            let copy = self.copied(alloc)?;
-            push(all, copy)?;
-            return Ok(());
+            return push(all, self.copied(alloc)?);
         }
         let (thread, has_to) = marked[from];
         if thread as usize >= self.thread_count() {
@@ -235,8 +233,7 @@ impl State {
         if has_to {
             return Ok(());
         }
-        self.wake_some(alloc, marked, from + 1, all)?;
-        Ok(())
+        self.wake_some(alloc, marked, from + 1, all)
     }
 
     /// The states to which a broadcast of a thread may lead, which has used its variable.

@@ -108,9 +108,7 @@ impl State {
         ensures { OnOk result (all.new.items ≡ all.old.items ++ inherited left thread self.now) }
     {
         if left == 0 {
-            let copy = self.copied(alloc)?;
-            push(all, copy)?;
-            return Ok(());
+            return push(all, self.copied(alloc)?);
         }
         let count = self.mutexes_end()?;
         for mutex in (0..count).rev() {

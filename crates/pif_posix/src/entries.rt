@@ -74,7 +74,6 @@ impl State {
         ensures complete { IfOk result (λ vs. (v : World) → Enters limits.now self.now entry.now v → Contains vs.items v) }
         ensures value { IfOk result (λ vs. vs.items ≡ entered limits.now self.now entry.now) }
     {
-        let all = self.entered(alloc, limits, entry)?;
-        Ok(all)
+        self.entered(alloc, limits, entry)
     }
 }

@@ -136,13 +136,11 @@ impl State {
             }
             Health::Fine => {
                 self.set_progress(thread as usize, progress);
-                self.pass_on(mutex)?;
-                Ok(())
+                self.pass_on(mutex)
             }
             Health::Unusable => {
                 self.set_progress(thread as usize, progress);
-                self.pass_on(mutex)?;
-                Ok(())
+                self.pass_on(mutex)
             }
         }
     }
@@ -196,8 +194,7 @@ impl State {
             return Err(Stop::Range);
         }
         self.fail(thread as usize, Errno::NotRecoverable);
-        self.pass_on(mutex)?;
-        Ok(())
+        self.pass_on(mutex)
     }
 
     /// A thread says that what a mutex protects is in order.

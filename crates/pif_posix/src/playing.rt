@@ -74,8 +74,7 @@ impl State {
         ensures sound { IfOk result (λ b. b ≡ true → MovesOnce thread self.old self.new) }
         ensures value { IfOk result (λ b. b ≡ true → moved thread self.old ≡ self.new ∷ []) }
     {
-        let went = self.went(alloc, thread)?;
-        Ok(went)
+        self.went(alloc, thread)
     }
 
     /// An event at which this was seen, in place, but for the end of a thread; false if it can't happen.
@@ -134,7 +133,6 @@ impl State {
         ensures sound { IfOk result (λ b. b ≡ true → Enters limits.now self.old entry.now self.new) }
         ensures value { IfOk result (λ b. b ≡ true → entered limits.now self.old entry.now ≡ self.new ∷ []) }
     {
-        let came = self.comes(alloc, limits, entry)?;
-        Ok(came)
+        self.comes(alloc, limits, entry)
     }
 }
