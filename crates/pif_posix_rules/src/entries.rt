@@ -29,8 +29,7 @@ impl Wide {
     {
         let states = ended_or_revived(alloc, &self.state, rules.revives, thread)?;
         let lost = lost_by(alloc, &self.state, thread, self.lost.as_slice())?;
-        let all = all_beside(alloc, states, lost.as_slice())?;
-        Ok(all)
+        all_beside(alloc, states, lost.as_slice())
     }
 
     /// One entry: all states to which it leads.
@@ -44,10 +43,7 @@ impl Wide {
         ensures { IfOk result (λ v. v.items ≡ widely_entered rules.now limits.now self.now entry.now) }
     {
         match end_of(entry) {
-            None => {
-                let states = self.state.enter(alloc, limits, entry)?;
-                self.beside(alloc, states)
-            }
+            None => self.beside(alloc, self.state.enter(alloc, limits, entry)),
             Some(thread) => self.widely_ended(alloc, thread, rules),
         }
     }
@@ -70,7 +66,6 @@ impl Wide {
         ensures complete { IfOk result (λ vs. (v : Widened) → WideEnters rules.now limits.now self.now entry.now v → Contains vs.items v) }
         ensures value { IfOk result (λ vs. vs.items ≡ widely_entered rules.now limits.now self.now entry.now) }
     {
-        let all = self.widely_entered(alloc, limits, rules, entry)?;
-        Ok(all)
+        self.widely_entered(alloc, limits, rules, entry)
     }
 }

@@ -5,7 +5,7 @@ ghost use Rattle.pif_posix_model.specs.Doing.{robust_of};
 ghost use Rattle.pif_rules_model.specs.Rules.{is_mended};
 ghost use Rattle.pif_rules_model.specs.Ruled.{mended, mended_by_any, ended_after_reviving, ended_or_revived};
 
-use crate::lists::append;
+use crate::lists::{append, joined};
 use crate::locks::failed;
 use crate::next::mended_next;
 use pif_posix::{Progress, State};
@@ -92,8 +92,7 @@ fn ended_after_any(alloc: Global, state: &State, thread: u32) -> Result<Vec<Stat
     let mut all = Vec::new(alloc);
     for mutex in (0..state.mutex_count()).rev() {
         if state.owns_robust(thread, mutex) {
-            let states = ended_after_reviving(alloc, state, thread, mutex)?;
-            append(&mut all, states)?;
+            append(&mut all, ended_after_reviving(alloc, state, thread, mutex))?;
         }
     }
     Ok(all)
@@ -108,11 +107,9 @@ pub(crate) fn ended_or_revived(
 ) -> Result<Vec<State>, Stop>
     ensures { IfOk result (λ v. v.items ≡ ended_or_revived revives thread state.now) }
 {
-    let mut all = state.ended(alloc, thread)?;
+    let ended = state.ended(alloc, thread);
     if !revives {
-        return Ok(all);
+        return ended;
     }
-    let rest = ended_after_any(alloc, state, thread)?;
-    append(&mut all, rest)?;
-    Ok(all)
+    joined(ended, ended_after_any(alloc, state, thread))
 }

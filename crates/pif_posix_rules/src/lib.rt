@@ -8,6 +8,7 @@ mod locks;
 mod lost;
 mod moves;
 mod next;
+mod rule;
 mod wakes;
 mod wide;
 

@@ -7,7 +7,7 @@ ghost use Rattle.pif_types.specs.Numbers.{number_of};
 ghost use Rattle.pif_rules_model.specs.Rules.{stolen};
 ghost use Rattle.pif_rules_model.specs.Ruled.{listed_of, one_if, is_mutex_of, stolen_from, stolen_by, locked_more_or_refused, beyond, locked_beyond, tried_own};
 
-use crate::lists::append;
+use crate::lists::joined;
 use crate::next::{got, locked_next, tried_next};
 use pif_posix::{MOST_HOLDS, Progress, State};
 use pif_search::{Stop, one};
@@ -149,9 +149,10 @@ fn locked_or_refused(
     requires mutex { mutex < length state.now.mutexes }
     ensures { IfOk result (λ v. v.items ≡ locked_more_or_refused most thread mutex state.now) }
 {
-    let mut all = locked_below(alloc, state, most, thread, mutex)?;
-    append(&mut all, refused_within(alloc, state, most, thread, mutex)?)?;
-    Ok(all)
+    joined(
+        locked_below(alloc, state, most, thread, mutex),
+        refused_within(alloc, state, most, thread, mutex),
+    )
 }
 
 /// The states once the owner of a recursive mutex, which it holds 255 times or more, has locked it, or was refused.
@@ -207,9 +208,10 @@ pub(crate) fn locked_beyond(
 {
     let locked = locked_next(state, thread as usize);
     let tried = tried_next(state, thread as usize);
-    let mut all = any_beyond(alloc, state, most, thread, locked)?;
-    append(&mut all, any_beyond(alloc, state, most, thread, tried)?)?;
-    Ok(all)
+    joined(
+        any_beyond(alloc, state, most, thread, locked),
+        any_beyond(alloc, state, most, thread, tried),
+    )
 }
 
 /// The state once a thread, which tries to lock an errorcheck mutex of its own, is refused as if it locked it.

@@ -3,7 +3,7 @@ ghost use Rattle.std.specs.List.{list_any};
 ghost use Rattle.pif_rules_model.specs.Rules.{without_one, lost_by};
 ghost use Rattle.pif_posix_rules.specs.Beside.{with_lost};
 
-use crate::lists::append;
+use crate::lists::joined;
 use crate::next::blocked_on;
 use crate::wide::Wide;
 use pif_posix::State;
@@ -40,13 +40,10 @@ pub(crate) fn lost_by(
 ) -> Result<Vec<u32>, Stop>
     ensures { IfOk result (λ v. v.items ≡ lost_by state.now thread lost.now) }
 {
+    let copy = Vec::from_slice(alloc, lost)?;
     match blocked_on(state, thread as usize) {
-        None => Ok(Vec::from_slice(alloc, lost)?),
-        Some(variable) => {
-            let mut all = one(alloc, variable)?;
-            append(&mut all, Vec::from_slice(alloc, lost)?)?;
-            Ok(all)
-        }
+        None => Ok(copy),
+        Some(variable) => joined(one(alloc, variable), Ok(copy)),
     }
 }
 

@@ -3,13 +3,15 @@ ghost use Rattle.std.specs.List.{list_any};
 ghost use Rattle.pif_model.specs.World.{with_progress};
 ghost use Rattle.pif_model.specs.World.Progress.{Has};
 ghost use Rattle.pif_rules_model.specs.Rules.{Wide as Widened, WideMoves, without_one};
-ghost use Rattle.pif_rules_model.specs.Ruled.{one_if, by_recursion, signal_lost, locked_by_rule, woken_by_rule, others_by_rule, moved_by_rule, widely_moved};
+ghost use Rattle.pif_rules_model.specs.Ruled.{one_if, by_recursion, signal_lost, moved_by_rule, widely_moved};
+ghost use Rattle.pif_posix_rules.specs.Moving.{moved_by};
 
 use crate::health::mended_by_any;
-use crate::lists::append;
+use crate::lists::{append, joined};
 use crate::locks::{locked_beyond, stolen_by, tried_own};
 use crate::lost::{is_lost, without_one};
 use crate::next::signalled_next;
+use crate::rule::{EACH_RULE, Rule};
 use crate::wakes::{any_woken, waiting_held, woken_by_itself};
 use crate::wide::Wide;
 use pif_posix::Progress;
@@ -19,38 +21,6 @@ use std::alloc::Global;
 
 /// Where moves lead, by the plain machine and by rules.
 impl Wide {
-    /// By `recursion`: the thread locks a recursive mutex beyond 255 holds, or is refused.
-    fn locked_beyond(&self, alloc: Global, thread: u32, rules: &Rules) -> Result<Vec<Wide>, Stop>
-        requires { thread < length self.now.world.threads }
-        ensures { IfOk result (λ v. v.items ≡ by_recursion rules.now.recursion thread self.now) }
-    {
-        match rules.recursion {
-            None => Ok(Vec::new(alloc)),
-            Some(most) => {
-                let states = locked_beyond(alloc, &self.state, most, thread)?;
-                self.beside(alloc, states)
-            }
-        }
-    }
-
-    /// A move of a thread by a rule on locks: all states to which it leads.
-    fn locked_by_rule(&self, alloc: Global, thread: u32, rules: &Rules) -> Result<Vec<Wide>, Stop>
-        requires { thread < length self.now.world.threads }
-        ensures { IfOk result (λ v. v.items ≡ locked_by_rule rules.now thread self.now) }
-    {
-        let mut all = Vec::new(alloc);
-        if rules.steal {
-            let states = stolen_by(alloc, &self.state, thread)?;
-            append(&mut all, self.beside(alloc, states)?)?;
-        }
-        append(&mut all, self.locked_beyond(alloc, thread, rules)?)?;
-        if rules.own_errorcheck {
-            let states = tried_own(alloc, &self.state, thread)?;
-            append(&mut all, self.beside(alloc, states)?)?;
-        }
-        Ok(all)
-    }
-
     /// The state once a signal of a thread on a variable is lost; none if it can't be lost.
     fn signal_lost_on(&self, alloc: Global, thread: u32, variable: u32) -> Result<Vec<Wide>, Stop>
         requires { thread < length self.now.world.threads }
@@ -76,41 +46,44 @@ impl Wide {
         }
     }
 
-    /// A move of a thread by a rule on signals and blocked threads: all states to which it leads.
-    fn woken_by_rule(&self, alloc: Global, thread: u32, rules: &Rules) -> Result<Vec<Wide>, Stop>
+    /// By `recursion`: the thread locks a recursive mutex beyond 255 holds, or is refused.
+    fn locked_beyond(
+        &self,
+        alloc: Global,
+        thread: u32,
+        most: Option<u32>,
+    ) -> Result<Vec<Wide>, Stop>
         requires { thread < length self.now.world.threads }
-        ensures { IfOk result (λ v. v.items ≡ woken_by_rule rules.now thread self.now) }
+        ensures { IfOk result (λ v. v.items ≡ by_recursion most thread self.now) }
     {
-        let mut all = Vec::new(alloc);
-        if rules.any_waiter {
-            let states = any_woken(alloc, &self.state, thread)?;
-            append(&mut all, self.beside(alloc, states)?)?;
+        match most {
+            None => Ok(Vec::new(alloc)),
+            Some(most) => self.beside(alloc, locked_beyond(alloc, &self.state, most, thread)),
         }
-        if rules.spurious {
-            let states = woken_by_itself(alloc, &self.state, thread)?;
-            append(&mut all, self.beside(alloc, states)?)?;
-        }
-        if rules.lost_signal {
-            append(&mut all, self.signal_lost(alloc, thread)?)?;
-        }
-        Ok(all)
     }
 
-    /// A move of a thread by another rule: all states to which it leads.
-    fn others_by_rule(&self, alloc: Global, thread: u32, rules: &Rules) -> Result<Vec<Wide>, Stop>
+    /// A move of a thread by one rule, which is allowed: all states to which it leads.
+    fn moved_by(
+        &self,
+        alloc: Global,
+        thread: u32,
+        rules: &Rules,
+        rule: &Rule,
+    ) -> Result<Vec<Wide>, Stop>
         requires { thread < length self.now.world.threads }
-        ensures { IfOk result (λ v. v.items ≡ others_by_rule rules.now thread self.now) }
+        ensures { IfOk result (λ v. v.items ≡ moved_by rule.now rules.now thread self.now) }
     {
-        let mut all = Vec::new(alloc);
-        if rules.any_consistent {
-            let states = mended_by_any(alloc, &self.state, thread)?;
-            append(&mut all, self.beside(alloc, states)?)?;
+        let state = &self.state;
+        match rule {
+            Rule::Steal => self.beside(alloc, stolen_by(alloc, state, thread)),
+            Rule::Recursion => self.locked_beyond(alloc, thread, rules.recursion),
+            Rule::OwnErrorcheck => self.beside(alloc, tried_own(alloc, state, thread)),
+            Rule::AnyWaiter => self.beside(alloc, any_woken(alloc, state, thread)),
+            Rule::Spurious => self.beside(alloc, woken_by_itself(alloc, state, thread)),
+            Rule::LostSignal => self.signal_lost(alloc, thread),
+            Rule::AnyConsistent => self.beside(alloc, mended_by_any(alloc, state, thread)),
+            Rule::HeldWait => self.beside(alloc, waiting_held(alloc, state, thread)),
         }
-        if rules.held_wait {
-            let states = waiting_held(alloc, &self.state, thread)?;
-            append(&mut all, self.beside(alloc, states)?)?;
-        }
-        Ok(all)
     }
 
     /// A move of a thread by a rule: all states to which it leads.
@@ -118,9 +91,12 @@ impl Wide {
         requires { thread < length self.now.world.threads }
         ensures { IfOk result (λ v. v.items ≡ moved_by_rule rules.now thread self.now) }
     {
-        let mut all = self.locked_by_rule(alloc, thread, rules)?;
-        append(&mut all, self.woken_by_rule(alloc, thread, rules)?)?;
-        append(&mut all, self.others_by_rule(alloc, thread, rules)?)?;
+        let mut all = Vec::new(alloc);
+        for rule in &EACH_RULE {
+            if rule.is_allowed(rules) {
+                append(&mut all, self.moved_by(alloc, thread, rules, rule))?;
+            }
+        }
         Ok(all)
     }
 
@@ -128,16 +104,14 @@ impl Wide {
     fn widely_moved(&self, alloc: Global, thread: u32, rules: &Rules) -> Result<Vec<Wide>, Stop>
         ensures { IfOk result (λ v. v.items ≡ widely_moved rules.now thread self.now) }
     {
-        let plain = self.state.moves(alloc, thread)?;
-        let mut all = self.beside(alloc, plain)?;
+        let plain = self.beside(alloc, self.state.moves(alloc, thread));
         if self.state.go_refusal(thread).is_some() {
-            return Ok(all);
+            return plain;
         }
         if thread as usize >= self.state.thread_count() {
             return Err(Stop::Range);
         }
-        append(&mut all, self.moved_by_rule(alloc, thread, rules)?)?;
-        Ok(all)
+        joined(plain, self.moved_by_rule(alloc, thread, rules))
     }
 
     /// The states to which one move of a thread leads, by the plain machine or by one of the rules that are allowed.
@@ -151,7 +125,6 @@ impl Wide {
         ensures complete { IfOk result (λ vs. (v : Widened) → WideMoves rules.now thread self.now v → Contains vs.items v) }
         ensures value { IfOk result (λ vs. vs.items ≡ widely_moved rules.now thread self.now) }
     {
-        let all = self.widely_moved(alloc, thread, rules)?;
-        Ok(all)
+        self.widely_moved(alloc, thread, rules)
     }
 }
