@@ -1,7 +1,7 @@
 //! What later lines of a history say of its threads.
 use crate::leaving::Leaving;
 use pif_history_model::Line;
-use pif_search::{Stop, push};
+use pif_search::{Stop, one, push};
 use pif_types::{Answer, CondId, Errno, Request, Tid};
 use std::alloc::Global;
 
@@ -75,58 +75,37 @@ impl Told {
     }
 }
 
-/// How many threads and how many variables the lines add.
-fn additions_of(lines: &[Line]) -> (usize, usize) {
-    let mut threads = 0_usize;
-    let mut variables = 0_usize;
-    for line in lines {
-        match *line {
-            Line::Thread(_) => threads = threads.saturating_add(1),
-            Line::Cond(_) => variables = variables.saturating_add(1),
-            _ => {}
+impl Waits {
+    /// Nothing is said of the waits for a variable.
+    fn nothing(alloc: Global) -> Waits {
+        Waits {
+            begins: Vec::new(alloc),
+            timeout: None,
         }
     }
-    (threads, variables)
 }
 
 impl Later {
-    /// Nothing is said, of so many threads and variables.
-    fn nothing(alloc: Global, threads: usize, variables: usize) -> Result<Later, Stop> {
-        let mut later = Later {
-            threads: Vec::new(alloc),
-            variables: Vec::new(alloc),
-            hasty: Vec::new(alloc),
-            leaving: Leaving::for_search(alloc),
-        };
-        for _ in 0..=threads {
-            push(&mut later.threads, Told::nothing(alloc))?;
-        }
-        for _ in 0..=variables {
-            let waits = Waits {
-                begins: Vec::new(alloc),
-                timeout: None,
-            };
-            push(&mut later.variables, waits)?;
-        }
-        Ok(later)
-    }
-
     /// What these lines say, oldest first.
     ///
     /// # Errors
     ///
     /// Out of memory.
     pub fn of(alloc: Global, lines: &[Line]) -> Result<Later, Stop> {
-        let (threads, variables) = additions_of(lines);
-        let mut later = Later::nothing(alloc, threads, variables)?;
-        later.hear_all(lines)?;
+        let mut later = Later {
+            threads: one(alloc, Told::nothing(alloc))?,
+            variables: one(alloc, Waits::nothing(alloc))?,
+            hasty: Vec::new(alloc),
+            leaving: Leaving::for_search(alloc),
+        };
+        later.hear_all(alloc, lines)?;
         Ok(later)
     }
 
     /// Hears these lines, oldest first.
-    fn hear_all(&mut self, lines: &[Line]) -> Result<(), Stop> {
+    fn hear_all(&mut self, alloc: Global, lines: &[Line]) -> Result<(), Stop> {
         for place in 0..lines.len() {
-            self.hear(&lines[place], place)?;
+            self.hear(alloc, &lines[place], place)?;
         }
         for waits in self.variables.iter_mut() {
             waits.begins.sort()?;
@@ -134,15 +113,19 @@ impl Later {
         Ok(())
     }
 
-    /// Hears the line at a place.
-    fn hear(&mut self, line: &Line, place: usize) -> Result<(), Stop> {
+    /// Hears the line at a place. What it says of a thread that no line before added is passed over.
+    fn hear(&mut self, alloc: Global, line: &Line, place: usize) -> Result<(), Stop> {
         match *line {
-            Line::Begin(thread, request) => self.hear_begin(thread, place, &request),
-            Line::Answer(thread, answer) => self.hear_answer(thread, place, answer)?,
-            Line::Rests(thread) => self.hear_rest(thread, place)?,
-            _ => {}
+            Line::Thread(_) => push(&mut self.threads, Told::nothing(alloc)),
+            Line::Cond(_) => push(&mut self.variables, Waits::nothing(alloc)),
+            Line::Begin(thread, request) => {
+                self.hear_begin(thread, place, &request);
+                Ok(())
+            }
+            Line::Answer(thread, answer) => self.hear_answer(thread, place, answer),
+            Line::Rests(thread) => self.hear_rest(thread, place),
+            _ => Ok(()),
         }
-        Ok(())
     }
 
     /// The thread begins a call at a place.
@@ -163,14 +146,14 @@ impl Later {
         place: usize,
         answer: Answer,
     ) -> Result<(), Stop> {
-        if let Some(waits) = self.variables.get_mut(variable.get() as usize) {
-            if answer == Errno::TimedOut.number() {
+        match self.variables.get_mut(variable.get() as usize) {
+            Some(waits) if answer == Errno::TimedOut.number() => {
                 waits.timeout = Some(place);
-            } else {
-                push(&mut waits.begins, begun)?;
+                Ok(())
             }
+            Some(waits) => push(&mut waits.begins, begun),
+            None => Ok(()),
         }
-        Ok(())
     }
 
     /// A call of the thread is answered at a place.
@@ -190,10 +173,10 @@ impl Later {
 
     /// The thread rests at a place.
     fn hear_rest(&mut self, thread: Tid, place: usize) -> Result<(), Stop> {
-        if let Some(told) = self.threads.get_mut(thread.get() as usize) {
-            push(&mut told.rests, place)?;
+        match self.threads.get_mut(thread.get() as usize) {
+            Some(told) => push(&mut told.rests, place),
+            None => Ok(()),
         }
-        Ok(())
     }
 
     /// This line is passed, which is at the place: from now on only later ones are asked for.
@@ -204,12 +187,14 @@ impl Later {
     pub fn pass(&mut self, line: &Line, place: usize) -> Result<(), Stop> {
         match *line {
             Line::Begin(thread, request) => {
-                self.pass_begin(thread.get() as usize, &request, place)?;
+                self.pass_begin(thread.get() as usize, &request, place)
             }
-            Line::Answer(thread, _) => self.pass_answer(thread.get() as usize),
-            _ => {}
+            Line::Answer(thread, _) => {
+                self.pass_answer(thread.get() as usize);
+                Ok(())
+            }
+            _ => Ok(()),
         }
-        Ok(())
     }
 
     /// The thread has begun a call. It may fail at once if it is a trylock or has a deadline.
@@ -220,14 +205,9 @@ impl Later {
             _ => return Ok(()),
         };
         match self.answer(thread, place) {
-            Some((_, answer)) => {
-                if answer == error.number() {
-                    push(&mut self.hasty, thread)?;
-                }
-            }
-            None => {}
+            Some((_, answer)) if answer == error.number() => push(&mut self.hasty, thread),
+            _ => Ok(()),
         }
-        Ok(())
     }
 
     /// The open call of the thread is answered.

@@ -114,14 +114,6 @@ fn table(alloc: Global, lines: &[Line]) -> Result<Vec<Vec<Over>>, Stop>
     Ok(rows)
 }
 
-/// These lines.
-fn copied(alloc: Global, lines: &[Line]) -> Result<Vec<Line>, Stop>
-    ensures { IfOk result (λ v. v.items ≡ lines.now) }
-{
-    let copy = Vec::from_slice(alloc, lines)?;
-    Ok(copy)
-}
-
 /// The lines of a history, and where they say that calls are over.
 #[derive(Drop)]
 pub struct KnownLines {
@@ -150,7 +142,7 @@ impl KnownLines {
     pub fn new(alloc: Global, lines: &[Line]) -> Result<KnownLines, Stop>
         ensures { IfOk result (λ k. k ≡ lines.now) }
     {
-        let own = copied(alloc, lines)?;
+        let own = Vec::from_slice(alloc, lines)?;
         let overs = table(alloc, own.as_slice())?;
         Ok(KnownLines { lines: own, overs })
     }

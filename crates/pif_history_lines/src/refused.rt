@@ -1,14 +1,16 @@
 //! Lines that no run has, whatever was answered.
-ghost use Rattle.std.specs.Prelude.{◌≡◌, ◌∷◌, ◌+◌, [], ℕ, List, Option, Some, None, reverse, not, IfOk, OnOk, if◌then◌else◌};
+ghost use Rattle.std.specs.Prelude.{◌≡◌, ◌∷◌, ◌+◌, [], ℕ, List, Option, Some, None, reverse, not, IfOk, IfSome, OnOk, if◌then◌else◌};
 ghost use Rattle.pif_model.specs.Refusals.{begin_refused, go_refused, end_refused, tick_refused};
 ghost use Rattle.pif_model.specs.Posix.{names_known};
 ghost use Rattle.pif_types.specs.declared.errors.AddFault.TheVariants.{NoSuch};
 ghost use Rattle.pif_history_model.specs.declared.refusals.LineRefusal.TheVariants.{Addition};
 ghost use Rattle.pif_history_model.specs.declared.lines.Line.{Line as ShownLine};
+ghost use Rattle.pif_history_model.specs.Lines.{thread_of};
 ghost use Rattle.pif_history_model.specs.Refused.{is_known, refusal_of_line, room_refused, event_refused};
 ghost use Rattle.pif_history_lines.specs.Verdicts.{IsRefusalThere};
 ghost use Rattle.pif_history_lines.specs.Told.{IsTold, after_end};
 
+use crate::dying::thread_of;
 use pif_history_model::{HistoryLimits, Line, LineRefusal};
 use pif_search::Stop;
 use pif_types::{AddFault, MutexId, Prio, Refusal, Request, Tid};
@@ -29,11 +31,17 @@ struct Told {
     dying: bool,
 }
 
-/// One more.
-fn one_more(count: usize) -> Result<usize, Stop>
-    ensures { IfOk result (λ n. n ≡ count + 1) }
+/// Counts one more.
+fn add_one(count: &mut usize) -> Result<(), Stop>
+    ensures { OnOk result (count.new ≡ count.old + 1) }
 {
-    count.checked_add(1).ok_or(Stop::Range)
+    match count.checked_add(1) {
+        Some(more) => {
+            *count = more;
+            Ok(())
+        }
+        None => Err(Stop::Range),
+    }
 }
 
 impl Told {
@@ -67,9 +75,9 @@ impl Told {
         ensures { OnOk result ((lines : List ShownLine) → IsTold thread lines self.old → IsTold thread (line ∷ lines) self.new) }
     {
         match line {
-            Line::Thread(_) => self.threads = one_more(self.threads)?,
-            Line::Mutex(_, _) => self.mutexes = one_more(self.mutexes)?,
-            Line::Cond(_) => self.conds = one_more(self.conds)?,
+            Line::Thread(_) => return add_one(&mut self.threads),
+            Line::Mutex(_, _) => return add_one(&mut self.mutexes),
+            Line::Cond(_) => return add_one(&mut self.conds),
             Line::Tick(time) => self.time = time,
             Line::Begin(t, _) => self.open_call = self.open_call || t == thread,
             Line::Answer(t, _) => self.open_call = self.open_call && t != thread,
@@ -181,6 +189,37 @@ impl Told {
             self.living_refusal(thread)
         }
     }
+
+    /// Why a variable that is bound to this mutex is not added, if it isn't.
+    fn cond_refusal(&self, limits: HistoryLimits, mutex: MutexId) -> Option<LineRefusal>
+        ensures { result ≡ if is_known self.now.mutexes mutex then room_refused self.now.conds limits.conds else Some (Addition NoSuch) }
+    {
+        if is_known(self.mutexes, mutex.get()) {
+            room_refusal(self.conds, limits.conds)
+        } else {
+            Some(LineRefusal::Addition(AddFault::NoSuch))
+        }
+    }
+
+    /// Why no run has this line, whatever was answered, behind lines that tell this of its thread; None if there is no
+    /// such reason.
+    fn refusal(&self, limits: HistoryLimits, line: &Line) -> Option<LineRefusal>
+        ensures { (t : ℕ) (before : List ShownLine) → IfSome (thread_of line.now) (λ u. u ≡ t) → IsTold t before self.now → result ≡ refusal_of_line limits before line.now }
+    {
+        match *line {
+            Line::Thread(base) if Prio::new(base).is_none() => {
+                Some(LineRefusal::Addition(AddFault::BadPrio))
+            }
+            Line::Thread(_) => room_refusal(self.threads, limits.threads),
+            Line::Mutex(_, _) => room_refusal(self.mutexes, limits.mutexes),
+            Line::Cond(mutex) => self.cond_refusal(limits, mutex),
+            Line::Begin(t, request) => of_event(self.begin_refusal(t, request)),
+            Line::Answer(t, _) => of_event(self.answer_refusal(t)),
+            Line::End(t) => of_event(self.end_refusal(t)),
+            Line::Tick(time) => of_event(self.tick_refusal(time)),
+            Line::Dying(t) | Line::Rests(t) | Line::Prio(t, _) => of_event(self.living_refusal(t)),
+        }
+    }
 }
 
 /// Whether a number is one of the first so many, from 1.
@@ -198,17 +237,6 @@ fn room_refusal(count: usize, limit: u32) -> Option<LineRefusal>
         None
     } else {
         Some(LineRefusal::Addition(AddFault::TooMany))
-    }
-}
-
-/// Why a variable that is bound to this mutex is not added, if it isn't.
-fn cond_refusal(told: Told, limits: HistoryLimits, mutex: MutexId) -> Option<LineRefusal>
-    ensures { result ≡ if is_known told.mutexes mutex then room_refused told.conds limits.conds else Some (Addition NoSuch) }
-{
-    if is_known(told.mutexes, mutex.get()) {
-        room_refusal(told.conds, limits.conds)
-    } else {
-        Some(LineRefusal::Addition(AddFault::NoSuch))
     }
 }
 
@@ -231,20 +259,7 @@ pub fn refusal(
 ) -> Result<Option<LineRefusal>, Stop>
     ensures { IfOk result (IsRefusalThere limits before.now line.now) }
 {
-    let nobody = Tid::default();
-    Ok(match *line {
-        Line::Thread(base) if Prio::new(base).is_none() => {
-            Some(LineRefusal::Addition(AddFault::BadPrio))
-        }
-        Line::Thread(_) => room_refusal(Told::by(before, nobody)?.threads, limits.threads),
-        Line::Mutex(_, _) => room_refusal(Told::by(before, nobody)?.mutexes, limits.mutexes),
-        Line::Cond(mutex) => cond_refusal(Told::by(before, nobody)?, limits, mutex),
-        Line::Begin(t, request) => of_event(Told::by(before, t)?.begin_refusal(t, request)),
-        Line::Answer(t, _) => of_event(Told::by(before, t)?.answer_refusal(t)),
-        Line::End(t) => of_event(Told::by(before, t)?.end_refusal(t)),
-        Line::Tick(time) => of_event(Told::by(before, nobody)?.tick_refusal(time)),
-        Line::Dying(t) | Line::Rests(t) | Line::Prio(t, _) => {
-            of_event(Told::by(before, t)?.living_refusal(t))
-        }
-    })
+    let thread = thread_of(line).unwrap_or_default();
+    let told = Told::by(before, thread)?;
+    Ok(told.refusal(limits, line))
 }

@@ -5,7 +5,7 @@ ghost use Rattle.pif_history_lines.specs.declared.wakeups.OpenCall.TheVariants.{
 ghost use Rattle.pif_history_lines.specs.Wakeups.{is_use, once_used, wait_begun, begun, once_begun, heard, WasAdded, is_unwoken, is_refuted, IsRefutedAt};
 
 use pif_history_model::Line;
-use pif_search::{Stop, push};
+use pif_search::{Stop, one, push};
 use pif_types::Request;
 use std::alloc::Global;
 
@@ -158,8 +158,7 @@ fn is_refuted(calls: &[OpenCall], line: &Line) -> bool
 pub fn first_unwoken(alloc: Global, lines: &[Line]) -> Result<Option<usize>, Stop>
     ensures { IfOk result (λ o. IfSome o (IsRefutedAt lines.now)) }
 {
-    let mut calls = Vec::new(alloc);
-    push(&mut calls, OpenCall::Other)?;
+    let mut calls = one(alloc, OpenCall::Other)?;
     for place in 0..lines.len() {
         let line = &lines[place];
         if is_refuted(calls.as_slice(), line) {
