@@ -67,10 +67,11 @@ fn said_by_command(command: Command) -> Option<Said>
 fn of_two(name: &[u8], word: &[u8]) -> Option<Line>
     ensures { result ≡ line_of_two name.now word.now }
 {
+    let thread = thread_of(word)?;
     if is_word(name, b"dying") {
-        Some(Line::Dying(thread_of(word)?))
+        Some(Line::Dying(thread))
     } else if is_word(name, b"rests") {
-        Some(Line::Rests(thread_of(word)?))
+        Some(Line::Rests(thread))
     } else {
         None
     }
@@ -81,10 +82,11 @@ fn of_two(name: &[u8], word: &[u8]) -> Option<Line>
 fn of_three(name: &[u8], first: &[u8], second: &[u8]) -> Option<Line>
     ensures { result ≡ line_of_three name.now first.now second.now }
 {
+    let thread = thread_of(first)?;
     if is_word(name, b"answer") {
-        Some(Line::Answer(thread_of(first)?, answer_of(second)?))
+        Some(Line::Answer(thread, answer_of(second)?))
     } else if is_word(name, b"prio") {
-        Some(Line::Prio(thread_of(first)?, number_of(second)?))
+        Some(Line::Prio(thread, number_of(second)?))
     } else {
         None
     }
