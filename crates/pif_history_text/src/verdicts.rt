@@ -1,39 +1,42 @@
 //! The lines of verdicts. Each is appended to `out`; if out of memory, a part of it may be.
-ghost use Rattle.std.specs.Prelude.{◌≡◌, ◌++◌, None, OnOk, Some, decimal};
+ghost use Rattle.std.specs.Prelude.{◌≡◌, ◌++◌, None, OnOk, Some, codes, flat_map};
 ghost use Rattle.pif_history_text.specs.Verdicts.{at_number, began_line, colon_line, fault_line, found_line, illegal_line, legal_line, line_refusal_word, possible_line, possible_text, refused_line, undecided_line};
 
 use crate::writing::line_text;
 use itoa::Buffer;
 use pif_history_model::{Line, LineRefusal};
-use pif_text::{Cause, Text, add_fault_word, fault_text};
+use pif_text::{Cause, Text, add_fault_word, append, fault_text};
 use pif_types::{Request, Tid};
 use std::alloc::AllocError;
 
-/// Appends a number in decimal digits.
-fn push_number(out: &mut Vec<u8>, number: u64) -> Result<(), AllocError>
-    ensures { OnOk result (out.new.items ≡ out.old.items ++ decimal number) }
+/// Appends these parts, one behind the other.
+fn push_parts(out: &mut Vec<u8>, parts: &[&[u8]]) -> Result<(), AllocError>
+    ensures { OnOk result (out.new.items ≡ out.old.items ++ flat_map (λ part. part.now) parts.now) }
+{
+    for part in parts {
+        out.extend_from_slice(part)?;
+    }
+    Ok(())
+}
+
+/// Appends a number behind what it counts or numbers, and what stands behind it.
+fn push_at(out: &mut Vec<u8>, head: &[u8], number: u32, tail: &[u8]) -> Result<(), AllocError>
+    ensures { OnOk result (out.new.items ≡ out.old.items ++ (at_number head.now number ++ tail.now)) }
 {
     let mut buffer = Buffer::new();
-    out.extend_from_slice(buffer.format(number).as_bytes())
+    let digits = buffer.format(u64::from(number)).as_bytes();
+    push_parts(out, &[head, digits, tail])
 }
 
-/// Appends a number behind what it counts or numbers.
-fn push_at(out: &mut Vec<u8>, head: &[u8], number: u32) -> Result<(), AllocError>
-    ensures { OnOk result (out.new.items ≡ out.old.items ++ at_number head.now number) }
+/// Appends a number behind what it numbers, and behind a colon a line of a history.
+fn push_line_at(out: &mut Vec<u8>, head: &[u8], number: u32, line: Line) -> Result<(), AllocError>
+    ensures { OnOk result (out.new.items ≡ out.old.items ++ (at_number head.now number ++ colon_line line)) }
 {
-    out.extend_from_slice(head)?;
-    push_number(out, u64::from(number))
-}
-
-/// Appends a line of a history behind a colon, and the end of the line.
-fn push_colon_line(out: &mut Vec<u8>, line: Line) -> Result<(), AllocError>
-    ensures { OnOk result (out.new.items ≡ out.old.items ++ colon_line line) }
-{
-    let mut text = Text::new();
-    line_text(line, &mut text);
-    out.extend_from_slice(b": ")?;
-    out.extend_from_slice(text.as_slice())?;
-    out.extend_from_slice(b"\n")
+    let mut tail = Text::new();
+    append(&mut tail, b": ");
+    line_text(line, &mut tail);
+    append(&mut tail, b"\n");
+    push_at(out, head, number, tail.as_slice())
 }
 
 /// Appends the line of a legal history.
@@ -44,8 +47,7 @@ fn push_colon_line(out: &mut Vec<u8>, line: Line) -> Result<(), AllocError>
 pub fn push_legal(out: &mut Vec<u8>, lines: u32) -> Result<(), AllocError>
     ensures { OnOk result (out.new.items ≡ out.old.items ++ legal_line lines) }
 {
-    push_at(out, b"legal ", lines)?;
-    out.extend_from_slice(b"\n")
+    push_at(out, b"legal ", lines, b"\n")
 }
 
 /// Appends the line of a history that is illegal at the line of this number.
@@ -56,8 +58,7 @@ pub fn push_legal(out: &mut Vec<u8>, lines: u32) -> Result<(), AllocError>
 pub fn push_illegal(out: &mut Vec<u8>, number: u32, line: Line) -> Result<(), AllocError>
     ensures { OnOk result (out.new.items ≡ out.old.items ++ illegal_line number line) }
 {
-    push_at(out, b"illegal at ", number)?;
-    push_colon_line(out, line)
+    push_line_at(out, b"illegal at ", number, line)
 }
 
 /// Appends the line of a history that was given up at the line of this number.
@@ -68,8 +69,7 @@ pub fn push_illegal(out: &mut Vec<u8>, number: u32, line: Line) -> Result<(), Al
 pub fn push_undecided(out: &mut Vec<u8>, number: u32) -> Result<(), AllocError>
     ensures { OnOk result (out.new.items ≡ out.old.items ++ undecided_line number) }
 {
-    push_at(out, b"undecided at ", number)?;
-    out.extend_from_slice(b"\n")
+    push_at(out, b"undecided at ", number, b"\n")
 }
 
 /// Appends the line of a fault.
@@ -82,8 +82,8 @@ pub fn push_fault(out: &mut Vec<u8>, number: u64, cause: Cause) -> Result<(), Al
 {
     let mut text = Text::new();
     fault_text(number, cause, &mut text);
-    out.extend_from_slice(text.as_slice())?;
-    out.extend_from_slice(b"\n")
+    append(&mut text, b"\n");
+    out.extend_from_slice(text.as_slice())
 }
 
 /// Why no run has a line, in one word, as `busy`.
@@ -104,9 +104,7 @@ pub fn refusal_word(why: LineRefusal) -> &'static [u8]
 pub fn push_refused(out: &mut Vec<u8>, why: LineRefusal) -> Result<(), AllocError>
     ensures { OnOk result (out.new.items ≡ out.old.items ++ refused_line why) }
 {
-    out.extend_from_slice(b"refused ")?;
-    out.extend_from_slice(refusal_word(why))?;
-    out.extend_from_slice(b"\n")
+    push_parts(out, &[b"refused ", refusal_word(why), b"\n"])
 }
 
 /// Appends numbers with a blank in front of each, or `none`.
@@ -117,10 +115,18 @@ fn push_numbers(out: &mut Vec<u8>, numbers: &[u32]) -> Result<(), AllocError>
         return out.extend_from_slice(b" none");
     }
     for number in numbers {
-        out.extend_from_slice(b" ")?;
-        push_number(out, u64::from(*number))?;
+        push_at(out, b" ", *number, b"")?;
     }
     Ok(())
+}
+
+/// Appends numbers behind what they are, and the end of the line.
+fn push_numbers_of(out: &mut Vec<u8>, head: &[u8], numbers: &[u32]) -> Result<(), AllocError>
+    ensures { OnOk result (out.new.items ≡ out.old.items ++ (head.now ++ possible_text numbers.now ++ codes "\n")) }
+{
+    out.extend_from_slice(head)?;
+    push_numbers(out, numbers)?;
+    out.extend_from_slice(b"\n")
 }
 
 /// Appends the line that says which numbers may stand in the place of an answer or a priority.
@@ -131,9 +137,7 @@ fn push_numbers(out: &mut Vec<u8>, numbers: &[u32]) -> Result<(), AllocError>
 pub fn push_possible(out: &mut Vec<u8>, numbers: &[u32]) -> Result<(), AllocError>
     ensures { OnOk result (out.new.items ≡ out.old.items ++ possible_line (Some numbers.now)) }
 {
-    out.extend_from_slice(b"possible there:")?;
-    push_numbers(out, numbers)?;
-    out.extend_from_slice(b"\n")
+    push_numbers_of(out, b"possible there:", numbers)
 }
 
 /// Appends the line that says that the search for such numbers was given up.
@@ -155,9 +159,7 @@ pub fn push_possible_undecided(out: &mut Vec<u8>) -> Result<(), AllocError>
 pub fn push_found(out: &mut Vec<u8>, numbers: &[u32]) -> Result<(), AllocError>
     ensures { OnOk result (out.new.items ≡ out.old.items ++ found_line numbers.now) }
 {
-    out.extend_from_slice(b"found there:")?;
-    push_numbers(out, numbers)?;
-    out.extend_from_slice(b"\n")
+    push_numbers_of(out, b"found there:", numbers)
 }
 
 /// Appends the line that says where the open call of a thread began.
@@ -173,6 +175,10 @@ pub fn push_began(
 ) -> Result<(), AllocError>
     ensures { OnOk result (out.new.items ≡ out.old.items ++ began_line number thread request) }
 {
-    push_at(out, b"its call began at ", number)?;
-    push_colon_line(out, Line::Begin(thread, request))
+    push_line_at(
+        out,
+        b"its call began at ",
+        number,
+        Line::Begin(thread, request),
+    )
 }
