@@ -51,6 +51,17 @@ abbrev pub rule_telling : Option Rule → List ℕ
 rule_telling None = []
 rule_telling (Some rule) = codes "  " ++ name_of rule ++ codes "\n"
 
+-- How a step begins, by this rule or by none: a line of the history, or what the thread does that moves or ends.
+abbrev pub label_telling : Option Rule → Label → World → World → List ℕ
+label_telling rule (Shown line) w v = line_text line ++ codes "\n" ++ rule_telling rule
+label_telling rule (Moves t) w v = own_telling rule t w v (thread_at w t).call (thread_at v t).call
+label_telling rule (Ends t) w v = codes "  " ++ rule_front rule ++ thread_name t ++ codes " ends\n"
+
+-- The number of the thread that moves by a step; 0 if none does.
+abbrev pub moving : Label → ℕ
+moving (Moves t) = t
+moving x = 0
+
 -- One step of the machine that is searched, from w to v, by this rule or by none: a line of the history; a move of a
 -- thread; or the end of one that is dying.
 abbrev pub step_telling : Option Rule → Label → World → World → List ℕ
