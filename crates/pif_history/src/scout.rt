@@ -188,10 +188,7 @@ impl Scout {
             Need::Signals(_) | Need::Broadcasts(_) if scene.may_succeed(thread) => {
                 self.use_variable(alloc, machine, later, thread, line)
             }
-            _ => {
-                let went = stepping::go(&mut self.position, alloc, thread_numbered(thread)?)?;
-                Ok(went)
-            }
+            _ => stepping::go(&mut self.position, alloc, thread_numbered(thread)?),
         }
     }
 

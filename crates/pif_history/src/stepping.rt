@@ -59,8 +59,7 @@ fn keeps_dying(line: &Line) -> bool
 pub(crate) fn go(position: &mut Position, alloc: Global, thread: Tid) -> Result<bool, Stop>
     ensures { IfOk result (λ b. b ≡ true → (l : Bounds) → Advances l position.old (Moves thread) position.new) }
 {
-    let went = position.world.go(alloc, thread.get())?;
-    Ok(went)
+    position.world.go(alloc, thread.get())
 }
 
 /// What the line shows happens, which is this entry; false if it can't.
@@ -77,8 +76,7 @@ fn come(
     ensures { IfOk result (λ b. b ≡ true → Advances limits.now position.old (Shown line.now) position.new) }
 {
     let _line = line;
-    let came = position.world.come(alloc, limits, entry)?;
-    Ok(came)
+    position.world.come(alloc, limits, entry)
 }
 
 /// Whether the line tells of the state, and what it tells is so.
