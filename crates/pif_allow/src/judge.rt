@@ -1,8 +1,10 @@
-ghost use Rattle.std.specs.Prelude.{◌≡◌, ◌≤◌, [], true, false, map, length, All, IfOk, IfSome};
+ghost use Rattle.std.specs.Prelude.{◌≡◌, ◌≤◌, [], true, false, List, map, length, All, IfOk, IfSome};
 ghost use Rattle.pif_types.specs.Bounds.{Bounds};
 ghost use Rattle.pif_rules_model.specs.declared.rules.Rules.{Rules as Allowed};
 ghost use Rattle.pif_rules_model.specs.Rules.{no_rules};
+ghost use Rattle.pif_history_model.specs.declared.labels.Label.{Label as ShownLabel};
 ghost use Rattle.pif_history_model.specs.declared.labels.Label.TheVariants.{Shown};
+ghost use Rattle.pif_history_model.specs.Numbers.{numbers_in};
 ghost use Rattle.pif_history_model.specs.Searched.{hides};
 ghost use Rattle.pif_search.specs.Verdicts.{AreNext};
 ghost use Rattle.pif_allow_model.specs.Allowed.{WideAdvances, wide_start_of};
@@ -104,8 +106,7 @@ pub fn find_run_allowing<W: Watch>(
     if are_none(rules) {
         return Ok(None);
     }
-    let found = witness_of(alloc, rules, limits, lines, states, watch)?;
-    Ok(found)
+    witness_of(alloc, rules, limits, lines, states, watch)
 }
 
 /// The verdict on no lines: a run of no steps shows them.
@@ -157,8 +158,7 @@ pub fn judge_allowing<W: Watch>(
     ensures { IfOk result (IsVerdictWith rules.now limits lines.now) }
 {
     if are_none(rules) {
-        let plain = judge_lines(alloc, limits, lines, states, watch)?;
-        return Ok(plain);
+        return judge_lines(alloc, limits, lines, states, watch);
     }
     if lines.len() == 0 {
         return Ok(no_lines(alloc));
@@ -169,8 +169,9 @@ pub fn judge_allowing<W: Watch>(
     searched(alloc, rules, limits, lines, states, watch)
 }
 
-/// The candidates that can come behind these lines; none if the search gave up, or `watch` ended it.
-fn next_labels<W: Watch>(
+/// The answers or priorities of the candidates that can come behind these lines; none if the search gave up, or `watch`
+/// ended it.
+fn next_numbers<W: Watch>(
     alloc: Global,
     rules: &Rules,
     limits: HistoryLimits,
@@ -178,9 +179,9 @@ fn next_labels<W: Watch>(
     candidates: &[Label],
     states: usize,
     watch: &mut W,
-) -> Result<Option<Vec<Label>>, Stop>
+) -> Result<Option<Vec<u32>>, Stop>
     requires { All (λ x. hides x ≡ false) candidates.now }
-    ensures { IfOk result (λ o. IfSome o (λ v. AreNext (WideAdvances rules.now limits) hides (wide_start_of limits) (map (λ x. Shown x) before.now) candidates.now v.items)) }
+    ensures { IfOk result (λ o. IfSome o (λ v. (found : List ShownLabel) × (v.items ≡ numbers_in found) × AreNext (WideAdvances rules.now limits) hides (wide_start_of limits) (map (λ x. Shown x) before.now) candidates.now found)) }
 {
     let machine = AllowingMachine::new(limits, *rules);
     let start = WidePosition::start(alloc, limits)?;
@@ -195,7 +196,10 @@ fn next_labels<W: Watch>(
         states,
         watch,
     )?;
-    Ok(found)
+    match found {
+        Some(labels) => Ok(Some(numbers_of(alloc, labels.as_slice())?)),
+        None => Ok(None),
+    }
 }
 
 /// The answers with which some run, with these rules, shows the lines before, oldest first, and then that the open call
@@ -217,11 +221,10 @@ pub fn possible_answers_allowing<W: Watch>(
     ensures { IfOk result (λ o. IfSome o (λ v. ArePossibleAnswersWith rules.now limits before.now thread v.items)) }
 {
     if are_none(rules) {
-        let plain = possible_answers(alloc, limits, before, thread, states, watch)?;
-        return Ok(plain);
+        return possible_answers(alloc, limits, before, thread, states, watch);
     }
     let candidates = answers_of(alloc, thread)?;
-    match next_labels(
+    next_numbers(
         alloc,
         rules,
         limits,
@@ -229,10 +232,7 @@ pub fn possible_answers_allowing<W: Watch>(
         candidates.as_slice(),
         states,
         watch,
-    )? {
-        Some(labels) => Ok(Some(numbers_of(alloc, labels.as_slice())?)),
-        None => Ok(None),
-    }
+    )
 }
 
 /// The priorities with which some run, with these rules, shows the lines before, oldest first, and then that the thread
@@ -254,11 +254,10 @@ pub fn possible_priorities_allowing<W: Watch>(
     ensures { IfOk result (λ o. IfSome o (λ v. ArePossiblePrioritiesWith rules.now limits before.now thread v.items)) }
 {
     if are_none(rules) {
-        let plain = possible_priorities(alloc, limits, before, thread, states, watch)?;
-        return Ok(plain);
+        return possible_priorities(alloc, limits, before, thread, states, watch);
     }
     let candidates = priorities_of(alloc, thread)?;
-    match next_labels(
+    next_numbers(
         alloc,
         rules,
         limits,
@@ -266,8 +265,5 @@ pub fn possible_priorities_allowing<W: Watch>(
         candidates.as_slice(),
         states,
         watch,
-    )? {
-        Some(labels) => Ok(Some(numbers_of(alloc, labels.as_slice())?)),
-        None => Ok(None),
-    }
+    )
 }

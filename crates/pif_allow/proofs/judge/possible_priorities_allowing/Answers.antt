@@ -1,24 +1,26 @@
-use Rattle.std.proofs.Common.{ℕ, ◌∙◌, List, ap}
-use Rattle.pif_history_model.specs.declared.labels.Label.{Label}
+use Rattle.std.proofs.Common.{ℕ, ◌∙◌}
+use Rattle.std.proofs.lemmas.Result.{IfOk-weaker}
 use Rattle.pif_history_model.specs.declared.lines.Line.TheVariants.{Prio}
-use Rattle.pif_history_model.specs.Numbers.{numbers_in, up_to}
+use Rattle.pif_history_model.specs.Numbers.{up_to}
 use Rattle.pif_history_model.proofs.ShownLines.{if_some, shown_by, some_of}
 use Rattle.pif_allow.proofs.Settling.{priorities_by, priorities_without}
 use Rattle.pif_allow.proofs.judge.possible_priorities_allowing.Goals as goal
 
 pub returns-then-are_none : goal.returns-then-are_none
 returns-then-are_none g c =
-    if_some _ c.in_ok-plain.plain
+    IfOk-weaker c.possible_priorities.result _ _
+    (λ o all. if_some _ o
     (λ v e. priorities_without c.args.rules.now c.args.limits c.args.before.now c.args.thread v.items
-    (c.are_none.ensures c.if-are_none.true) (some_of _ c.in_ok-plain.plain v e c.in_ok-plain.ensures))
+    (c.are_none.ensures c.if-are_none.true) (some_of _ o v e all))) c.possible_priorities.ensures
 
-pub returns-in-Some : goal.returns-in-Some
-returns-in-Some g c =
-    priorities_by c.args.rules.now c.args.limits c.args.before.now c.args.thread c.in-Some.labels.items _ _
-    (c.as_slice.ensures.value ∙ c.in_ok-candidates.ensures)
-    (c.in_ok-numbers_of-in-Some.ensures ∙ ap (λ (xs : List Label). numbers_in xs) c.as_slice-in-Some.ensures.value)
-    (some_of _ c.in_ok-labels.field-0 c.in-Some.labels c.in-Some.is c.in_ok-labels.ensures)
+pub returns : goal.returns
+returns g c =
+    IfOk-weaker c.next_numbers.result _ _
+    (λ o all. if_some _ o
+    (λ v e. let x = some_of _ o v e all in
+    priorities_by c.args.rules.now c.args.limits c.args.before.now c.args.thread x.0 _ _
+    (c.as_slice.ensures.value ∙ c.in_ok-candidates.ensures) x.1 x.2)) c.next_numbers.ensures
 
-pub next_labels-requires : goal.next_labels-requires
-next_labels-requires g c =
+pub next_numbers-requires : goal.next_numbers-requires
+next_numbers-requires g c =
     rw (c.as_slice.ensures.value ∙ c.in_ok-candidates.ensures) (shown_by (λ (p : ℕ). Prio c.args.thread p) (up_to 99))

@@ -1,7 +1,9 @@
-use Rattle.std.proofs.Common.{◌∙◌, refl}
-use Rattle.pif_history_model.proofs.ShownLines.{lines_shown, if_some}
+use Rattle.std.proofs.Common.{◌∙◌, List, ap, refl}
+use Rattle.pif_history_model.specs.declared.labels.Label.{Label}
+use Rattle.pif_history_model.specs.Numbers.{numbers_in}
+use Rattle.pif_history_model.proofs.ShownLines.{lines_shown}
 use Rattle.pif_allow.proofs.Settling.{next_by}
-use Rattle.pif_allow.proofs.judge.next_labels.Goals as goal
+use Rattle.pif_allow.proofs.judge.next_numbers.Goals as goal
 
 pub searches_all_steps-requires-clause-steps : goal.searches_all_steps-requires-clause-steps
 searches_all_steps-requires-clause-steps g c = λ s x t step. step
@@ -18,8 +20,11 @@ possible-requires-clause-enough g c = c.searches_all_steps.ensures
 pub possible-requires-clause-shown : goal.possible-requires-clause-shown
 possible-requires-clause-shown g c = rw (c.as_slice.ensures.value ∙ c.in_ok-lines.ensures) (lines_shown c.args.before.now)
 
-pub returns : goal.returns
-returns g c =
-    if_some _ c.in_ok-found.found
-    (λ v e. next_by c.args.rules.now _ c.args.limits _ _ c.args.before.now _ c.args.candidates.now v.items c.new-machine.ensures.rules
-    c.new-machine.ensures.limits c.in_ok-start.ensures (c.as_slice.ensures.value ∙ c.in_ok-lines.ensures) (c.in_ok-found.ensures v e))
+pub returns-in-Some : goal.returns-in-Some
+returns-in-Some g c = (
+  c.in-Some.labels.items,
+  c.in_ok-numbers_of-in-Some.ensures ∙ ap (λ (xs : List Label). numbers_in xs) c.as_slice-in-Some.ensures.value,
+  next_by c.args.rules.now _ c.args.limits _ _ c.args.before.now _ c.args.candidates.now c.in-Some.labels.items c.new-machine.ensures.rules
+      c.new-machine.ensures.limits c.in_ok-start.ensures (c.as_slice.ensures.value ∙ c.in_ok-lines.ensures)
+      (c.in_ok-found.ensures c.in-Some.labels c.in-Some.is),
+)
