@@ -86,22 +86,27 @@ impl Allowed<'_> {
     /// What is worth trying before this line since rules are allowed.
     pub(crate) fn extras(&self, alloc: Global, line: &Line) -> Result<Vec<Extra>, Stop> {
         let mut extras = Vec::new(alloc);
-        if self.scene.first_at_once().is_some() {
-            return Ok(extras);
-        }
-        match *line {
-            Line::Answer(thread, answer) => {
-                self.try_to_answer(thread.get() as usize, answer, &mut extras)?;
-            }
-            Line::Rests(thread) => self.try_to_rob(thread.get() as usize, &mut extras)?,
-            Line::Prio(_, _) => {
-                for owner in 0..self.thread_count() {
-                    self.try_to_rob(owner, &mut extras)?;
-                }
-            }
-            _ => {}
+        if self.scene.first_at_once().is_none() {
+            self.try_for(line, &mut extras)?;
         }
         Ok(extras)
+    }
+
+    /// Adds what is worth trying before this line since rules are allowed, if nothing happens at once.
+    fn try_for(&self, line: &Line, extras: &mut Vec<Extra>) -> Result<(), Stop> {
+        match *line {
+            Line::Answer(thread, answer) => {
+                self.try_to_answer(thread.get() as usize, answer, extras)
+            }
+            Line::Rests(thread) => self.try_to_rob(thread.get() as usize, extras),
+            Line::Prio(_, _) => {
+                for owner in 0..self.thread_count() {
+                    self.try_to_rob(owner, extras)?;
+                }
+                Ok(())
+            }
+            _ => Ok(()),
+        }
     }
 
     /// Adds what may lead, by rules, to this answer of the open call of a thread.
@@ -118,7 +123,7 @@ impl Allowed<'_> {
                     return self.try_to_wake(thread, mutex, extras);
                 }
                 if answer == 0 || answer == Errno::OwnerDead.number() {
-                    try_by_rule(extras, thread)?;
+                    return try_by_rule(extras, thread);
                 }
                 Ok(())
             }
