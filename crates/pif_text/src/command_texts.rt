@@ -7,7 +7,7 @@ ghost use Rattle.pif_text_model.specs.Replies.{cond_name, mutex_name, thread_nam
 
 use crate::kinds::kind_word;
 use crate::questions::append_question;
-use crate::writing::{append, append_cond, append_mutex, append_number, append_thread};
+use crate::writing::{append, append_number, append_on_cond, append_on_mutex, append_on_thread};
 use crate::{Addition, Command, TEXT_ROOM, Text};
 use pif_model::Event;
 use pif_types::{CondId, Kind, MutexId, Request, Tid};
@@ -33,26 +33,6 @@ pub fn mutex_text(kind: Kind, robust: bool, out: &mut Text)
     }
 }
 
-/// Appends a call of this name, with its space, on a mutex.
-fn append_on_mutex(out: &mut Text, name: &[u8], mutex: MutexId)
-    requires { array_vec_len out.old + length name.now + 11 ≤ TEXT_ROOM }
-    ensures items { out.new.items ≡ out.old.items ++ (name.now ++ mutex_name mutex) }
-    ensures len { array_vec_len out.new ≤ array_vec_len out.old + length name.now + 11 }
-{
-    append(out, name);
-    append_mutex(out, mutex);
-}
-
-/// Appends a call of this name, with its space, on a condition variable.
-fn append_on_cond(out: &mut Text, name: &[u8], cond: CondId)
-    requires { array_vec_len out.old + length name.now + 11 ≤ TEXT_ROOM }
-    ensures items { out.new.items ≡ out.old.items ++ (name.now ++ cond_name cond) }
-    ensures len { array_vec_len out.new ≤ array_vec_len out.old + length name.now + 11 }
-{
-    append(out, name);
-    append_cond(out, cond);
-}
-
 /// Appends a wait of this name, with its space, on a condition variable with its mutex.
 fn append_wait(out: &mut Text, name: &[u8], cond: CondId, mutex: MutexId)
     requires { array_vec_len out.old + length name.now + 23 ≤ TEXT_ROOM }
@@ -60,12 +40,11 @@ fn append_wait(out: &mut Text, name: &[u8], cond: CondId, mutex: MutexId)
     ensures len { array_vec_len out.new ≤ array_vec_len out.old + length name.now + 23 }
 {
     append_on_cond(out, name, cond);
-    append(out, b" ");
-    append_mutex(out, mutex);
+    append_on_mutex(out, b" ", mutex);
 }
 
-/// Appends a number behind a space: the last word of a request.
-fn append_last(out: &mut Text, number: u32)
+/// Appends a number behind a space.
+fn append_next(out: &mut Text, number: u32)
     requires { array_vec_len out.old + 11 ≤ TEXT_ROOM }
     ensures items { out.new.items ≡ out.old.items ++ codes " " ++ decimal number }
     ensures len { array_vec_len out.new ≤ array_vec_len out.old + 11 }
@@ -90,28 +69,27 @@ pub fn append_request(out: &mut Text, request: Request)
         Request::Signal(cond) => append_on_cond(out, b"signal ", cond),
         Request::Broadcast(cond) => append_on_cond(out, b"broadcast ", cond),
         Request::SetPrio(thread, priority) => {
-            append(out, b"setprio ");
-            append_thread(out, thread);
-            append_last(out, priority);
+            append_on_thread(out, b"setprio ", thread);
+            append_next(out, priority);
         }
         Request::TimedLock(mutex, deadline) => {
             append_on_mutex(out, b"timedlock ", mutex);
-            append_last(out, deadline);
+            append_next(out, deadline);
         }
         Request::TimedWait(cond, mutex, deadline) => {
             append_wait(out, b"timedwait ", cond, mutex);
-            append_last(out, deadline);
+            append_next(out, deadline);
         }
     }
 }
 
-/// Appends a thread and its request.
-fn append_call(out: &mut Text, thread: Tid, request: Request)
-    requires { array_vec_len out.old + 56 ≤ TEXT_ROOM }
-    ensures items { out.new.items ≡ out.old.items ++ (thread_name thread ++ codes " " ++ request_text request) }
-    ensures len { array_vec_len out.new ≤ array_vec_len out.old + 56 }
+/// Appends these words, and behind them a thread and its request.
+fn append_call(out: &mut Text, words: &[u8], thread: Tid, request: Request)
+    requires { array_vec_len out.old + length words.now + 56 ≤ TEXT_ROOM }
+    ensures items { out.new.items ≡ out.old.items ++ (words.now ++ thread_name thread ++ codes " " ++ request_text request) }
+    ensures len { array_vec_len out.new ≤ array_vec_len out.old + length words.now + 56 }
 {
-    append_thread(out, thread);
+    append_on_thread(out, words, thread);
     append(out, b" ");
     append_request(out, request);
 }
@@ -124,12 +102,9 @@ fn append_numbers(out: &mut Text, first: u32, second: u32, third: u32, fourth: u
     ensures len { array_vec_len out.new ≤ array_vec_len out.old + 43 }
 {
     append_number(out, first);
-    append(out, b" ");
-    append_number(out, second);
-    append(out, b" ");
-    append_number(out, third);
-    append(out, b" ");
-    append_number(out, fourth);
+    append_next(out, second);
+    append_next(out, third);
+    append_next(out, fourth);
 }
 
 /// Appends an addition.
@@ -145,10 +120,7 @@ fn append_addition(out: &mut Text, addition: Addition)
             append_number(out, priority);
         }
         Addition::Mutex(kind, robust) => mutex_text(kind, robust, out),
-        Addition::Cond(mutex) => {
-            append(out, b"cond ");
-            append_mutex(out, mutex);
-        }
+        Addition::Cond(mutex) => append_on_mutex(out, b"cond ", mutex),
     }
 }
 
@@ -160,18 +132,9 @@ fn append_event(out: &mut Text, event: Event)
     ensures len { array_vec_len out.new ≤ array_vec_len out.old + COMMAND_ROOM }
 {
     match event {
-        Event::Begin(thread, request) => {
-            append(out, b"begin ");
-            append_call(out, thread, request);
-        }
-        Event::Go(thread) => {
-            append(out, b"go ");
-            append_thread(out, thread);
-        }
-        Event::End(thread) => {
-            append(out, b"end ");
-            append_thread(out, thread);
-        }
+        Event::Begin(thread, request) => append_call(out, b"begin ", thread, request),
+        Event::Go(thread) => append_on_thread(out, b"go ", thread),
+        Event::End(thread) => append_on_thread(out, b"end ", thread),
         Event::Tick(time) => {
             append(out, b"tick ");
             append_number(out, time);
@@ -187,14 +150,8 @@ fn append_run(out: &mut Text, thread: Tid, request: Option<Request>)
     ensures len { array_vec_len out.new ≤ array_vec_len out.old + COMMAND_ROOM }
 {
     match request {
-        Some(request) => {
-            append(out, b"call ");
-            append_call(out, thread, request);
-        }
-        None => {
-            append(out, b"finish ");
-            append_thread(out, thread);
-        }
+        Some(request) => append_call(out, b"call ", thread, request),
+        None => append_on_thread(out, b"finish ", thread),
     }
 }
 

@@ -4,7 +4,7 @@ ghost use Rattle.pif_text_model.specs.Questions.{question_in_one, question_in_tw
 
 use crate::numbers::{cond_of, mutex_of, thread_of};
 use crate::words::is_word;
-use crate::writing::{append, append_cond, append_mutex, append_thread};
+use crate::writing::{append, append_on_cond, append_on_mutex, append_on_thread};
 use crate::{Question, TEXT_ROOM, Text};
 
 /// The question of one word.
@@ -25,13 +25,13 @@ pub fn question_of_two(name: &[u8], word: &[u8]) -> Option<Question>
     ensures { result ≡ question_in_two name.now word.now }
 {
     if is_word(name, b"word") {
-        Some(Question::Word(mutex_of(word)?))
+        mutex_of(word).map(Question::Word)
     } else if is_word(name, b"prio") {
-        Some(Question::Prio(thread_of(word)?))
+        thread_of(word).map(Question::Prio)
     } else if is_word(name, b"health") {
-        Some(Question::Health(mutex_of(word)?))
+        mutex_of(word).map(Question::Health)
     } else if is_word(name, b"condword") {
-        Some(Question::CondWord(cond_of(word)?))
+        cond_of(word).map(Question::CondWord)
     } else {
         None
     }
@@ -45,22 +45,10 @@ pub fn append_question(out: &mut Text, question: Question)
     ensures len { array_vec_len out.new ≤ array_vec_len out.old + 20 }
 {
     match question {
-        Question::Word(mutex) => {
-            append(out, b"word ");
-            append_mutex(out, mutex);
-        }
-        Question::Health(mutex) => {
-            append(out, b"health ");
-            append_mutex(out, mutex);
-        }
-        Question::CondWord(cond) => {
-            append(out, b"condword ");
-            append_cond(out, cond);
-        }
-        Question::Prio(thread) => {
-            append(out, b"prio ");
-            append_thread(out, thread);
-        }
+        Question::Word(mutex) => append_on_mutex(out, b"word ", mutex),
+        Question::Health(mutex) => append_on_mutex(out, b"health ", mutex),
+        Question::CondWord(cond) => append_on_cond(out, b"condword ", cond),
+        Question::Prio(thread) => append_on_thread(out, b"prio ", thread),
         Question::Pick => append(out, b"pick"),
     }
 }

@@ -1,6 +1,7 @@
 ghost use Rattle.std.specs.Prelude.{◌≡◌, ◌∷◌, []};
 ghost use Rattle.pif_text_model.specs.Words.{words};
 ghost use Rattle.pif_text_model.specs.Commands.{request_in, request_in_three, request_in_four, command_of_one, command_of_two, command_of_three, command_of_four, command_of_five, command_of_six, command_of_words, command_in};
+ghost use Rattle.pif_text.specs.Calls.{call_in};
 
 use crate::kinds::kind_of;
 use crate::numbers::{cond_of, mutex_of, number_of, thread_of};
@@ -16,17 +17,17 @@ fn request_of(call: &[u8], word: &[u8]) -> Option<Request>
     ensures { result ≡ request_in call.now word.now }
 {
     if is_word(call, b"lock") {
-        Some(Request::Lock(mutex_of(word)?))
+        mutex_of(word).map(Request::Lock)
     } else if is_word(call, b"trylock") {
-        Some(Request::TryLock(mutex_of(word)?))
+        mutex_of(word).map(Request::TryLock)
     } else if is_word(call, b"unlock") {
-        Some(Request::Unlock(mutex_of(word)?))
+        mutex_of(word).map(Request::Unlock)
     } else if is_word(call, b"consistent") {
-        Some(Request::Consistent(mutex_of(word)?))
+        mutex_of(word).map(Request::Consistent)
     } else if is_word(call, b"signal") {
-        Some(Request::Signal(cond_of(word)?))
+        cond_of(word).map(Request::Signal)
     } else if is_word(call, b"broadcast") {
-        Some(Request::Broadcast(cond_of(word)?))
+        cond_of(word).map(Request::Broadcast)
     } else {
         None
     }
@@ -65,7 +66,7 @@ fn request_of_four(call: &[u8], first: &[u8], second: &[u8], third: &[u8]) -> Op
 fn of_one(name: &[u8]) -> Option<Command>
     ensures { result ≡ command_of_one name.now }
 {
-    Some(Command::Ask(question_of_one(name)?))
+    question_of_one(name).map(Command::Ask)
 }
 
 /// The command of two words.
@@ -88,7 +89,7 @@ fn of_two(name: &[u8], word: &[u8]) -> Option<Command>
     } else if is_word(name, b"cond") {
         Some(Command::Add(Addition::Cond(mutex_of(word)?)))
     } else {
-        Some(Command::Ask(question_of_two(name, word)?))
+        question_of_two(name, word).map(Command::Ask)
     }
 }
 
@@ -104,18 +105,27 @@ fn of_three(name: &[u8], kind: &[u8], last: &[u8]) -> Option<Command>
     }
 }
 
+/// The command by which a thread makes a call, if the words that name both do: `call`, or `begin`.
+fn of_call(name: &[u8], thread: &[u8], request: Option<Request>) -> Option<Command>
+    ensures { result ≡ call_in name.now thread.now request }
+{
+    let thread = thread_of(thread)?;
+    let request = request?;
+    if is_word(name, b"call") {
+        Some(Command::Run(thread, Some(request)))
+    } else if is_word(name, b"begin") {
+        Some(Command::Event(Event::Begin(thread, request)))
+    } else {
+        None
+    }
+}
+
 /// The command of four words.
 #[tactic(auto, unfolding(pif_text_model::specs::Commands::command_of_four))]
 fn of_four(name: &[u8], thread: &[u8], call: &[u8], word: &[u8]) -> Option<Command>
     ensures { result ≡ command_of_four name.now thread.now call.now word.now }
 {
-    if is_word(name, b"call") {
-        Some(Command::Run(thread_of(thread)?, Some(request_of(call, word)?)))
-    } else if is_word(name, b"begin") {
-        Some(Command::Event(Event::Begin(thread_of(thread)?, request_of(call, word)?)))
-    } else {
-        None
-    }
+    of_call(name, thread, request_of(call, word))
 }
 
 /// The command of five words.
@@ -123,17 +133,7 @@ fn of_four(name: &[u8], thread: &[u8], call: &[u8], word: &[u8]) -> Option<Comma
 fn of_five(name: &[u8], first: &[u8], second: &[u8], third: &[u8], fourth: &[u8]) -> Option<Command>
     ensures { result ≡ command_of_five name.now first.now second.now third.now fourth.now }
 {
-    if is_word(name, b"call") {
-        Some(Command::Run(
-            thread_of(first)?,
-            Some(request_of_three(second, third, fourth)?),
-        ))
-    } else if is_word(name, b"begin") {
-        Some(Command::Event(Event::Begin(
-            thread_of(first)?,
-            request_of_three(second, third, fourth)?,
-        )))
-    } else if is_word(name, b"limits") {
+    if is_word(name, b"limits") {
         Some(Command::Limits(
             number_of(first)?,
             number_of(second)?,
@@ -141,7 +141,7 @@ fn of_five(name: &[u8], first: &[u8], second: &[u8], third: &[u8], fourth: &[u8]
             number_of(fourth)?,
         ))
     } else {
-        None
+        of_call(name, first, request_of_three(second, third, fourth))
     }
 }
 
@@ -157,19 +157,7 @@ fn of_six(
 ) -> Option<Command>
     ensures { result ≡ command_of_six name.now thread.now call.now first.now second.now third.now }
 {
-    if is_word(name, b"call") {
-        Some(Command::Run(
-            thread_of(thread)?,
-            Some(request_of_four(call, first, second, third)?),
-        ))
-    } else if is_word(name, b"begin") {
-        Some(Command::Event(Event::Begin(
-            thread_of(thread)?,
-            request_of_four(call, first, second, third)?,
-        )))
-    } else {
-        None
-    }
+    of_call(name, thread, request_of_four(call, first, second, third))
 }
 
 /// The command that begins with these three words, before `rest`.

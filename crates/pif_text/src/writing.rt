@@ -96,6 +96,36 @@ pub fn append_cond<const N: usize>(out: &mut ArrayVec<u8, N>, cond: CondId)
     append_number(out, cond.get());
 }
 
+/// Appends these words, and behind them the name of a thread.
+pub fn append_on_thread(out: &mut Text, words: &[u8], thread: Tid)
+    requires { array_vec_len out.old + length words.now + 11 ≤ TEXT_ROOM }
+    ensures items { out.new.items ≡ out.old.items ++ (words.now ++ thread_name thread) }
+    ensures len { array_vec_len out.new ≤ array_vec_len out.old + length words.now + 11 }
+{
+    append(out, words);
+    append_thread(out, thread);
+}
+
+/// Appends these words, and behind them the name of a mutex.
+pub fn append_on_mutex(out: &mut Text, words: &[u8], mutex: MutexId)
+    requires { array_vec_len out.old + length words.now + 11 ≤ TEXT_ROOM }
+    ensures items { out.new.items ≡ out.old.items ++ (words.now ++ mutex_name mutex) }
+    ensures len { array_vec_len out.new ≤ array_vec_len out.old + length words.now + 11 }
+{
+    append(out, words);
+    append_mutex(out, mutex);
+}
+
+/// Appends these words, and behind them the name of a condition variable.
+pub fn append_on_cond(out: &mut Text, words: &[u8], cond: CondId)
+    requires { array_vec_len out.old + length words.now + 11 ≤ TEXT_ROOM }
+    ensures items { out.new.items ≡ out.old.items ++ (words.now ++ cond_name cond) }
+    ensures len { array_vec_len out.new ≤ array_vec_len out.old + length words.now + 11 }
+{
+    append(out, words);
+    append_cond(out, cond);
+}
+
 /// Appends what a call is answered.
 fn append_answer<const N: usize>(out: &mut ArrayVec<u8, N>, number: Answer)
     requires { array_vec_len out.old + 17 ≤ N }
