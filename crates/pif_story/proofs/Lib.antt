@@ -1,3 +1,4 @@
 mod FlawLemmas
 pub mod NameLemmas
 pub mod NoteLemmas
+mod PartLemmas

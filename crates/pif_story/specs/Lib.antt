@@ -1,3 +1,4 @@
 pub mod Names
 pub mod Notes
+pub mod Parts
 pub mod Rows

@@ -1,10 +1,11 @@
-ghost use Rattle.std.specs.Prelude.{◌≡◌, ◌++◌, ◌-◌, length, replicate, OnOk, IfOk, option_copied};
+ghost use Rattle.std.specs.Prelude.{◌≡◌, ◌++◌, ◌-◌, length, OnOk, IfOk, option_copied};
 ghost use Rattle.pif_story_model.specs.Answers.{in_form};
 ghost use Rattle.pif_story_model.specs.Filling.{answered_row, answers_behind, filled_line, filled_text, behind_words, form_from, form_or, next_answer, more_answers, width_from};
 ghost use Rattle.pif_story_model.specs.Lines.{lines, lines_behind, plain_lines};
 
 use crate::answers::{append_in_form, form_written};
 use crate::lines::{commentless, row_of, split_line, without_blanks, without_mark};
+use crate::parts::{Part, append_parts};
 use crate::plain::append_plain;
 use pif_story_model::Form;
 use std::alloc::{AllocError, Global};
@@ -56,16 +57,6 @@ fn next_answer(answers: Option<&[u8]>) -> (&[u8], Option<&[u8]>)
     }
 }
 
-/// Appends so many spaces.
-fn append_blanks(text: &mut Vec<u8>, count: usize) -> Result<(), AllocError>
-    ensures { OnOk result (text.new.items ≡ text.old.items ++ replicate count 32) }
-{
-    for _blank in 0..count {
-        text.push(b' ')?;
-    }
-    Ok(())
-}
-
 /// Appends a command and its answer in a form, which stands behind so many columns.
 fn append_row(
     text: &mut Vec<u8>,
@@ -76,9 +67,14 @@ fn append_row(
 ) -> Result<(), AllocError>
     ensures { OnOk result (text.new.items ≡ text.old.items ++ answered_row width command.now (in_form form answer.now)) }
 {
-    text.extend_from_slice(command)?;
-    append_blanks(text, width.saturating_sub(command.len()))?;
-    text.extend_from_slice(b" = ")?;
+    append_parts(
+        text,
+        &[
+            Part::Bytes(command),
+            Part::Spaces(width.saturating_sub(command.len())),
+            Part::Bytes(b" = "),
+        ],
+    )?;
     append_in_form(text, form, answer)
 }
 

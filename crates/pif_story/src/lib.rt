@@ -15,6 +15,7 @@
 //! | `reading` | that script, of a story that is read |
 //! | `comparing` | the answers that are written, beside the lines that are printed |
 //! | `filling` | a story with the lines that are printed as its answers |
+//! | `parts` | texts that are written part by part |
 //! | `titles` | a story behind a comment with its name |
 //! | `verdicts` | what a story comes to, as lines |
 //! | `names`, `namings` | the names that a story gives its threads: a comment `# t1: low` gives t1 the name `low` |
@@ -35,6 +36,7 @@ mod missing;
 mod names;
 mod namings;
 mod notes;
+mod parts;
 mod plain;
 mod reading;
 mod scripts;
@@ -47,9 +49,10 @@ pub use filling::filled_text;
 pub use lines::{commentless, line_at_end, row_of, split_line, without_mark};
 pub use missing::{Known, Missing, Note, noted};
 pub use names::{name_of, names_in};
+pub use parts::printable;
 pub use plain::{append_plain, plain_story};
 pub use reading::{MOST, read_script_of_story};
 pub use scripts::script_of;
 pub use texts::{append_missing, notes_text};
 pub use titles::titled_story;
-pub use verdicts::{printable, verdict_text};
+pub use verdicts::verdict_text;

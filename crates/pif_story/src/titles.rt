@@ -1,9 +1,24 @@
-ghost use Rattle.std.specs.Prelude.{◌≡◌, IfOk};
+ghost use Rattle.std.specs.Prelude.{◌≡◌, ◌++◌, IfOk, OnOk, codes, map};
 ghost use Rattle.pif_story_model.specs.Filling.{titled};
+ghost use Rattle.pif_story_model.specs.Verdicts.{printable};
 
 use crate::lines::without_mark;
-use crate::verdicts::append_printable;
+use crate::parts::{Part, append_parts};
 use std::alloc::{AllocError, Global};
+
+/// Appends a comment with this name, as a line.
+fn append_title(text: &mut Vec<u8>, name: &[u8]) -> Result<(), AllocError>
+    ensures { OnOk result (text.new.items ≡ text.old.items ++ (codes "# " ++ map printable name.now ++ codes "\n")) }
+{
+    append_parts(
+        text,
+        &[
+            Part::Bytes(b"# "),
+            Part::Printable(name),
+            Part::Bytes(b"\n"),
+        ],
+    )
+}
 
 /// A story behind a comment with its name, and with an LF at its end, so that another one may stand behind it. A byte
 /// order mark at its front is left out.
@@ -16,9 +31,8 @@ pub fn titled_story(alloc: Global, name: &[u8], story: &[u8]) -> Result<Vec<u8>,
     ensures { IfOk result (λ text. text.items ≡ titled name.now story.now) }
 {
     let text = without_mark(story);
-    let mut titled = Vec::from_slice(alloc, b"# ")?;
-    append_printable(&mut titled, name)?;
-    titled.extend_from_slice(b"\n")?;
+    let mut titled = Vec::new(alloc);
+    append_title(&mut titled, name)?;
     titled.extend_from_slice(text)?;
     if !text.ends_with(b"\n") {
         titled.extend_from_slice(b"\n")?;

@@ -1,73 +1,63 @@
-ghost use Rattle.std.specs.Prelude.{◌≡◌, ◌++◌, OnOk, IfOk, codes, decimal, filter, flat_map, map, take};
+ghost use Rattle.std.specs.Prelude.{◌≡◌, ◌++◌, OnOk, IfOk, codes, filter, flat_map, take};
+ghost use Rattle.pif_text_model.specs.Replies.{fault_of};
 ghost use Rattle.pif_story_model.specs.Lines.{is_no_blank};
-ghost use Rattle.pif_story_model.specs.Verdicts.{differing_line, faulty_line, flaw_line, flaw_of, flaws_of, more_line, ok_line, printable, refusing_line, same_but_blanks, shown, shown_quoted, verdict_text};
+ghost use Rattle.pif_story_model.specs.Verdicts.{differing_line, flaw_line, flaw_of, flaws_of, more_line, ok_line, refusing_line, same_but_blanks, shown, verdict_text};
 
 use crate::lines::is_blank;
-use pif_script::MOST_LINE;
+use crate::parts::{Part, append_parts};
 use pif_story_model::Flaw;
 use pif_text::{Cause, Text, fault_text};
-use pif_text_json::append_decimal;
 use std::alloc::{AllocError, Global};
 
 /// How many flaws of a story have a line of their own.
 const MOST_FLAWS: usize = 20;
 
-/// The byte, or `?` if it is no printable ASCII.
-pub fn printable(byte: u8) -> u8
-    ensures { result ≡ printable byte }
-{
-    match byte {
-        b' '..=b'~' => byte,
-        _ => b'?',
-    }
-}
-
-/// Appends a text, with what stands for each byte that is not printable.
-pub fn append_printable(line: &mut Vec<u8>, text: &[u8]) -> Result<(), AllocError>
-    ensures { OnOk result (line.new.items ≡ line.old.items ++ map printable text.now) }
-{
-    for byte in text {
-        line.push(printable(*byte))?;
-    }
-    Ok(())
-}
-
-/// Appends a text as it is shown: its first 120 bytes, if it has more, and `?` for each that is no printable ASCII.
-fn append_shown(line: &mut Vec<u8>, text: &[u8]) -> Result<(), AllocError>
-    ensures { OnOk result (line.new.items ≡ line.old.items ++ shown text.now) }
-{
-    append_printable(line, &text[..MOST_LINE.min(text.len())])
-}
-
 /// Appends the line of a story of this name that is ok, and has so many commands.
 fn append_ok(text: &mut Vec<u8>, name: &[u8], commands: usize) -> Result<(), AllocError>
     ensures { OnOk result (text.new.items ≡ text.old.items ++ ok_line name.now commands) }
 {
-    text.extend_from_slice(b"ok ")?;
-    text.extend_from_slice(name)?;
-    text.extend_from_slice(b" ")?;
-    append_decimal(text, commands as u64)?;
-    text.extend_from_slice(b"\n")
+    append_parts(
+        text,
+        &[
+            Part::Bytes(b"ok "),
+            Part::Bytes(name),
+            Part::Bytes(b" "),
+            Part::Number(commands as u64),
+            Part::Bytes(b"\n"),
+        ],
+    )
 }
 
-/// Appends the line of a fault.
-fn append_fault(
-    text: &mut Vec<u8>,
-    name: &[u8],
-    number: u64,
-    command: &[u8],
-    cause: Cause,
-) -> Result<(), AllocError>
-    ensures { OnOk result (text.new.items ≡ text.old.items ++ faulty_line name.now number command.now cause) }
+/// What is said of a fault in this line.
+fn fault_words(number: u64, cause: Cause) -> Text
+    ensures { result.items ≡ fault_of number cause }
 {
-    let mut fault = Text::new();
-    fault_text(number, cause, &mut fault);
-    text.extend_from_slice(name)?;
-    text.extend_from_slice(b": ")?;
-    text.extend_from_slice(fault.as_slice())?;
-    text.extend_from_slice(b": ")?;
-    append_shown(text, command)?;
-    text.extend_from_slice(b"\n")
+    let mut words = Text::new();
+    fault_text(number, cause, &mut words);
+    words
+}
+
+/// Appends the line of a fault, of which this is said.
+fn append_fault<'a>(
+    text: &mut Vec<u8>,
+    name: &'a [u8],
+    words: &'a [u8],
+    command: &'a [u8],
+) -> Result<(), AllocError>
+    ensures { OnOk result (text.new.items
+        ≡ text.old.items ++ (name.now ++ codes ": " ++ words.now ++ codes ": " ++ shown command.now ++ codes "\n")) }
+{
+    append_parts(
+        text,
+        &[
+            Part::Bytes(name),
+            Part::Bytes(b": "),
+            Part::Bytes(words),
+            Part::Bytes(b": "),
+            Part::Shown(command),
+            Part::Bytes(b"\n"),
+        ],
+    )
 }
 
 /// A text without its blanks.
@@ -101,86 +91,59 @@ fn is_same_but_blanks(alloc: Global, one: &[u8], other: &[u8]) -> Result<bool, A
     Ok(first.as_slice() == second.as_slice())
 }
 
-/// Appends a text as it is shown, between two `'` if it is to have quotes.
-fn append_quoted(line: &mut Vec<u8>, quoted: bool, text: &[u8]) -> Result<(), AllocError>
-    ensures { OnOk result (line.new.items ≡ line.old.items ++ shown_quoted quoted text.now) }
-{
-    if quoted {
-        line.extend_from_slice(b"'")?;
-        append_shown(line, text)?;
-        line.extend_from_slice(b"'")
-    } else {
-        append_shown(line, text)
-    }
-}
-
-/// Appends the front of the line of a command, with these words before the number of its line in the story.
-fn append_front(
-    text: &mut Vec<u8>,
-    name: &[u8],
-    words: &[u8],
-    number: u64,
-) -> Result<(), AllocError>
-    ensures { OnOk result (text.new.items ≡ text.old.items ++ (name.now ++ words.now ++ decimal number ++ codes ": ")) }
-{
-    text.extend_from_slice(name)?;
-    text.extend_from_slice(words)?;
-    append_decimal(text, number)?;
-    text.extend_from_slice(b": ")
-}
-
-/// Appends the answer that is written and the one that the core gives, in quotes if they are to have them.
-fn append_answers(
-    text: &mut Vec<u8>,
-    quoted: bool,
-    written: &[u8],
-    given: &[u8],
-) -> Result<(), AllocError>
-    ensures { OnOk result (text.new.items
-        ≡ text.old.items ++ (codes " = " ++ (shown_quoted quoted written.now ++ (codes ", but the core gives " ++ shown_quoted quoted given.now)))) }
-{
-    text.extend_from_slice(b" = ")?;
-    append_quoted(text, quoted, written)?;
-    text.extend_from_slice(b", but the core gives ")?;
-    append_quoted(text, quoted, given)?;
-    Ok(())
-}
-
 /// Appends the line of an answer that is another one than the core gives.
-fn append_difference(
+fn append_difference<'a>(
     alloc: Global,
     text: &mut Vec<u8>,
-    name: &[u8],
+    name: &'a [u8],
     number: u64,
-    command: &[u8],
-    written: &[u8],
-    given: &[u8],
+    command: &'a [u8],
+    written: &'a [u8],
+    given: &'a [u8],
 ) -> Result<(), AllocError>
     ensures { OnOk result (text.new.items ≡ text.old.items ++ differing_line name.now number command.now written.now given.now) }
 {
     let quoted = is_same_but_blanks(alloc, written, given)?;
-    append_front(text, name, b": differs ", number)?;
-    append_shown(text, command)?;
-    append_answers(text, quoted, written, given)?;
-    text.extend_from_slice(b"\n")?;
-    Ok(())
+    append_parts(
+        text,
+        &[
+            Part::Bytes(name),
+            Part::Bytes(b": differs "),
+            Part::Number(number),
+            Part::Bytes(b": "),
+            Part::Shown(command),
+            Part::Bytes(b" = "),
+            Part::Quoted(quoted, written),
+            Part::Bytes(b", but the core gives "),
+            Part::Quoted(quoted, given),
+            Part::Bytes(b"\n"),
+        ],
+    )
 }
 
 /// Appends the line of a refusal that has no answer beside it.
-fn append_refusal(
+fn append_refusal<'a>(
     text: &mut Vec<u8>,
-    name: &[u8],
+    name: &'a [u8],
     number: u64,
-    command: &[u8],
-    given: &[u8],
+    command: &'a [u8],
+    given: &'a [u8],
 ) -> Result<(), AllocError>
     ensures { OnOk result (text.new.items ≡ text.old.items ++ refusing_line name.now number command.now given.now) }
 {
-    append_front(text, name, b": refused ", number)?;
-    append_shown(text, command)?;
-    text.extend_from_slice(b": ")?;
-    append_shown(text, given)?;
-    text.extend_from_slice(b"\n")
+    append_parts(
+        text,
+        &[
+            Part::Bytes(name),
+            Part::Bytes(b": refused "),
+            Part::Number(number),
+            Part::Bytes(b": "),
+            Part::Shown(command),
+            Part::Bytes(b": "),
+            Part::Shown(given),
+            Part::Bytes(b"\n"),
+        ],
+    )
 }
 
 /// Appends the line of a flaw.
@@ -194,7 +157,10 @@ fn append_flaw(
     ensures { OnOk result (text.new.items ≡ text.old.items ++ flaw_line name.now (flaw_of flaw.now)) }
 {
     match *flaw {
-        Flaw::Fault(number, command, cause) => append_fault(text, name, number, command, cause),
+        Flaw::Fault(number, command, cause) => {
+            let words = fault_words(number, cause);
+            append_fault(text, name, words.as_slice(), command)
+        }
         Flaw::Differs(number, command, written, given) => {
             append_difference(alloc, text, name, number, command, written, given)
         }
@@ -211,10 +177,15 @@ fn append_more(text: &mut Vec<u8>, name: &[u8], more: usize) -> Result<(), Alloc
     if more == 0 {
         return Ok(());
     }
-    text.extend_from_slice(name)?;
-    text.extend_from_slice(b": and ")?;
-    append_decimal(text, more as u64)?;
-    text.extend_from_slice(b" more\n")
+    append_parts(
+        text,
+        &[
+            Part::Bytes(name),
+            Part::Bytes(b": and "),
+            Part::Number(more as u64),
+            Part::Bytes(b" more\n"),
+        ],
+    )
 }
 
 /// Appends the lines of the first flaws.

@@ -1,6 +1,6 @@
 use Rattle.std.proofs.Common.{◌≡◌, ◌++◌, map, take}
 use Rattle.pif_story_model.specs.Verdicts.{printable}
-use Rattle.pif_story.proofs.verdicts.append_printable.Given as goal
+use Rattle.pif_story.proofs.parts.append_printable.Given as goal
 
 abbrev pub invariant-loop-byte : goal.invariant-loop-byte
-invariant-loop-byte l = l.line.items ≡ l.initial.line.items ++ map printable (take l.byte-index l.text)
+invariant-loop-byte l = l.text.items ≡ l.initial.text.items ++ map printable (take l.byte-index l.bytes)

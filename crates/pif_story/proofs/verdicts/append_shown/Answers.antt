@@ -1,8 +1,0 @@
-use Rattle.std.proofs.Common.{◌≡◌, ◌++◌, List, OnOk, ℕ, subst}
-use Rattle.pif_story_model.proofs.OrderLemmas.{shown_whole}
-use Rattle.pif_story.proofs.verdicts.append_shown.Goals as goal
-
-pub returns : goal.returns
-returns c =
-    subst (λ (l : List ℕ). OnOk c.append_printable.result (c.append_printable.new.line.items ≡ c.args.line.now.items ++ l))
-    (shown_whole c.args.text.now c.min.result c.min.ensures) c.append_printable.ensures
