@@ -5,29 +5,34 @@ ghost use Rattle.pif_story.specs.Notes.{begins_with, column_from, ends_word, lin
 use crate::lines::is_blank;
 use crate::missing::{Missing, Note};
 use crate::notes::notes_of;
+use crate::parts::{Part, append_parts};
 use crate::{MOST, commentless, split_line, without_mark};
-use pif_text_json::append_decimal;
+use pif_text::{Text, append, append_number};
 use std::alloc::{AllocError, Global};
 
-/// Appends a letter and a number.
-fn append_name(text: &mut Vec<u8>, letter: &[u8], number: u32) -> Result<(), AllocError>
-    ensures { OnOk result (text.new.items ≡ text.old.items ++ (letter.now ++ decimal number)) }
-{
-    text.extend_from_slice(letter)?;
-    append_decimal(text, number as u64)
-}
-
-/// Appends the word in a command that is missing.
+/// The letter of what is missing, which a priority has none of, and its number.
 #[tactic(auto, unfolding(crate::specs::Notes::missing_word))]
-fn append_word(text: &mut Vec<u8>, missing: &Missing) -> Result<(), AllocError>
-    ensures { OnOk result (text.new.items ≡ text.old.items ++ missing_word missing.now) }
+fn named(missing: &Missing) -> (&'static [u8], u32)
+    ensures word { missing_word missing.now ≡ result.0.now ++ decimal result.1 }
+    ensures len { length result.0.now ≤ 1 }
 {
     match *missing {
-        Missing::Thread(number) => append_name(text, b"t", number),
-        Missing::Mutex(number) => append_name(text, b"m", number),
-        Missing::Cond(number) => append_name(text, b"c", number),
-        Missing::Priority(number) => append_decimal(text, number as u64),
+        Missing::Thread(number) => (b"t", number),
+        Missing::Mutex(number) => (b"m", number),
+        Missing::Cond(number) => (b"c", number),
+        Missing::Priority(number) => (b"", number),
     }
+}
+
+/// The word in a command that is missing.
+fn missing_word(missing: &Missing) -> Text
+    ensures { result.items ≡ missing_word missing.now }
+{
+    let (letter, number) = named(missing);
+    let mut word = Text::new();
+    append(&mut word, letter);
+    append_number(&mut word, number);
+    word
 }
 
 /// What is said before it.
@@ -62,9 +67,15 @@ fn words_behind(missing: &Missing) -> &'static [u8]
 pub fn append_missing(text: &mut Vec<u8>, missing: &Missing) -> Result<(), AllocError>
     ensures { OnOk result (text.new.items ≡ text.old.items ++ missing_text missing.now) }
 {
-    text.extend_from_slice(words_before(missing))?;
-    append_word(text, missing)?;
-    text.extend_from_slice(words_behind(missing))
+    let word = missing_word(missing);
+    append_parts(
+        text,
+        &[
+            Part::Bytes(words_before(missing)),
+            Part::Bytes(word.as_slice()),
+            Part::Bytes(words_behind(missing)),
+        ],
+    )
 }
 
 /// Whether a text is at an end of a word.
@@ -124,51 +135,43 @@ fn line_in(text: &[u8], number: u64) -> &[u8]
 }
 
 /// The column of a note in a story, as it is written.
-///
-/// # Errors
-///
-/// A growth of memory was refused.
-fn note_column(alloc: Global, story: &[u8], note: &Note) -> Result<u64, AllocError>
-    ensures { IfOk result (λ column. column ≡ note_column story.now note.now) }
+fn note_column(story: &[u8], note: &Note) -> u64
+    ensures { result ≡ note_column story.now note.now }
 {
-    let mut word = Vec::new(alloc);
-    append_word(&mut word, &note.missing)?;
+    let word = missing_word(&note.missing);
     let line = commentless(line_in(without_mark(story), note.line));
-    Ok(column_in(word.as_slice(), line))
+    column_in(word.as_slice(), line)
 }
 
 /// Appends a place in a file of this name.
 fn append_place(text: &mut Vec<u8>, name: &[u8], line: u64, column: u64) -> Result<(), AllocError>
     ensures { OnOk result (text.new.items ≡ text.old.items ++ place_text name.now line column) }
 {
-    text.extend_from_slice(name)?;
-    text.extend_from_slice(b":")?;
-    append_decimal(text, line)?;
-    text.extend_from_slice(b":")?;
-    append_decimal(text, column)?;
-    text.extend_from_slice(b": ")
+    append_parts(
+        text,
+        &[
+            Part::Bytes(name),
+            Part::Bytes(b":"),
+            Part::Number(line),
+            Part::Bytes(b":"),
+            Part::Number(column),
+            Part::Bytes(b": "),
+        ],
+    )
 }
 
 /// Appends the line of a note on a story of this name.
 #[tactic(auto, unfolding(crate::specs::Notes::note_line))]
-fn append_note(
-    alloc: Global,
-    text: &mut Vec<u8>,
-    name: &[u8],
-    story: &[u8],
-    note: &Note,
-) -> Result<(), AllocError>
+fn append_note(text: &mut Vec<u8>, name: &[u8], story: &[u8], note: &Note) -> Result<(), AllocError>
     ensures { OnOk result (text.new.items ≡ text.old.items ++ note_line name.now story.now note.now) }
 {
-    let column = note_column(alloc, story, note)?;
-    append_place(text, name, note.line, column)?;
+    append_place(text, name, note.line, note_column(story, note))?;
     append_missing(text, &note.missing)?;
     text.extend_from_slice(b"\n")
 }
 
 /// Appends the lines of notes on a story of this name.
 fn append_notes(
-    alloc: Global,
     text: &mut Vec<u8>,
     name: &[u8],
     story: &[u8],
@@ -177,7 +180,7 @@ fn append_notes(
     ensures { OnOk result (text.new.items ≡ text.old.items ++ flat_map (note_line name.now story.now) notes.now) }
 {
     for note in notes {
-        append_note(alloc, text, name, story, note)?;
+        append_note(text, name, story, note)?;
     }
     Ok(())
 }
@@ -205,6 +208,6 @@ pub fn notes_text(
         return Ok(text);
     }
     let notes = notes_of(alloc, words, output)?;
-    append_notes(alloc, &mut text, name, story, notes.as_slice())?;
+    append_notes(&mut text, name, story, notes.as_slice())?;
     Ok(text)
 }
