@@ -146,16 +146,16 @@ impl Known {
         ensures { result ≡ missing_in_request self.now request }
     {
         match request {
-            Request::Lock(mutex) => self.mutex(mutex),
-            Request::TryLock(mutex) => self.mutex(mutex),
-            Request::Unlock(mutex) => self.mutex(mutex),
-            Request::Consistent(mutex) => self.mutex(mutex),
-            Request::Wait(cond, mutex) => first_of(self.cond(cond), self.mutex(mutex)),
-            Request::Signal(cond) => self.cond(cond),
-            Request::Broadcast(cond) => self.cond(cond),
+            Request::Lock(mutex)
+            | Request::TryLock(mutex)
+            | Request::Unlock(mutex)
+            | Request::Consistent(mutex)
+            | Request::TimedLock(mutex, _) => self.mutex(mutex),
+            Request::Wait(cond, mutex) | Request::TimedWait(cond, mutex, _) => {
+                first_of(self.cond(cond), self.mutex(mutex))
+            }
+            Request::Signal(cond) | Request::Broadcast(cond) => self.cond(cond),
             Request::SetPrio(thread, _) => self.thread(thread),
-            Request::TimedLock(mutex, _) => self.mutex(mutex),
-            Request::TimedWait(cond, mutex, _) => first_of(self.cond(cond), self.mutex(mutex)),
         }
     }
 
@@ -178,8 +178,7 @@ impl Known {
             Event::Begin(thread, request) => {
                 first_of(self.thread(thread), self.in_request(request))
             }
-            Event::Go(thread) => self.thread(thread),
-            Event::End(thread) => self.thread(thread),
+            Event::Go(thread) | Event::End(thread) => self.thread(thread),
             Event::Tick(_) => None,
         }
     }
@@ -190,8 +189,7 @@ impl Known {
         ensures { result ≡ missing_in_question self.now question }
     {
         match question {
-            Question::Word(mutex) => self.mutex(mutex),
-            Question::Health(mutex) => self.mutex(mutex),
+            Question::Word(mutex) | Question::Health(mutex) => self.mutex(mutex),
             Question::CondWord(cond) => self.cond(cond),
             Question::Prio(thread) => self.thread(thread),
             Question::Pick => None,
@@ -203,8 +201,7 @@ impl Known {
         ensures { result ≡ missing_in_addition self.now addition }
     {
         match addition {
-            Addition::Thread(_) => None,
-            Addition::Mutex(..) => None,
+            Addition::Thread(_) | Addition::Mutex(..) => None,
             Addition::Cond(mutex) => self.mutex(mutex),
         }
     }
