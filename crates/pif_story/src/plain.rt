@@ -9,10 +9,10 @@ fn append_byte(out: &mut Vec<u8>, gap: bool, byte: u8) -> Result<(), AllocError>
     ensures { OnOk result (out.new.items ≡ out.old.items ++ (if gap then 32 ∷ byte ∷ [] else byte ∷ [])) }
 {
     if gap {
-        out.push(b' ')?;
+        out.extend_from_slice(&[b' ', byte])
+    } else {
+        out.extend_from_slice(&[byte])
     }
-    out.push(byte)?;
-    Ok(())
 }
 
 /// Appends a text with one space between its words, and no other blank.
