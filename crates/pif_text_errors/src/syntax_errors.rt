@@ -59,12 +59,19 @@ pub fn syntax_error_at<'a>(
     }
 }
 
+/// Writes these texts, one behind the other.
+fn write_all<W: fmt::Write>(texts: &[&str], f: &mut fmt::Formatter<W>) -> fmt::Result {
+    for text in texts {
+        f.write_str(text)?;
+    }
+    Ok(())
+}
+
 /// Writes the words with which these forms begin, in brackets, if there are any.
 fn write_names<W: fmt::Write>(forms: &[Form], f: &mut fmt::Formatter<W>) -> fmt::Result {
     let mut before = " (";
     for form in forms {
-        f.write_str(before)?;
-        f.write_str(form.name)?;
+        write_all(&[before, form.name], f)?;
         before = ", ";
     }
     if forms.is_empty() {
@@ -75,14 +82,13 @@ fn write_names<W: fmt::Write>(forms: &[Form], f: &mut fmt::Formatter<W>) -> fmt:
 }
 
 /// Writes how the call is written that this word begins, behind what stands before a call.
-fn write_call<W: fmt::Write>(word: &[u8], before: &str, f: &mut fmt::Formatter<W>) -> fmt::Result {
+fn write_call<W: fmt::Write>(
+    word: &[u8],
+    before: &'static str,
+    f: &mut fmt::Formatter<W>,
+) -> fmt::Result {
     match form_of(word, calls()) {
-        Some(form) => {
-            f.write_str("; calls are written '")?;
-            f.write_str(before)?;
-            f.write_str(form.text)?;
-            f.write_str("'")
-        }
+        Some(form) => write_all(&["; calls are written '", before, form.text, "'"], f),
         None => Ok(()),
     }
 }
@@ -101,19 +107,12 @@ impl fmt::Display for SyntaxError<'_> {
     fn fmt<W: fmt::Write>(&self, f: &mut fmt::Formatter<W>) -> fmt::Result {
         f.write_str(self.wrong.words())?;
         match self.near {
-            Some(near) => {
-                f.write_str(", perhaps '")?;
-                f.write_str(near)?;
-                f.write_str("'")?;
-            }
+            Some(near) => write_all(&[", perhaps '", near, "'"], f)?,
             None => self.write_allowed(f)?,
         }
-        if let Some(form) = self.form {
-            f.write_str(", in '")?;
-            f.write_str(form.front)?;
-            f.write_str(form.text)?;
-            f.write_str("'")?;
+        match self.form {
+            Some(form) => write_all(&[", in '", form.front, form.text, "'"], f),
+            None => Ok(()),
         }
-        Ok(())
     }
 }
