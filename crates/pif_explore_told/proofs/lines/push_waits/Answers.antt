@@ -1,12 +1,11 @@
-use Rattle.std.proofs.Common.{ℕ, ap, refl}
-use Rattle.pif_model.specs.Posix.{Health}
-use Rattle.pif_text_model.specs.Replies.{mutex_name}
-use Rattle.pif_explore_told.specs.OutcomeLines.{held_text}
-use Rattle.pif_explore_told.proofs.TellingLemmas.{two_more}
+use Rattle.std.specs.Prelude.{decimal}
+use Rattle.std.proofs.lemmas.Result.{on_ok_weaker}
+use Rattle.pif_explore_told.proofs.TellingLemmas.{held_more}
 use Rattle.pif_explore_told.proofs.lines.push_waits.Goals as goal
 
-pub returns : goal.returns
-returns c =
-    two_more c.args.out.now.items _ _ c.args.words.now _ _ c.in_ok-push_all.ensures
-    (two_more _ _ _ (mutex_name c.args.mutex) _ _ c.in_ok-push_name.ensures c.in_ok-push_held.ensures
-    (ap (λ (x : ℕ × Health). held_text x.0) c.standing_at-owner.ensures)) refl
+pub returns-else-owner-eq0 : goal.returns-else-owner-eq0
+returns-else-owner-eq0 c =
+    on_ok_weaker c.push_numbers-else-owner-eq0.result
+    (held_more c.push_numbers-else-owner-eq0.new.out.items c.args.out.now.items c.args.words.now (decimal c.args.mutex)
+    c.owner_of-owner.result _ c.owner_of-owner.ensures c.if-owner-eq0.false)
+    c.push_numbers-else-owner-eq0.ensures
