@@ -1,10 +1,14 @@
--- Options of the program's commands: flags and numbers.
+-- Arguments of the program's commands: flags, numbers, rules and files.
 use Rattle.std.specs.Prelude.{ℕ, ◌==◌, Bool, true, false, List, [], ◌∷◌, Option, Some, None, codes, bytes_eq, if◌then◌else◌}
+use Rattle.std.specs.Option.{option_map_or}
 use Rattle.std.specs.Str.Parse.{digits_value, without_leading_plus}
+use Rattle.clap.specs.Lexer.{usize_max}
 use Rattle.clap.specs.ValueTests.{is_unsigned_in}
 use Rattle.clap.specs.Words.{Row, Rule, Text, first_of, new_rule}
-use Rattle.clap.specs.declared.builder.action.ArgAction.TheVariants.{SetTrue}
+use Rattle.clap.specs.declared.builder.action.ArgAction.TheVariants.{Append, SetTrue}
 use Rattle.clap.specs.declared.builder.value_parser.ValueParser.TheVariants.{Unsigned}
+use Rattle.pif_cli_words.specs.declared.options.Form.{Form}
+use Rattle.pif_cli_words.specs.declared.options.Form.TheVariants.{Flag, Number, Rules, File, Files, Placed}
 
 -- an option that is given or not
 abbrev pub flag_rule : Text → Rule
@@ -22,6 +26,19 @@ needed_rule name low high = record (number_rule name low high) { required = true
 -- an option with a number that has a default
 abbrev pub chosen_rule : Text → (low high : ℕ) → (default : Text) → Rule
 chosen_rule name low high default = record (number_rule name low high) { defaults = default ∷ [] }
+
+-- an argument of this name, by how it is given
+abbrev pub form_rule : Text → Form → Rule
+form_rule name Flag = flag_rule name
+form_rule name (Number numbers) = record (number_rule name numbers.low numbers.high) {
+  required = numbers.required;
+  defaults = option_map_or (λ text. text.now ∷ []) numbers.default [];
+}
+form_rule name Rules = record (new_rule name) { long = Some name; value_names = 1; action = Some Append }
+form_rule name File = new_rule name
+form_rule name Files =
+    record (new_rule name) { range = Some (record { start_inclusive = 0; end_inclusive = usize_max }) }
+form_rule name (Placed low high) = record (new_rule name) { required = true; parser = Some (Unsigned low high) }
 
 -- the number from low to high that a text writes; 0 if it writes none
 abbrev pub number_between : (low high : ℕ) → Option Text → ℕ

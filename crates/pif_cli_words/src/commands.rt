@@ -1,10 +1,10 @@
-//! The program's commands, as `clap` takes them. A command is handed on as it was made, so that only `with_arg`,
+//! The program's commands, as `clap` takes them. A command is handed on as it was made, so that only `with_argument`,
 //! `with_subcommand` and `with_command` ask whether memory was refused. It is large, so it is handed on in a box.
-ghost use Rattle.std.specs.Prelude.{◌≡◌, false};
-ghost use Rattle.clap.specs.Words.{App, new_app, rule_of, with_rule, with_subcommand};
+ghost use Rattle.std.specs.Prelude.{◌≡◌};
+ghost use Rattle.clap.specs.Words.{App, new_app, with_rule, with_subcommand};
 ghost use Rattle.pif_cli_words.specs.Commands.{IsApp, IsCommand, IsMade};
-ghost use Rattle.pif_cli_words.specs.Options.{flag_rule, number_rule};
-ghost use Rattle.pif_cli_words.specs.Words.{bare_program, check_app, clients_rule, draw_app, drive_app, explore_app, file_rule, files_rule, judge_app, program, show_app, with_job};
+ghost use Rattle.pif_cli_words.specs.Options.{flag_rule, form_rule, number_rule};
+ghost use Rattle.pif_cli_words.specs.Words.{bare_program, check_app, draw_app, drive_app, explore_app, file_rule, judge_app, program, show_app, with_job};
 
 use crate::helps::{
     ABOUT, ABOUT_ALL, ABOUT_ALLOW, ABOUT_CHECK, ABOUT_CLIENTS, ABOUT_CORE, ABOUT_DOT, ABOUT_DRAW,
@@ -17,10 +17,8 @@ use crate::helps::{
     USAGE_DRAW, USAGE_DRIVE, USAGE_EXPLORE, USAGE_JUDGE, USAGE_MIGRATE, USAGE_REPLAY, USAGE_RUN,
     USAGE_SHELL, USAGE_SHOW, USAGE_TRACE, VERSION,
 };
-use crate::options::{flag_given, number_given};
+use crate::options::{Form, Numbers, argument};
 use crate::random::{random_command, with_chosen};
-use crate::rules::rules_given;
-use clap::builder::ValueParser;
 use std::alloc::{AllocError, Global};
 
 /// A command while it is made, or that memory was refused.
@@ -51,18 +49,22 @@ pub fn described<'a>(
     boxed(alloc, Ok(command))
 }
 
-/// A command with one more argument.
-pub fn with_arg<'a>(alloc: Global, made: Made<'a>, arg: clap::Arg<'a>) -> Made<'a>
-    requires { arg.global ≡ false }
-    ensures { (app : App) → IsApp app made.entry → IsApp (with_rule app (rule_of arg.entry)) result }
+/// A command with one more argument, of this name and form.
+pub fn with_argument<'a>(
+    alloc: Global,
+    made: Made<'a>,
+    name: &'a str,
+    help: &'a str,
+    form: Form<'a>,
+) -> Made<'a>
+    ensures { (app : App) → IsApp app made.entry → IsApp (with_rule app (form_rule name.now form.entry)) result }
 {
     match made {
-        Ok(command) => boxed(alloc, Box::into_inner(command).arg(arg)),
-        Err(error) => {
-            // One call; a drop at the end of the arm is a call for each part of the argument.
-            drop(arg);
-            Err(error)
+        Ok(command) => {
+            let arg = argument(alloc, name, help, form);
+            boxed(alloc, Box::into_inner(command).arg(arg))
         }
+        Err(error) => Err(error),
     }
 }
 
@@ -70,7 +72,7 @@ pub fn with_arg<'a>(alloc: Global, made: Made<'a>, arg: clap::Arg<'a>) -> Made<'
 pub fn with_flag<'a>(alloc: Global, made: Made<'a>, name: &'a str, help: &'a str) -> Made<'a>
     ensures { (app : App) → IsApp app made.entry → IsApp (with_rule app (flag_rule name.now)) result }
 {
-    with_arg(alloc, made, flag_given(alloc, name, help))
+    with_argument(alloc, made, name, help, Form::Flag)
 }
 
 /// The program with this command.
@@ -113,7 +115,7 @@ fn bare_program<'a>(alloc: Global) -> Made<'a>
 fn with_file<'a>(alloc: Global, made: Made<'a>) -> Made<'a>
     ensures { (app : App) → IsApp app made.entry → IsApp (with_rule app file_rule) result }
 {
-    with_arg(alloc, made, clap::Arg::new(alloc, "FILE").help(ABOUT_FILE))
+    with_argument(alloc, made, "FILE", ABOUT_FILE, Form::File)
 }
 
 /// The program with one more command over one input, which has this name and these texts.
@@ -129,14 +131,6 @@ fn with_job<'a>(
 {
     let job = with_file(alloc, described(alloc, name, about, usage, more));
     with_command(alloc, pif, job)
-}
-
-/// The files of a command over any number of inputs, with what help says of them.
-fn files_given<'a>(alloc: Global, about: &'a str) -> clap::Arg<'a>
-    ensures rule { rule_of result ≡ files_rule }
-    ensures local { result.global ≡ false }
-{
-    clap::Arg::new(alloc, "FILE").num_args(0..).help(about)
 }
 
 /// The command `show`.
@@ -162,11 +156,14 @@ fn with_number<'a>(
 ) -> Made<'a>
     ensures { (app : App) → IsApp app made.entry → IsApp (with_rule app (number_rule name.now low high)) result }
 {
-    with_arg(
-        alloc,
-        made,
-        number_given(alloc, name, value, low, high, help),
-    )
+    let numbers = Numbers {
+        called: value,
+        low,
+        high,
+        required: false,
+        default: None,
+    };
+    with_argument(alloc, made, name, help, Form::Number(numbers))
 }
 
 /// The last line of a story that can be named.
@@ -191,7 +188,7 @@ fn check_command<'a>(alloc: Global) -> Made<'a>
     let strict = with_flag(alloc, check, "strict", ABOUT_STRICT);
     let print = with_flag(alloc, strict, "print", ABOUT_PRINT);
     let write = with_flag(alloc, print, "write", ABOUT_WRITE);
-    with_arg(alloc, write, files_given(alloc, ABOUT_FILES))
+    with_argument(alloc, write, "FILE", ABOUT_FILES, Form::Files)
 }
 
 /// The command `judge`.
@@ -215,8 +212,8 @@ fn judge_command<'a>(alloc: Global) -> Made<'a>
     );
     let seconds = with_number(alloc, states, "seconds", "N", 0, 86_400, ABOUT_SECONDS);
     let jobs = with_number(alloc, seconds, "jobs", "N", 1, 64, ABOUT_JOBS);
-    let allow = with_arg(alloc, jobs, rules_given(alloc, ABOUT_ALLOW));
-    with_arg(alloc, allow, files_given(alloc, ABOUT_HISTORIES))
+    let allow = with_argument(alloc, jobs, "allow", ABOUT_ALLOW, Form::Rules);
+    with_argument(alloc, allow, "FILE", ABOUT_HISTORIES, Form::Files)
 }
 
 /// The command `explore`.
@@ -232,23 +229,12 @@ fn explore_command<'a>(alloc: Global) -> Made<'a>
     with_file(alloc, core)
 }
 
-/// How many clients `drive` has.
-fn clients_given<'a>(alloc: Global) -> clap::Arg<'a>
-    ensures rule { rule_of result ≡ clients_rule }
-    ensures local { result.global ≡ false }
-{
-    clap::Arg::new(alloc, "N")
-        .required(true)
-        .value_parser(ValueParser::unsigned(1, 64))
-        .help(ABOUT_CLIENTS)
-}
-
 /// The command `drive`.
 fn drive_command<'a>(alloc: Global) -> Made<'a>
     ensures { IsApp drive_app result }
 {
     let drive = described(alloc, "drive", ABOUT_DRIVE, USAGE_DRIVE, MORE_DRIVE);
-    with_arg(alloc, drive, clients_given(alloc))
+    with_argument(alloc, drive, "N", ABOUT_CLIENTS, Form::Placed(1, 64))
 }
 
 /// The program's commands.

@@ -1,40 +1,70 @@
 ghost use Rattle.std.specs.Prelude.{◌≡◌, ◌≤◌, false, option_map};
 ghost use Rattle.clap.specs.Words.{first_of, found_of, rows_of, rule_of};
-ghost use Rattle.pif_cli_words.specs.Options.{flag_in, flag_rule, number_between, number_rule, unless_zero};
+ghost use Rattle.pif_cli_words.specs.Options.{flag_in, form_rule, number_between, unless_zero};
 ghost use Rattle.pif_cli_words.specs.Words.{has_several};
 
 use clap::ArgAction;
 use clap::builder::ValueParser;
 use std::alloc::Global;
 
-/// An option that is given or not.
-pub fn flag_given<'a>(alloc: Global, name: &'a str, help: &'a str) -> clap::Arg<'a>
-    ensures rule { rule_of result ≡ flag_rule name.now }
-    ensures local { result.global ≡ false }
-{
-    clap::Arg::new(alloc, name)
-        .long(name)
-        .action(ArgAction::SetTrue)
-        .help(help)
+/// The numbers that an option takes.
+#[derive(Clone, Copy)]
+pub struct Numbers<'a> {
+    /// What help calls one.
+    pub called: &'a str,
+    /// The lowest.
+    pub low: u64,
+    /// The highest.
+    pub high: u64,
+    /// Whether one must be given.
+    pub required: bool,
+    /// The one that it is if none is given, if there is such a one.
+    pub default: Option<&'a str>,
 }
 
-/// An option with a number from `low` to `high`, which help calls `value`.
-pub fn number_given<'a>(
-    alloc: Global,
-    name: &'a str,
-    value: &'a str,
-    low: u64,
-    high: u64,
-    help: &'a str,
-) -> clap::Arg<'a>
-    ensures rule { rule_of result ≡ number_rule name.now low high }
+/// How an argument is given, and what it may be.
+#[derive(Clone, Copy)]
+pub enum Form<'a> {
+    /// An option that is given or not.
+    Flag,
+    /// An option with a number.
+    Number(Numbers<'a>),
+    /// An option that names a rule, and that may be given again for more.
+    Rules,
+    /// The file of one input, which may be left out.
+    File,
+    /// The files of any number of inputs.
+    Files,
+    /// A number from the first of these to the second, which must be given, without a name before it.
+    Placed(u64, u64),
+}
+
+/// An argument of this name and form, with what help says of it.
+pub fn argument<'a>(alloc: Global, name: &'a str, help: &'a str, form: Form<'a>) -> clap::Arg<'a>
+    ensures rule { rule_of result ≡ form_rule name.now form.entry }
     ensures local { result.global ≡ false }
 {
-    clap::Arg::new(alloc, name)
-        .long(name)
-        .value_name(value)
-        .value_parser(ValueParser::unsigned(low, high))
-        .help(help)
+    let arg = clap::Arg::new(alloc, name).help(help);
+    match form {
+        Form::Flag => arg.long(name).action(ArgAction::SetTrue),
+        Form::Number(numbers) => {
+            let number = arg
+                .long(name)
+                .value_name(numbers.called)
+                .value_parser(ValueParser::unsigned(numbers.low, numbers.high))
+                .required(numbers.required);
+            match numbers.default {
+                Some(default) => number.default_value(default),
+                None => number,
+            }
+        }
+        Form::Rules => arg.long(name).value_name("RULE").action(ArgAction::Append),
+        Form::File => arg,
+        Form::Files => arg.num_args(0..),
+        Form::Placed(low, high) => arg
+            .required(true)
+            .value_parser(ValueParser::unsigned(low, high)),
+    }
 }
 
 /// What was given to the option of this name, or its default.

@@ -5,12 +5,12 @@ ghost use Rattle.pif_cli_words.specs.Commands.{IsApp};
 ghost use Rattle.pif_cli_words.specs.Options.{chosen_rule, needed_rule};
 ghost use Rattle.pif_cli_words.specs.Random.{random_app, recipe_in, shape_in};
 
-use crate::commands::{Made, described, with_arg, with_flag};
+use crate::commands::{Made, described, with_argument, with_flag};
 use crate::helps::{
     ABOUT_CONDS, ABOUT_ENDS, ABOUT_LINES, ABOUT_MUTEXES, ABOUT_RANDOM, ABOUT_ROBUST, ABOUT_SEED,
     ABOUT_THREADS, ABOUT_TIMES, MORE_RANDOM, USAGE_RANDOM,
 };
-use crate::options::{is_given, number_between, number_given, small_number_between};
+use crate::options::{Form, Numbers, is_given, number_between, small_number_between};
 use pif_job_random::Shape;
 use std::alloc::Global;
 
@@ -37,8 +37,14 @@ fn with_needed<'a>(
 ) -> Made<'a>
     ensures { (app : App) → IsApp app made.entry → IsApp (with_rule app (needed_rule name.now low high)) result }
 {
-    let number = number_given(alloc, name, value, low, high, help);
-    with_arg(alloc, made, number.required(true))
+    let numbers = Numbers {
+        called: value,
+        low,
+        high,
+        required: true,
+        default: None,
+    };
+    with_argument(alloc, made, name, help, Form::Number(numbers))
 }
 
 /// A command with one more option, whose number is `default` if none is given.
@@ -54,8 +60,14 @@ pub fn with_chosen<'a>(
 ) -> Made<'a>
     ensures { (app : App) → IsApp app made.entry → IsApp (with_rule app (chosen_rule name.now low high default.now)) result }
 {
-    let number = number_given(alloc, name, value, low, high, help);
-    with_arg(alloc, made, number.default_value(default))
+    let numbers = Numbers {
+        called: value,
+        low,
+        high,
+        required: false,
+        default: Some(default),
+    };
+    with_argument(alloc, made, name, help, Form::Number(numbers))
 }
 
 /// The highest seed.

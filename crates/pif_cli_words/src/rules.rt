@@ -1,25 +1,11 @@
 //! The rules that `judge` is told to allow.
-ghost use Rattle.std.specs.Prelude.{◌≡◌, false, map};
-ghost use Rattle.clap.specs.Words.{found_of, rows_of, rule_of};
+ghost use Rattle.std.specs.Prelude.{◌≡◌, map};
+ghost use Rattle.clap.specs.Words.{found_of, rows_of};
 ghost use Rattle.pif_rules_model.specs.Rules.{no_rules};
-ghost use Rattle.pif_cli_words.specs.Rules.{allow_all, allow_rule, allowed_in, are_rules, rules_of};
+ghost use Rattle.pif_cli_words.specs.Rules.{allow_all, allowed_in, are_rules, rules_of};
 
-use clap::ArgAction;
 use pif_rules::{both, no_rules, rules_named};
 use pif_rules_model::Rules;
-use std::alloc::Global;
-
-/// An option that names a rule, and that may be given again for more.
-pub fn rules_given<'a>(alloc: Global, help: &'a str) -> clap::Arg<'a>
-    ensures rule { rule_of result ≡ allow_rule }
-    ensures local { result.global ≡ false }
-{
-    clap::Arg::new(alloc, "allow")
-        .long("allow")
-        .value_name("RULE")
-        .action(ArgAction::Append)
-        .help(help)
-}
 
 /// The rules that words name; none if one of them names none.
 fn allow_all(words: &[&str]) -> Option<Rules>
