@@ -99,7 +99,7 @@ pub(crate) static SCENES: [Scene; 7] = [
             Turn::Call(3, Wish::Lock(1), Seen::Waits),
             Turn::Base(1, 10),
             Turn::IsReady(1),
-            Turn::Open(1, Wish::Nothing),
+            Turn::IsIdle(1),
             Turn::Base(2, 50),
             Turn::IsParked(2, 1),
             Turn::Open(2, Wish::Wait(1, 2)),

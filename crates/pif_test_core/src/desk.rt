@@ -14,11 +14,11 @@ mod threads;
 mod ticks;
 mod watch;
 
+use pif_types::NoMemory;
 use scenes::{Scene, play};
-use std::test::Fail;
 
 #[test]
-fn what_is_done_at_a_desk_comes_to_this(rt: HostRuntime) -> Result<(), Fail> {
+fn what_is_done_at_a_desk_comes_to_this(rt: HostRuntime) -> Result<(), NoMemory> {
     let tables: [&[Scene]; 7] = [
         &counts::SCENES,
         &memory::SCENES,

@@ -11,6 +11,21 @@ use pif_types::{AddFault, CondId, Health, Kind, Limits, MutexId, Prio, Request, 
 use std::process::Abort;
 use std::test::Fail;
 
+/// The thread of this number. No row asks number 0, which is nobody's.
+pub fn thread(number: u32) -> Tid {
+    Tid::new(number.max(1)).unwrap()
+}
+
+/// The mutex of this number, as `thread`.
+pub fn mutex(number: u32) -> MutexId {
+    MutexId::new(number.max(1)).unwrap()
+}
+
+/// The variable of this number, as `thread`.
+fn cond(number: u32) -> CondId {
+    CondId::new(number.max(1)).unwrap()
+}
+
 /// The request of a call.
 #[derive(Clone, Copy)]
 pub enum Wish {
@@ -23,24 +38,21 @@ pub enum Wish {
     Broadcast(u32),
     TimedLock(u32, u32),
     TimedWait(u32, u32, u32),
-    /// It asks for nothing.
-    Nothing,
 }
 
-/// `None` if it asks for nothing, or if nobody has a number of these.
-pub fn request(wish: Wish) -> Option<Request> {
-    Some(match wish {
-        Wish::Lock(m) => Request::Lock(MutexId::new(m)?),
-        Wish::TryLock(m) => Request::TryLock(MutexId::new(m)?),
-        Wish::Unlock(m) => Request::Unlock(MutexId::new(m)?),
-        Wish::Consistent(m) => Request::Consistent(MutexId::new(m)?),
-        Wish::Wait(c, m) => Request::Wait(CondId::new(c)?, MutexId::new(m)?),
-        Wish::Signal(c) => Request::Signal(CondId::new(c)?),
-        Wish::Broadcast(c) => Request::Broadcast(CondId::new(c)?),
-        Wish::TimedLock(m, time) => Request::TimedLock(MutexId::new(m)?, time),
-        Wish::TimedWait(c, m, time) => Request::TimedWait(CondId::new(c)?, MutexId::new(m)?, time),
-        Wish::Nothing => return None,
-    })
+/// The same of these numbers.
+pub fn request(wish: Wish) -> Request {
+    match wish {
+        Wish::Lock(m) => Request::Lock(mutex(m)),
+        Wish::TryLock(m) => Request::TryLock(mutex(m)),
+        Wish::Unlock(m) => Request::Unlock(mutex(m)),
+        Wish::Consistent(m) => Request::Consistent(mutex(m)),
+        Wish::Wait(c, m) => Request::Wait(cond(c), mutex(m)),
+        Wish::Signal(c) => Request::Signal(cond(c)),
+        Wish::Broadcast(c) => Request::Broadcast(cond(c)),
+        Wish::TimedLock(m, time) => Request::TimedLock(mutex(m), time),
+        Wish::TimedWait(c, m, time) => Request::TimedWait(cond(c), mutex(m), time),
+    }
 }
 
 /// What is asked of a core, and what it answers, by numbers, of which 0 is nobody. Callers take the mutex 1, and the
@@ -80,7 +92,9 @@ pub enum Turn {
     IsQueued(u32, u32),
     IsParked(u32, u32),
     Waiting(u32, Option<bool>),
+    /// The thread has this call open, or none.
     Open(u32, Wish),
+    IsIdle(u32),
     Kind(u32, Kind, bool),
     /// The thread that owns a mutex, and how often it holds it; or nobody does.
     Owner(u32, u32, u32),
@@ -97,78 +111,73 @@ pub enum Turn {
     Path(u32, &'static [u32]),
 }
 
-/// Whether this is answered so. `None` if it can't be done, since nobody has number 0.
-fn goes(core: &mut Core, value: &mut u64, turn: Turn) -> Option<bool> {
-    Some(match turn {
+/// Whether this is answered so.
+fn goes(core: &mut Core, value: &mut u64, turn: Turn) -> bool {
+    match turn {
         Turn::AddMutex(kind, robust, m) => core.add_mutex(kind, robust).ok() == MutexId::new(m),
-        Turn::AddCond(m, c) => core.add_cond(MutexId::new(m)?).ok() == CondId::new(c),
-        Turn::Call(t, wish, seen) => core.call(Tid::new(t)?, request(wish)?) == seen,
-        Turn::Finish(t, seen) => core.finish(Tid::new(t)?) == seen,
-        Turn::Go(t, seen) => core.step(Event::Go(Tid::new(t)?)) == seen,
-        Turn::End(t, seen) => core.step(Event::End(Tid::new(t)?)) == seen,
+        Turn::AddCond(m, c) => core.add_cond(mutex(m)).ok() == CondId::new(c),
+        Turn::Call(t, wish, seen) => core.call(thread(t), request(wish)) == seen,
+        Turn::Finish(t, seen) => core.finish(thread(t)) == seen,
+        Turn::Go(t, seen) => core.step(Event::Go(thread(t))) == seen,
+        Turn::End(t, seen) => core.step(Event::End(thread(t))) == seen,
         Turn::Tick(time, seen) => core.step(Event::Tick(time)) == seen,
-        _ => comes_out(core, value, turn)?,
-    })
+        _ => comes_out(core, value, turn),
+    }
 }
 
 /// The same of the callers.
-fn comes_out(core: &mut Core, value: &mut u64, turn: Turn) -> Option<bool> {
-    let (mutex, cond, one) = (MutexId::default(), CondId::new(1)?, Tid::new(1)?);
-    Some(match turn {
+fn comes_out(core: &mut Core, value: &mut u64, turn: Turn) -> bool {
+    let (one, mutex, cond) = (Tid::default(), MutexId::default(), cond(1));
+    match turn {
         Turn::TickOn(time, next) => next_after(core.step(Event::Tick(time))) == next,
-        Turn::Event(t, next) => {
-            next_after(one_event(core, Tid::new(t)?, Request::Lock(mutex))) == next
-        }
-        Turn::Hold(t, held) => lock_and_hold(core, Tid::new(t)?, mutex) == held,
-        Turn::FinishLock(t, held) => finish_lock(core, Tid::new(t)?, mutex) == held,
+        Turn::Event(t, next) => next_after(one_event(core, thread(t), Request::Lock(mutex)))
+            == next,
+        Turn::Hold(t, held) => lock_and_hold(core, thread(t), mutex) == held,
+        Turn::FinishLock(t, held) => finish_lock(core, thread(t), mutex) == held,
         Turn::Add(t, answer, sum) => {
-            add_under(core, Tid::new(t)?, mutex, value, 3) == answer && *value == sum
+            add_under(core, thread(t), mutex, value, 3) == answer && *value == sum
         }
         Turn::Repair(t, fresh, held, left) => {
-            lock_and_repair(core, Tid::new(t)?, mutex, value, fresh) == held && *value == left
+            lock_and_repair(core, thread(t), mutex, value, fresh) == held && *value == left
         }
         Turn::Wait(is_met, awaited) => wait_unless(core, one, cond, mutex, is_met) == awaited,
         Turn::Resume(is_met, awaited) => resume_wait(core, one, cond, mutex, is_met) == awaited,
-        _ => shows(core, turn)?,
-    })
+        _ => shows(core, turn),
+    }
 }
 
 /// The same of what only reads.
-fn shows(core: &Core, turn: Turn) -> Option<bool> {
-    let first = MutexId::default();
-    Some(match turn {
+fn shows(core: &Core, turn: Turn) -> bool {
+    match turn {
         Turn::Counts(threads, mutexes, conds) => {
             core.threads() == threads && core.mutexes() == mutexes && core.conds() == conds
         }
         Turn::Time(time) => core.time() == time,
-        Turn::Kind(m, kind, robust) => core.kind(MutexId::new(m)?) == Some((kind, robust)),
-        Turn::Owner(m, t, count) => core.owner(MutexId::new(m)?) == Some((Tid::new(t)?, count)),
-        Turn::Free(m) => core.owner(MutexId::new(m)?).is_none(),
-        Turn::Word(word) => core.word(first) == Some(word),
-        Turn::Health(health) => core.health(first) == Some(health),
-        Turn::Waiter(m, place, t) => core.waiter(MutexId::new(m)?, place) == Tid::new(t),
-        Turn::Parked(c, place, t) => core.parked(CondId::new(c)?, place) == Tid::new(t),
-        Turn::Bound(c, m) => core.bound(CondId::new(c)?) == MutexId::new(m),
+        Turn::Kind(m, kind, robust) => core.kind(mutex(m)) == Some((kind, robust)),
+        Turn::Owner(m, t, count) => core.owner(mutex(m)) == Some((thread(t), count)),
+        Turn::Free(m) => core.owner(mutex(m)).is_none(),
+        Turn::Word(word) => core.word(mutex(1)) == Some(word),
+        Turn::Health(health) => core.health(mutex(1)) == Some(health),
+        Turn::Waiter(m, place, t) => core.waiter(mutex(m), place) == Tid::new(t),
+        Turn::Parked(c, place, t) => core.parked(cond(c), place) == Tid::new(t),
+        Turn::Bound(c, m) => core.bound(cond(c)) == MutexId::new(m),
         Turn::Ready(place, t) => core.ready(place) == Tid::new(t),
-        _ => shows_thread(core, turn)?,
-    })
+        _ => shows_thread(core, turn),
+    }
 }
 
 /// The same of what a thread does.
-fn shows_thread(core: &Core, turn: Turn) -> Option<bool> {
+fn shows_thread(core: &Core, turn: Turn) -> bool {
     match turn {
-        Turn::Base(t, level) => Some(core.base(Tid::new(t)?) == Prio::new(level)),
-        Turn::IsReady(t) => Some(core.status(Tid::new(t)?) == Some(Status::Ready(Woken::Fresh))),
-        Turn::IsQueued(t, m) => {
-            Some(core.status(Tid::new(t)?) == Some(Status::Queued(MutexId::new(m)?)))
-        }
-        Turn::IsParked(t, c) => {
-            Some(core.status(Tid::new(t)?) == Some(Status::Parked(CondId::new(c)?)))
-        }
-        Turn::Waiting(t, rests) => Some(core.waiting(Tid::new(t)?) == rests),
-        Turn::Open(t, wish) => Some(core.open_call(Tid::new(t)?) == request(wish)),
-        Turn::Path(t, numbers) => Some(have(core.path(Tid::new(t)?).as_slice(), numbers)),
-        _ => None,
+        Turn::Base(t, level) => core.base(thread(t)) == Prio::new(level),
+        Turn::IsReady(t) => core.status(thread(t)) == Some(Status::Ready(Woken::Fresh)),
+        Turn::IsQueued(t, m) => core.status(thread(t)) == Some(Status::Queued(mutex(m))),
+        Turn::IsParked(t, c) => core.status(thread(t)) == Some(Status::Parked(cond(c))),
+        Turn::Waiting(t, rests) => core.waiting(thread(t)) == rests,
+        Turn::Open(t, wish) => core.open_call(thread(t)) == Some(request(wish)),
+        Turn::IsIdle(t) => core.open_call(thread(t)).is_none(),
+        Turn::Path(t, numbers) => have(core.path(thread(t)).as_slice(), numbers),
+        _ => false,
     }
 }
 
@@ -199,7 +208,7 @@ fn play(rt: &impl Abort, core: &mut Core, scene: &Scene) -> Result<(), AddFault>
         let _thread = core.add_thread(*level)?;
     }
     for (place, turn) in scene.turns.iter().enumerate() {
-        let goes = goes(core, &mut value, *turn) == Some(true);
+        let goes = goes(core, &mut value, *turn);
         assert!(rt; goes, "another answer at row {place} of {}", scene.name);
     }
     Ok(())
@@ -210,8 +219,7 @@ fn turns_of_a_core_go_as_they_say(rt: HostRuntime) -> Result<(), Fail> {
     let tables: [&[Scene]; 3] = [&cores::SCENES, &uses::SCENES, &ways_out::SCENES];
     for scenes in tables {
         for scene in scenes {
-            let limits = Limits::new(4, 2, 1, 2).ok_or("limits")?;
-            let mut core = Core::new(rt.alloc(), limits)?;
+            let mut core = Core::new(rt.alloc(), Limits::new(4, 2, 1, 2).unwrap())?;
             play(&rt, &mut core, scene)?;
         }
     }

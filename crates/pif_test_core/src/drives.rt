@@ -128,8 +128,7 @@ fn leave_with_mutex<R: Wait + Abort>(rt: &R, desk: &Desk<NoPause>) -> Result<(),
 
 #[test]
 fn client_out_of_memory_ends(rt: HostRuntime) -> Result<(), Fail> {
-    let limits = Limits::new(2, 1, 0, 1).ok_or("limits")?;
-    let desk = Desk::new(rt.alloc(), limits, NoPause)?;
+    let desk = Desk::new(rt.alloc(), Limits::new(2, 1, 0, 1).unwrap(), NoPause)?;
     assert!(&rt; leave_with_mutex(&rt, &desk) == Ok(()));
     Ok(())
 }

@@ -34,8 +34,7 @@ fn is_given_up(rt: &impl Wait, desk: &Desk<NoPause>) -> Result<bool, DeskFault> 
 
 #[test]
 fn a_client_that_cannot_end_is_given_up(rt: HostRuntime) -> Result<(), Fail> {
-    let limits = Limits::new(1, 0, 0, 1).ok_or("limits")?;
-    let desk = Desk::new(rt.alloc(), limits, NoPause)?;
+    let desk = Desk::new(rt.alloc(), Limits::new(1, 0, 0, 1).unwrap(), NoPause)?;
     assert!(&rt; is_given_up(&rt, &desk) == Ok(true));
     Ok(())
 }
@@ -51,8 +50,7 @@ fn is_told(rt: &impl Wait, desk: &Desk<NoPause>, fault: DeskFault) -> Result<boo
 
 #[test]
 fn a_refused_client_ends_unsettled(rt: HostRuntime) -> Result<(), Fail> {
-    let limits = Limits::new(2, 0, 0, 1).ok_or("limits")?;
-    let desk = Desk::new(rt.alloc(), limits, NoPause)?;
+    let desk = Desk::new(rt.alloc(), Limits::new(2, 0, 0, 1).unwrap(), NoPause)?;
     let faults = [
         DeskFault::Refused(Refusal::Busy),
         DeskFault::NotAdded(AddFault::TooMany),

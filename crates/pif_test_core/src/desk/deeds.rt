@@ -1,15 +1,15 @@
 //! What is done at a desk, by numbers, and what that comes to.
 use super::stress;
 use super::watch::Watch;
-use crate::driver::{Wish, request};
-use pif_desk::{Client, Desk, DeskFault, NoPause};
-use pif_types::{AddFault, Kind, Limits, MutexId, Refusal, Tid};
+use crate::driver::{Wish, mutex, request, thread};
+use pif_desk::{Client, Desk, DeskFault, NoPause, Pause, Receipt};
+use pif_types::{AddFault, Kind, Limits, NoMemory, Refusal};
 use std::alloc::Global;
 use std::process::Abort;
 use std::rt::Clock;
 use std::sync::Wait;
 use std::sync::atomic::Ordering;
-use std::thread;
+use std::thread::sleep;
 use std::time::Duration;
 
 /// How often a thread looks whether something has come, a millisecond each time.
@@ -103,8 +103,8 @@ pub(super) fn take<R: Wait + Clock + Abort + AllocGlobal>(
 ) -> Result<u32, DeskFault> {
     match deed {
         Deed::Enter(count, prio) => return enter(rt, desk, clients, count, prio),
+        Deed::Swap => return swap(rt, rt.alloc(), clients),
         Deed::Lose => clients.clear(),
-        Deed::Swap => swap(rt, rt.alloc(), clients).expect(rt, "there is no other client"),
         _ => {
             for client in clients.iter_mut() {
                 if client.thread().get() == number {
@@ -118,9 +118,9 @@ pub(super) fn take<R: Wait + Clock + Abort + AllocGlobal>(
 }
 
 /// So many clients more: the number of the last.
-fn enter(
+fn enter<P: Pause + Drop>(
     rt: &impl Wait,
-    desk: &Desk<Watch>,
+    desk: &Desk<P>,
     clients: &mut Vec<Client>,
     count: u32,
     prio: u32,
@@ -136,12 +136,34 @@ fn enter(
     Ok(number)
 }
 
-/// The second client of another desk takes the place of all.
-fn swap<R: Wait>(rt: &R, alloc: Global, clients: &mut Vec<Client>) -> Option<()> {
-    let desk = Desk::new(alloc, Limits::new(2, 1, 1, 1)?, NoPause).ok()?;
-    let _first = desk.enter(rt, 10).ok()?;
+/// The second client of another desk takes the place of all: its number.
+fn swap(rt: &impl Wait, alloc: Global, clients: &mut Vec<Client>) -> Result<u32, DeskFault> {
+    match Desk::new(alloc, Limits::new(2, 1, 1, 1).unwrap(), NoPause) {
+        Ok(desk) => enter_second(rt, &desk, clients),
+        Err(NoMemory) => Err(DeskFault::NoMemory),
+    }
+}
+
+/// The same at that desk, which has no client yet.
+fn enter_second(
+    rt: &impl Wait,
+    desk: &Desk<NoPause>,
+    clients: &mut Vec<Client>,
+) -> Result<u32, DeskFault> {
+    enter(rt, desk, clients, 1, 10)?;
     clients.clear();
-    clients.push(desk.enter(rt, 10).ok()?).ok()
+    enter(rt, desk, clients, 1, 10)
+}
+
+/// What a call is answered, as what a deed comes to.
+fn answer_of(come: Result<Receipt, DeskFault>) -> Result<u32, DeskFault> {
+    Ok(come?.answer)
+}
+
+/// The same of what is answered nothing.
+fn done(come: Result<(), DeskFault>) -> Result<u32, DeskFault> {
+    come?;
+    Ok(0)
 }
 
 /// What a client's deed comes to.
@@ -153,11 +175,8 @@ pub(super) fn serve<R: Wait + Clock + Abort>(
 ) -> Result<u32, DeskFault> {
     match deed {
         Deed::Call(wish) => call(rt, desk, client, wish),
-        Deed::Resume => Ok(client.resume(rt, desk)?.answer),
-        Deed::Quit => {
-            client.quit(rt, desk)?;
-            Ok(0)
-        }
+        Deed::Resume => answer_of(client.resume(rt, desk)),
+        Deed::Quit => done(client.quit(rt, desk)),
         Deed::Chance => stress::make_calls(rt, desk, client),
         Deed::GiveUp => stress::give_up_all(rt, desk, client),
         Deed::WakeOthers => stress::wake_others(rt, desk, client),
@@ -173,32 +192,30 @@ pub(super) fn call<R: Wait + Abort>(
     client: &mut Client,
     wish: Wish,
 ) -> Result<u32, DeskFault> {
-    let request = request(wish).expect(rt, "nobody has number 0");
-    match client.call(rt, desk, request) {
+    match client.call(rt, desk, request(wish)) {
         Err(DeskFault::NoMemory) if client.is_open() && desk.pause().asks_again => {
-            Ok(client.resume(rt, desk)?.answer)
+            answer_of(client.resume(rt, desk))
         }
-        come => Ok(come?.answer),
+        come => answer_of(come),
     }
 }
 
 /// What a deed comes to that needs no client.
 fn add<R: Wait + Clock + Abort>(rt: &R, desk: &Desk<Watch>, deed: Deed) -> Result<u32, DeskFault> {
     match deed {
-        Deed::Mutex(kind, robust) => return Ok(desk.make_mutex(rt, kind, robust)?.get()),
-        Deed::Cond(bound) => {
-            let bound = MutexId::new(bound).expect(rt, "nobody has number 0");
-            return Ok(desk.make_cond(rt, bound)?.get());
+        Deed::Mutex(kind, robust) => Ok(desk.make_mutex(rt, kind, robust)?.get()),
+        Deed::Cond(bound) => Ok(desk.make_cond(rt, mutex(bound))?.get()),
+        Deed::Tick(time) => done(desk.tick(rt, time)),
+        Deed::Fill(left) => done(fill(rt, desk, left)),
+        Deed::Grow(entries) if entries > 0 => {
+            desk.set_growth(rt, entries);
+            Ok(0)
         }
-        Deed::Tick(time) => desk.tick(rt, time)?,
-        Deed::Grow(entries) if entries > 0 => desk.set_growth(rt, entries),
-        Deed::Fill(left) => fill(rt, desk, left)?,
         _ => match count(rt, desk, deed) {
-            Some(number) => return Ok(number),
+            Some(number) => Ok(number),
             None => panic!(rt; "there is no such client"),
         },
     }
-    Ok(0)
 }
 
 /// Makes mutexes until the journal has room for just so many entries, and refuses its growth from then on.
@@ -220,35 +237,35 @@ fn count<R: Wait + Clock>(rt: &R, desk: &Desk<Watch>, deed: Deed) -> Option<u32>
     Some(match deed {
         Deed::Entries => {
             let before = watch.mark.load(Ordering::SeqCst);
-            u32::try_from(desk.entries(rt).wrapping_sub(before)).ok()?
+            desk.entries(rt).wrapping_sub(before) as u32
         }
         Deed::Pauses => watch.events.load(Ordering::SeqCst),
         Deed::Refusals => watch.refused.load(Ordering::SeqCst),
         Deed::HasRoom(least) => u32::from(desk.spare_entries(rt) >= least),
-        Deed::Rings(t, rings) => u32::from(desk.rings(Tid::new(t)?) == rings),
+        Deed::Rings(t, rings) => u32::from(desk.rings(thread(t)) == rings),
         Deed::Bell(t, rings) => {
-            let t = Tid::new(t)?;
+            let t = thread(t);
             u32::from(desk.rings(t) == Some(rings) && desk.sleeps(rt, t) == (rings == 0))
         }
-        _ => u32::from(comes(rt, desk, deed)?),
+        _ => return comes(rt, desk, deed),
     })
 }
 
-/// Whether what is awaited has come, and then a while.
-fn comes<R: Wait + Clock>(rt: &R, desk: &Desk<Watch>, deed: Deed) -> Option<bool> {
+/// Whether what is awaited has come, 1 or 0, and then a while. `None` if nobody awaits that.
+fn comes<R: Wait + Clock>(rt: &R, desk: &Desk<Watch>, deed: Deed) -> Option<u32> {
     let watch = desk.pause();
     for _ in 0..LOOKS {
         let has_come = match deed {
             Deed::SeeWaits(least) => watch.waits.load(Ordering::SeqCst) >= least,
             Deed::SeeHeld => watch.held.load(Ordering::SeqCst) > 0,
-            Deed::SeeSleep(t) => desk.sleeps(rt, Tid::new(t)?),
+            Deed::SeeSleep(t) => desk.sleeps(rt, thread(t)),
             _ => return None,
         };
         if has_come {
-            let _ = thread::sleep(rt, Duration::from_millis(REST));
-            return Some(true);
+            let _ = sleep(rt, Duration::from_millis(REST));
+            return Some(1);
         }
-        let _ = thread::sleep(rt, Duration::from_millis(1));
+        let _ = sleep(rt, Duration::from_millis(1));
     }
-    Some(false)
+    Some(0)
 }

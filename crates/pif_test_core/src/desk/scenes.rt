@@ -9,11 +9,10 @@ use pif_job_replay::replay;
 use pif_job_run::write_trace;
 use pif_script::CliFault;
 use pif_types::{Limits, NoMemory, with_room};
-use std::alloc::{AllocError, Global};
+use std::alloc::Global;
 use std::process::Abort;
 use std::rt::Clock;
 use std::sync::Wait;
-use std::test::Fail;
 use std::thread;
 use std::thread::Threads;
 
@@ -85,12 +84,12 @@ pub(super) const EMPTY: Scene = Scene {
     verdict: "",
 };
 
-/// All of this at a desk.
+/// All of this at a desk. `NoMemory` says that there is none for the desk or for the threads of its clients.
 pub(super) fn play<R: Threads + Wait + Clock + Abort + AllocGlobal + Sync>(
     rt: &R,
     scene: &Scene,
-) -> Result<(), Fail> {
-    let desk = desk_of(rt.alloc(), scene)?;
+) -> Result<(), NoMemory> {
+    let desk = desk_of(rt, rt.alloc(), scene)?;
     let mut clients = act(rt, &desk, scene)?;
     let mut room = desk.into_room();
     for (turn, seen) in scene.inside {
@@ -101,17 +100,14 @@ pub(super) fn play<R: Threads + Wait + Clock + Abort + AllocGlobal + Sync>(
 }
 
 /// The desk of a scene.
-fn desk_of(alloc: Global, scene: &Scene) -> Result<Desk<Watch>, Fail> {
+fn desk_of(rt: &impl Abort, alloc: Global, scene: &Scene) -> Result<Desk<Watch>, NoMemory> {
     let [threads, mutexes, conds, signals] = scene.limits;
-    let limits = Limits::new(threads, mutexes, conds, signals).ok_or("limits")?;
-    let watch = Watch::new(scene.held_after, scene.asks_again);
-    match Desk::new(alloc, limits, watch) {
-        Err(NoMemory) if scene.asks_again => {
-            let watch = Watch::new(scene.held_after, true);
-            Ok(Desk::new(alloc, limits, watch)?)
-        }
-        made => Ok(made?),
-    }
+    let limits = Limits::new(threads, mutexes, conds, signals).expect(rt, "limits out of range");
+    Desk::new(
+        alloc,
+        limits,
+        Watch::new(scene.held_after, scene.asks_again),
+    )
 }
 
 /// Does what happens at the desk: the clients that are there then.
@@ -119,11 +115,8 @@ fn act<R: Threads + Wait + Clock + Abort + AllocGlobal + Sync>(
     rt: &R,
     desk: &Desk<Watch>,
     scene: &Scene,
-) -> Result<Vec<Client>, Fail> {
-    let mut clients = match with_room(rt.alloc(), 2) {
-        Err(NoMemory) if scene.asks_again => with_room(rt.alloc(), 2)?,
-        made => made?,
-    };
+) -> Result<Vec<Client>, NoMemory> {
+    let mut clients = with_room(rt.alloc(), 2)?;
     take_all(rt, scene, desk, &mut clients, scene.before);
     if !scene.beside.is_empty() {
         clients = serve_beside(rt, scene, desk, clients)?;
@@ -155,8 +148,8 @@ fn serve_beside<R: Threads + Wait + Clock + Abort + Sync>(
     scene: &Scene,
     desk: &Desk<Watch>,
     clients: Vec<Client>,
-) -> Result<Vec<Client>, AllocError> {
-    thread::map_vec(
+) -> Result<Vec<Client>, NoMemory> {
+    let served = thread::map_vec(
         rt,
         clients,
         &|client| {
@@ -164,7 +157,11 @@ fn serve_beside<R: Threads + Wait + Clock + Abort + Sync>(
             serve_all(rt, scene, desk, &mut client);
             client
         },
-    )
+    );
+    match served {
+        Ok(clients) => Ok(clients),
+        Err(_) => Err(NoMemory),
+    }
 }
 
 /// The rows of this client come to what they say.
@@ -193,14 +190,9 @@ fn turn_all(
 ) {
     for client in clients.iter_mut() {
         let seen = match turn {
-            Turn::Begins(wish) => {
-                room.play(client, Act::Begin(request(wish).expect(rt, "no request")))
-            }
+            Turn::Begins(wish) => room.play(client, Act::Begin(request(wish))),
             Turn::Goes => room.play(client, Act::Go),
-            Turn::Turns(wish) => {
-                let request = request(wish).expect(rt, "no request");
-                room.turn(Event::Begin(client.thread(), request))
-            }
+            Turn::Turns(wish) => room.turn(Event::Begin(client.thread(), request(wish))),
             Turn::Dies => stress::end_inside(room, client),
         };
         assert!(rt; seen == Ok(expected), "{}", scene.name);

@@ -79,9 +79,7 @@ pub(super) fn wake_others<R: Wait + Abort>(
 
 /// A client begins a call and takes so many steps of it.
 fn play(room: &mut Room, client: &mut Client, wish: Wish, steps: u32) -> Result<(), NoMemory> {
-    if let Some(request) = request(wish) {
-        room.play(client, Act::Begin(request))?;
-    }
+    room.play(client, Act::Begin(request(wish)))?;
     for _ in 0..steps {
         room.play(client, Act::Go)?;
     }
@@ -94,10 +92,9 @@ pub(super) fn end_inside(room: &mut Room, client: &mut Client) -> Result<Seen, N
     let Some(begun) = client.thread().get().checked_sub(THREADS + 2) else {
         return Ok(Seen::Ended);
     };
-    if begun < STEPS {
-        play(room, client, Wish::Lock(1), begun)?;
-    } else {
-        play(room, client, Wish::Lock(1), 24)?;
+    let in_lock = if begun < STEPS { begun } else { 24 };
+    play(room, client, Wish::Lock(1), in_lock)?;
+    if begun >= STEPS {
         play(room, client, Wish::Wait(1, 1), begun % STEPS)?;
     }
     room.play(client, Act::End)

@@ -101,10 +101,10 @@ const WAITS: &[Turn] = &[
     Turn::Call(2, Wish::Signal(1), DONE),
     Turn::Call(2, Wish::Unlock(1), DONE),
     Turn::Resume(true, Awaited::Met),
-    Turn::Open(1, Wish::Nothing),
+    Turn::IsIdle(1),
     Turn::Owner(1, 1, 1),
     Turn::Resume(true, Awaited::Not(Seen::Refused(Refusal::Idle))),
-    Turn::Open(1, Wish::Nothing),
+    Turn::IsIdle(1),
     Turn::Owner(1, 1, 1),
 ];
 
@@ -120,7 +120,7 @@ const DIED: &[Turn] = &[
     Turn::Call(2, Wish::Signal(1), DONE),
     Turn::End(2, Seen::Ended),
     Turn::Resume(true, Awaited::Not(Seen::Answered(130))),
-    Turn::Open(1, Wish::Nothing),
+    Turn::IsIdle(1),
     Turn::Owner(1, 1, 1),
 ];
 
