@@ -9,11 +9,12 @@ ghost use Rattle.pif_model.specs.PiKernel.{has_seat, is_living, is_ready, seat_a
 ghost use Rattle.pif_model.specs.RobustList.{robust_at};
 ghost use Rattle.pif_kernel_model.specs.Inside.{kernel_of};
 
+use crate::seen::{cond, mutex, thread};
 use pif_chains_linked::LinkedChains;
 use pif_kernel::{Chains, KernelOn, PiKernel, Status, Took, Woken};
 use pif_plain::PlainChains;
 use pif_robust::RobustLists;
-use pif_types::{CondId, Errno, Limits, MutexId, Prio, Tid};
+use pif_types::{Errno, Limits, MutexId, Prio, Tid};
 use pif_word::{Cell, Words};
 use std::alloc::Global;
 use std::process::Abort;
@@ -133,81 +134,109 @@ fn answer<K: PiKernel + Drop>(scene: &mut Scene<K>, ask: Ask) -> Option<Reply> {
         | Ask::Park(t, _, _, _)
         | Ask::Stop(t) => {
             let t = ready(&scene.kernel, t)?;
-            call(scene, t, ask)
+            Some(call(scene, t, ask))
         }
         Ask::Requeue(c, expected, m, val, more) => {
-            let (c, m) = (CondId::new(c)?, MutexId::new(m)?);
-            let answer = scene
-                .kernel
-                .cmp_requeue_pi(&mut scene.words, c, m, val, more, expected);
-            Some(match answer {
+            let Scene { kernel, words, .. } = scene;
+            let taken = kernel.cmp_requeue_pi(words, cond(c), mutex(m), val, more, expected);
+            Some(match taken {
                 Ok(taken) => Reply::Taken(taken),
                 Err(errno) => Reply::Refused(errno),
             })
         }
-        Ask::SetPrio(t, p) => Some(done(scene.kernel.set_prio(Tid::new(t)?, p))),
+        Ask::SetPrio(t, p) => Some(done(scene.kernel.set_prio(thread(t), p))),
         Ask::Expire(t) => expire(&mut scene.kernel, t),
-        Ask::End(t, m) => end(scene, t, MutexId::new(m)?),
-        Ask::Store(m, bits) => store(&mut scene.words, &Cell::Mutex(MutexId::new(m)?), bits),
-        Ask::StoreUses(c, uses) => store(&mut scene.words, &Cell::Cond(CondId::new(c)?), uses),
-        other => Some(read(scene, other).unwrap_or(Reply::Nobody)),
+        Ask::End(t, m) => end(scene, t, mutex(m)),
+        Ask::Store(m, bits) => store(&mut scene.words, &Cell::Mutex(mutex(m)), bits),
+        Ask::StoreUses(c, uses) => store(&mut scene.words, &Cell::Cond(cond(c)), uses),
+        other => Some(read(scene, other)),
     }
 }
 
 // The same of a call by a thread that may run.
-fn call<K: PiKernel + Drop>(scene: &mut Scene<K>, t: Tid, ask: Ask) -> Option<Reply>
+fn call<K: PiKernel + Drop>(scene: &mut Scene<K>, t: Tid, ask: Ask) -> Reply
     requires added { has_seat (K.meaning scene.old.kernel) t ≡ true }
     requires ready { is_ready (seat_at (K.meaning scene.old.kernel) t).status ≡ true }
 {
     let Scene { kernel, words, .. } = scene;
-    Some(match ask {
-        Ask::Lock(_, m) => match kernel.lock_pi(words, t, MutexId::new(m)?) {
+    match ask {
+        Ask::Lock(_, m) => match kernel.lock_pi(words, t, mutex(m)) {
             Ok(Took::Owns) => Reply::Owns,
             Ok(Took::Queued) => Reply::Queued,
             Err(errno) => Reply::Refused(errno),
         },
-        Ask::TryLock(_, m) => done(kernel.trylock_pi(words, t, MutexId::new(m)?)),
-        Ask::Unlock(_, m) => done(kernel.unlock_pi(words, t, MutexId::new(m)?)),
+        Ask::TryLock(_, m) => done(kernel.trylock_pi(words, t, mutex(m))),
+        Ask::Unlock(_, m) => done(kernel.unlock_pi(words, t, mutex(m))),
         Ask::Park(_, c, expected, m) => {
-            done(kernel.wait_requeue_pi(words, t, CondId::new(c)?, expected, MutexId::new(m)?))
+            done(kernel.wait_requeue_pi(words, t, cond(c), expected, mutex(m)))
         }
         _ => {
             kernel.stop(t);
             Reply::Done
         }
-    })
+    }
 }
 
-// What is read. `None` if nothing is there.
-fn read<K: PiKernel + Drop>(scene: &Scene<K>, ask: Ask) -> Option<Reply> {
-    let kernel = &scene.kernel;
-    Some(match ask {
-        Ask::Word(m) => {
-            let cell = Cell::Mutex(MutexId::new(m)?);
-            if !scene.words.has(cell) {
-                return None;
-            }
-            Reply::Bits(scene.words.load(cell))
-        }
-        Ask::Status(t) => match kernel.status(living(kernel, t)?) {
-            Status::Ready(woken) => Reply::Ready(woken),
-            Status::Queued(m) => Reply::QueuedOn(m.get()),
-            Status::Parked(c) => Reply::ParkedOn(c.get()),
-            Status::Stopped => Reply::Stopped,
-            Status::Ended => Reply::HasEnded,
+// What is read.
+fn read<K: PiKernel + Drop>(scene: &Scene<K>, ask: Ask) -> Reply {
+    let Scene { kernel, words, .. } = scene;
+    match ask {
+        Ask::Word(m) => word_of(words, &Cell::Mutex(mutex(m))),
+        Ask::Status(t) | Ask::Base(t) => match living(kernel, t) {
+            Some(t) => read_living(kernel, t, ask),
+            None => Reply::Nobody,
         },
-        Ask::Effective(t) => Reply::Prio(kernel.effective(Tid::new(t)?)?.get()),
-        Ask::Base(t) => Reply::Prio(kernel.base(living(kernel, t)?).get()),
-        Ask::Waiter(m, place) => Reply::Thread(kernel.waiter(MutexId::new(m)?, place)?.get()),
-        Ask::Parked(c, place) => Reply::Thread(kernel.parked(CondId::new(c)?, place)?.get()),
-        Ask::Ready(place) => Reply::Thread(kernel.ready(place)?.get()),
+        Ask::Effective(t) => match kernel.effective(thread(t)) {
+            Some(prio) => Reply::Prio(prio.get()),
+            None => Reply::Nobody,
+        },
+        Ask::Waiter(m, place) => number_of(kernel.waiter(mutex(m), place)),
+        Ask::Parked(c, place) => number_of(kernel.parked(cond(c), place)),
+        Ask::Ready(place) => number_of(kernel.ready(place)),
         Ask::Path(t, place) => {
-            let path = kernel.path(Tid::new(t)?);
-            Reply::Thread(path.as_slice().get(place as usize)?.get())
+            number_of(
+                kernel
+                    .path(thread(t))
+                    .as_slice()
+                    .get(place as usize)
+                    .copied(),
+            )
         }
-        Ask::Pick => Reply::Thread(kernel.pick()?.get()),
-        _ => return None,
-    })
+        Ask::Pick => number_of(kernel.pick()),
+        _ => Reply::Nobody,
+    }
+}
+
+// What is read of a thread that lives: its own priority, or what it does.
+fn read_living<K: PiKernel + Drop>(kernel: &K, t: Tid, ask: Ask) -> Reply
+    requires living { is_living (K.meaning kernel.now) t ≡ true }
+    requires added { has_seat (K.meaning kernel.now) t ≡ true }
+{
+    if let Ask::Base(_) = ask {
+        return Reply::Prio(kernel.base(t).get());
+    }
+    match kernel.status(t) {
+        Status::Ready(woken) => Reply::Ready(woken),
+        Status::Queued(m) => Reply::QueuedOn(m.get()),
+        Status::Parked(c) => Reply::ParkedOn(c.get()),
+        Status::Stopped => Reply::Stopped,
+        Status::Ended => Reply::HasEnded,
+    }
+}
+
+fn number_of(t: Option<Tid>) -> Reply {
+    match t {
+        Some(t) => Reply::Thread(t.get()),
+        None => Reply::Nobody,
+    }
+}
+
+fn word_of(words: &Words, cell: &Cell) -> Reply {
+    if words.has(*cell) {
+        Reply::Bits(words.load(*cell))
+    } else {
+        Reply::Nobody
+    }
 }
 
 fn expire<K: PiKernel + Drop>(kernel: &mut K, t: u32) -> Option<Reply> {
@@ -236,7 +265,8 @@ fn list(lists: &mut RobustLists, t: Tid, m: MutexId)
 // A thread ends whose robust list has this mutex, if both have a number below 100.
 fn end<K: PiKernel + Drop>(scene: &mut Scene<K>, t: u32, m: MutexId) -> Option<Reply> {
     let t = living(&scene.kernel, t)?;
-    let mut lists = RobustLists::new(scene.alloc, Limits::new(99, 99, 0, 1)?).ok()?;
+    let limits = Limits::new(99, 99, 0, 1).unwrap();
+    let mut lists = RobustLists::new(scene.alloc, limits).ok()?;
     if t.get() < 100 && m.get() < 100 {
         list(&mut lists, t, m);
     }

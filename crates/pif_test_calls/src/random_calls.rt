@@ -7,13 +7,13 @@ ghost use Rattle.pif_model.specs.Table.{has_thread, has_mutex, has_cond, line_at
 ghost use Rattle.pif_model.specs.Lines.{is_open};
 ghost use Rattle.pif_model.specs.Posix.{names_known};
 
-use crate::seen::{priority, thread};
+use crate::seen::{cond, mutex, priority, thread};
 use pif_chains_linked::LinkedChains;
 use pif_kernel::{Chains, KernelOn, PiKernel};
 use pif_model::Line;
 use pif_mutex::{Parts, Progress};
 use pif_plain::PlainChains;
-use pif_types::{CondId, Kind, Limits, MutexId, Prio, Request, Tid};
+use pif_types::{Kind, Limits, MutexId, Prio, Request, Tid};
 use rand_core::{Rng, SeedableRng};
 use rand_xoshiro::SplitMix64;
 use std::alloc::Global;
@@ -36,7 +36,7 @@ const EVENTS: u32 = 200;
 fn new_parts<C: Chains + Drop>(alloc: Global, first_ticket: u64) -> Result<Parts<KernelOn<C>>, Fail>
     requires { 1 ≤ first_ticket }
 {
-    let limits = Limits::new(THREADS, 66, 2, 100).ok_or("limits")?;
+    let limits = Limits::new(THREADS, 66, 2, 100).unwrap();
     let kernel: KernelOn<C> = KernelOn::new(alloc, limits, first_ticket)?;
     Ok(Parts::new(alloc, limits, kernel)?)
 }
@@ -140,17 +140,17 @@ fn call<K: PiKernel + Drop>(
 }
 
 /// A random request, on this mutex or on a variable.
-fn request(rng: &mut SplitMix64, m: MutexId, time: u32) -> Option<Request> {
+fn request(rng: &mut SplitMix64, m: MutexId, time: u32) -> Request {
     let deadline = time.saturating_add(rng.next_u32() % 3);
-    let (c, other, first) = (CondId::new(1)?, CondId::new(2)?, MutexId::new(1)?);
-    Some(match rng.next_u32() % 32 {
+    let (c, other, first) = (cond(1), cond(2), mutex(1));
+    match rng.next_u32() % 32 {
         0..=9 => Request::Lock(m),
         10 | 11 => Request::TryLock(m),
         12 | 13 => Request::TimedLock(m, deadline),
         14 | 15 => Request::Unlock(m),
         16 => Request::Consistent(m),
         17..=20 => Request::Wait(c, first),
-        21 | 22 => Request::Wait(other, MutexId::new(SECOND)?),
+        21 | 22 => Request::Wait(other, mutex(SECOND)),
         23 => Request::Wait(c, m),
         24 => Request::TimedWait(c, first, deadline),
         25 | 26 => Request::Signal(c),
@@ -161,7 +161,7 @@ fn request(rng: &mut SplitMix64, m: MutexId, time: u32) -> Option<Request> {
             thread(1 + rng.next_u32() % THREADS),
             rng.next_u32() % 12 * 9,
         ),
-    })
+    }
 }
 
 /// A random event. Of a step or of a whole call, the number of the last step, and what it came to. `None` if it can't
@@ -170,20 +170,20 @@ fn event<K: PiKernel + Drop>(
     rng: &mut SplitMix64,
     parts: &mut Parts<K>,
 ) -> Option<(u32, Progress)> {
-    let m = MutexId::new(LOCKED[(rng.next_u32() % 5) as usize])?;
+    let m = mutex(LOCKED[(rng.next_u32() % 5) as usize]);
     let t = thread(1 + rng.next_u32() % THREADS);
     let time = parts.time();
     match rng.next_u32() % 64 {
         0 if parts.is_living(t) => parts.end(t),
         0 => return None,
         1 | 2 => parts.tick(time.saturating_add(1)),
-        3..=14 => return call(parts, t, request(rng, m, time)?),
+        3..=14 => return call(parts, t, request(rng, m, time)),
         15..=18 => {
             // The owner by the word, or nobody.
             let owner = Tid::new(parts.word(m)? & 0x3fff_ffff)?;
             return call(parts, owner, Request::Unlock(m));
         }
-        19..=30 => begin(parts, t, request(rng, m, time)?)?,
+        19..=30 => begin(parts, t, request(rng, m, time))?,
         _ => return Some((1, go(parts, t)?)),
     }
     Some((0, Progress::Went))
@@ -193,11 +193,10 @@ fn event<K: PiKernel + Drop>(
 fn agree<A: PiKernel + Drop, B: PiKernel + Drop>(plain: &Parts<A>, linked: &Parts<B>) -> bool {
     let mut same = plain.pick() == linked.pick();
     for number in LOCKED {
-        if let Some(m) = MutexId::new(number) {
-            same = same && plain.word(m) == linked.word(m);
-            same = same && plain.waiter(m, 0) == linked.waiter(m, 0);
-            same = same && plain.waiter(m, 1) == linked.waiter(m, 1);
-        }
+        let m = mutex(number);
+        same = same && plain.word(m) == linked.word(m);
+        same = same && plain.waiter(m, 0) == linked.waiter(m, 0);
+        same = same && plain.waiter(m, 1) == linked.waiter(m, 1);
     }
     for place in 0..THREADS {
         let t = thread(1 + place);
@@ -207,9 +206,8 @@ fn agree<A: PiKernel + Drop, B: PiKernel + Drop>(plain: &Parts<A>, linked: &Part
         same = same && plain.effective(t) == linked.effective(t);
         same = same && plain.ready(place) == linked.ready(place);
         for number in 1..=2 {
-            if let Some(c) = CondId::new(number) {
-                same = same && plain.parked(c, place) == linked.parked(c, place);
-            }
+            let c = cond(number);
+            same = same && plain.parked(c, place) == linked.parked(c, place);
         }
     }
     same

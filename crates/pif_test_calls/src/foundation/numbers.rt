@@ -3,7 +3,6 @@ use pif_types::{AddFault, Errno, NoMemory, Refusal};
 use std::alloc::Global;
 use std::fmt::Display;
 use std::process::Abort;
-use std::test::Fail;
 
 /// Each error, with its number on Linux on x86-64 and the name that <errno.h> gives it.
 static ERRORS: [(Errno, u32, &str); 11] = [
@@ -21,15 +20,12 @@ static ERRORS: [(Errno, u32, &str); 11] = [
 ];
 
 /// Checks how an error is printed.
-fn check_printed<D: Display>(
-    rt: &impl Abort,
-    alloc: Global,
-    error: &D,
-    text: &str,
-) -> Result<(), Fail> {
-    let printed = error.to_string(alloc)?;
-    assert!(rt; printed.as_str() == text, "{text:?}");
-    Ok(())
+fn check_printed<D: Display>(rt: &impl Abort, alloc: Global, error: &D, text: &str) {
+    let is_met = match error.to_string(alloc) {
+        Ok(printed) => printed.as_str() == text,
+        Err(_) => false,
+    };
+    assert!(rt; is_met, "{text:?}");
 }
 
 static FAULTS: [(AddFault, &str); 3] = [
@@ -46,16 +42,16 @@ static REFUSALS: [(Refusal, &str); 4] = [
 ];
 
 #[test]
-fn errors_have_their_numbers_and_say_what_they_are(rt: HostRuntime) -> Result<(), Fail> {
+fn errors_have_their_numbers_and_say_what_they_are(rt: HostRuntime) {
     for (error, number, name) in ERRORS {
         see(&rt, error.number(), number, number);
-        check_printed(&rt, rt.alloc(), &error, name)?;
+        check_printed(&rt, rt.alloc(), &error, name);
     }
     for (fault, text) in FAULTS {
-        check_printed(&rt, rt.alloc(), &fault, text)?;
+        check_printed(&rt, rt.alloc(), &fault, text);
     }
     for (refusal, text) in REFUSALS {
-        check_printed(&rt, rt.alloc(), &refusal, text)?;
+        check_printed(&rt, rt.alloc(), &refusal, text);
     }
-    check_printed(&rt, rt.alloc(), &NoMemory, "out of memory")
+    check_printed(&rt, rt.alloc(), &NoMemory, "out of memory");
 }

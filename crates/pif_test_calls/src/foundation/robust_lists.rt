@@ -1,7 +1,7 @@
 ghost use Rattle.std.specs.Prelude.{◌≡◌, ◌<◌, ◌≤◌, ℕ, length};
 ghost use Rattle.pif_model.specs.RobustList.{robust_at};
 
-use crate::seen::{see, thread};
+use crate::seen::{mutex, see, thread};
 use pif_robust::RobustLists;
 use pif_types::{Limits, MutexId, Tid};
 use std::process::Abort;
@@ -9,26 +9,18 @@ use std::test::Fail;
 
 #[test]
 fn walk_ends_with_the_pending_mutex(rt: HostRuntime) -> Result<(), Fail> {
-    let limits = Limits::new(1, 2, 0, 1).ok_or("limits")?;
-    let mut lists = RobustLists::new(rt.alloc(), limits)?;
-    link_and_walk(&rt, &mut lists, thread(1), 1, 2)
+    let mut lists = RobustLists::new(rt.alloc(), Limits::new(1, 2, 0, 1).unwrap())?;
+    link_and_walk(&rt, &mut lists, thread(1), mutex(1), mutex(2));
+    Ok(())
 }
 
-/// Links the mutex `first`. Then `second`, which is on no list, is pending, and after that `first`.
-fn link_and_walk(
-    rt: &impl Abort,
-    lists: &mut RobustLists,
-    t: Tid,
-    first: u32,
-    second: u32,
-) -> Result<(), Fail>
+/// Links the mutex `listed`. Then `other`, which is on no list, is pending, and after that `listed`.
+fn link_and_walk(rt: &impl Abort, lists: &mut RobustLists, t: Tid, listed: MutexId, other: MutexId)
     requires thread { t < length lists.old.threads }
-    requires first { first ≤ lists.old.mutexes }
-    requires second { second ≤ lists.old.mutexes }
+    requires listed { listed ≤ lists.old.mutexes }
+    requires other { other ≤ lists.old.mutexes }
     requires whole { (u : ℕ) → (robust_at lists.old u).half_linked ≡ 0 }
 {
-    let listed = MutexId::new(first).ok_or("mutex")?;
-    let other = MutexId::new(second).ok_or("mutex")?;
     assert!(rt; lists.holder(listed).is_none());
     lists.link_next(t, listed);
     see(rt, lists.half_linked(t), Some(listed), 0);
@@ -43,5 +35,4 @@ fn link_and_walk(
     see(rt, is_once, true, 4);
     lists.clear_pending(t);
     see(rt, lists.pending(t), None, 5);
-    Ok(())
 }

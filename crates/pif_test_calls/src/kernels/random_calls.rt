@@ -44,7 +44,7 @@ fn random<K: PiKernel + Drop>(rng: &mut SplitMix64, plain: &Scene<K>) -> Ask {
     let m = 1 + rng.next_u32() % MUTEXES;
     let c = 1 + rng.next_u32() % 2;
     let holder = match read(plain, Ask::Word(m)) {
-        Some(Reply::Bits(bits)) => bits & 0x3fff_ffff,
+        Reply::Bits(bits) => bits & 0x3fff_ffff,
         _ => 0,
     };
     match rng.next_u32() % 65 {
