@@ -3,6 +3,7 @@
 //! effective priority of each thread and whether it rests. If calls come one after the other, each answer is the only
 //! one that the machine allows.
 use super::cloud::{Cloud, Sight};
+use super::numbers::{cond, mutex, thread};
 use pif_core::{Core, Entry, Event, Seen};
 use pif_posix_model::HistoryLimits;
 use pif_search::Stop;
@@ -65,27 +66,42 @@ fn fill(scene: &mut Scene) -> Result<(), Stop> {
             _ => Kind::ErrorCheck,
         };
         let robust = rng.next_u32() % 2 == 0;
-        let mutex = core.add_mutex(kind, robust).ok().ok_or(Stop::NoMemory)?;
-        cloud.enter(&Entry::Mutex(mutex, kind, robust))?;
+        let added = match core.add_mutex(kind, robust) {
+            Ok(mutex) => Some(Entry::Mutex(mutex, kind, robust)),
+            Err(_) => None,
+        };
+        enter_added(cloud, added)?;
     }
-    for number in [1, 2] {
-        let mutex = MutexId::new(number).ok_or(Stop::Range)?;
-        let cond = core.add_cond(mutex).ok().ok_or(Stop::NoMemory)?;
-        cloud.enter(&Entry::Cond(cond, mutex))?;
+    for mutex in [mutex(1), mutex(2)] {
+        let added = match core.add_cond(mutex) {
+            Ok(cond) => Some(Entry::Cond(cond, mutex)),
+            Err(_) => None,
+        };
+        enter_added(cloud, added)?;
     }
     for _ in 0..THREADS {
         let level = 1 + rng.next_u32() % 4 * 15;
-        let thread = core.add_thread(level).ok().ok_or(Stop::NoMemory)?;
-        let prio = Prio::new(level).ok_or(Stop::Range)?;
-        cloud.enter(&Entry::Thread(thread, prio))?;
+        let added = match (core.add_thread(level), Prio::new(level)) {
+            (Ok(thread), Some(prio)) => Some(Entry::Thread(thread, prio)),
+            _ => None,
+        };
+        enter_added(cloud, added)?;
     }
     Ok(())
 }
 
-/// A random request on these, or none if nobody has such a number.
-fn request(rng: &mut SplitMix64, mutex: MutexId, cond: CondId, time: u32) -> Option<Request> {
+/// What a core has added, the machine adds too.
+fn enter_added(cloud: &mut Cloud, added: Option<Entry>) -> Result<(), Stop> {
+    match added {
+        Some(entry) => cloud.enter(&entry),
+        None => Err(Stop::NoMemory),
+    }
+}
+
+/// A random request on these.
+fn request(rng: &mut SplitMix64, mutex: MutexId, cond: CondId, time: u32) -> Request {
     let deadline = time.saturating_add(rng.next_u32() % 3);
-    Some(match rng.next_u32() % 24 {
+    match rng.next_u32() % 24 {
         0..=6 => Request::Lock(mutex),
         7 | 8 => Request::TryLock(mutex),
         9 => Request::TimedLock(mutex, deadline),
@@ -96,25 +112,25 @@ fn request(rng: &mut SplitMix64, mutex: MutexId, cond: CondId, time: u32) -> Opt
         19 | 20 => Request::Signal(cond),
         21 | 22 => Request::Broadcast(cond),
         _ => Request::SetPrio(
-            Tid::new(1 + rng.next_u32() % THREADS)?,
+            thread(1 + rng.next_u32() % THREADS),
             rng.next_u32() % 9 * 12,
         ),
-    })
+    }
 }
 
-/// A random event. None if nobody has a number of it.
-fn random_event(scene: &mut Scene) -> Option<Event> {
-    let thread = Tid::new(1 + scene.rng.next_u32() % THREADS)?;
-    let mutex = MutexId::new(1 + scene.rng.next_u32() % MUTEXES)?;
-    let cond = CondId::new(1 + scene.rng.next_u32() % 2)?;
+/// A random event.
+fn random_event(scene: &mut Scene) -> Event {
+    let thread = thread(1 + scene.rng.next_u32() % THREADS);
+    let mutex = mutex(1 + scene.rng.next_u32() % MUTEXES);
+    let cond = cond(1 + scene.rng.next_u32() % 2);
     let time = scene.core.time();
-    Some(match scene.rng.next_u32() % 48 {
+    match scene.rng.next_u32() % 48 {
         0 => Event::End(thread),
         1 | 2 => Event::Tick(time.saturating_add(1)),
         3 => Event::Tick(time.saturating_sub(1)),
-        4..=20 => Event::Begin(thread, request(&mut scene.rng, mutex, cond, time)?),
+        4..=20 => Event::Begin(thread, request(&mut scene.rng, mutex, cond, time)),
         _ => Event::Go(thread),
-    })
+    }
 }
 
 /// A thread goes on in both, and any moves of it happen, also of those that its open call may wake. What the core
@@ -130,11 +146,9 @@ fn go(rt: &impl Abort, scene: &mut Scene, thread: Tid, seens: &mut Seens) -> Res
         scene.cloud.keep(&sight);
         return Ok(seen);
     }
-    if wakes {
-        scene.cloud.close(&[1, 2, 3, 4])?;
-    } else {
-        scene.cloud.close(&[thread.get()])?;
-    }
+    let own = [thread.get()];
+    let moving: &[u32] = if wakes { &[1, 2, 3, 4] } else { &own };
+    scene.cloud.close(moving)?;
     if let Seen::Answered(answer) = seen {
         see_answer(rt, scene, thread, answer, seens)?;
     } else {
@@ -215,12 +229,10 @@ fn compare(scene: &mut Scene, thread: Tid) {
 
 /// A random event happens, and both are compared.
 fn play_event(rt: &impl Abort, scene: &mut Scene, seens: &mut Seens) -> Result<(), Stop> {
-    let event = random_event(scene).ok_or(Stop::Range)?;
+    let event = random_event(scene);
     see(rt, scene, &event, seens)?;
     for number in 1..THREADS + 1 {
-        if let Some(thread) = Tid::new(number) {
-            compare(scene, thread);
-        }
+        compare(scene, thread(number));
     }
     seens.states = usize::max(seens.states, scene.cloud.states.len());
     Ok(())

@@ -14,6 +14,7 @@
 //! | `told` | none: what a search tells `searches` and `plays` |
 //! | `counters` | none: the machine of `searches`, a counter with a lamp |
 //! | `beside` | `pif_posix`: the machine beside a core, on random events |
+//! | `numbers` | none: the threads, mutexes and variables of numbers |
 //! | `cloud` | none: all states in which the POSIX machine may be, after what was seen |
 //! | `plays` | `pif_history`: how often a player plays lines until it finds a run, and which open calls make few states |
 //!
@@ -28,6 +29,8 @@ mod cloud;
 mod counters;
 #[cfg(test)]
 mod notices;
+#[cfg(test)]
+mod numbers;
 #[cfg(test)]
 mod plays;
 #[cfg(test)]

@@ -29,6 +29,12 @@ enum Noting {
     Show,
 }
 
+/// What is written of notes is none of a notice.
+fn without_notes(ended: Result<Vec<u8>, CliFault>) -> Result<(), CliFault> {
+    ended?;
+    Ok(())
+}
+
 /// Does it with a text. Behind 64 bytes a read fails.
 fn note(noting: Noting, alloc: Global, text: &str, notice: &mut Notice) -> Result<(), CliFault> {
     let parts = [(text, 1)];
@@ -36,23 +42,28 @@ fn note(noting: Noting, alloc: Global, text: &str, notice: &mut Notice) -> Resul
     let mut output = Stream::new(&[]);
     let (reader, writer) = (&mut input, &mut output);
     match noting {
-        Noting::Keep => notice.keep_command(text.as_bytes()),
-        Noting::Run => run_noting(alloc, reader, writer, notice)?,
-        Noting::Replay => replay_noting(alloc, reader, writer, notice)?,
-        Noting::Migrate => migrate_noting(alloc, reader, writer, notice)?,
-        Noting::TraceScript => trace_noting(alloc, reader, writer, notice)?,
-        Noting::Strict => check_strictly(alloc, b"story", reader, writer, notice)?,
-        Noting::Fill => fill_noting(alloc, b"story", reader, writer, notice)?,
-        Noting::FillSeveral => fill_as_one_of_several(alloc, b"story", reader, writer, notice)?,
-        Noting::Trace => trace_story(alloc, reader, writer, notice)?,
-        Noting::Show => {
-            show_noting(Detail::Changes, alloc, b"story", reader, writer, notice)?;
+        Noting::Keep => {
+            notice.keep_command(text.as_bytes());
+            Ok(())
         }
-        Noting::Check => {
-            check_noting(alloc, b"story", reader, writer, notice)?;
-        }
+        Noting::Run => run_noting(alloc, reader, writer, notice),
+        Noting::Replay => replay_noting(alloc, reader, writer, notice),
+        Noting::Migrate => migrate_noting(alloc, reader, writer, notice),
+        Noting::TraceScript => trace_noting(alloc, reader, writer, notice),
+        Noting::Strict => check_strictly(alloc, b"story", reader, writer, notice),
+        Noting::Fill => fill_noting(alloc, b"story", reader, writer, notice),
+        Noting::FillSeveral => fill_as_one_of_several(alloc, b"story", reader, writer, notice),
+        Noting::Trace => trace_story(alloc, reader, writer, notice),
+        Noting::Show => without_notes(show_noting(
+            Detail::Changes,
+            alloc,
+            b"story",
+            reader,
+            writer,
+            notice,
+        )),
+        Noting::Check => without_notes(check_noting(alloc, b"story", reader, writer, notice)),
     }
-    Ok(())
 }
 
 /// What is done first: it stays if nothing is kept.

@@ -1,11 +1,12 @@
 //! Histories of six threads that lock, try and unlock a mutex, wait and signal: how often a player plays their lines
 //! until it finds a run, and how few states an exact search makes of calls that are open at once.
+use crate::numbers::{cond, thread};
 use crate::told::Told;
 use pif_history::{find_run, judge_lines};
 use pif_history_lines::Verdict;
 use pif_history_model::{HistoryLimits, Line};
 use pif_search::{Stop, push};
-use pif_types::{Answer, CondId, Kind, MutexId, Request, Tid};
+use pif_types::{Answer, Kind, MutexId, Request};
 use std::alloc::Global;
 
 /// How many threads there are.
@@ -167,8 +168,8 @@ static BUSY: [Sight; 5] = [
 static REFUSED: [Sight; 2] = [(1, Seen::Unlock), (1, Seen::Answered(1))];
 
 /// The line that tells this of a thread.
-fn line_of(thread: u32, seen: Seen) -> Option<Line> {
-    let (thread, mutex, cond) = (Tid::new(thread)?, MutexId::new(1)?, CondId::new(1)?);
+fn line_of(number: u32, seen: Seen) -> Line {
+    let (thread, mutex, cond) = (thread(number), MutexId::default(), cond(1));
     let request = match seen {
         Seen::Lock => Request::Lock(mutex),
         Seen::TryLock => Request::TryLock(mutex),
@@ -177,10 +178,10 @@ fn line_of(thread: u32, seen: Seen) -> Option<Line> {
         Seen::TimedWait(time) => Request::TimedWait(cond, mutex, time),
         Seen::Signal => Request::Signal(cond),
         Seen::Broadcast => Request::Broadcast(cond),
-        Seen::Answered(answer) => return Some(Line::Answer(thread, answer)),
-        Seen::Time(time) => return Some(Line::Tick(time)),
+        Seen::Answered(answer) => return Line::Answer(thread, answer),
+        Seen::Time(time) => return Line::Tick(time),
     };
-    Some(Line::Begin(thread, request))
+    Line::Begin(thread, request)
 }
 
 /// Lines that add the threads, a mutex, and a variable that is bound to it, and then tell these parts.
@@ -195,8 +196,7 @@ fn lines_of(alloc: Global, parts: &[&[Sight]]) -> Result<Vec<Line>, Stop> {
     push(&mut lines, Line::Cond(MutexId::default()))?;
     for sights in parts {
         for (thread, seen) in *sights {
-            let line = line_of(*thread, *seen).ok_or(Stop::Range)?;
-            push(&mut lines, line)?;
+            push(&mut lines, line_of(*thread, *seen))?;
         }
     }
     Ok(lines)

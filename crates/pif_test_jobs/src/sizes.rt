@@ -230,16 +230,23 @@ const QUESTIONS: &str = "prio t1\npick\ncall t1 lock m1024\nword m1\nword m1023\
 
 const ANSWERS: &str = "99\nt1\nanswer 35\n0x80000001\n0x800003ff\n0x00000400\n";
 
+/// Appends lines, if there was memory for them.
+fn append(text: &mut String, lines: Result<String, AllocError>) -> Result<(), AllocError> {
+    text.push_str(lines?.as_str())
+}
+
 /// Each thread locks the mutex of its number. The last one has priority 99, all others 1.
 fn hold_each(alloc: Global, script: &mut String, answers: &mut String) -> Result<(), AllocError> {
     for number in 1..=THREADS {
         let level = if number == THREADS { 99 } else { 1 };
         let lines = format!(in alloc;
             "thread {level}\nmutex normal\ncall t{number} lock m{number}\n"
+        );
+        append(script, lines)?;
+        append(
+            answers,
+            format!(in alloc; "t{number}\nm{number}\nanswer 0\n"),
         )?;
-        script.push_str(lines.as_str())?;
-        let lines = format!(in alloc; "t{number}\nm{number}\nanswer 0\n")?;
-        answers.push_str(lines.as_str())?;
     }
     Ok(())
 }
@@ -247,8 +254,8 @@ fn hold_each(alloc: Global, script: &mut String, answers: &mut String) -> Result
 /// Each thread but the first waits for the one before.
 fn wait_each(alloc: Global, script: &mut String, answers: &mut String) -> Result<(), AllocError> {
     for number in 1..THREADS {
-        let line = format!(in alloc; "call t{} lock m{number}\n", number.saturating_add(1))?;
-        script.push_str(line.as_str())?;
+        let line = format!(in alloc; "call t{} lock m{number}\n", number.saturating_add(1));
+        append(script, line)?;
         answers.push_str("waits\n")?;
     }
     Ok(())

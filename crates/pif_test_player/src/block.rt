@@ -2,7 +2,9 @@
 //! `pif_test_transcripts` has its lines.
 
 use crate::deeds::{Giving, List, Source};
-use crate::marks::{Words, escaped, keep_escaped, keep_line, keep_words, kind_of, mark_of};
+use crate::marks::{
+    Words, escaped, keep_escaped, keep_line, keep_words, kind_of, mark_of, number_of,
+};
 use crate::streams::{Kept, Sink, Taking};
 use crate::told::{Counts, pair_of};
 use arrayvec::ArrayVec;
@@ -264,11 +266,6 @@ fn is_counted(alloc: Global, written: &str, text: &str) -> bool {
         "some" => count > 0,
         _ => number.parse::<usize>() == Ok(count),
     }
-}
-
-/// A number of a line, 0 if it is none.
-fn number_of(text: &str) -> usize {
-    text.parse::<usize>().unwrap_or(0)
 }
 
 /// What stood so far begins the output, and what comes ends it.

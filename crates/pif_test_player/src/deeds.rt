@@ -1,6 +1,6 @@
 //! What jobs read: their input, and files of which is known what they are asked.
 
-use crate::marks::{escaped, keep_escaped, kind_of, mark_of};
+use crate::marks::{escaped, keep_escaped, kind_of, mark_of, number_of};
 use crate::streams::Kept;
 use arrayvec::ArrayVec;
 use std::alloc::Global;
@@ -261,7 +261,7 @@ impl<'l, 't> Source<'l, 't> {
             Some(deed) if deed.what == "text" => (deed, 1, deed.text),
             Some(deed) if deed.what == "texts" => {
                 let (times, text) = deed.text.split_once(' ').unwrap_or(("", deed.text));
-                (deed, times.parse::<usize>().unwrap_or(0), text)
+                (deed, number_of(times), text)
             }
             _ => return Err(self.list.miss()),
         };

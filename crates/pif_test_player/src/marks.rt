@@ -13,6 +13,11 @@ pub fn mark_of(line: &str) -> (&str, &str) {
     line.split_once(' ').unwrap_or((line, ""))
 }
 
+/// A number of a line, 0 if it is none.
+pub fn number_of(text: &str) -> usize {
+    text.parse::<usize>().unwrap_or(0)
+}
+
 /// Keeps a text, with a line feed behind it.
 pub fn keep_line(kept: &mut Kept, text: &str) {
     kept.append(text.as_bytes());

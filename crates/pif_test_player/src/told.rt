@@ -1,6 +1,6 @@
 //! What a person is told of a job: how far it has come, by a clock that is set, and of a fault by itself.
 
-use crate::marks::mark_of;
+use crate::marks::{mark_of, number_of};
 use arrayvec::ArrayVec;
 use pif_cli_messages::{Given, JobFault, Progress, WatchFiles};
 use pif_cli_words::Job;
@@ -72,10 +72,7 @@ impl Clock for Shown {
 /// The two numbers of a text; 0 for what is none.
 pub fn pair_of(text: &str) -> (usize, usize) {
     let (first, second) = text.split_once(' ').unwrap_or((text, ""));
-    (
-        first.parse::<usize>().unwrap_or(0),
-        second.parse::<usize>().unwrap_or(0),
-    )
+    (number_of(first), number_of(second))
 }
 
 /// Lets a job come to what stands in a line: what, and two numbers.
