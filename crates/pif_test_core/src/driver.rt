@@ -92,8 +92,9 @@ pub enum Turn {
     IsQueued(u32, u32),
     IsParked(u32, u32),
     Waiting(u32, Option<bool>),
-    /// The thread has this call open, or none.
+    /// The thread has this call open.
     Open(u32, Wish),
+    /// It has none open.
     IsIdle(u32),
     Kind(u32, Kind, bool),
     /// The thread that owns a mutex, and how often it holds it; or nobody does.

@@ -6,7 +6,7 @@ use pif_job_run::write_trace;
 use pif_types::{Kind, Limits, Request, Tid};
 use std::process::Abort;
 use std::sync::Wait;
-use std::sync::atomic::{AtomicBool, Ordering};
+use std::sync::atomic::{AtomicU32, Ordering};
 use std::test::Fail;
 use std::thread;
 use std::time::Duration;
@@ -24,21 +24,22 @@ const BEGUN: &str = "pif-trace 2\n\
      thread 1 = t1\n\
      thread 2 = t2\n";
 
-/// Holds each client once its first call has begun: client 1 until a call of the other was answered, and the other
-/// until client 1 has begun.
+/// Counts the events of client 1, those of the other, and the calls of the other that were answered. Holds each client
+/// once its first call has begun: client 1 until a call of the other was answered, and the other until client 1 has
+/// begun.
 #[derive(Drop)]
 struct Overlap {
     rt: HostRuntime,
-    one_begun: AtomicBool,
-    other_begun: AtomicBool,
-    answered: AtomicBool,
+    one: AtomicU32,
+    other: AtomicU32,
+    answered: AtomicU32,
 }
 
 impl Overlap {
-    /// Waits until the flag is set.
-    fn hold(&self, flag: &AtomicBool) {
+    /// Waits until something was counted.
+    fn hold(&self, count: &AtomicU32) {
         for _ in 0..TURNS {
-            if flag.load(Ordering::SeqCst) {
+            if count.load(Ordering::SeqCst) > 0 {
                 break;
             }
             let _ = thread::sleep(&self.rt, Duration::from_millis(1));
@@ -49,16 +50,16 @@ impl Overlap {
 impl Pause for Overlap {
     fn after(&self, t: Tid, seen: Seen) {
         if t.get() == 1 {
-            if !self.one_begun.swap(true, Ordering::SeqCst) {
+            if self.one.fetch_add(1, Ordering::SeqCst) == 0 {
                 self.hold(&self.answered);
             }
             return;
         }
-        if !self.other_begun.swap(true, Ordering::SeqCst) {
-            self.hold(&self.one_begun);
+        if self.other.fetch_add(1, Ordering::SeqCst) == 0 {
+            self.hold(&self.one);
         }
         if let Seen::Answered(_) = seen {
-            self.answered.store(true, Ordering::SeqCst);
+            self.answered.fetch_add(1, Ordering::SeqCst);
         }
     }
 }
@@ -104,9 +105,9 @@ fn check_book(rt: &impl Abort, book: &Book) {
 fn drive_makes_the_mutex_clients_and_calls_of_its_help(rt: HostRuntime) {
     let pause = Overlap {
         rt,
-        one_begun: AtomicBool::new(false),
-        other_begun: AtomicBool::new(false),
-        answered: AtomicBool::new(false),
+        one: AtomicU32::new(0),
+        other: AtomicU32::new(0),
+        answered: AtomicU32::new(0),
     };
     match drive_book(rt.alloc(), &rt, 2, pause) {
         Ok(book) => check_book(&rt, &book),

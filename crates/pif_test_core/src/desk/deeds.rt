@@ -157,7 +157,10 @@ fn enter_second(
 
 /// What a call is answered, as what a deed comes to.
 fn answer_of(come: Result<Receipt, DeskFault>) -> Result<u32, DeskFault> {
-    Ok(come?.answer)
+    match come {
+        Ok(receipt) => Ok(receipt.answer),
+        Err(fault) => Err(fault),
+    }
 }
 
 /// The same of what is answered nothing.
@@ -237,7 +240,7 @@ fn count<R: Wait + Clock>(rt: &R, desk: &Desk<Watch>, deed: Deed) -> Option<u32>
     Some(match deed {
         Deed::Entries => {
             let before = watch.mark.load(Ordering::SeqCst);
-            desk.entries(rt).wrapping_sub(before) as u32
+            u32::try_from(desk.entries(rt).wrapping_sub(before)).ok()?
         }
         Deed::Pauses => watch.events.load(Ordering::SeqCst),
         Deed::Refusals => watch.refused.load(Ordering::SeqCst),
