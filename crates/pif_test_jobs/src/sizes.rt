@@ -226,6 +226,11 @@ fn migration_faults_by_its_size(rt: HostRuntime) {
 
 const THREADS: u32 = 1024;
 
+/// The first thread locks the first mutex.
+const FIRST: &str = "thread 1\nmutex normal\ncall t1 lock m1\n";
+
+const FIRST_ANSWERS: &str = "t1\nm1\nanswer 0\n";
+
 const QUESTIONS: &str = "prio t1\npick\ncall t1 lock m1024\nword m1\nword m1023\nword m1024\n";
 
 const ANSWERS: &str = "99\nt1\nanswer 35\n0x80000001\n0x800003ff\n0x00000400\n";
@@ -235,35 +240,28 @@ fn append(text: &mut String, lines: Result<String, AllocError>) -> Result<(), Al
     text.push_str(lines?.as_str())
 }
 
-/// Each thread locks the mutex of its number. The last one has priority 99, all others 1.
-fn hold_each(alloc: Global, script: &mut String, answers: &mut String) -> Result<(), AllocError> {
-    for number in 1..=THREADS {
+/// Each thread but the first locks the mutex of its number, and then waits for the one before. The last one has priority
+/// 99, all others 1.
+fn wait_each(alloc: Global, script: &mut String, answers: &mut String) -> Result<(), AllocError> {
+    for before in 1..THREADS {
+        let number = before + 1;
         let level = if number == THREADS { 99 } else { 1 };
         let lines = format!(in alloc;
-            "thread {level}\nmutex normal\ncall t{number} lock m{number}\n"
+            "thread {level}\nmutex normal\ncall t{number} lock m{number}\ncall t{number} lock m{before}\n"
         );
         append(script, lines)?;
         append(
             answers,
-            format!(in alloc; "t{number}\nm{number}\nanswer 0\n"),
+            format!(in alloc; "t{number}\nm{number}\nanswer 0\nwaits\n"),
         )?;
     }
     Ok(())
 }
 
-/// Each thread but the first waits for the one before.
-fn wait_each(alloc: Global, script: &mut String, answers: &mut String) -> Result<(), AllocError> {
-    for number in 1..THREADS {
-        let line = format!(in alloc; "call t{} lock m{number}\n", number.saturating_add(1));
-        append(script, line)?;
-        answers.push_str("waits\n")?;
-    }
-    Ok(())
-}
-
-/// A script with the questions behind it is answered this.
+/// A script between the first lines and the questions is answered this.
 fn check_run(rt: &impl Abort, alloc: Global, script: &str, answers: &str) {
-    let (script, answers) = ([(script, 1), (QUESTIONS, 1)], [(answers, 1), (ANSWERS, 1)]);
+    let script = [(FIRST, 1), (script, 1), (QUESTIONS, 1)];
+    let answers = [(FIRST_ANSWERS, 1), (answers, 1), (ANSWERS, 1)];
     let mut output = Stream::new(&answers);
     let ended = run(alloc, &mut Stream::new(&script), &mut output);
     assert!(rt; ended == Ok(()) && output.is_met(), "{ended:?}");
@@ -273,7 +271,6 @@ fn check_run(rt: &impl Abort, alloc: Global, script: &str, answers: &str) {
 fn chain_of_1024(rt: HostRuntime) -> Result<(), Fail> {
     let mut script = String::new(rt.alloc());
     let mut answers = String::new(rt.alloc());
-    hold_each(rt.alloc(), &mut script, &mut answers)?;
     wait_each(rt.alloc(), &mut script, &mut answers)?;
     check_run(&rt, rt.alloc(), script.as_str(), answers.as_str());
     Ok(())
