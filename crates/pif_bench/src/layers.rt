@@ -29,12 +29,12 @@ pub fn depth_of(layer: Layer) -> u32 {
     }
 }
 
-/// Runs a benchmark. Answers how many nanoseconds what it measures took. `None` if memory is refused or the clock has a
+/// Runs a benchmark. Answers how many picoseconds what it measures took. `None` if memory is refused or the clock has a
 /// fault.
-pub fn nanoseconds_of(rt: &(impl Clock + AllocGlobal), layer: Layer) -> Option<u64> {
+pub fn picoseconds_of(rt: &(impl Clock + AllocGlobal), layer: Layer) -> Option<u64> {
     match layer {
-        Layer::Lists(priorities) => lists::nanoseconds_each(rt, priorities),
+        Layer::Lists(priorities) => lists::measure_lists(rt, priorities),
         Layer::NewCore => scenes::new_core(rt),
-        Layer::Core(room, scene) => scenes::nanoseconds_on_core(rt, room, scene),
+        Layer::Core(room, scene) => scenes::picoseconds_on_core(rt, room, scene),
     }
 }

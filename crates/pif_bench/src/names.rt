@@ -1,7 +1,7 @@
 //! The benchmarks by their names.
-use crate::desk::{Crowd, Mutexes};
+use crate::desk::Mutexes;
 use crate::layers::{Layer, Priorities, Room, Scene};
-use crate::quick::{Race, Team, Words};
+use crate::quick::Words;
 use std::io;
 
 /// A benchmark.
@@ -9,10 +9,14 @@ use std::io;
 pub enum Benchmark {
     /// What a single layer takes, in nanoseconds.
     Layer(Layer),
-    /// The quick path and what it is compared with, in turn.
-    Race(Race),
-    /// Events of threads at a desk, a second.
-    Crowd(Crowd),
+    /// One thread locks and unlocks a word by the quick path, and by what that is compared with, in turn.
+    Pairs,
+    /// So many threads, 1 to 64, take turns on words by the quick path, and by what that is compared with, in turn.
+    Turns(Words, u32),
+    /// Events of one thread on a core, without a desk.
+    Core,
+    /// Events of so many threads at a desk.
+    Desk(Mutexes, u32),
 }
 
 /// A benchmark of threads on a core with no more room than they need.
@@ -29,17 +33,17 @@ macro_rules! default_limits {
     };
 }
 
-/// A benchmark of threads that take turns.
+/// A benchmark of so many threads that take turns.
 macro_rules! turns {
-    ($words:tt, $team:tt) => {
-        Benchmark::Race(Race::Turns(Words::$words, Team::$team))
+    ($words:tt, $threads:tt) => {
+        Benchmark::Turns(Words::$words, $threads)
     };
 }
 
 /// A benchmark of so many threads at a desk.
 macro_rules! desk {
     ($mutexes:tt, $threads:tt) => {
-        Benchmark::Crowd(Crowd::Desk(Mutexes::$mutexes, $threads))
+        Benchmark::Desk(Mutexes::$mutexes, $threads)
     };
 }
 
@@ -91,14 +95,14 @@ static BENCHMARKS: [(&str, Benchmark); 49] = [
         "broadcast_free_100_default_limits",
         default_limits!(Broadcast(100, false)),
     ),
-    ("quick_pairs", Benchmark::Race(Race::Pairs)),
-    ("quick_one_2", turns!(One, Two)),
-    ("quick_one_4", turns!(One, Four)),
-    ("quick_one_8", turns!(One, Eight)),
-    ("quick_one_16", turns!(One, Sixteen)),
-    ("quick_own_2", turns!(Own, Two)),
-    ("quick_own_4", turns!(Own, Four)),
-    ("core_alone", Benchmark::Crowd(Crowd::Core)),
+    ("quick_pairs", Benchmark::Pairs),
+    ("quick_one_2", turns!(One, 2)),
+    ("quick_one_4", turns!(One, 4)),
+    ("quick_one_8", turns!(One, 8)),
+    ("quick_one_16", turns!(One, 16)),
+    ("quick_own_2", turns!(Own, 2)),
+    ("quick_own_4", turns!(Own, 4)),
+    ("core_alone", Benchmark::Core),
     ("desk_own_1", desk!(Own, 1)),
     ("desk_own_2", desk!(Own, 2)),
     ("desk_own_4", desk!(Own, 4)),

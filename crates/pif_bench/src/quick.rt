@@ -6,13 +6,4 @@ mod turns;
 
 pub use figures::{Hundredths, Medians, ratio};
 pub use pairs::{BarePairs, Pairs, measure_bare, measure_pairs};
-pub use turns::{Team, Words, measure_turns};
-
-/// What is measured.
-#[derive(Clone, Copy)]
-pub enum Race {
-    /// One thread locks and unlocks a word.
-    Pairs,
-    /// Several threads take turns on words.
-    Turns(Words, Team),
-}
+pub use turns::{Words, measure_turns};

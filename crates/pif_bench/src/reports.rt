@@ -1,11 +1,10 @@
 //! What a benchmark has measured, and how it is printed.
-use crate::layers::Layer;
+use crate::desk::{measure_core, measure_desk};
+use crate::layers::{Layer, depth_of, picoseconds_of};
 use crate::names::Benchmark;
 use crate::quick::{
-    BarePairs, Hundredths, Medians, Pairs, Race, Team, Words, measure_bare, measure_pairs,
-    measure_turns, ratio,
+    BarePairs, Hundredths, Medians, Pairs, Words, measure_bare, measure_pairs, measure_turns, ratio,
 };
-use crate::{desk, layers};
 use std::io;
 use std::rt::Clock;
 use std::sync::Wait;
@@ -18,10 +17,10 @@ pub enum Report {
     Layer(Layered),
     /// The three ways of a pair.
     Pairs(Pairs),
-    /// The turns of threads on words.
-    Turns(Words, Team, Medians),
+    /// The turns of so many threads on words.
+    Turns(Words, u32, Medians),
     /// How many thousand events there were a second.
-    Crowd(u128),
+    Events(u64),
 }
 
 /// What a layer took, in nanoseconds, and pairs of bare compare-exchanges of the same run. It went along a chain of so
@@ -33,25 +32,13 @@ pub struct Layered {
     bare: BarePairs,
 }
 
-impl Layered {
-    /// The picoseconds that each hop of the chain took, or all if there is none.
-    fn hop(&self) -> u64 {
-        self.nanoseconds.saturating_mul(1000) / u64::from(self.depth.max(1))
-    }
-
-    /// How many bare pairs that is.
-    fn bare_pairs(&self) -> Hundredths {
-        Hundredths(ratio(self.hop(), self.bare.pair))
-    }
-}
-
 /// Measures a layer, and then bare pairs.
 fn measure_layer(rt: &(impl Clock + AllocGlobal), layer: Layer) -> Option<Layered> {
-    let nanoseconds = layers::nanoseconds_of(rt, layer)?;
+    let picoseconds = picoseconds_of(rt, layer)?;
     let bare = measure_bare(rt)?;
     Some(Layered {
-        nanoseconds,
-        depth: layers::depth_of(layer),
+        nanoseconds: picoseconds / 1000,
+        depth: depth_of(layer),
         bare,
     })
 }
@@ -64,12 +51,13 @@ pub fn report_of<R: Clock + Threads + Wait + Sync + AllocGlobal>(
 ) -> Option<Report> {
     match benchmark {
         Benchmark::Layer(layer) => measure_layer(rt, layer).map(Report::Layer),
-        Benchmark::Race(Race::Pairs) => measure_pairs(rt).map(Report::Pairs),
-        Benchmark::Race(Race::Turns(words, team)) => match measure_turns(rt, words, team) {
-            Some(medians) => Some(Report::Turns(words, team, medians)),
+        Benchmark::Pairs => measure_pairs(rt).map(Report::Pairs),
+        Benchmark::Turns(words, threads) => match measure_turns(rt, words, threads) {
+            Some(medians) => Some(Report::Turns(words, threads, medians)),
             None => None,
         },
-        Benchmark::Crowd(crowd) => desk::thousands_of(rt, crowd).map(Report::Crowd),
+        Benchmark::Core => measure_core(rt).map(Report::Events),
+        Benchmark::Desk(mutexes, threads) => measure_desk(rt, mutexes, threads).map(Report::Events),
     }
 }
 
@@ -78,16 +66,18 @@ pub fn print(rt: &impl Print, name: &str, report: &Report) -> io::Result<()> {
     match report {
         Report::Layer(layered) => print_layer(rt, name, layered),
         Report::Pairs(pairs) => print_pairs(rt, pairs),
-        Report::Turns(words, team, medians) => print_turns(rt, team.size(), words.name(), medians),
-        Report::Crowd(thousands) => println!(rt; "{name}: {thousands} thousand events a second"),
+        Report::Turns(words, threads, medians) => print_turns(rt, *threads, words.name(), medians),
+        Report::Events(thousands) => println!(rt; "{name}: {thousands} thousand events a second"),
     }
 }
 
 /// Prints what a layer took, and how many bare pairs that is, of a chain for each hop.
 fn print_layer(rt: &impl Print, name: &str, layered: &Layered) -> io::Result<()> {
-    let (nanoseconds, hop, pairs) = (layered.nanoseconds, layered.hop(), layered.bare_pairs());
+    let (nanoseconds, depth) = (layered.nanoseconds, layered.depth);
     let BarePairs { pair, added } = layered.bare;
-    if layered.depth == 0 {
+    let hop = nanoseconds.saturating_mul(1000) / u64::from(depth.max(1));
+    let pairs = Hundredths(ratio(hop, pair));
+    if depth == 0 {
         println!(rt;
             "{name}: {nanoseconds} ns\n{name}: {pairs} bare pairs of {pair} ps; added {added}"
         )

@@ -1,6 +1,5 @@
 //! Calls of real threads at a desk.
-use super::thousands;
-use crate::moments::{now, time_since};
+use crate::moments::{now, thousands, time_since};
 use pif_desk::{Client, Desk, NoPause};
 use pif_types::{Kind, Limits, MutexId, Request};
 use std::alloc::Global;
@@ -10,11 +9,8 @@ use std::thread;
 use std::thread::Threads;
 use std::time::Duration;
 
-/// How many pairs of a lock and an unlock all threads make together if none contends.
+/// How many pairs of a lock and an unlock all threads make together.
 pub const PAIRS: u32 = 48_000;
-
-/// How many they make together if all contend for one mutex.
-const CONTENDED_PAIRS: u32 = 48_000;
 
 /// Which mutexes the threads lock.
 #[derive(Clone, Copy)]
@@ -72,39 +68,34 @@ fn play<R: Wait>(rt: &R, desk: &Desk<NoPause>, player: Player) -> Client {
     client
 }
 
-/// The mutex of one player more: one of its own, or this one.
-fn mutex_of<R: Wait>(
-    rt: &R,
-    desk: &Desk<NoPause>,
-    mutexes: Mutexes,
-    shared: MutexId,
-) -> Option<MutexId> {
-    match mutexes {
-        Mutexes::One => Some(shared),
-        Mutexes::Own => desk.make_mutex(rt, Kind::Normal, false).ok(),
-    }
+/// A mutex more of a desk. `None` if the desk doesn't add it.
+fn make_mutex<R: Wait>(rt: &R, desk: &Desk<NoPause>) -> Option<MutexId> {
+    desk.make_mutex(rt, Kind::Normal, false).ok()
 }
 
-/// Adds one player more, with a mutex of its own, or with this one.
+/// Adds one player more, which makes so many pairs on this mutex. `None` if there is no mutex, or the desk doesn't let
+/// the player in.
 fn enter_one<R: Wait>(
     rt: &R,
     desk: &Desk<NoPause>,
-    mutexes: Mutexes,
-    shared: MutexId,
+    mutex: Option<MutexId>,
     pairs: u32,
     players: &mut Vec<Player>,
 ) -> Option<()> {
-    let client = desk.enter(rt, 10).ok()?;
-    let mutex = mutex_of(rt, desk, mutexes, shared)?;
-    let player = Player {
-        client,
-        mutex,
-        pairs,
-    };
-    players.push(player).ok()
+    match (mutex, desk.enter(rt, 10)) {
+        (Some(mutex), Ok(client)) => {
+            let player = Player {
+                client,
+                mutex,
+                pairs,
+            };
+            players.push(player).ok()
+        }
+        _ => None,
+    }
 }
 
-/// Adds so many players.
+/// Adds so many players, which make the pairs together, each on a mutex of its own or all on one.
 fn enter_all<R: Wait>(
     rt: &R,
     desk: &Desk<NoPause>,
@@ -112,38 +103,30 @@ fn enter_all<R: Wait>(
     threads: u32,
     players: &mut Vec<Player>,
 ) -> Option<()> {
-    let pairs = match mutexes {
-        Mutexes::Own => PAIRS / threads.max(1),
-        Mutexes::One => CONTENDED_PAIRS / threads.max(1),
-    };
-    let shared = desk.make_mutex(rt, Kind::Normal, false).ok()?;
+    let pairs = PAIRS / threads.max(1);
+    let shared = make_mutex(rt, desk);
     for _thread in 0..threads {
-        enter_one(rt, desk, mutexes, shared, pairs, players)?;
+        let mutex = match mutexes {
+            Mutexes::One => shared,
+            Mutexes::Own => make_mutex(rt, desk),
+        };
+        enter_one(rt, desk, mutex, pairs, players)?;
     }
     Some(())
 }
 
-/// Each player runs in a thread of its own, and gives its client back. `None` if memory is refused or a thread can't be
-/// started.
-fn play_all<R: Threads + Wait + Sync>(
+/// Each player runs in a thread of its own, and gives its client back. Tells the time in which the threads ran. `None`
+/// if memory is refused or a thread can't be started.
+fn play_all<R: Clock + Threads + Wait + Sync>(
     rt: &R,
     desk: &Desk<NoPause>,
     players: Vec<Player>,
+    time: &mut Option<Duration>,
 ) -> Option<Vec<Client>> {
-    thread::map_vec(rt, players, &|player| play(rt, desk, player)).ok()
-}
-
-/// These players run. Answers their clients, and tells the time in which the threads ran.
-fn time_players<R: Clock + Threads + Wait + Sync>(
-    rt: &R,
-    desk: &Desk<NoPause>,
-    players: Vec<Player>,
-    time: &mut Duration,
-) -> Option<Vec<Client>> {
-    let start = now(rt)?;
-    let clients = play_all(rt, desk, players)?;
-    *time = time_since(rt, start)?;
-    Some(clients)
+    let start = now(rt);
+    let clients = thread::map_vec(rt, players, &|player| play(rt, desk, player)).ok();
+    *time = time_since(rt, start);
+    clients
 }
 
 /// So many players enter a desk and run. Answers their clients, and tells the time in which the threads ran.
@@ -153,19 +136,20 @@ fn run_at<R: Clock + Threads + Wait + Sync>(
     desk: &Desk<NoPause>,
     mutexes: Mutexes,
     threads: u32,
-    time: &mut Duration,
+    time: &mut Option<Duration>,
 ) -> Option<Vec<Client>> {
     let mut players = Vec::new(alloc);
     match enter_all(rt, desk, mutexes, threads, &mut players) {
-        Some(()) => time_players(rt, desk, players, time),
+        Some(()) => play_all(rt, desk, players, time),
         None => None,
     }
 }
 
-/// How many entries the journal of a desk has, once it has settled with these clients. `None` if it doesn't settle.
-fn settled_entries(desk: Desk<NoPause>, clients: Vec<Client>) -> Option<usize> {
+/// A desk settles with these clients, whose threads ran for such a time: how many thousand entries its journal has for
+/// each second of it. `None` if it doesn't settle, or the time isn't known.
+fn settle(desk: Desk<NoPause>, clients: Vec<Client>, time: Option<Duration>) -> Option<u64> {
     match desk.into_room().settle(clients) {
-        Ok(book) => Some(book.entries.len()),
+        Ok(book) => thousands(book.entries.len() as u64, time),
         Err(_) => None,
     }
 }
@@ -176,24 +160,22 @@ fn measure_at<R: Clock + Threads + Wait + Sync + AllocGlobal>(
     desk: Desk<NoPause>,
     mutexes: Mutexes,
     threads: u32,
-) -> Option<u128> {
-    let mut time = Duration::ZERO;
+) -> Option<u64> {
+    let mut time = None;
     match run_at(rt, rt.alloc(), &desk, mutexes, threads, &mut time) {
-        Some(clients) => match settled_entries(desk, clients) {
-            Some(events) => Some(thousands(events, time)),
-            None => None,
-        },
+        Some(clients) => settle(desk, clients, time),
         None => None,
     }
 }
 
 /// So many threads lock and unlock mutexes at a desk, which then settles: how many thousand entries its journal has for
-/// each second in which the threads ran.
+/// each second in which the threads ran. `None` if memory is refused, a thread can't be started, the clock has a fault,
+/// or the desk doesn't settle.
 pub fn measure_desk<R: Clock + Threads + Wait + Sync + AllocGlobal>(
     rt: &R,
     mutexes: Mutexes,
     threads: u32,
-) -> Option<u128> {
+) -> Option<u64> {
     let limits = Limits::new(threads, threads.saturating_add(1), 0, 1)?;
     match Desk::new(rt.alloc(), limits, NoPause) {
         Ok(desk) => measure_at(rt, desk, mutexes, threads),

@@ -2,7 +2,7 @@ ghost use Rattle.std.specs.Prelude.{◌≡◌, ◌<◌, IfOk, Some, None, slice_
 ghost use Rattle.pif_nodes_model.specs.Table.{holder};
 ghost use Rattle.pif_bench.specs.Filling.{IsReady, IsFilled, IsEmptied, ChangesHolder, priority_of};
 
-use crate::moments::{each_since, now};
+use crate::moments::{now, picoseconds_each};
 use pif_nodes::{List, Node, NodeTable};
 use pif_plist::PList;
 use pif_types::NoMemory;
@@ -34,8 +34,8 @@ fn priority_of(priorities: Priorities, node: u32) -> u32
     }
 }
 
-/// Inserts and removes the nodes in one sorted list, again and again. Answers how many nanoseconds each took.
-pub fn nanoseconds_each(rt: &(impl Clock + AllocGlobal), priorities: Priorities) -> Option<u64> {
+/// Inserts and removes the nodes in one sorted list, again and again. Answers how many picoseconds each took.
+pub fn measure_lists(rt: &(impl Clock + AllocGlobal), priorities: Priorities) -> Option<u64> {
     let mut table = new_table(rt.alloc()).ok()?;
     time_rounds(rt, &mut table, priorities)
 }
@@ -45,12 +45,12 @@ fn time_rounds(rt: &impl Clock, table: &mut NodeTable, priorities: Priorities) -
     requires ready { IsReady table.old }
     requires empty { IsEmptied 1000 table.old }
 {
-    let start = now(rt)?;
+    let start = now(rt);
     for _round in 0..ROUNDS {
         insert_all(table, priorities);
         remove_all(table);
     }
-    each_since(rt, start, 2 * ROUNDS * NODES)
+    picoseconds_each(rt, start, 2 * ROUNDS * NODES)
 }
 
 /// A table of one list, which is empty.

@@ -1,88 +1,47 @@
 //! Figures of several rounds, and ratios of two of them.
-ghost use Rattle.std.specs.Prelude.{◌<◌};
-
 use std::fmt;
 
 /// How many rounds are measured.
 pub const ROUNDS: usize = 15;
 
 /// A figure of each round.
-#[derive(Clone, Copy)]
-pub struct Figures {
-    each: [u64; ROUNDS],
+pub type Figures = [u64; ROUNDS];
+
+/// These figures, the least first.
+fn sorted(figures: &Figures) -> Figures {
+    let mut sorted = *figures;
+    sorted.sort_unstable();
+    sorted
 }
 
-impl Figures {
-    /// No figure yet.
-    pub fn new() -> Figures {
-        Figures { each: [0; ROUNDS] }
-    }
-
-    /// Notes the figure of a round.
-    pub fn note(&mut self, round: usize, figure: u64)
-        requires { round < 15 }
-    {
-        self.each[round] = figure;
-    }
-
-    /// The median and the least.
-    pub fn median_and_least(&mut self) -> (u64, u64) {
-        self.each.sort_unstable();
-        (self.each[ROUNDS / 2], self.each[0])
-    }
-
-    /// The median.
-    pub fn median(&mut self) -> u64 {
-        self.median_and_least().0
-    }
+/// The median of these figures.
+pub fn median(figures: &Figures) -> u64 {
+    sorted(figures)[ROUNDS / 2]
 }
 
-/// The figures of the quick path and of what it is compared with, and the ratios of each round.
-#[derive(Clone, Copy)]
-pub struct Comparison {
-    quick: Figures,
-    other: Figures,
-    ratios: Figures,
-}
-
-impl Comparison {
-    /// No figures yet.
-    pub fn new() -> Comparison {
-        Comparison {
-            quick: Figures::new(),
-            other: Figures::new(),
-            ratios: Figures::new(),
-        }
-    }
-
-    /// Notes the figures of a round, and their ratio.
-    pub fn note(&mut self, round: usize, quick: u64, other: u64)
-        requires { round < 15 }
-    {
-        self.quick.note(round, quick);
-        self.other.note(round, other);
-        self.ratios.note(round, ratio(quick, other));
-    }
-
-    /// The medians, and the least of the ratios.
-    pub fn medians(&mut self) -> Medians {
-        let (ratio, least) = self.ratios.median_and_least();
-        Medians {
-            quick: self.quick.median(),
-            other: self.other.median(),
-            ratio: Hundredths(ratio),
-            least: Hundredths(least),
-        }
-    }
-}
-
-/// The medians of a comparison, and the least of its ratios.
+/// The medians of what the quick path and another way took, and of the ratios of each round, of which it has the least,
+/// too.
 #[derive(Clone, Copy)]
 pub struct Medians {
     pub quick: u64,
     pub other: u64,
     pub ratio: Hundredths,
     pub least: Hundredths,
+}
+
+/// Compares the figures of the quick path with those of another way.
+pub fn compare(quick: &Figures, other: &Figures) -> Medians {
+    let mut ratios = [0; ROUNDS];
+    for round in 0..ROUNDS {
+        ratios[round] = ratio(quick[round], other[round]);
+    }
+    let ratios = sorted(&ratios);
+    Medians {
+        quick: median(quick),
+        other: median(other),
+        ratio: Hundredths(ratios[ROUNDS / 2]),
+        least: Hundredths(ratios[0]),
+    }
 }
 
 /// A ratio in hundredths.

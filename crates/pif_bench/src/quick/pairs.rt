@@ -2,13 +2,12 @@
 ghost use Rattle.std.specs.Prelude.{◌≡◌, ◌<◌, All};
 ghost use Rattle.pif_quick.specs.Quick.{word_count, IsPassOf};
 
-use super::figures::{Comparison, Figures, Medians, ROUNDS};
-use crate::moments::{now, time_since};
+use super::figures::{Medians, ROUNDS, compare, median};
+use crate::moments::{now, picoseconds_each};
 use pif_quick::{Pass, Quick};
 use std::rt::Clock;
 use std::sync::atomic::{AtomicU64, Ordering};
 use std::sync::{Mutex, Wait};
-use std::time::Instant;
 
 /// How many pairs a round takes.
 const PAIRS: u32 = 100_000;
@@ -48,27 +47,11 @@ fn mutex_pairs<R: Wait>(rt: &R, mutex: &Mutex<u64>) {
     }
 }
 
-/// How many picoseconds a pair took since `start`.
-fn picoseconds(rt: &impl Clock, start: Instant) -> Option<u64> {
-    let picoseconds = time_since(rt, start)?.as_nanos() * 1000 / u128::from(PAIRS);
-    Some(u64::try_from(picoseconds).unwrap_or(u64::MAX))
-}
-
-/// What the ways other than the quick path work on, and the figures of all three.
-#[derive(Drop)]
-struct Ways {
-    word: AtomicU64,
-    value: u64,
-    mutex: Mutex<u64>,
-    to_bare: Comparison,
-    to_mutex: Comparison,
-}
-
 /// How many picoseconds a bare pair takes.
 fn time_bare(rt: &impl Clock, word: &AtomicU64, value: &mut u64) -> Option<u64> {
-    let start = now(rt)?;
+    let start = now(rt);
     bare_pairs(word, value);
-    picoseconds(rt, start)
+    picoseconds_each(rt, start, PAIRS)
 }
 
 /// How many picoseconds a pair of the quick path takes.
@@ -76,36 +59,16 @@ fn time_quick(rt: &impl Clock, quick: &Quick<u64>, pass: &mut Pass<u64>) -> Opti
     requires { IsPassOf quick.now pass.old × (0 < word_count quick.now) }
     ensures { IsPassOf quick.now pass.new }
 {
-    let start = now(rt)?;
+    let start = now(rt);
     quick_pairs(quick, pass);
-    picoseconds(rt, start)
+    picoseconds_each(rt, start, PAIRS)
 }
 
 /// How many picoseconds a pair of std's `Mutex` takes.
 fn time_mutex<R: Clock + Wait>(rt: &R, mutex: &Mutex<u64>) -> Option<u64> {
-    let start = now(rt)?;
+    let start = now(rt);
     mutex_pairs(rt, mutex);
-    picoseconds(rt, start)
-}
-
-/// Measures the three ways in turn, and notes what a pair took in each.
-fn time_ways<R: Clock + Wait>(
-    rt: &R,
-    quick: &Quick<u64>,
-    pass: &mut Pass<u64>,
-    ways: &mut Ways,
-    round: usize,
-) -> Option<()>
-    requires pass { IsPassOf quick.now pass.old × (0 < word_count quick.now) }
-    requires round { round < 15 }
-    ensures { IsPassOf quick.now pass.new }
-{
-    let bare = time_bare(rt, &ways.word, &mut ways.value)?;
-    let tried = time_quick(rt, quick, pass)?;
-    let mutex = time_mutex(rt, &ways.mutex)?;
-    ways.to_bare.note(round, tried, bare);
-    ways.to_mutex.note(round, tried, mutex);
-    Some(())
+    picoseconds_each(rt, start, PAIRS)
 }
 
 /// Pairs of bare compare-exchanges: the median of what one takes in picoseconds, and what all of them added.
@@ -117,14 +80,14 @@ pub struct BarePairs {
 
 /// Measures pairs of bare compare-exchanges. `None` if the clock has a fault.
 pub fn measure_bare(rt: &impl Clock) -> Option<BarePairs> {
-    let mut bare = Figures::new();
     let word = AtomicU64::new(0);
     let mut added = 0u64;
+    let mut bare = [0; ROUNDS];
     for round in 0..ROUNDS {
-        bare.note(round, time_bare(rt, &word, &mut added)?);
+        bare[round] = time_bare(rt, &word, &mut added)?;
     }
     Some(BarePairs {
-        pair: bare.median(),
+        pair: median(&bare),
         added,
     })
 }
@@ -164,31 +127,17 @@ fn measure_last<R: Clock + Wait>(
 fn measure_by<R: Clock + Wait>(rt: &R, quick: &Quick<u64>, pass: &mut Pass<u64>) -> Option<Pairs>
     requires { IsPassOf quick.now pass.old × (0 < word_count quick.now) }
 {
-    let mut ways = Ways {
-        word: AtomicU64::new(0),
-        value: 0,
-        mutex: Mutex::new(0),
-        to_bare: Comparison::new(),
-        to_mutex: Comparison::new(),
-    };
-    measure_rounds(rt, quick, pass, &mut ways)
-}
-
-/// Measures all rounds of these ways.
-fn measure_rounds<R: Clock + Wait>(
-    rt: &R,
-    quick: &Quick<u64>,
-    pass: &mut Pass<u64>,
-    ways: &mut Ways,
-) -> Option<Pairs>
-    requires { IsPassOf quick.now pass.old × (0 < word_count quick.now) }
-{
+    let (word, mutex) = (AtomicU64::new(0), Mutex::new(0));
+    let mut added = 0u64;
+    let [mut bare, mut tried, mut locked] = [[0; ROUNDS]; 3];
     for round in 0..ROUNDS {
-        time_ways(rt, quick, pass, ways, round)?;
+        bare[round] = time_bare(rt, &word, &mut added)?;
+        tried[round] = time_quick(rt, quick, pass)?;
+        locked[round] = time_mutex(rt, &mutex)?;
     }
     Some(Pairs {
-        to_bare: ways.to_bare.medians(),
-        to_mutex: ways.to_mutex.medians(),
-        added: ways.value,
+        to_bare: compare(&tried, &bare),
+        to_mutex: compare(&tried, &locked),
+        added,
     })
 }

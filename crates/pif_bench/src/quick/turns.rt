@@ -2,8 +2,8 @@
 ghost use Rattle.std.specs.Prelude.{◌≡◌, ◌<◌, ◌≤◌, All};
 ghost use Rattle.pif_quick.specs.Quick.{word_count, IsPassOf};
 
-use super::figures::{Comparison, Medians, ROUNDS};
-use crate::moments::{now, time_since};
+use super::figures::{Medians, ROUNDS, compare};
+use crate::moments::{now, thousands, time_since};
 use pif_quick::{Pass, Quick};
 use std::alloc::{AllocError, Global};
 use std::rt::Clock;
@@ -47,29 +47,6 @@ impl Words {
     }
 }
 
-/// How many threads take turns.
-#[derive(Clone, Copy)]
-pub enum Team {
-    Two,
-    Four,
-    Eight,
-    Sixteen,
-}
-
-impl Team {
-    /// Their number.
-    pub fn size(self) -> u32
-        ensures { (1 ≤ result) × (result ≤ 64) }
-    {
-        match self {
-            Team::Two => 2,
-            Team::Four => 4,
-            Team::Eight => 8,
-            Team::Sixteen => 16,
-        }
-    }
-}
-
 /// A mutex on a line of its own.
 #[derive(Drop)]
 struct Apart {
@@ -97,16 +74,27 @@ fn mutex_turns<R: Wait>(rt: &R, apart: &Apart) {
     }
 }
 
-/// Each pass takes its turns in a thread of its own. False if memory is refused or a thread can't be started.
-fn quick_run<R: Threads + Wait + Sync>(
+/// How many thousand turns a second so many threads took together since a moment, if they ran.
+fn turns_since(rt: &impl Clock, start: Option<Instant>, threads: u32, ran: bool) -> Option<u64> {
+    if !ran {
+        return None;
+    }
+    thousands(u64::from(threads) * u64::from(TURNS), time_since(rt, start))
+}
+
+/// Each pass takes its turns by the quick path, in a thread of its own: how many thousand they took a second. `None` if
+/// memory is refused, a thread can't be started, or the clock has a fault.
+fn time_quick<R: Clock + Threads + Wait + Sync>(
     rt: &R,
     quick: &Quick<u64>,
     passes: Vec<Pass<u64>>,
     words: Words,
-) -> bool
+    threads: u32,
+) -> Option<u64>
     requires { All (IsPassOf quick.now) passes.items × (4 ≤ word_count quick.now) }
 {
-    thread::map_vec(
+    let start = now(rt);
+    let ran = thread::map_vec(
         rt,
         passes,
         &|pass|
@@ -117,40 +105,21 @@ fn quick_run<R: Threads + Wait + Sync>(
             quick_turns(rt, quick, &mut pass, m);
         },
     )
-    .is_ok()
+    .is_ok();
+    turns_since(rt, start, threads, ran)
 }
 
-/// So many threads take their turns. False if memory is refused or a thread can't be started.
-fn mutex_run<R: Threads + Wait + Sync>(
+/// So many threads, 1 to 64, take their turns by the quick path: how many thousand they took a second.
+fn quick_round<R: Clock + Threads + Wait + Sync + AllocGlobal>(
     rt: &R,
-    alloc: Global,
-    mutexes: &[Apart],
-    threads: u32,
     words: Words,
-) -> bool {
-    thread::map_indices(
-        rt,
-        alloc,
-        threads as usize,
-        &|thread| {
-            if let Some(apart) = mutexes.get(words.of(thread)) {
-                mutex_turns(rt, apart);
-            }
-        },
-    )
-    .is_ok()
-}
-
-/// How many thousand turns a second so many threads took together since `start`.
-fn per_second(rt: &impl Clock, threads: u32, start: Instant) -> Option<u64>
-    requires { threads ≤ 64 }
-{
-    let microseconds = time_since(rt, start)?.as_micros();
-    if microseconds == 0 {
-        return Some(0);
+    threads: u32,
+) -> Option<u64> {
+    let values = [0u64; WORDS].to_vec(rt.alloc()).ok()?;
+    match Quick::open(rt.alloc(), values, threads.clamp(1, 64)) {
+        Ok((quick, passes)) => time_quick(rt, &quick, passes, words, threads),
+        Err(_) => None,
     }
-    let thousands = u128::from(threads) * u128::from(TURNS) * 1000 / microseconds;
-    Some(u64::try_from(thousands).unwrap_or(u64::MAX))
 }
 
 /// The mutexes, each 0.
@@ -165,84 +134,53 @@ fn mutexes(alloc: Global) -> Result<Vec<Apart>, AllocError> {
     Ok(mutexes)
 }
 
-/// The turns of these passes, in so many threads, by the quick path: how many thousand a second.
-fn time_quick<R: Clock + Threads + Wait + Sync>(
+/// So many threads take their turns by these mutexes: how many thousand they took a second. `None` if memory is
+/// refused, a thread can't be started, or the clock has a fault.
+fn time_mutexes<R: Clock + Threads + Wait + Sync>(
     rt: &R,
-    quick: &Quick<u64>,
-    passes: Vec<Pass<u64>>,
-    words: Words,
-    threads: u32,
-) -> Option<u64>
-    requires passes { All (IsPassOf quick.now) passes.items × (4 ≤ word_count quick.now) }
-    requires threads { threads ≤ 64 }
-{
-    let start = now(rt)?;
-    if quick_run(rt, quick, passes, words) {
-        per_second(rt, threads, start)
-    } else {
-        None
-    }
-}
-
-/// The turns of so many threads by the quick path: how many thousand a second.
-fn quick_round<R: Clock + Threads + Wait + Sync + AllocGlobal>(
-    rt: &R,
-    words: Words,
-    threads: u32,
-) -> Option<u64>
-    requires { (1 ≤ threads) × (threads ≤ 64) }
-{
-    let values = [0u64; WORDS].to_vec(rt.alloc()).ok()?;
-    match Quick::open(rt.alloc(), values, threads) {
-        Ok((quick, passes)) => time_quick(rt, &quick, passes, words, threads),
-        Err(_) => None,
-    }
-}
-
-/// The turns of so many threads by these mutexes: how many thousand a second.
-fn time_mutexes<R: Clock + Threads + Wait + Sync + AllocGlobal>(
-    rt: &R,
+    alloc: Global,
     mutexes: &[Apart],
     words: Words,
     threads: u32,
-) -> Option<u64>
-    requires { threads ≤ 64 }
-{
-    let start = now(rt)?;
-    if mutex_run(rt, rt.alloc(), mutexes, threads, words) {
-        per_second(rt, threads, start)
-    } else {
-        None
-    }
+) -> Option<u64> {
+    let start = now(rt);
+    let ran = thread::map_indices(
+        rt,
+        alloc,
+        threads as usize,
+        &|thread| {
+            if let Some(apart) = mutexes.get(words.of(thread)) {
+                mutex_turns(rt, apart);
+            }
+        },
+    )
+    .is_ok();
+    turns_since(rt, start, threads, ran)
 }
 
-/// The turns of so many threads by std's `Mutex`: how many thousand a second.
+/// So many threads take their turns by std's `Mutex`: how many thousand they took a second.
 fn mutex_round<R: Clock + Threads + Wait + Sync + AllocGlobal>(
     rt: &R,
     words: Words,
     threads: u32,
-) -> Option<u64>
-    requires { threads ≤ 64 }
-{
+) -> Option<u64> {
     match mutexes(rt.alloc()) {
-        Ok(mutexes) => time_mutexes(rt, mutexes.as_slice(), words, threads),
+        Ok(mutexes) => time_mutexes(rt, rt.alloc(), mutexes.as_slice(), words, threads),
         Err(_) => None,
     }
 }
 
-/// Measures the turns of some threads by the quick path and by std's `Mutex`, in turn. `None` if memory is refused, a
-/// thread can't be started, or the clock has a fault.
+/// Measures the turns of so many threads, 1 to 64, by the quick path and by std's `Mutex`, in turn. `None` if memory is
+/// refused, a thread can't be started, or the clock has a fault.
 pub fn measure_turns<R: Clock + Threads + Wait + Sync + AllocGlobal>(
     rt: &R,
     words: Words,
-    team: Team,
+    threads: u32,
 ) -> Option<Medians> {
-    let threads = team.size();
-    let mut figures = Comparison::new();
+    let [mut tried, mut locked] = [[0; ROUNDS]; 2];
     for round in 0..ROUNDS {
-        let tried = quick_round(rt, words, threads)?;
-        let locked = mutex_round(rt, words, threads)?;
-        figures.note(round, tried, locked);
+        tried[round] = quick_round(rt, words, threads)?;
+        locked[round] = mutex_round(rt, words, threads)?;
     }
-    Some(figures.medians())
+    Some(compare(&tried, &locked))
 }
