@@ -10,9 +10,9 @@ use crate::printed;
 use anyhow::{Error, Result, anyhow};
 use course::Course;
 use parts::{PAIRS, run_desk};
-use pif_desk::{Book, DeskFault};
+use pif_desk::DeskFault;
 use showing::{Moment, Shown, shown_by};
-use std::alloc::{AllocError, Global};
+use std::alloc::Global;
 use std::io;
 use std::sync::Wait;
 use std::thread::Threads;
@@ -28,10 +28,8 @@ pub const PRIORITIES: [u32; 3] = [10, 50, 90];
 pub enum Failure {
     /// The limits of the desk are out of range.
     Limits,
-    /// A call on the desk was not done, or its memory was refused.
+    /// A call on the desk was not done, or memory was refused.
     Desk(DeskFault),
-    /// Memory for a list was refused.
-    Memory(AllocError),
     /// A thread can't be started.
     Start,
     /// A thread met a fault.
@@ -45,15 +43,15 @@ pub enum Failure {
 impl Failure {
     /// The error with which the program ends.
     fn error(self) -> Error {
-        match self {
-            Failure::Limits => anyhow!("these limits are out of range"),
-            Failure::Desk(fault) => Error::from(fault),
-            Failure::Memory(fault) => Error::from(fault),
-            Failure::Start => anyhow!("a thread cannot be started"),
-            Failure::Thread(fault) => anyhow!("a thread met a fault: {fault}"),
-            Failure::Unsettled => anyhow!("the desk does not settle with its clients"),
-            Failure::Differs => anyhow!("a core answers otherwise than the journal"),
-        }
+        let why = match self {
+            Failure::Desk(fault) => return Error::from(fault),
+            Failure::Thread(fault) => return anyhow!("a thread met a fault: {fault}"),
+            Failure::Limits => "these limits are out of range",
+            Failure::Start => "a thread cannot be started",
+            Failure::Unsettled => "the desk does not settle with its clients",
+            Failure::Differs => "a core answers otherwise than the journal",
+        };
+        anyhow!("{why}")
     }
 }
 
@@ -73,51 +71,33 @@ fn print_moment<R: Print>(rt: &R, name: &str, moment: &Moment) -> io::Result<()>
 }
 
 /// Prints what is shown of all moments, and how many calls were answered.
-fn print_all<R: Print>(rt: &R, told: &Told) -> io::Result<()> {
-    print_moment(rt, "low locks", &told.shown.locks)?;
-    print_moment(rt, "high waits", &told.shown.waits)?;
-    print_moment(rt, "low unlocks", &told.shown.unlocks)?;
-    let answered = told.answered;
+fn print_all<R: Print>(rt: &R, shown: &Shown) -> io::Result<()> {
+    let moments = [
+        ("low locks", shown.locks),
+        ("high waits", shown.waits),
+        ("low unlocks", shown.unlocks),
+    ];
+    for (name, moment) in &moments {
+        print_moment(rt, name, moment)?;
+    }
+    let answered = shown.answered;
     println!(rt; "{answered} calls answered, as the journal has them")
 }
 
-/// What a book shows, and how many calls were answered.
-#[derive(Clone, Copy)]
-struct Told {
-    shown: Shown,
-    answered: u64,
-}
-
-/// What this book shows.
-fn told_by(alloc: Global, book: &Book) -> Result<Told, Failure> {
-    let shown = shown_by(alloc, book)?;
-    Ok(Told {
-        shown,
-        answered: book.answered,
-    })
-}
-
 /// Runs the threads. Answers what their book shows.
-fn run<R: Threads + Wait + Sync>(rt: &R, alloc: Global) -> Result<Told, Failure> {
+fn run<R: Threads + Wait + Sync>(rt: &R, alloc: Global) -> Result<Shown, Failure> {
     let course = Course::new();
     match run_desk(rt, alloc, &course) {
-        Ok(book) => told_by(alloc, &book),
+        Ok(book) => shown_by(alloc, &book),
         Err(failure) => Err(failure),
-    }
-}
-
-/// Runs the threads, and prints what their book shows.
-fn show_run<R: Threads + Wait + Sync + Print>(rt: &R, alloc: Global) -> Result<()> {
-    match run(rt, alloc) {
-        Ok(told) => printed(print_all(rt, &told)),
-        Err(failure) => Err(failure.error()),
     }
 }
 
 /// Prints what is to be run, runs the threads, and prints what their book shows.
 pub fn show<R: Threads + Wait + Sync + Print>(rt: &R, alloc: Global) -> Result<()> {
-    match print_head(rt) {
-        Ok(()) => show_run(rt, alloc),
-        Err(error) => Err(Error::from(error)),
+    print_head(rt)?;
+    match run(rt, alloc) {
+        Ok(shown) => printed(print_all(rt, &shown)),
+        Err(failure) => Err(failure.error()),
     }
 }

@@ -49,29 +49,25 @@ impl Course {
         }
     }
 
-    /// Low has got the mutex once more.
-    pub fn hold(&self) {
+    /// Low waits until middle and high have done all rounds before this one, and they wait until low holds the mutex in
+    /// it; false if the threads are to end.
+    pub fn begins<R: Wait>(&self, rt: &R, low: bool, round: u32) -> bool {
+        if low {
+            self.comes_to(rt, &self.done, 2 * u64::from(round))
+        } else {
+            self.comes_to(rt, &self.held, u64::from(round) + 1)
+        }
+    }
+
+    /// Low has got the mutex in this round, and waits until high waits for it, or the threads are to end.
+    pub fn hold<R: Wait>(&self, rt: &R, round: u32) {
         self.held.fetch_add(1, Ordering::SeqCst);
+        self.comes_to(rt, &self.waited, u64::from(round) + 1);
     }
 
     /// Middle or high has done its part of a round.
     pub fn end_part(&self) {
         self.done.fetch_add(1, Ordering::SeqCst);
-    }
-
-    /// Waits until low holds the mutex in this round; false if the threads are to end.
-    pub fn is_held<R: Wait>(&self, rt: &R, round: u32) -> bool {
-        self.comes_to(rt, &self.held, u64::from(round) + 1)
-    }
-
-    /// Waits until high waits in this round; false if the threads are to end.
-    pub fn is_waited_for<R: Wait>(&self, rt: &R, round: u32) -> bool {
-        self.comes_to(rt, &self.waited, u64::from(round) + 1)
-    }
-
-    /// Waits until middle and high have done all rounds before this one; false if the threads are to end.
-    pub fn is_ready<R: Wait>(&self, rt: &R, round: u32) -> bool {
-        self.comes_to(rt, &self.done, 2 * u64::from(round))
     }
 
     /// Waits until a counter has come so far; false if the threads are to end.

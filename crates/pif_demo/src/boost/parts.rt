@@ -2,7 +2,7 @@ use super::course::{Course, Watch};
 use super::{Failure, PRIORITIES, ROUNDS};
 use pif_desk::{Book, Client, Desk, DeskFault};
 use pif_types::{Kind, Limits, MutexId, Request};
-use std::alloc::{AllocError, Global};
+use std::alloc::Global;
 use std::sync::Wait;
 use std::thread;
 use std::thread::Threads;
@@ -26,56 +26,48 @@ fn make<R: Wait>(
     }
 }
 
-/// Low's part: it holds the mutex until high waits for it.
-fn play_low<R: Wait>(
+/// What a thread does in each round: it locks and unlocks a mutex so many times. Low holds it until high waits for it.
+#[derive(Clone, Copy)]
+struct Part {
+    low: bool,
+    mutex: MutexId,
+    pairs: u32,
+}
+
+/// Locks the mutex of a part and unlocks it.
+fn make_pair<R: Wait>(
     rt: &R,
     course: &Course,
     desk: &Desk<Watch<'_>>,
     client: &mut Client,
-    mutex: MutexId,
+    part: &Part,
+    round: u32,
 ) -> Result<(), DeskFault> {
-    for round in 0..ROUNDS {
-        if !course.is_ready(rt, round) {
-            break;
-        }
-        make(rt, desk, client, Request::Lock(mutex))?;
-        course.hold();
-        course.is_waited_for(rt, round);
-        make(rt, desk, client, Request::Unlock(mutex))?;
+    make(rt, desk, client, Request::Lock(part.mutex))?;
+    if part.low {
+        course.hold(rt, round);
     }
-    Ok(())
+    make(rt, desk, client, Request::Unlock(part.mutex))
 }
 
-/// Locks and unlocks a mutex so many times.
-fn make_pairs<R: Wait>(
-    rt: &R,
-    desk: &Desk<Watch<'_>>,
-    client: &mut Client,
-    mutex: MutexId,
-    pairs: u32,
-) -> Result<(), DeskFault> {
-    for _pair in 0..pairs {
-        make(rt, desk, client, Request::Lock(mutex))?;
-        make(rt, desk, client, Request::Unlock(mutex))?;
-    }
-    Ok(())
-}
-
-/// The part of middle and high: so many pairs in each round, while low holds its mutex.
-fn play_pairs<R: Wait>(
+/// Plays a part in all rounds, or until the threads are to end.
+fn play_part<R: Wait>(
     rt: &R,
     course: &Course,
     desk: &Desk<Watch<'_>>,
     client: &mut Client,
-    mutex: MutexId,
-    pairs: u32,
+    part: &Part,
 ) -> Result<(), DeskFault> {
     for round in 0..ROUNDS {
-        if !course.is_held(rt, round) {
+        if !course.begins(rt, part.low, round) {
             break;
         }
-        make_pairs(rt, desk, client, mutex, pairs)?;
-        course.end_part();
+        for _pair in 0..part.pairs {
+            make_pair(rt, course, desk, client, part, round)?;
+        }
+        if !part.low {
+            course.end_part();
+        }
     }
     Ok(())
 }
@@ -97,22 +89,20 @@ struct Mutexes {
     own: MutexId,
 }
 
-/// Plays the part of the thread with this number: low is 1, middle 2, and high 3.
-fn play_part<R: Wait>(
-    rt: &R,
-    course: &Course,
-    desk: &Desk<Watch<'_>>,
-    client: &mut Client,
-    mutexes: &Mutexes,
-) -> Result<(), DeskFault> {
-    match client.thread().get() {
-        1 => play_low(rt, course, desk, client, mutexes.shared),
-        2 => play_pairs(rt, course, desk, client, mutexes.own, PAIRS),
-        _ => play_pairs(rt, course, desk, client, mutexes.shared, 1),
+/// The part of the thread with this number: low is 1, middle 2, and high 3.
+fn part_of(thread: u32, mutexes: &Mutexes) -> Part {
+    let (mutex, pairs) = match thread {
+        2 => (mutexes.own, PAIRS),
+        _ => (mutexes.shared, 1),
+    };
+    Part {
+        low: thread == 1,
+        mutex,
+        pairs,
     }
 }
 
-/// Plays a part to its end. If it meets a fault, its thread ends, and all are to end.
+/// Plays the part of a client to its end. If it meets a fault, its thread ends, and all are to end.
 fn play<R: Wait>(
     rt: &R,
     course: &Course,
@@ -120,7 +110,8 @@ fn play<R: Wait>(
     client: &mut Client,
     mutexes: &Mutexes,
 ) {
-    if let Err(fault) = play_part(rt, course, desk, client, mutexes) {
+    let part = part_of(client.thread().get(), mutexes);
+    if let Err(fault) = play_part(rt, course, desk, client, &part) {
         leave(rt, desk, client);
         course.fail(rt, Failure::Thread(fault));
     }
@@ -147,52 +138,34 @@ fn play_all<R: Threads + Wait + Sync>(
     });
 }
 
-/// A mutex of the desk.
-fn make_mutex<R: Wait>(rt: &R, desk: &Desk<Watch<'_>>) -> Result<MutexId, Failure> {
-    match desk.make_mutex(rt, Kind::ErrorCheck, true) {
-        Ok(mutex) => Ok(mutex),
-        Err(fault) => Err(Failure::Desk(fault)),
-    }
-}
-
-/// The mutexes of the desk.
-fn make_mutexes<R: Wait>(rt: &R, desk: &Desk<Watch<'_>>) -> Result<Mutexes, Failure> {
-    let shared = make_mutex(rt, desk)?;
-    let own = make_mutex(rt, desk)?;
-    Ok(Mutexes { shared, own })
-}
-
-/// Adds a client to the others.
-fn add(clients: &mut Vec<Client>, client: Client) -> Result<(), Failure> {
-    match clients.push(client) {
-        Ok(()) => Ok(()),
-        Err(fault) => Err(Failure::Memory(AllocError::from(fault))),
-    }
-}
-
-/// A client enters the desk with this priority.
+/// A client enters the desk with this priority, behind the others.
 fn enter_one<R: Wait>(
     rt: &R,
     desk: &Desk<Watch<'_>>,
     prio: u32,
     clients: &mut Vec<Client>,
-) -> Result<(), Failure> {
+) -> Result<(), DeskFault> {
     match desk.enter(rt, prio) {
-        Ok(client) => add(clients, client),
-        Err(fault) => Err(Failure::Desk(fault)),
+        Ok(client) => match clients.push(client) {
+            Ok(()) => Ok(()),
+            Err(_) => Err(DeskFault::NoMemory),
+        },
+        Err(fault) => Err(fault),
     }
 }
 
-/// Low, middle and high enter the desk.
+/// Low, middle and high enter the desk, and it gets their mutexes.
 fn enter_all<R: Wait>(
     rt: &R,
     desk: &Desk<Watch<'_>>,
     clients: &mut Vec<Client>,
-) -> Result<(), Failure> {
+) -> Result<Mutexes, DeskFault> {
     for prio in PRIORITIES {
         enter_one(rt, desk, prio, clients)?;
     }
-    Ok(())
+    let shared = desk.make_mutex(rt, Kind::ErrorCheck, true)?;
+    let own = desk.make_mutex(rt, Kind::ErrorCheck, true)?;
+    Ok(Mutexes { shared, own })
 }
 
 /// Three clients enter a desk and play all rounds.
@@ -202,10 +175,13 @@ fn play_at<R: Threads + Wait + Sync>(
     desk: &Desk<Watch<'_>>,
     clients: &mut Vec<Client>,
 ) -> Result<(), Failure> {
-    let mutexes = make_mutexes(rt, desk)?;
-    enter_all(rt, desk, clients)?;
-    play_all(rt, course, desk, clients.as_mut_slice(), &mutexes);
-    course.outcome(rt)
+    match enter_all(rt, desk, clients) {
+        Ok(mutexes) => {
+            play_all(rt, course, desk, clients.as_mut_slice(), &mutexes);
+            course.outcome(rt)
+        }
+        Err(fault) => Err(Failure::Desk(fault)),
+    }
 }
 
 /// A desk settles with its clients.

@@ -20,17 +20,15 @@ pub struct Moment {
     pub same: u32,
 }
 
-impl Moment {
-    /// A moment that has not come.
-    fn new() -> Moment {
-        Moment {
-            low: 0,
-            next: 0,
-            came: 0,
-            same: 0,
-        }
-    }
+/// A moment that has not come.
+const NOT_COME: Moment = Moment {
+    low: 0,
+    next: 0,
+    came: 0,
+    same: 0,
+};
 
+impl Moment {
     /// It has come, and this was shown.
     fn note(&mut self, low: u32, next: u32) {
         if self.came == 0 {
@@ -62,71 +60,34 @@ pub struct Shown {
     pub unlocks: Moment,
     /// Whether the call that low has open unlocks.
     is_unlocking: bool,
+    /// How many calls were answered.
+    pub answered: u64,
 }
 
 impl Shown {
-    /// Nothing was shown.
-    fn new() -> Shown {
-        Shown {
-            locks: Moment::new(),
-            waits: Moment::new(),
-            unlocks: Moment::new(),
-            is_unlocking: false,
-        }
-    }
-
-    /// A call has begun.
-    fn begin(&mut self, event: &Event) {
-        if let Event::Begin(thread, request) = event {
-            if thread.get() == LOW {
-                self.is_unlocking = is_unlock(request);
-            }
-        }
-    }
-
-    /// A call was answered by 0, and this is shown behind it.
-    fn answer(&mut self, event: &Event, low: u32, next: u32) {
-        if !is_step_of_low(event) {
-            return;
-        }
-        if self.is_unlocking {
-            self.unlocks.note(low, next);
-        } else {
-            self.locks.note(low, next);
-        }
-    }
-
     /// Notes what is shown behind an event that was answered so: with which priority low runs, and which thread is to
-    /// run next. Only high ever waits.
+    /// run next. Only high ever waits. A call of low is answered by 0 if it has locked or unlocked the mutex.
     fn note(&mut self, event: &Event, seen: &Seen, low: u32, next: u32) {
-        match seen {
-            Seen::Begun => self.begin(event),
-            Seen::Waits => self.waits.note(low, next),
-            Seen::Answered(0) => self.answer(event, low, next),
+        match (event, seen) {
+            (_, Seen::Waits) => self.waits.note(low, next),
+            (Event::Begin(thread, request), Seen::Begun) if thread.get() == LOW => {
+                self.is_unlocking = matches!(request, Request::Unlock(_));
+            }
+            (Event::Go(thread), Seen::Answered(0)) if thread.get() == LOW => {
+                if self.is_unlocking {
+                    self.unlocks.note(low, next);
+                } else {
+                    self.locks.note(low, next);
+                }
+            }
             _ => {}
         }
     }
 }
 
-/// Whether a call unlocks.
-fn is_unlock(request: &Request) -> bool {
-    match request {
-        Request::Unlock(_) => true,
-        _ => false,
-    }
-}
-
-/// Whether an event is a step of low.
-fn is_step_of_low(event: &Event) -> bool {
-    match event {
-        Event::Go(thread) => thread.get() == LOW,
-        _ => false,
-    }
-}
-
-/// The priority with which low runs; 0 if there is none.
-fn level_of(core: &Core, low: Tid) -> u32 {
-    match core.effective(low) {
+/// The priority with which low, the first thread, runs; 0 if there is none.
+fn level_of(core: &Core) -> u32 {
+    match core.effective(Tid::default()) {
         Some(prio) => prio.get(),
         None => 0,
     }
@@ -146,46 +107,49 @@ fn answers(core: &mut Core, event: &Event, seen: &Seen) -> bool {
 }
 
 /// The core makes this event, and what it then shows is noted. False if it answers otherwise.
-fn show_step(core: &mut Core, event: &Event, seen: &Seen, low: Tid, shown: &mut Shown) -> bool {
+fn show_step(core: &mut Core, event: &Event, seen: &Seen, shown: &mut Shown) -> bool {
     let same = answers(core, event, seen);
-    shown.note(event, seen, level_of(core, low), next_of(core));
+    shown.note(event, seen, level_of(core), next_of(core));
     same
 }
 
 /// The core does an entry of a journal again. False if it answers otherwise.
-fn show_entry(core: &mut Core, entry: &Entry, low: Tid, shown: &mut Shown) -> bool {
+fn show_entry(core: &mut Core, entry: &Entry, shown: &mut Shown) -> bool {
     match entry {
         Entry::Thread(thread, prio) => core.add_thread(prio.get()) == Ok(*thread),
         Entry::Mutex(mutex, kind, robust) => core.add_mutex(*kind, *robust) == Ok(*mutex),
         Entry::Cond(variable, mutex) => core.add_cond(*mutex) == Ok(*variable),
-        Entry::Step(event, seen) => show_step(core, event, seen, low, shown),
+        Entry::Step(event, seen) => show_step(core, event, seen, shown),
     }
 }
 
-/// What a core shows that does these entries again.
-fn show_entries(core: &mut Core, entries: &[Entry], shown: &mut Shown) -> Option<()> {
-    let low = Tid::new(LOW)?;
+/// Notes what this core shows, which does these entries again. False if it answers otherwise.
+fn show_entries(core: &mut Core, entries: &[Entry], shown: &mut Shown) -> bool {
     for entry in entries {
-        if !show_entry(core, entry, low, shown) {
-            return None;
+        if !show_entry(core, entry, shown) {
+            return false;
         }
     }
-    Some(())
+    true
 }
 
-/// What this core shows, once it has done these entries again.
-fn shown_in(core: &mut Core, entries: &[Entry]) -> Result<Shown, Failure> {
-    let mut shown = Shown::new();
-    match show_entries(core, entries, &mut shown) {
-        Some(()) => Ok(shown),
-        None => Err(Failure::Differs),
-    }
-}
-
-/// What a core shows that does the entries of a book again.
+/// What a core shows that does the entries of a book again, and how many calls were answered.
 pub fn shown_by(alloc: Global, book: &Book) -> Result<Shown, Failure> {
+    let mut shown = Shown {
+        locks: NOT_COME,
+        waits: NOT_COME,
+        unlocks: NOT_COME,
+        is_unlocking: false,
+        answered: book.answered,
+    };
     match Core::new(alloc, book.limits) {
-        Ok(mut core) => shown_in(&mut core, book.entries.as_slice()),
+        Ok(mut core) => {
+            if show_entries(&mut core, book.entries.as_slice(), &mut shown) {
+                Ok(shown)
+            } else {
+                Err(Failure::Differs)
+            }
+        }
         Err(_) => Err(Failure::Desk(DeskFault::NoMemory)),
     }
 }
