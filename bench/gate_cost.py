@@ -32,6 +32,10 @@ PARTS = ("proof", "tests", "edits")
 MEASURED = re.compile(r"(\w+) (proof|tests|edits): ([0-9.]+) s$")
 # The names that crates had before they were named by layers; several were merged into one.
 RENAMED = {
+    "pif_posix_model": ["pif_posix_model", "pif_alike_model", "pif_independence_model"],
+    "pif_history_model": ["pif_history_model", "pif_allow_model"],
+    "pif_reduction_model": ["pif_known_model", "pif_wakeups_model", "pif_lazy_model"],
+    "pif_explore_model": ["pif_explore_model", "pif_explore_reduced_model", "pif_explore_uses_model"],
     "pif_model_lemmas": ["pif_chains"],
     "pif_model_simulation": ["pif_simulation", "pif_calls"],
     "pif_nodes_model": ["pif_lists"],

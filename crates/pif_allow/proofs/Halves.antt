@@ -5,7 +5,7 @@ use Rattle.std.proofs.lemmas.List.Elements.{All-take, All-drop}
 use Rattle.pif_types.specs.Bounds.{Bounds}
 use Rattle.pif_rules_model.specs.declared.rules.Rules.{Rules}
 use Rattle.pif_history_model.specs.declared.labels.Label.{Label}
-use Rattle.pif_allow_model.specs.Allowed.{WideConfiguration, WideAdvances}
+use Rattle.pif_history_model.specs.Allowed.{WideConfiguration, WideAdvances}
 
 pub halves : (r : Rules) (l : Bounds) (s : WideConfiguration) (x : Label) (all first rest : List WideConfiguration) (n : ℕ)
     → first ≡ take n all → rest ≡ drop n all → All (λ t. WideAdvances r l s x t) all

@@ -27,9 +27,9 @@ use Rattle.pif_history_lines.specs.declared.verdicts.Verdict.TheVariants.{Legal,
 use Rattle.pif_history_lines.specs.Verdicts.{IsVerdictOf, verdict_from}
 use Rattle.pif_history_model.specs.Numbers.{numbers_in, up_to}
 use Rattle.pif_history_model.proofs.Numbers.{kept, just_kept, answers_rise, in_up_to, up_to-rises}
-use Rattle.pif_allow_model.specs.Allowed.{WideConfiguration, WideAdvances, wide_start_of, IsShownWith}
-use Rattle.pif_allow_model.specs.Verdicts.{IsLegalWith, IsIllegalWith, ArePossibleAnswersWith, ArePossiblePrioritiesWith}
-use Rattle.pif_allow_model.proofs.Widening.{runs_widely, shown_widely, shown_plainly}
+use Rattle.pif_history_model.specs.Allowed.{WideConfiguration, WideAdvances, wide_start_of, IsShownWith}
+use Rattle.pif_history_model.specs.AllowedVerdicts.{IsLegalWith, IsIllegalWith, ArePossibleAnswersWith, ArePossiblePrioritiesWith}
+use Rattle.pif_history_model.proofs.Widening.{runs_widely, shown_widely, shown_plainly}
 use Rattle.pif_allow.specs.Verdicts.{IsVerdictWith}
 
 labels-reverse : (lines : List Line) → reverse (labels_of lines) ≡ labels_of (reverse lines)

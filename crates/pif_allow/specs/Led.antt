@@ -3,7 +3,7 @@ use Rattle.std.specs.Prelude.{All}
 use Rattle.pif_types.specs.Bounds.{Bounds}
 use Rattle.pif_rules_model.specs.declared.rules.Rules.{Rules}
 use Rattle.pif_history_model.specs.declared.labels.Label.{Label}
-use Rattle.pif_allow_model.specs.Allowed.{WideConfiguration, WideAdvances}
+use Rattle.pif_history_model.specs.Allowed.{WideConfiguration, WideAdvances}
 use Rattle.pif_allow.specs.declared.tries.Led.{Led}
 
 -- the label leads to each of these

@@ -5,7 +5,7 @@ use Rattle.pif_rules_model.specs.declared.rules.Rules.{Rules}
 use Rattle.pif_history_model.specs.declared.lines.Line.{Line}
 use Rattle.pif_history_lines.specs.declared.verdicts.Verdict.{Verdict}
 use Rattle.pif_history_lines.specs.declared.verdicts.Verdict.TheVariants.{Legal, Illegal, Undecided}
-use Rattle.pif_allow_model.specs.Verdicts.{IsLegalWith, IsIllegalWith}
+use Rattle.pif_history_model.specs.AllowedVerdicts.{IsLegalWith, IsIllegalWith}
 
 -- a verdict on these lines: a witness; how many of them no run shows; or nothing but that it is one of them
 abbrev pub IsVerdictWith : Rules → Bounds → List Line → Verdict → Type 0

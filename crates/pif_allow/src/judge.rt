@@ -7,8 +7,8 @@ ghost use Rattle.pif_history_model.specs.declared.labels.Label.TheVariants.{Show
 ghost use Rattle.pif_history_model.specs.Numbers.{numbers_in};
 ghost use Rattle.pif_history_model.specs.Searched.{hides};
 ghost use Rattle.pif_search.specs.Verdicts.{AreNext};
-ghost use Rattle.pif_allow_model.specs.Allowed.{WideAdvances, wide_start_of};
-ghost use Rattle.pif_allow_model.specs.Verdicts.{ArePossibleAnswersWith, ArePossiblePrioritiesWith, IsLegalWith};
+ghost use Rattle.pif_history_model.specs.Allowed.{WideAdvances, wide_start_of};
+ghost use Rattle.pif_history_model.specs.AllowedVerdicts.{ArePossibleAnswersWith, ArePossiblePrioritiesWith, IsLegalWith};
 ghost use Rattle.pif_allow.specs.Verdicts.{IsVerdictWith};
 
 use crate::tries::AllowingTries;

@@ -6,7 +6,7 @@ use Rattle.std.proofs.lemmas.Bool.{lt-ltb, le-ltb, cases_lt}
 use Rattle.std.proofs.lemmas.List.{length_push}
 use Rattle.pif_model_lemmas.proofs.Waiting.{by_test}
 use Rattle.pif_history_model.specs.declared.lines.Line.{Line}
-use Rattle.pif_known_model.specs.Known.{is_over, answer_of, known_answer}
+use Rattle.pif_reduction_model.specs.Known.{is_over, answer_of, known_answer}
 use Rattle.pif_history_lines.specs.declared.overs.Over.{Over}
 use Rattle.pif_history_lines.specs.Overs.{places_over, row_at, IsTable}
 

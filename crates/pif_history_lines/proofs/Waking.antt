@@ -12,9 +12,9 @@ use Rattle.pif_types.specs.declared.requests.Request.TheVariants.{Wait, Signal, 
 use Rattle.pif_history_model.specs.declared.lines.Line.{Line}
 use Rattle.pif_history_model.specs.declared.lines.Line.TheVariants.{Thread, Begin, Answer}
 use Rattle.pif_history_model.specs.Shown.{IsShown}
-use Rattle.pif_wakeups_model.specs.Wakeups.{open_request, request_after, waited_variable, is_use_of, begins, begins_use, HasOpenUse, MayBeWoken}
-use Rattle.pif_wakeups_model.specs.Wakeups.MayBeWoken.{found, used, before}
-use Rattle.pif_wakeups_model.proofs.Returning.{woken-from_shown}
+use Rattle.pif_reduction_model.specs.Wakeups.{open_request, request_after, waited_variable, is_use_of, begins, begins_use, HasOpenUse, MayBeWoken}
+use Rattle.pif_reduction_model.specs.Wakeups.MayBeWoken.{found, used, before}
+use Rattle.pif_reduction_model.proofs.Returning.{woken-from_shown}
 use Rattle.pif_history_lines.specs.declared.wakeups.OpenCall.{OpenCall}
 use Rattle.pif_history_lines.specs.declared.wakeups.OpenCall.TheVariants.{Unwoken, Use, Other}
 use Rattle.pif_history_lines.specs.Wakeups.{is_use, once_used, wait_begun, begun, once_begun, heard, WasAdded, is_unwoken, is_refuted, IsUnwoken, AreCalls, IsRefutedAt}

@@ -2,7 +2,7 @@
 use Rattle.std.specs.Prelude.{ℕ, suc, ◌≡◌, ◌<◌, length, List, [], ◌∷◌, Option, Some, None, slice_get, if◌then◌else◌}
 use Rattle.std.specs.Global.{Vec}
 use Rattle.pif_history_model.specs.declared.lines.Line.{Line}
-use Rattle.pif_known_model.specs.Known.{is_over, answer_of}
+use Rattle.pif_reduction_model.specs.Known.{is_over, answer_of}
 use Rattle.pif_history_lines.specs.declared.overs.Over.{Over}
 
 -- the lines that say that a call of t is over, if the first of these stands at place k

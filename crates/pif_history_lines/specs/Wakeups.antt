@@ -7,7 +7,7 @@ use Rattle.pif_types.specs.declared.requests.Request.TheVariants.{Wait, TimedWai
 use Rattle.pif_history_model.specs.declared.lines.Line.{Line}
 use Rattle.pif_history_model.specs.declared.lines.Line.TheVariants.{Thread, Begin, Answer}
 use Rattle.pif_history_model.specs.Shown.{IsShown}
-use Rattle.pif_wakeups_model.specs.Wakeups.{open_request, waited_variable, is_use_of, MayBeWoken}
+use Rattle.pif_reduction_model.specs.Wakeups.{open_request, waited_variable, is_use_of, MayBeWoken}
 use Rattle.pif_history_lines.specs.declared.wakeups.OpenCall.{OpenCall}
 use Rattle.pif_history_lines.specs.declared.wakeups.OpenCall.TheVariants.{Unwoken, Use, Other}
 

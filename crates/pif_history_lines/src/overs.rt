@@ -2,7 +2,7 @@
 //! of each state of a search, so it is found fast.
 ghost use Rattle.std.specs.Prelude.{◌≡◌, ◌↔◌, ◌∷◌, ◌+◌, [], ℕ, true, false, List, Some, None, drop, nat_lt, IfOk};
 ghost use Rattle.pif_history_model.specs.declared.lines.Line.{Line};
-ghost use Rattle.pif_known_model.specs.Known.{is_over, answer_of, known_answer};
+ghost use Rattle.pif_reduction_model.specs.Known.{is_over, answer_of, known_answer};
 ghost use Rattle.pif_history_lines.specs.Overs.{places_over, IsTable};
 
 use pif_history_model::Line;

@@ -26,3 +26,5 @@ pub mod Listing
 pub mod Selections
 pub mod Numbers
 pub mod ShownLines
+pub mod Widening
+pub mod AllowedListing

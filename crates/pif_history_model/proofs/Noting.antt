@@ -15,7 +15,7 @@ use Rattle.pif_model.specs.Posix.Effect.{lock, try_lock, unlock, consistent, set
 use Rattle.pif_model_lemmas.proofs.Waiting.{by_test}
 use Rattle.pif_posix_model.specs.Once.{MovesOnce, Acts}
 use Rattle.pif_posix_model.specs.Once.Acts.{effect, expires, notes}
-use Rattle.pif_alike_model.proofs.Moves.{other}
+use Rattle.pif_posix_model.proofs.AlikeMoves.{other}
 use Rattle.pif_search.specs.Runs.{Runs, shown}
 use Rattle.pif_history_model.specs.declared.labels.Label.{Label}
 use Rattle.pif_history_model.specs.declared.labels.Label.TheVariants.{Moves}

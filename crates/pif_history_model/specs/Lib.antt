@@ -8,3 +8,6 @@ pub mod Queues
 pub mod Notes
 pub mod Listed
 pub mod Numbers
+pub mod Allowed
+pub mod AllowedVerdicts
+pub mod AllowedListed

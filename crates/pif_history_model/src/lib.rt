@@ -13,11 +13,13 @@
 //! run shows a line that is refused, and a search may keep one of several states that no step tells apart.
 #![tactic(auto)]
 
+mod allowed_laws;
 mod labels;
 mod laws;
 mod lines;
 mod refusals;
 
+pub use allowed_laws::{more_rules_show_more, without_rules_lines_are_plain};
 pub use labels::Label;
 pub use laws::{
     notes_show_nothing_more, refused_lines_are_not_shown, searched_lines_are_shown,

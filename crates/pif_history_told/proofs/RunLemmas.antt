@@ -3,7 +3,7 @@ use Rattle.std.proofs.Common.{◌≡◌, ℕ, Option, List, [], ◌∷◌, sym, 
 use Rattle.pif_types.specs.Bounds.{Bounds}
 use Rattle.pif_rules_model.specs.declared.rules.Rules.{Rules}
 use Rattle.pif_history_model.specs.declared.labels.Label.{Label}
-use Rattle.pif_allow_model.specs.Allowed.{WideConfiguration, wide_start_of}
+use Rattle.pif_history_model.specs.Allowed.{WideConfiguration, wide_start_of}
 use Rattle.pif_rules.specs.declared.rules.Rule.{Rule}
 use Rattle.pif_history_told.specs.Steps.{IsStepBy}
 use Rattle.pif_history_told.specs.Runs.{IsTold, Telling, untold, with_step}

@@ -20,9 +20,9 @@ use Rattle.pif_history_model.specs.declared.lines.Line.TheVariants.{Thread, Mute
 use Rattle.pif_history_model.specs.declared.labels.Label.{Label}
 use Rattle.pif_history_model.specs.declared.labels.Label.TheVariants.{Shown, Moves, Ends}
 use Rattle.pif_history_model.specs.Lines.{is_among, dying_after}
-use Rattle.pif_allow_model.specs.Allowed.{WideConfiguration, WideAdvances}
-use Rattle.pif_allow_model.specs.Allowed.WideAdvances.{moves, ends, enters, sees, has_ended}
-use Rattle.pif_allow_model.specs.Listed.{with_dying, behind_entry, behind_plainly, behind_end_line, behind_move, behind_end, behind}
+use Rattle.pif_history_model.specs.Allowed.{WideConfiguration, WideAdvances}
+use Rattle.pif_history_model.specs.Allowed.WideAdvances.{moves, ends, enters, sees, has_ended}
+use Rattle.pif_history_model.specs.AllowedListed.{with_dying, behind_entry, behind_plainly, behind_end_line, behind_move, behind_end, behind}
 use Rattle.pif_rules.specs.declared.rules.Rule.{Rule}
 use Rattle.pif_rules.specs.declared.rules.Rule.TheVariants.{Steal, AnyWaiter, Spurious, Recursion, OwnErrorcheck, AnyConsistent, HeldWait, LostSignal, Revives}
 use Rattle.pif_rules.specs.Sets.{has, only}

@@ -6,7 +6,7 @@ use Rattle.pif_history_model.specs.declared.labels.Label.{Label}
 use Rattle.pif_history_model.specs.declared.labels.Label.TheVariants.{Shown, Moves, Ends}
 use Rattle.pif_history_model.specs.declared.lines.Line.{Line}
 use Rattle.pif_rules_model.specs.declared.rules.Rules.{Rules}
-use Rattle.pif_allow_model.specs.Allowed.{WideConfiguration, wide_start_of}
+use Rattle.pif_history_model.specs.Allowed.{WideConfiguration, wide_start_of}
 use Rattle.pif_rules.specs.declared.rules.Rule.{Rule}
 use Rattle.pif_rules.specs.Sets.{name_of}
 use Rattle.pif_history_told.specs.Steps.{IsStepBy}

@@ -2,7 +2,7 @@
 use Rattle.std.specs.Prelude.{ℕ, ◌≡◌, ◌≤◌, ◌-◌, ◌==◌, Bool, true, false, List, [], ◌∷◌, reverse, take, slice_get, Option, Some, None, if◌then◌else◌}
 use Rattle.pif_history_model.specs.declared.lines.Line.{Line}
 use Rattle.pif_history_model.specs.declared.lines.Line.TheVariants.{Answer, Begin, Prio}
-use Rattle.pif_allow_model.specs.Verdicts.{ArePossibleAnswersWith, ArePossiblePrioritiesWith}
+use Rattle.pif_history_model.specs.AllowedVerdicts.{ArePossibleAnswersWith, ArePossiblePrioritiesWith}
 use Rattle.pif_history_lines.specs.Verdicts.{IsRefusalThere}
 use Rattle.pif_history_text.specs.Histories.{Heard, limits_of}
 use Rattle.pif_history_told.specs.declared.verdicts.Began.{Began}

@@ -1,7 +1,7 @@
 ghost use Rattle.std.specs.Prelude.{◌≡◌, ◌<◌, ◌++◌, Some, drop, length, slice_get, IfOk, OnOk};
 ghost use Rattle.pif_rules_model.specs.Rules.{no_rules};
-ghost use Rattle.pif_allow_model.specs.Allowed.{WideConfiguration, WideAdvances};
-ghost use Rattle.pif_allow_model.specs.Listed.{behind};
+ghost use Rattle.pif_history_model.specs.Allowed.{WideConfiguration, WideAdvances};
+ghost use Rattle.pif_history_model.specs.AllowedListed.{behind};
 ghost use Rattle.pif_history_told.specs.Steps.{AreSteps, IsLedTo, added_by, led_by, steps_of};
 
 use pif_allow_machine::{AllowingMachine, WidePosition};

@@ -1,5 +1,5 @@
 ghost use Rattle.std.specs.Prelude.{◌≡◌, ◌≤◌, ◌-◌, ◌∷◌, Option, drop, length, IfOk};
-ghost use Rattle.pif_allow_model.specs.Allowed.{WideConfiguration};
+ghost use Rattle.pif_history_model.specs.Allowed.{WideConfiguration};
 ghost use Rattle.pif_rules.specs.declared.rules.Rule.{Rule};
 ghost use Rattle.pif_history_told.specs.Runs.{IsTold, Telling, with_step};
 ghost use Rattle.pif_history_told.specs.Steps.{IsStepBy};

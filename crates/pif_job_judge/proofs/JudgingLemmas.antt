@@ -8,7 +8,7 @@ use Rattle.pif_history_model.specs.declared.lines.Line.{Line}
 use Rattle.pif_history_model.specs.declared.lines.Line.TheVariants.{Answer, Prio}
 use Rattle.pif_history_model.specs.declared.refusals.LineRefusal.{LineRefusal}
 use Rattle.pif_history_model.specs.Lines.{thread_of}
-use Rattle.pif_allow_model.specs.Verdicts.{ArePossibleAnswersWith, ArePossiblePrioritiesWith}
+use Rattle.pif_history_model.specs.AllowedVerdicts.{ArePossibleAnswersWith, ArePossiblePrioritiesWith}
 use Rattle.pif_history_lines.specs.declared.verdicts.Verdict.{Verdict}
 use Rattle.pif_history_lines.specs.declared.verdicts.Verdict.TheVariants.{Illegal, Undecided}
 use Rattle.pif_allow.specs.Verdicts.{IsVerdictWith}

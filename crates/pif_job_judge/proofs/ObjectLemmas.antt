@@ -7,7 +7,7 @@ use Rattle.pif_types.specs.Bounds.{Bounds}
 use Rattle.pif_history_model.specs.declared.labels.Label.{Label}
 use Rattle.pif_history_model.specs.declared.lines.Line.{Line}
 use Rattle.pif_history_model.specs.Lines.{thread_of}
-use Rattle.pif_allow_model.specs.Verdicts.{IsLegalWith}
+use Rattle.pif_history_model.specs.AllowedVerdicts.{IsLegalWith}
 use Rattle.pif_history_lines.specs.declared.verdicts.Verdict.{Verdict}
 use Rattle.pif_history_lines.specs.declared.verdicts.Verdict.TheVariants.{Illegal, Undecided}
 use Rattle.pif_allow.specs.Verdicts.{IsVerdictWith}

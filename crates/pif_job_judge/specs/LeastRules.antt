@@ -4,7 +4,7 @@ use Rattle.pif_types.specs.Bounds.{Bounds}
 use Rattle.pif_rules_model.specs.declared.rules.Rules.{Rules}
 use Rattle.pif_history_model.specs.declared.labels.Label.{Label}
 use Rattle.pif_history_model.specs.declared.lines.Line.{Line}
-use Rattle.pif_allow_model.specs.Verdicts.{IsLegalWith, IsIllegalWith}
+use Rattle.pif_history_model.specs.AllowedVerdicts.{IsLegalWith, IsIllegalWith}
 use Rattle.pif_job_judge.specs.declared.search.Needed.{Needed}
 use Rattle.pif_job_judge.specs.declared.search.Needed.TheVariants.{Legal, Undecided}
 use Rattle.pif_history_told.specs.Sets.{sets_in_order}

@@ -9,7 +9,7 @@ use Rattle.pif_history_lines.specs.declared.verdicts.Verdict.TheVariants.{Legal,
 use Rattle.pif_rules_model.specs.declared.rules.Rules.{Rules}
 use Rattle.pif_allow.specs.Verdicts.{IsVerdictWith}
 use Rattle.pif_history_model.specs.Lines.{thread_of}
-use Rattle.pif_allow_model.specs.Allowed.{WideConfiguration}
+use Rattle.pif_history_model.specs.Allowed.{WideConfiguration}
 use Rattle.pif_history_text.specs.Histories.{Heard, limits_of}
 use Rattle.pif_history_text.specs.Verdicts.{illegal_line, legal_line, undecided_line}
 use Rattle.pif_history_told.specs.Tellings.{IsTold as IsRunTold}

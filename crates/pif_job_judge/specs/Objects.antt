@@ -4,8 +4,8 @@ use Rattle.pif_script_model.specs.declared.faults.CliFault.TheVariants.{Differs}
 use Rattle.pif_history_model.specs.declared.labels.Label.{Label}
 use Rattle.pif_history_model.specs.declared.lines.Line.{Line}
 use Rattle.pif_history_model.specs.Lines.{thread_of}
-use Rattle.pif_allow_model.specs.Allowed.{WideConfiguration}
-use Rattle.pif_allow_model.specs.Verdicts.{IsLegalWith}
+use Rattle.pif_history_model.specs.Allowed.{WideConfiguration}
+use Rattle.pif_history_model.specs.AllowedVerdicts.{IsLegalWith}
 use Rattle.pif_history_lines.specs.declared.verdicts.Verdict.{Verdict}
 use Rattle.pif_history_lines.specs.declared.verdicts.Verdict.TheVariants.{Legal, Illegal, Undecided}
 use Rattle.pif_allow.specs.Verdicts.{IsVerdictWith}

@@ -1,7 +1,7 @@
 ghost use Rattle.std.specs.Prelude.{◌≡◌, ◌≤◌, ◌-◌, Err, IfErr, IfOk, Ok, OnOk, vec_len};
 ghost use Rattle.pif_history_lines.specs.declared.verdicts.Verdict.TheVariants.{Illegal, Undecided};
 ghost use Rattle.pif_allow.specs.Verdicts.{IsVerdictWith};
-ghost use Rattle.pif_allow_model.specs.Verdicts.{IsLegalWith};
+ghost use Rattle.pif_history_model.specs.AllowedVerdicts.{IsLegalWith};
 ghost use Rattle.pif_history_told.specs.Ways.{IsRun};
 ghost use Rattle.pif_history_text.specs.Histories.{limits_of};
 ghost use Rattle.pif_history_text.specs.Reading.{IsPaired, heard_of};

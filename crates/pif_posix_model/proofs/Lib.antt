@@ -15,3 +15,12 @@ pub mod Splits
 pub mod Reaching
 pub mod Passing
 pub mod Ending
+pub mod AlikeThreads
+pub mod AlikeMoves
+pub mod AlikeEntries
+pub mod AlikeOrder
+mod Alike
+pub mod IndependentThreads
+pub mod IndependentMoves
+pub mod IndependentEntries
+pub mod IndependentOthers

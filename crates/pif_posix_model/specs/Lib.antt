@@ -1,2 +1,4 @@
 pub mod Doing
 pub mod Once
+pub mod Alike
+pub mod Independence

@@ -1,6 +1,6 @@
 use Rattle.std.proofs.Common.{[], List, sym, subst}
 use Rattle.pif_history_model.specs.declared.labels.Label.{Label}
-use Rattle.pif_allow_model.specs.Verdicts.{IsLegalWith}
+use Rattle.pif_history_model.specs.AllowedVerdicts.{IsLegalWith}
 use Rattle.pif_allow.proofs.Settling.{nothing_is_legal}
 use Rattle.pif_allow.proofs.judge.no_lines.Goals as goal
 

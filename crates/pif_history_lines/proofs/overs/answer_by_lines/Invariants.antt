@@ -1,5 +1,5 @@
 use Rattle.std.proofs.Common.{◌≡◌, drop}
-use Rattle.pif_known_model.specs.Known.{known_answer}
+use Rattle.pif_reduction_model.specs.Known.{known_answer}
 use Rattle.pif_history_lines.proofs.overs.answer_by_lines.Given as goal
 
 abbrev pub invariant-loop-place : goal.invariant-loop-place

@@ -1,6 +1,6 @@
 use Rattle.std.proofs.Common.{List, subst, sym}
 use Rattle.pif_history_model.specs.declared.labels.Label.{Label}
-use Rattle.pif_allow_model.specs.Verdicts.{IsLegalWith}
+use Rattle.pif_history_model.specs.AllowedVerdicts.{IsLegalWith}
 use Rattle.pif_history_lines.specs.declared.verdicts.Verdict.{Verdict}
 use Rattle.pif_allow.specs.Verdicts.{IsVerdictWith}
 use Rattle.pif_history_text.specs.Histories.{limits_of}

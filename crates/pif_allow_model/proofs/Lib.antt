@@ -1,2 +1,0 @@
-pub mod Widening
-pub mod Listing

@@ -1,3 +1,0 @@
-pub mod Allowed
-pub mod Verdicts
-pub mod Listed

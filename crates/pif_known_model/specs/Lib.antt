@@ -1,3 +1,0 @@
-pub mod Known
-pub mod Tested
-pub mod AtOnce

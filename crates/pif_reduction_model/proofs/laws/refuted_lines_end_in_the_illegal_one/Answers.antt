@@ -1,0 +1,9 @@
+use Rattle.pif_reduction_model.proofs.laws.refuted_lines_end_in_the_illegal_one.Goals as goal
+
+pub returns : goal.returns
+returns c = λ l lines count place some within says shown. record {
+  some = some;
+  within = within;
+  illegal = says.0;
+  legal = shown;
+}
