@@ -13,13 +13,14 @@ ghost use Rattle.pif_allow.specs.Verdicts.{IsVerdictWith};
 
 use crate::tries::AllowingTries;
 use pif_allow_machine::{AllowingMachine, WidePosition};
+use pif_decide::{judge, possible};
 use pif_history::{
     efforts, find_by, find_run, judge_lines, possible_answers, possible_priorities, settled,
 };
 use pif_history_lines::{Verdict, answers_of, labels_of, numbers_of, priorities_of};
 use pif_history_model::{HistoryLimits, Label, Line};
 use pif_rules_model::{Rules, no_rules};
-use pif_search::{Effort, Found, Stop, Watch, judge, possible, searches_all_steps};
+use pif_search::{Effort, Found, Stop, Watch, searches_all_steps};
 use pif_types::{Answer, Tid};
 use std::alloc::Global;
 

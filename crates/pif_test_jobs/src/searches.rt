@@ -3,7 +3,8 @@ ghost use Rattle.pif_test_jobs.specs.Counting.{is_hidden};
 
 use crate::counters::{Counter, Label, Whole};
 use crate::told::Told;
-use pif_search::{Stop, Unwatched, Verdict, judge, possible, searches_all_steps};
+use pif_decide::{judge, possible};
+use pif_search::{Stop, Unwatched, Verdict, searches_all_steps};
 use std::alloc::Global;
 
 /// How a counter starts.

@@ -1,0 +1,3 @@
+pub mod Selections
+pub mod Ends
+pub mod Next
