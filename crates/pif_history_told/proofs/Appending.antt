@@ -18,6 +18,10 @@ grown_first old xs new e = record { is = e }
 pub grown_more : (old xs done ys new : List ℕ) → Grown old xs done → new ≡ done ++ ys → Grown old (xs ++ ys) new
 grown_more old xs done ys new d e = record { is = e ∙ ap (λ l. l ++ ys) d.is ∙ append_assoc old xs ys }
 
+-- By the same bytes, put together otherwise.
+pub grown_same : (old xs ys new : List ℕ) → Grown old xs new → xs ≡ ys → new ≡ old ++ ys
+grown_same old xs ys new g e = g.is ∙ ap (λ l. old ++ l) e
+
 -- The same by a call whose `Result` is returned as it is.
 pub on_ok_grown : {T E : Type 0} (r : Result T E) (grown old new : List ℕ) → new ≡ (if is_ok r then grown else old)
     → OnOk r (new ≡ grown)

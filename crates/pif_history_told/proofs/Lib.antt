@@ -8,3 +8,4 @@ mod RunLemmas
 mod OpenCalls
 mod SetLemmas
 mod HealthLemmas
+pub mod Pieces

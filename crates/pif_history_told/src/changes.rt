@@ -6,7 +6,7 @@ use crate::state_objects::{
 };
 use pif_posix::State;
 use pif_search::Stop;
-use pif_text_json::{Listed, append_list};
+use pif_text_json::{Listed, append_array};
 use pif_types::Tid;
 use std::alloc::AllocError;
 
@@ -107,12 +107,8 @@ pub fn append_changes(change: &Change<'_>, out: &mut Vec<u8>) -> Result<(), Stop
     let threads = last(change.to.thread_count())?;
     let mutexes = last(change.to.mutex_count())?;
     let conds = last(change.to.variable_count())?;
-    out.extend_from_slice(b",\"threads\":[")?;
-    append_list(&Threads(*change), threads, out)?;
-    out.extend_from_slice(b"],\"mutexes\":[")?;
-    append_list(&Mutexes(*change), mutexes, out)?;
-    out.extend_from_slice(b"],\"conds\":[")?;
-    append_list(&Conds(*change), conds, out)?;
-    out.extend_from_slice(b"]")?;
+    append_array(out, "threads", &Threads(*change), threads)?;
+    append_array(out, "mutexes", &Mutexes(*change), mutexes)?;
+    append_array(out, "conds", &Conds(*change), conds)?;
     Ok(())
 }

@@ -8,9 +8,9 @@ use pif_posix::State;
 use pif_rules::{Rule, name_of};
 use pif_search::{Stop, at_or};
 use pif_text::Text;
-use pif_text_json::{append_bool, append_decimal, append_name, append_quoted};
+use pif_text_json::{Member, append_members};
 use pif_types::Tid;
-use std::alloc::Global;
+use std::alloc::{AllocError, Global};
 use std::marker::Model;
 
 /// The state stands whole at one in so many lines that are told.
@@ -64,28 +64,21 @@ fn append_comma(out: &mut Vec<u8>) -> Result<(), Stop>
 }
 
 /// Appends the rule that a step needs, if it does, as a member.
-fn append_rule(rule: Option<Rule>, out: &mut Vec<u8>) -> Result<(), Stop>
+fn append_rule(rule: Option<Rule>, out: &mut Vec<u8>) -> Result<(), AllocError>
     ensures { OnOk result (out.new.items ≡ out.old.items ++ rule_members rule) }
 {
     match rule {
-        Some(rule) => {
-            out.extend_from_slice(b",\"rule\":")?;
-            append_quoted(out, name_of(rule))?;
-            Ok(())
-        }
+        Some(rule) => append_members(out, b',', &[Member::Quoted("rule", name_of(rule))]),
         None => Ok(()),
     }
 }
 
 /// Appends a move of a thread that no line shows, as an object.
 #[tactic(auto, unfolding(crate::specs::Runs::move_object))]
-fn append_move(name: &[u8], thread: Tid, step: &Leap<'_>, out: &mut Vec<u8>) -> Result<(), Stop>
+fn append_move(name: &str, thread: Tid, step: &Leap<'_>, out: &mut Vec<u8>) -> Result<(), Stop>
     ensures { OnOk result (out.new.items ≡ out.old.items ++ move_object name.now thread step.now.rule step.now.from.now step.now.to.now) }
 {
-    out.extend_from_slice(b"{\"")?;
-    out.extend_from_slice(name)?;
-    out.extend_from_slice(b"\":")?;
-    append_name(out, b't', thread.get())?;
+    append_members(out, b'{', &[Member::Name(name, b't', thread.get())])?;
     append_rule(step.rule, out)?;
     let change = Change {
         from: step.from,
@@ -111,14 +104,22 @@ fn append_line(
 {
     let mut text = Text::new();
     line_text(*line, &mut text);
-    out.extend_from_slice(b"{\"line\":")?;
-    append_decimal(out, u64::from(number))?;
-    out.extend_from_slice(b",\"text\":")?;
-    append_quoted(out, text.as_slice())?;
-    out.extend_from_slice(b",\"moves\":[")?;
-    out.extend_from_slice(moves)?;
-    out.extend_from_slice(b"],\"whole\":")?;
-    append_bool(out, change.is_whole)?;
+    append_members(
+        out,
+        b'{',
+        &[
+            Member::Number("line", number),
+            Member::Quoted("text", text.as_slice()),
+        ],
+    )?;
+    append_members(
+        out,
+        b',',
+        &[
+            Member::Array("moves", moves),
+            Member::Bool("whole", change.is_whole),
+        ],
+    )?;
     append_rule(rule, out)?;
     append_changes(change, out)?;
     out.extend_from_slice(b"}\n")?;
@@ -194,7 +195,7 @@ impl Telling {
     fn add_move(
         &mut self,
         frame: &Frame<'_>,
-        name: &[u8],
+        name: &str,
         thread: Tid,
         step: &Leap<'_>,
     ) -> Result<(), Stop>
@@ -214,8 +215,8 @@ impl Telling {
     {
         match *label {
             Label::Shown(line) => self.add_line(frame, &line, step),
-            Label::Moves(thread) => self.add_move(frame, b"move", thread, step),
-            Label::Ends(thread) => self.add_move(frame, b"end", thread, step),
+            Label::Moves(thread) => self.add_move(frame, "move", thread, step),
+            Label::Ends(thread) => self.add_move(frame, "end", thread, step),
         }
     }
 }

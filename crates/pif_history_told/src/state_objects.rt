@@ -5,7 +5,7 @@ ghost use Rattle.pif_history_told.specs.StateObjects.{cond_object, health_word, 
 use crate::calls::{call_members, is_same_call};
 use pif_posix::State;
 use pif_text::health_word;
-use pif_text_json::{append_bool, append_decimal, append_name, append_name_or_null, append_quoted};
+use pif_text_json::{Member, append_members, append_object};
 use pif_types::{Health, Tid};
 use std::alloc::AllocError;
 
@@ -15,14 +15,16 @@ pub fn append_thread(state: &State, thread: Tid, out: &mut Vec<u8>) -> Result<()
     ensures { OnOk result (out.new.items ≡ out.old.items ++ thread_object state.now thread) }
 {
     let at = thread.get() as usize;
-    out.extend_from_slice(b"{\"name\":")?;
-    append_name(out, b't', thread.get())?;
-    out.extend_from_slice(b",\"living\":")?;
-    append_bool(out, state.is_living(at))?;
-    out.extend_from_slice(b",\"priority\":")?;
-    append_decimal(out, u64::from(state.effective(at)))?;
-    out.extend_from_slice(b",\"rests\":")?;
-    append_bool(out, state.rests(at))?;
+    append_members(
+        out,
+        b'{',
+        &[
+            Member::Name("name", b't', thread.get()),
+            Member::Bool("living", state.is_living(at)),
+            Member::Number("priority", state.effective(at)),
+            Member::Bool("rests", state.rests(at)),
+        ],
+    )?;
     out.extend_from_slice(call_members(thread, state.call(at)).as_slice())?;
     out.extend_from_slice(b"}")
 }
@@ -87,15 +89,15 @@ pub fn append_mutex(state: &State, mutex: u32, out: &mut Vec<u8>) -> Result<(), 
     ensures { OnOk result (out.new.items ≡ out.old.items ++ mutex_object state.now mutex) }
 {
     let at = mutex as usize;
-    out.extend_from_slice(b"{\"name\":")?;
-    append_name(out, b'm', mutex)?;
-    out.extend_from_slice(b",\"owner\":")?;
-    append_name_or_null(out, b't', owner(state, at))?;
-    out.extend_from_slice(b",\"count\":")?;
-    append_decimal(out, u64::from(holds(state, at)))?;
-    out.extend_from_slice(b",\"health\":")?;
-    append_quoted(out, health(state, at))?;
-    out.extend_from_slice(b"}")
+    append_object(
+        out,
+        &[
+            Member::Name("name", b'm', mutex),
+            Member::NameOrNull("owner", b't', owner(state, at)),
+            Member::Number("count", holds(state, at)),
+            Member::Quoted("health", health(state, at)),
+        ],
+    )
 }
 
 /// Whether a mutex was not there, or is another one than before.
@@ -125,9 +127,11 @@ fn bound(state: &State, cond: usize) -> u32
 pub fn append_cond(state: &State, cond: u32, out: &mut Vec<u8>) -> Result<(), AllocError>
     ensures { OnOk result (out.new.items ≡ out.old.items ++ cond_object state.now cond) }
 {
-    out.extend_from_slice(b"{\"name\":")?;
-    append_name(out, b'c', cond)?;
-    out.extend_from_slice(b",\"mutex\":")?;
-    append_name(out, b'm', bound(state, cond as usize))?;
-    out.extend_from_slice(b"}")
+    append_object(
+        out,
+        &[
+            Member::Name("name", b'c', cond),
+            Member::Name("mutex", b'm', bound(state, cond as usize)),
+        ],
+    )
 }

@@ -38,8 +38,7 @@ fn append_from(core: &Core, thread: Tid, most: u32, out: &mut Vec<u8>) -> Result
             None => return Ok(()),
         }
     }
-    append_name(out, b't', next.get())?;
-    Ok(())
+    append_name(out, b't', next.get())
 }
 
 /// Appends the chain that begins with a thread, as an array.
@@ -48,6 +47,5 @@ pub fn append_chain(core: &Core, thread: Tid, out: &mut Vec<u8>) -> Result<(), A
 {
     out.push(b'[')?;
     append_from(core, thread, core.threads(), out)?;
-    out.push(b']')?;
-    Ok(())
+    out.extend_from_slice(b"]")
 }

@@ -5,7 +5,7 @@ ghost use Rattle.pif_story_states.specs.Objects.{holds_member};
 
 use pif_core::Core;
 use pif_text_core::{has, mutexes_added};
-use pif_text_json::{Listed, append_list, append_name};
+use pif_text_json::{Listed, append_array, append_name};
 use pif_types::Tid;
 use std::alloc::AllocError;
 
@@ -35,8 +35,5 @@ impl Listed for Held<'_> {
 pub fn append_holds(core: &Core, thread: Tid, out: &mut Vec<u8>) -> Result<(), AllocError>
     ensures { OnOk result (out.new.items ≡ out.old.items ++ holds_member thread core.now) }
 {
-    out.extend_from_slice(b",\"holds\":[")?;
-    append_list(&Held { core, thread }, mutexes_added(core), out)?;
-    out.push(b']')?;
-    Ok(())
+    append_array(out, "holds", &Held { core, thread }, mutexes_added(core))
 }

@@ -12,7 +12,7 @@ use crate::threads::append_thread;
 use pif_core::{Core, Order};
 use pif_text::Reply;
 use pif_text_core::{begins_chain, conds_added, mutexes_added};
-use pif_text_json::{Listed, append_decimal, append_list, append_quoted};
+use pif_text_json::{Listed, Member, append_array, append_members};
 use pif_types::{CondId, MutexId, Tid};
 use std::alloc::AllocError;
 
@@ -107,56 +107,46 @@ impl Listed for Chains<'_> {
 }
 
 /// Appends the threads, mutexes and condition variables of a core, as members.
-#[tactic(auto, unfolding(crate::specs::States::things_members))]
 fn append_things(core: &Core, names: &[u8], out: &mut Vec<u8>) -> Result<(), AllocError>
     ensures { OnOk result (out.new.items ≡ out.old.items ++ things_members names.now core.now) }
 {
-    out.extend_from_slice(b",\"threads\":[")?;
-    append_list(&Threads { core, names }, core.threads(), out)?;
-    out.extend_from_slice(b"],\"mutexes\":[")?;
-    append_list(&Mutexes(core), mutexes_added(core), out)?;
-    out.extend_from_slice(b"],\"conds\":[")?;
-    append_list(&Conds(core), conds_added(core), out)?;
-    out.push(b']')?;
-    Ok(())
+    append_array(out, "threads", &Threads { core, names }, core.threads())?;
+    append_array(out, "mutexes", &Mutexes(core), mutexes_added(core))?;
+    append_array(out, "conds", &Conds(core), conds_added(core))
 }
 
 /// Appends the run queue and the chains of waiting of a core, as members.
-#[tactic(auto, unfolding(crate::specs::States::order_members))]
 fn append_orders(core: &Core, out: &mut Vec<u8>) -> Result<(), AllocError>
     ensures { OnOk result (out.new.items ≡ out.old.items ++ order_members core.now) }
 {
-    out.extend_from_slice(b",\"run_queue\":")?;
-    append_order(core, &Order::Ready, out)?;
-    out.extend_from_slice(b",\"chains\":[")?;
-    append_list(&Chains(core), core.threads(), out)?;
-    out.push(b']')?;
-    Ok(())
+    append_order(core, "run_queue", &Order::Ready, out)?;
+    append_array(out, "chains", &Chains(core), core.threads())
 }
 
 /// Appends a command in the line of this number, what it was answered, and the state of the core behind it, as a line
 /// with an object.
-#[tactic(auto, unfolding(crate::specs::States::state_line))]
 pub fn append_line(
     core: &Core,
     names: &[u8],
-    line: u64,
+    line: u32,
     words: &[u8],
     reply: Reply,
     out: &mut Vec<u8>,
 ) -> Result<(), AllocError>
     ensures { OnOk result (out.new.items ≡ out.old.items ++ state_line names.now line words.now reply core.now) }
 {
-    out.extend_from_slice(b"{\"line\":")?;
-    append_decimal(out, line)?;
-    out.extend_from_slice(b",\"command\":")?;
-    append_quoted(out, words)?;
+    append_members(
+        out,
+        b'{',
+        &[
+            Member::Number("line", line),
+            Member::Quoted("command", words),
+        ],
+    )?;
     out.extend_from_slice(b",\"answer\":")?;
     append_answer(out, reply)?;
-    out.extend_from_slice(b",\"time\":")?;
-    append_decimal(out, u64::from(core.time()))?;
+    append_members(out, b',', &[Member::Number("time", core.time())])?;
     append_things(core, names, out)?;
     append_orders(core, out)?;
-    out.extend_from_slice(b"}\n")?;
-    Ok(())
+    out.extend_from_slice(b"}\n")
 }

@@ -1,5 +1,6 @@
-ghost use Rattle.std.specs.Prelude.{◌≡◌, ◌++◌, OnOk};
-ghost use Rattle.pif_text_json.specs.Json.{names_array};
+ghost use Rattle.std.specs.Prelude.{◌≡◌, ◌++◌, map, OnOk};
+ghost use Rattle.pif_text_json.specs.Json.{name_text};
+ghost use Rattle.pif_text_json.specs.Members.{array_member};
 ghost use Rattle.pif_text_core.specs.Waiting.{all_in, order_in};
 
 use pif_core::{Core, Order};
@@ -25,9 +26,15 @@ impl Sequence for Threads<'_> {
     }
 }
 
-/// Appends the names of the threads of an order, as an array.
-pub fn append_order(core: &Core, order: &Order, out: &mut Vec<u8>) -> Result<(), AllocError>
-    ensures { OnOk result (out.new.items ≡ out.old.items ++ names_array 116 (order_in order.now core.now)) }
+/// Appends a member behind others: an array of the names of the threads of an order.
+pub fn append_order(
+    core: &Core,
+    name: &str,
+    order: &Order,
+    out: &mut Vec<u8>,
+) -> Result<(), AllocError>
+    ensures { OnOk result (out.new.items
+        ≡ out.old.items ++ array_member name.now (map (name_text 116) (order_in order.now core.now))) }
 {
-    append_names(&Threads { core, order }, b't', core.threads(), out)
+    append_names(out, name, &Threads { core, order }, b't', core.threads())
 }

@@ -36,7 +36,7 @@ fn append_row(
         Err(OpenFault::Ended(_)) => return Ok(false),
     };
     match core {
-        Some(core) => append_line(core, names, u64::from(row.line), row.words, reply, out)?,
+        Some(core) => append_line(core, names, row.line, row.words, reply, out)?,
         None => {}
     }
     Ok(true)

@@ -1,19 +1,14 @@
-ghost use Rattle.std.specs.Prelude.{◌≡◌, ◌++◌, OnOk, option_and_then};
+ghost use Rattle.std.specs.Prelude.{◌≡◌, ◌++◌, OnOk, option_and_then, option_copied, option_map};
 ghost use Rattle.pif_model.specs.Calls.{status_answer};
-ghost use Rattle.pif_story.specs.Names.{name_of};
-ghost use Rattle.pif_text_json.specs.Json.{or_null, quoted};
-ghost use Rattle.pif_text_core.specs.Waiting.{awaited};
-ghost use Rattle.pif_story_states.specs.Objects.{call_member, cond_by, doing_members, priority_members, state_word, thread_object};
+ghost use Rattle.pif_story_states.specs.Objects.{call_member, cond_by, state_word, thread_object};
 
 use crate::holds::append_holds;
-use crate::names::append_mutex_or_null;
+use crate::numbers::number_of;
 use pif_core::{Core, Status};
 use pif_story::name_of;
 use pif_text::{Text, append_request};
 use pif_text_core::awaited;
-use pif_text_json::{
-    append_name, append_name_or_null, append_null, append_number_or_null, append_quoted,
-};
+use pif_text_json::{Member, append_members};
 use pif_types::{Prio, Tid};
 use std::alloc::AllocError;
 
@@ -30,13 +25,13 @@ fn state_word(status: Status) -> &'static str
     }
 }
 
-/// Appends what a thread does, in one word.
-fn append_state(core: &Core, thread: Tid, out: &mut Vec<u8>) -> Result<(), AllocError>
-    ensures { OnOk result (out.new.items ≡ out.old.items ++ or_null (λ x. quoted (state_word x)) (status_answer thread core.now)) }
+/// What a thread does, in one word, if it was added.
+fn state(core: &Core, thread: Tid) -> Option<&'static [u8]>
+    ensures { option_copied result ≡ option_map state_word (status_answer thread core.now) }
 {
     match core.status(thread) {
-        Some(status) => append_quoted(out, state_word(status).as_bytes()),
-        None => append_null(out),
+        Some(status) => Some(state_word(status).as_bytes()),
+        None => None,
     }
 }
 
@@ -51,31 +46,6 @@ fn parked_on(core: &Core, thread: Tid) -> Option<u32>
         },
         None => None,
     }
-}
-
-/// Appends what a thread does, and for what it waits, as members.
-#[tactic(auto, unfolding(crate::specs::Objects::doing_members))]
-fn append_doing(core: &Core, thread: Tid, out: &mut Vec<u8>) -> Result<(), AllocError>
-    ensures { OnOk result (out.new.items ≡ out.old.items ++ doing_members thread core.now) }
-{
-    out.extend_from_slice(b",\"state\":")?;
-    append_state(core, thread, out)?;
-    out.extend_from_slice(b",\"waits_for\":")?;
-    append_mutex_or_null(out, awaited(core, thread))?;
-    out.extend_from_slice(b",\"parked_on\":")?;
-    append_name_or_null(out, b'c', parked_on(core, thread))?;
-    Ok(())
-}
-
-/// Appends the priority at which a thread runs and its own, as members.
-#[tactic(auto, unfolding(crate::specs::Objects::priority_members))]
-fn append_priorities(core: &Core, thread: Tid, out: &mut Vec<u8>) -> Result<(), AllocError>
-    ensures { OnOk result (out.new.items ≡ out.old.items ++ priority_members thread core.now) }
-{
-    out.extend_from_slice(b",\"priority\":")?;
-    append_number_or_null(out, level(core.effective(thread)))?;
-    out.extend_from_slice(b",\"base\":")?;
-    append_number_or_null(out, level(core.base(thread)))
 }
 
 /// The number of a priority, if there is one.
@@ -93,29 +63,17 @@ fn level(priority: Option<Prio>) -> Option<u32>
 fn append_call(core: &Core, thread: Tid, out: &mut Vec<u8>) -> Result<(), AllocError>
     ensures { OnOk result (out.new.items ≡ out.old.items ++ call_member thread core.now) }
 {
-    out.extend_from_slice(b",\"call\":")?;
     match core.open_call(thread) {
         Some(request) => {
             let mut text = Text::new();
             append_request(&mut text, request);
-            append_quoted(out, text.as_slice())
+            append_members(out, b',', &[Member::Quoted("call", text.as_slice())])
         }
-        None => append_null(out),
-    }
-}
-
-/// Appends the name that these comments give a thread, or `null`.
-fn append_label(names: &[u8], thread: Tid, out: &mut Vec<u8>) -> Result<(), AllocError>
-    ensures { OnOk result (out.new.items ≡ out.old.items ++ or_null quoted (name_of names.now thread)) }
-{
-    match name_of(names, thread) {
-        Some(name) => append_quoted(out, name),
-        None => append_null(out),
+        None => append_members(out, b',', &[Member::Null("call")]),
     }
 }
 
 /// Appends a thread, as an object, with the name that these comments give it.
-#[tactic(auto, unfolding(crate::specs::Objects::thread_object))]
 pub fn append_thread(
     core: &Core,
     names: &[u8],
@@ -124,14 +82,20 @@ pub fn append_thread(
 ) -> Result<(), AllocError>
     ensures { OnOk result (out.new.items ≡ out.old.items ++ thread_object names.now core.now thread) }
 {
-    out.extend_from_slice(b"{\"name\":")?;
-    append_name(out, b't', thread.get())?;
-    out.extend_from_slice(b",\"label\":")?;
-    append_label(names, thread, out)?;
-    append_doing(core, thread, out)?;
-    append_priorities(core, thread, out)?;
+    append_members(
+        out,
+        b'{',
+        &[
+            Member::Name("name", b't', thread.get()),
+            Member::QuotedOrNull("label", name_of(names, thread)),
+            Member::QuotedOrNull("state", state(core, thread)),
+            Member::NameOrNull("waits_for", b'm', number_of(awaited(core, thread))),
+            Member::NameOrNull("parked_on", b'c', parked_on(core, thread)),
+            Member::NumberOrNull("priority", level(core.effective(thread))),
+            Member::NumberOrNull("base", level(core.base(thread))),
+        ],
+    )?;
     append_call(core, thread, out)?;
     append_holds(core, thread, out)?;
-    out.push(b'}')?;
-    Ok(())
+    out.extend_from_slice(b"}")
 }

@@ -1,1 +1,2 @@
 mod ListLemmas
+pub mod MemberLemmas

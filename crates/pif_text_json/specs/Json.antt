@@ -1,5 +1,5 @@
 -- Texts of JSON (RFC 8259).
-use Rattle.std.specs.Prelude.{ℕ, zero, suc, ◌+◌, Bool, List, [], ◌∷◌, ◌++◌, Option, Some, None, codes, decimal, map, if◌then◌else◌}
+use Rattle.std.specs.Prelude.{ℕ, zero, suc, Bool, List, [], ◌∷◌, ◌++◌, Option, Some, None, codes, decimal, map, if◌then◌else◌}
 use Rattle.std.specs.List.{join_with_byte}
 
 -- a string of bytes that JSON does not escape, as words of scripts, and names of letters and digits

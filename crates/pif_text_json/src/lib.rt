@@ -1,17 +1,18 @@
-//! Pieces of JSON (RFC 8259), appended to bytes: strings, names, numbers, and lists of what has numbers. What each call
-//! appends is a definition (`specs/Json.antt`). If memory is refused, a part of it may have been appended.
+//! Pieces of JSON (RFC 8259), appended to bytes: strings, names, numbers, lists of what has numbers, and members of
+//! objects. What each call appends is a definition (`specs/Json.antt`, `specs/Members.antt`). If memory is refused, a part
+//! of it may have been appended.
 //!
 //! | Module | What it has |
 //! |---|---|
-//! | `pieces` | strings, names, numbers, `true`, `false` and `null` |
-//! | `lists` | lists with a comma between their members |
+//! | `pieces` | strings, names and numbers |
+//! | `members` | members of objects, and objects |
+//! | `lists` | members that are arrays |
 #![tactic(auto)]
 
 mod lists;
+mod members;
 mod pieces;
 
-pub use lists::{Listed, Sequence, append_list, append_names};
-pub use pieces::{
-    append_bool, append_decimal, append_name, append_name_or_null, append_null,
-    append_number_or_null, append_quoted,
-};
+pub use lists::{Listed, Sequence, append_array, append_names};
+pub use members::{Member, append_members, append_object};
+pub use pieces::{append_decimal, append_name};

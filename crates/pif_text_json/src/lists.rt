@@ -1,8 +1,9 @@
 ghost use Rattle.std.specs.Prelude.{◌≡◌, ◌++◌, ◌≤◌, ℕ, Bool, List, filter, map, take, OnOk};
 ghost use Rattle.std.specs.List.{slice_get};
-ghost use Rattle.pif_text_json.specs.Json.{names_array, name_text, numbers, separated};
+ghost use Rattle.pif_text_json.specs.Json.{name_text, numbers, separated};
+ghost use Rattle.pif_text_json.specs.Members.{array_begin, array_member};
 
-use crate::pieces::append_name;
+use crate::pieces::{append_name, append_quoted};
 use std::alloc::AllocError;
 
 /// Things with numbers from 1, some of which stand in a list.
@@ -23,7 +24,7 @@ pub trait Listed {
 }
 
 /// Appends the texts of those in a list that have at most this number, with a comma between them.
-pub fn append_list<L: Listed>(list: &L, most: u32, out: &mut Vec<u8>) -> Result<(), AllocError>
+fn append_list<L: Listed>(list: &L, most: u32, out: &mut Vec<u8>) -> Result<(), AllocError>
     ensures { OnOk result (out.new.items
         ≡ out.old.items ++ separated (map (L.text list.now) (filter (L.stands list.now) (numbers most)))) }
 {
@@ -48,7 +49,7 @@ pub trait Sequence {
 }
 
 /// Appends the names that have this letter and these numbers, no more than so many, with a comma between them.
-fn append_members<S: Sequence>(
+fn append_sequence<S: Sequence>(
     sequence: &S,
     letter: u8,
     most: u32,
@@ -69,18 +70,42 @@ fn append_members<S: Sequence>(
     Ok(())
 }
 
-/// Appends the names that have this letter and these numbers, no more than so many, as an array.
+/// Appends the begin of a member behind others, whose value is an array.
+fn append_begin(out: &mut Vec<u8>, name: &str) -> Result<(), AllocError>
+    ensures { OnOk result (out.new.items ≡ out.old.items ++ array_begin name.now) }
+{
+    out.extend_from_slice(b",")?;
+    append_quoted(out, name.as_bytes())?;
+    out.extend_from_slice(b":[")
+}
+
+/// Appends a member behind others: an array of those in a list that have at most this number.
+pub fn append_array<L: Listed>(
+    out: &mut Vec<u8>,
+    name: &str,
+    list: &L,
+    most: u32,
+) -> Result<(), AllocError>
+    ensures { OnOk result (out.new.items
+        ≡ out.old.items ++ array_member name.now (map (L.text list.now) (filter (L.stands list.now) (numbers most)))) }
+{
+    append_begin(out, name)?;
+    append_list(list, most, out)?;
+    out.extend_from_slice(b"]")
+}
+
+/// Appends a member behind others: an array of the names that have this letter and these numbers, no more than so many.
 pub fn append_names<S: Sequence>(
+    out: &mut Vec<u8>,
+    name: &str,
     sequence: &S,
     letter: u8,
     most: u32,
-    out: &mut Vec<u8>,
 ) -> Result<(), AllocError>
     ensures { OnOk result (out.new.items
-        ≡ out.old.items ++ names_array letter (take most (S.members sequence.now))) }
+        ≡ out.old.items ++ array_member name.now (map (name_text letter) (take most (S.members sequence.now)))) }
 {
-    out.push(b'[')?;
-    append_members(sequence, letter, most, out)?;
-    out.push(b']')?;
-    Ok(())
+    append_begin(out, name)?;
+    append_sequence(sequence, letter, most, out)?;
+    out.extend_from_slice(b"]")
 }

@@ -1,4 +1,6 @@
-use Rattle.std.proofs.Common.{◌++◌, ◌∙◌, sym}
+use Rattle.std.proofs.Common.{◌++◌, ◌∙◌, sym, ap}
+use Rattle.std.proofs.lemmas.Result.{on_ok_weaker}
+use Rattle.pif_text_json.specs.Json.{name_text}
 use Rattle.pif_story_states.specs.Objects.{chain_from}
 use Rattle.pif_story_states.proofs.ChainLemmas.{chain_end, chain_on, chain_out}
 use Rattle.pif_story_states.proofs.chains.append_from.Goals as goal
@@ -20,6 +22,9 @@ returns-in-None c =
 pub returns : goal.returns
 returns c =
     let whole = c.args.out.now.items ++ chain_from c.args.most c.args.core.now c.args.thread in
-    rw (c.in_ok-append_name-2.ensures, c.get-2.ensures.value)
-    (chain_end whole c.loop-place.out.items c.args.core.now c.loop-place.next c.loop-place.place c.args.most
+    on_ok_weaker c.append_name-2.result
+    (λ e.
+    e ∙ ap (λ n. c.loop-place.out.items ++ name_text 116 n) c.get-2.ensures.value
+    ∙ chain_end whole c.loop-place.out.items c.args.core.now c.loop-place.next c.loop-place.place c.args.most
     c.loop-place.invariant c.loop-place-test.false)
+    c.append_name-2.ensures

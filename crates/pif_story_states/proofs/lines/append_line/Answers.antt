@@ -1,29 +1,18 @@
-use Rattle.std.specs.Prelude.{codes, decimal}
-use Rattle.pif_text_json.specs.Json.{quoted}
-use Rattle.pif_story_states.specs.Objects.{answer_object}
-use Rattle.pif_story_states.specs.States.{order_members, state_line, things_members}
-use Rattle.pif_story_states.proofs.PieceLemmas.{twelve_pieces}
+use Rattle.std.proofs.lemmas.Result.{on_ok_weaker}
+use Rattle.pif_story_states.proofs.LineLemmas.{line_appended}
+use Rattle.pif_story_states.proofs.PieceLemmas.{grown_first, grown_more, on_ok_grown}
 use Rattle.pif_story_states.proofs.lines.append_line.Goals as goal
 
 pub returns : goal.returns
-unfolding state_line
 returns c =
-    let s = c.args.core.now in
-    rw (
-      c.in_ok-extend_from_slice-5.ensures.items,
-      c.in_ok-append_orders.ensures,
-      c.in_ok-append_things.ensures,
-      c.in_ok-append_decimal-2.ensures,
-      c.from.ensures,
-      c.time.ensures.value,
-      c.in_ok-extend_from_slice-4.ensures.items,
-      c.in_ok-append_answer.ensures,
-      c.in_ok-extend_from_slice-3.ensures.items,
-      c.in_ok-append_quoted.ensures,
-      c.in_ok-extend_from_slice-2.ensures.items,
-      c.in_ok-append_decimal.ensures,
-      c.in_ok-extend_from_slice.ensures.items,
-    )
-    (twelve_pieces c.args.out.now.items (codes "{\"line\":") (decimal c.args.line) (codes ",\"command\":")
-    (quoted c.args.words.now) (codes ",\"answer\":") (answer_object c.args.reply) (codes ",\"time\":") (decimal s.time)
-    (things_members c.args.names.now s) (order_members s) (codes "}\n"))
+    let h1 = grown_first c.args.out.now.items _ _ c.in_ok-append_members.ensures in
+    let h2 = grown_more _ _ _ _ _ h1 c.in_ok-extend_from_slice.ensures.items in
+    let h3 = grown_more _ _ _ _ _ h2 c.in_ok-append_answer.ensures in
+    let h4 = grown_more _ _ _ _ _ h3 c.in_ok-append_members-2.ensures in
+    let h5 = grown_more _ _ _ _ _ h4 c.in_ok-append_things.ensures in
+    let h6 = grown_more _ _ _ _ _ h5 c.in_ok-append_orders.ensures in
+    on_ok_weaker c.extend_from_slice-2.result
+    (λ e.
+    line_appended c.args.names.now c.args.line c.args.words.now c.args.reply c.args.core.now c.args.out.now.items
+    c.extend_from_slice-2.new.self.items c.time.result c.time.ensures.value (grown_more _ _ _ _ _ h6 e).is)
+    (on_ok_grown c.extend_from_slice-2.result _ _ _ c.extend_from_slice-2.ensures.items)

@@ -1,28 +1,15 @@
-use Rattle.std.proofs.Common.{append_assoc}
-use Rattle.pif_model.specs.Calls.{threads_answer}
-use Rattle.pif_text_json.specs.Json.{numbers}
-use Rattle.pif_text_core.specs.Waiting.{conds_added, mutexes_added}
-use Rattle.pif_story_states.specs.States.{things_members}
-use Rattle.pif_story_states.proofs.FilterLemmas.{all_kept}
+use Rattle.std.proofs.lemmas.Result.{on_ok_weaker}
+use Rattle.pif_story_states.proofs.LineLemmas.{things_appended}
+use Rattle.pif_story_states.proofs.PieceLemmas.{grown_first, grown_more}
 use Rattle.pif_story_states.proofs.lines.append_things.Goals as goal
 
 pub returns : goal.returns
-unfolding things_members
 returns c =
-    let s = c.args.core.now in
-    rw (
-      c.in_ok-push.ensures.items,
-      c.in_ok-append_list-3.ensures,
-      c.conds_added.ensures,
-      all_kept (numbers (conds_added s)),
-      c.in_ok-extend_from_slice-3.ensures.items,
-      c.in_ok-append_list-2.ensures,
-      c.mutexes_added.ensures,
-      all_kept (numbers (mutexes_added s)),
-      c.in_ok-extend_from_slice-2.ensures.items,
-      c.in_ok-append_list.ensures,
-      c.threads.ensures.value,
-      all_kept (numbers (threads_answer s)),
-      c.in_ok-extend_from_slice.ensures.items,
-    )
-    (simp append_assoc)
+    let h1 = grown_first c.args.out.now.items _ _ c.in_ok-append_array.ensures in
+    let h2 = grown_more _ _ _ _ _ h1 c.in_ok-append_array-2.ensures in
+    on_ok_weaker c.append_array-3.result
+    (λ e.
+    things_appended c.args.names.now c.args.core.now c.args.out.now.items c.append_array-3.new.out.items c.threads.result
+    c.mutexes_added.result c.conds_added.result c.threads.ensures.value c.mutexes_added.ensures c.conds_added.ensures
+    (grown_more _ _ _ _ _ h2 e).is)
+    c.append_array-3.ensures

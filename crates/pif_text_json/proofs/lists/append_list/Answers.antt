@@ -1,6 +1,6 @@
 use Rattle.std.proofs.Common.{◌≡◌, ◌+◌, ◌++◌, ◌∙◌, true, false, sym, ap, arith}
 use Rattle.pif_text_json.specs.Json.{separated}
-use Rattle.pif_text_json.proofs.ListLemmas.{comma_on, comma_start, list_on, list_start, texts_out, texts_to, texts_whole, comma_behind}
+use Rattle.pif_text_json.proofs.ListLemmas.{comma_on, comma_start, list_on, list_start, texts_out, texts_to, texts_whole}
 use Rattle.pif_text_json.proofs.lists.append_list.Goals as goal
 use Rattle.pif_text_json.proofs.lists.append_list.Goals.{then-stands+in_ok-extend_from_slice+in_ok-append, else-stands}
 

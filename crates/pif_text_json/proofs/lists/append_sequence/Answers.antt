@@ -1,8 +1,8 @@
-use Rattle.std.proofs.Common.{◌≡◌, ◌++◌, ◌∙◌, Some, None, map, take, sym, ap, arith}
+use Rattle.std.proofs.Common.{◌≡◌, ◌++◌, ◌∙◌, Some, None, map, take, ap, arith}
 use Rattle.std.specs.List.{slice_get}
 use Rattle.pif_text_json.specs.Json.{name_text, separated}
-use Rattle.pif_text_json.proofs.ListLemmas.{comma_behind, order_comma, order_comma_start, order_on, order_start, take_out}
-use Rattle.pif_text_json.proofs.lists.append_members.Goals as goal
+use Rattle.pif_text_json.proofs.ListLemmas.{order_comma, order_comma_start, order_on, order_start, take_out}
+use Rattle.pif_text_json.proofs.lists.append_sequence.Goals as goal
 
 pub loop-place-init : goal.loop-place-init
 loop-place-init g c =

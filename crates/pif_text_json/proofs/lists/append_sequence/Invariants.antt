@@ -1,7 +1,7 @@
 use Rattle.std.proofs.Common.{◌≡◌, ◌++◌, map, take}
 use Rattle.pif_text_json.specs.Json.{name_text, separated}
 use Rattle.pif_text_json.proofs.ListLemmas.{comma_behind}
-use Rattle.pif_text_json.proofs.lists.append_members.Given as goal
+use Rattle.pif_text_json.proofs.lists.append_sequence.Given as goal
 
 abbrev pub invariant-loop-place : goal.invariant-loop-place
 invariant-loop-place g l = record {
