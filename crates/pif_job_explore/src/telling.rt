@@ -1,97 +1,47 @@
 //! What is told of schedules on cores, as bytes.
-ghost use Rattle.std.specs.Prelude.{◌≡◌, ◌++◌, OnOk, codes, decimal, flat_map};
-ghost use Rattle.pif_job_explore.specs.Lines.{claim_told, ending_told, others_told, outcome_told, played_told, unfinished_told};
+ghost use Rattle.std.specs.Prelude.{◌≡◌, ◌++◌, OnOk, flat_map};
+ghost use Rattle.pif_job_explore.specs.Lines.{count_told, mark_told, played_told};
 
 use crate::playing::{Mark, Played};
-use pif_explore_told::{push_all, push_number};
+use pif_explore_told::push_numbers;
 use pif_search::Stop;
 
-/// Appends a number between two words.
-fn push_between(out: &mut Vec<u8>, before: &[u8], number: u64, behind: &[u8]) -> Result<(), Stop>
-    ensures { OnOk result (out.new.items ≡ out.old.items ++ (before.now ++ (decimal number ++ behind.now))) }
+/// Appends the number of a mark behind a word, and whether it is met in these words.
+fn push_mark(out: &mut Vec<u8>, mark: &Mark, word: &str, met: &str, unmet: &str) -> Result<(), Stop>
+    ensures { OnOk result (out.new.items ≡ out.old.items ++ mark_told word.now met.now unmet.now mark.now) }
 {
-    push_all(out, before)?;
-    push_number(out, number)?;
-    push_all(out, behind)
-}
-
-/// Appends whether schedules came to an outcome.
-fn push_outcome(out: &mut Vec<u8>, mark: Mark) -> Result<(), Stop>
-    ensures { OnOk result (out.new.items ≡ out.old.items ++ outcome_told mark) }
-{
-    let number = mark.number as u64;
+    let numbers = [(word, mark.number as u64)];
     if mark.is_met {
-        push_between(out, b"outcome ", number, b": seen on the core\n")
+        push_numbers(out, &numbers, met)
     } else {
-        push_between(out, b"outcome ", number, b": not seen on the core\n")
+        push_numbers(out, &numbers, unmet)
     }
 }
 
-/// Appends whether schedules broke a claim.
-fn push_claim(out: &mut Vec<u8>, mark: Mark) -> Result<(), Stop>
-    ensures { OnOk result (out.new.items ≡ out.old.items ++ claim_told mark) }
-{
-    let number = mark.number as u64;
-    if mark.is_met {
-        push_between(out, b"claim at ", number, b": broken on the core\n")
-    } else {
-        push_between(out, b"claim at ", number, b": not broken on the core\n")
-    }
-}
-
-/// Appends the lines of outcomes.
-fn push_outcomes(out: &mut Vec<u8>, marks: &[Mark]) -> Result<(), Stop>
-    ensures { OnOk result (out.new.items ≡ out.old.items ++ flat_map outcome_told marks.now) }
+/// Appends marks, each in these words.
+fn push_marks(
+    out: &mut Vec<u8>,
+    marks: &[Mark],
+    word: &str,
+    met: &str,
+    unmet: &str,
+) -> Result<(), Stop>
+    ensures { OnOk result (out.new.items ≡ out.old.items ++ flat_map (mark_told word.now met.now unmet.now) marks.now) }
 {
     for mark in marks {
-        push_outcome(out, *mark)?;
+        push_mark(out, mark, word, met, unmet)?;
     }
     Ok(())
 }
 
-/// Appends the lines of claims.
-fn push_claims(out: &mut Vec<u8>, marks: &[Mark]) -> Result<(), Stop>
-    ensures { OnOk result (out.new.items ≡ out.old.items ++ flat_map claim_told marks.now) }
-{
-    for mark in marks {
-        push_claim(out, *mark)?;
-    }
-    Ok(())
-}
-
-/// Appends how many schedules were given up, if some were.
-fn push_unfinished(out: &mut Vec<u8>, count: u32) -> Result<(), Stop>
-    ensures { OnOk result (out.new.items ≡ out.old.items ++ unfinished_told count) }
+/// Appends a count and what it counts, unless it is 0.
+fn push_count(out: &mut Vec<u8>, count: u32, words: &str) -> Result<(), Stop>
+    ensures { OnOk result (out.new.items ≡ out.old.items ++ count_told words.now count) }
 {
     if count == 0 {
         return Ok(());
     }
-    push_between(out, b"", u64::from(count), b" schedules were given up\n")
-}
-
-/// Appends how many final states of schedules had an outcome that the machine lacks, if some had.
-fn push_others(out: &mut Vec<u8>, count: u32) -> Result<(), Stop>
-    ensures { OnOk result (out.new.items ≡ out.old.items ++ others_told count) }
-{
-    if count == 0 {
-        return Ok(());
-    }
-    push_between(
-        out,
-        b"",
-        u64::from(count),
-        b" final states had an outcome that is not told\n",
-    )
-}
-
-/// Appends how many schedules there were.
-fn push_ending(out: &mut Vec<u8>, played: &Played, schedules: u32) -> Result<(), Stop>
-    ensures { OnOk result (out.new.items ≡ out.old.items ++ ending_told played.now schedules) }
-{
-    push_unfinished(out, played.unfinished)?;
-    push_others(out, played.others)?;
-    push_between(out, b"", u64::from(schedules), b" schedules on the core\n")?;
-    Ok(())
+    push_numbers(out, &[("", u64::from(count))], words)
 }
 
 /// Appends what so many schedules came to: a line for each outcome, one for each claim, and how many schedules there were.
@@ -102,8 +52,18 @@ fn push_ending(out: &mut Vec<u8>, played: &Played, schedules: u32) -> Result<(),
 pub fn push_played(out: &mut Vec<u8>, played: &Played, schedules: u32) -> Result<(), Stop>
     ensures { OnOk result (out.new.items ≡ out.old.items ++ played_told played.now schedules) }
 {
-    push_outcomes(out, played.outcomes.as_slice())?;
-    push_claims(out, played.claims.as_slice())?;
-    push_ending(out, played, schedules)?;
-    Ok(())
+    let seen = ": seen on the core\n";
+    let unseen = ": not seen on the core\n";
+    push_marks(out, played.outcomes.as_slice(), "outcome ", seen, unseen)?;
+    let broken = ": broken on the core\n";
+    let unbroken = ": not broken on the core\n";
+    push_marks(out, played.claims.as_slice(), "claim at ", broken, unbroken)?;
+    push_count(out, played.unfinished, " schedules were given up\n")?;
+    let others = " final states had an outcome that is not told\n";
+    push_count(out, played.others, others)?;
+    push_numbers(
+        out,
+        &[("", u64::from(schedules))],
+        " schedules on the core\n",
+    )
 }
