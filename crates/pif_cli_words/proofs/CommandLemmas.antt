@@ -1,9 +1,13 @@
 -- Commands that got one more argument or one more command.
-use Rattle.std.proofs.Common.{◌≡◌, ◌∙◌, ◌||◌, Bool, true, false, Result, Ok, Err, IfOk, ap}
-use Rattle.clap.specs.Words.{AddsArg, AddsSubcommand, App, rule_of, shape_of, with_rule, with_subcommand}
+use Rattle.std.proofs.Common.{◌≡◌, ◌∙◌, ◌≤◌, ◌-◌, ◌||◌, Bool, true, false, List, ◌∷◌, length, get_or, take, drop, Result, Ok, Err, IfOk, ap, sym, arith}
+use Rattle.std.proofs.lemmas.List.{drop_more, take_rest}
+use Rattle.std.specs.Borrow.{Bor}
+use Rattle.clap.specs.Words.{AddsArg, AddsSubcommand, App, Text, rule_of, shape_of, with_rule, with_subcommand}
 use Rattle.clap.specs.declared.builder.arg.Arg.{Arg}
 use Rattle.clap.specs.declared.builder.command.Command.{Command}
-use Rattle.pif_cli_words.specs.Commands.{IsCommand, IsMade}
+use Rattle.pif_cli_words.specs.declared.options.Form.{Form}
+use Rattle.pif_cli_words.specs.Commands.{IsCommand, IsMade, with_rows}
+use Rattle.pif_cli_words.specs.Options.{form_rule}
 
 nothing_more : (a b : Bool) → a ≡ false → b ≡ false → (a || b) ≡ false
 nothing_more true b h k = cc
@@ -28,3 +32,14 @@ joined (Ok new) old sub app more adds is mine = (
   adds.globals ∙ nothing_more _ _ is.1 mine.1,
 )
 joined (Err e) old sub app more adds is mine = tt
+
+abbrev Row : Type 0
+Row = Bor Text × Form × Bor Text
+
+-- a command that gets the first of some arguments, and then the others
+pub first_added : (app : App) (rows : List Row) (d : Row) → 1 ≤ length rows
+    → with_rows (with_rule app (form_rule (get_or rows 0 d).0.now (get_or rows 0 d).1)) (take (length rows - 1) (drop 1 rows))
+    ≡ with_rows app rows
+first_added app rows d some =
+    ap (with_rows app)
+    (sym (drop_more rows 0 d (omega (arith, some)) ∙ ap (λ (rs : List Row). get_or rows 0 d ∷ rs) (sym (take_rest rows 1))))

@@ -1,12 +1,13 @@
 -- Arguments of the program's commands: flags, numbers, rules and files.
 use Rattle.std.specs.Prelude.{ℕ, ◌==◌, Bool, true, false, List, [], ◌∷◌, Option, Some, None, codes, bytes_eq, if◌then◌else◌}
-use Rattle.std.specs.Option.{option_map_or}
 use Rattle.std.specs.Str.Parse.{digits_value, without_leading_plus}
 use Rattle.clap.specs.Lexer.{usize_max}
 use Rattle.clap.specs.ValueTests.{is_unsigned_in}
 use Rattle.clap.specs.Words.{Row, Rule, Text, first_of, new_rule}
 use Rattle.clap.specs.declared.builder.action.ArgAction.TheVariants.{Append, SetTrue}
 use Rattle.clap.specs.declared.builder.value_parser.ValueParser.TheVariants.{Unsigned}
+use Rattle.pif_cli_words.specs.declared.options.Absent.{Absent}
+use Rattle.pif_cli_words.specs.declared.options.Absent.TheVariants.{Empty, Refused, Is}
 use Rattle.pif_cli_words.specs.declared.options.Form.{Form}
 use Rattle.pif_cli_words.specs.declared.options.Form.TheVariants.{Flag, Number, Rules, File, Files, Placed}
 
@@ -27,13 +28,16 @@ needed_rule name low high = record (number_rule name low high) { required = true
 abbrev pub chosen_rule : Text → (low high : ℕ) → (default : Text) → Rule
 chosen_rule name low high default = record (number_rule name low high) { defaults = default ∷ [] }
 
+-- an option with a number, by what it has if none is given
+abbrev pub absent_rule : Absent → Rule → Rule
+absent_rule Empty rule = rule
+absent_rule Refused rule = record rule { required = true }
+absent_rule (Is text) rule = record rule { defaults = text.now ∷ [] }
+
 -- an argument of this name, by how it is given
 abbrev pub form_rule : Text → Form → Rule
 form_rule name Flag = flag_rule name
-form_rule name (Number numbers) = record (number_rule name numbers.low numbers.high) {
-  required = numbers.required;
-  defaults = option_map_or (λ text. text.now ∷ []) numbers.default [];
-}
+form_rule name (Number called low high absent) = absent_rule absent (number_rule name low high)
 form_rule name Rules = record (new_rule name) { long = Some name; value_names = 1; action = Some Append }
 form_rule name File = new_rule name
 form_rule name Files =

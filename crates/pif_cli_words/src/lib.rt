@@ -4,8 +4,9 @@
 //! | Module | What it has |
 //! |---|---|
 //! | `jobs` | words as a job and its files |
+//! | `tables` | the commands as tables: what help shows of each, and its arguments |
 //! | `commands` | the commands, as `clap` takes them |
-//! | `random` | the command `random`, and the script that it asks for |
+//! | `random` | the script that `random` asks for |
 //! | `defaults` | numbers that may be left out of the words |
 //! | `options` | flags, numbers and files |
 //! | `rules` | the rules that `judge` is told to allow |
@@ -25,6 +26,7 @@ mod near;
 mod options;
 mod random;
 mod rules;
+mod tables;
 
 pub use jobs::{Asked, Drawn, Exploring, Job, Judging, STANDARD_NAME, first_name, read_words};
 pub use laws::{random_lines_have_a_bound, words_of_the_program};

@@ -7,19 +7,15 @@ use clap::ArgAction;
 use clap::builder::ValueParser;
 use std::alloc::Global;
 
-/// The numbers that an option takes.
+/// What an option has for which no number is given.
 #[derive(Clone, Copy)]
-pub struct Numbers<'a> {
-    /// What help calls one.
-    pub called: &'a str,
-    /// The lowest.
-    pub low: u64,
-    /// The highest.
-    pub high: u64,
-    /// Whether one must be given.
-    pub required: bool,
-    /// The one that it is if none is given, if there is such a one.
-    pub default: Option<&'a str>,
+pub enum Absent<'a> {
+    /// No number.
+    Empty,
+    /// The words are refused.
+    Refused,
+    /// This number.
+    Is(&'a str),
 }
 
 /// How an argument is given, and what it may be.
@@ -27,8 +23,8 @@ pub struct Numbers<'a> {
 pub enum Form<'a> {
     /// An option that is given or not.
     Flag,
-    /// An option with a number.
-    Number(Numbers<'a>),
+    /// An option with a number: what help calls one, the lowest, the highest, and what it has if none is given.
+    Number(&'a str, u64, u64, Absent<'a>),
     /// An option that names a rule, and that may be given again for more.
     Rules,
     /// The file of one input, which may be left out.
@@ -47,15 +43,15 @@ pub fn argument<'a>(alloc: Global, name: &'a str, help: &'a str, form: Form<'a>)
     let arg = clap::Arg::new(alloc, name).help(help);
     match form {
         Form::Flag => arg.long(name).action(ArgAction::SetTrue),
-        Form::Number(numbers) => {
+        Form::Number(called, low, high, absent) => {
             let number = arg
                 .long(name)
-                .value_name(numbers.called)
-                .value_parser(ValueParser::unsigned(numbers.low, numbers.high))
-                .required(numbers.required);
-            match numbers.default {
-                Some(default) => number.default_value(default),
-                None => number,
+                .value_name(called)
+                .value_parser(ValueParser::unsigned(low, high));
+            match absent {
+                Absent::Empty => number,
+                Absent::Refused => number.required(true),
+                Absent::Is(default) => number.default_value(default),
             }
         }
         Form::Rules => arg.long(name).value_name("RULE").action(ArgAction::Append),
