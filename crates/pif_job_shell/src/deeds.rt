@@ -16,6 +16,7 @@ use crate::wishes::{Wish, count_of, name_of, wish_of};
 use pif_text::{Command, Reply, Text, command_text};
 use pif_text_core::{Unwritten, write_state};
 use std::alloc::Global;
+use std::fmt::Write as _;
 use std::io::Write;
 
 /// What was done by a line.
@@ -56,8 +57,7 @@ fn undone(count: usize, session: &Session) -> Remark {
     let mut remark = Remark::new();
     remark.say("undone: ");
     if count > 1 {
-        remark.number(count as u64);
-        remark.say(" commands, from ");
+        let _ = write!(remark, "{count} commands, from ");
     }
     if let Some(command) = session.undone() {
         say_command(*command, &mut remark);
@@ -67,14 +67,14 @@ fn undone(count: usize, session: &Session) -> Remark {
 
 /// Takes so many commands back. Answers what is to be said, and what was done.
 fn undo(alloc: Global, session: &mut Session, count: &[u8]) -> (Remark, Done) {
-    let mut remark = Remark::new();
     let Some(count) = count_of(count) else {
-        remark.say("a number of at least 1 is wanted, in 'undo N'");
-        return (remark, Done::Nothing);
+        let wanted = Remark::of(&["a number of at least 1 is wanted, in 'undo N'"]);
+        return (wanted, Done::Nothing);
     };
     match session.undo(alloc, count) {
         Ok(()) => (undone(count, session), Done::Changed),
         Err(why) => {
+            let mut remark = Remark::new();
             say_not_undone(why, session.len(), &mut remark);
             (remark, Done::Nothing)
         }
@@ -105,13 +105,9 @@ fn redo<W: Write>(alloc: Global, session: &mut Session, writer: &mut W) -> Resul
             remark.say("again: ");
             say_command(command, &mut remark);
             tell(remark, writer)?;
-            tell_reply(alloc, session, reply, writer)?;
-            Ok(Done::Changed)
+            tell_reply(alloc, session, reply, writer).and(Ok(Done::Changed))
         }
-        Err(why) => {
-            tell_words(not_redone_words(why), writer)?;
-            Ok(Done::Nothing)
-        }
+        Err(why) => tell_words(not_redone_words(why), writer).and(Ok(Done::Nothing)),
     }
 }
 
@@ -124,16 +120,16 @@ fn save_as<S: Shelf>(
     name: &str,
     replaces: bool,
 ) -> (Remark, Done) {
-    let mut remark = Remark::new();
     let Ok(story) = story_of(alloc, session) else {
-        remark.say("out of memory: nothing is saved");
-        return (remark, Done::Nothing);
+        let unsaved = Remark::of(&["out of memory: nothing is saved"]);
+        return (unsaved, Done::Nothing);
     };
     let saved = if replaces {
         shelf.replace(alloc, name, story.as_slice())
     } else {
         shelf.save(name, story.as_slice())
     };
+    let mut remark = Remark::new();
     match saved {
         Ok(()) => {
             remark.say("saved ");
@@ -149,20 +145,16 @@ fn save_as<S: Shelf>(
 
 /// What is said if a name is wanted.
 fn name_wanted(form: &str) -> Remark {
-    let mut remark = Remark::new();
-    remark.say("the name of a file is wanted, in '");
-    remark.say(form);
-    remark.say("'");
-    remark
+    Remark::of(&["the name of a file is wanted, in '", form, "'"])
 }
 
 /// What is said if a session is to be saved into the story in which it is kept. That one is removed at its end.
 fn other_name_wanted(kept: &str) -> Remark {
-    let mut remark = Remark::new();
-    remark.say("the shell keeps the session in ");
-    remark.say(kept);
-    remark.say("; save it under another name");
-    remark
+    Remark::of(&[
+        "the shell keeps the session in ",
+        kept,
+        "; save it under another name",
+    ])
 }
 
 /// Saves the script so far under the name that these bytes are, if it has a command and isn't kept there. Answers what
@@ -179,9 +171,8 @@ fn save<S: Shelf>(
         return (name_wanted(form), Done::Nothing);
     };
     if session.len() == 0 {
-        let mut remark = Remark::new();
-        remark.say("there is nothing to save");
-        return (remark, Done::Nothing);
+        let nothing = Remark::of(&["there is nothing to save"]);
+        return (nothing, Done::Nothing);
     }
     match keeper.kept_in(name) {
         Some(kept) => (other_name_wanted(kept), Done::Nothing),
@@ -202,9 +193,11 @@ fn begin_with<S: Shelf>(
     };
     let mut remark = Remark::new();
     if session.len() > 0 {
-        remark.say("there are commands already; they are taken back by 'undo ");
-        remark.number(session.len() as u64);
-        remark.say("'");
+        let count = session.len();
+        let _ = write!(
+            remark,
+            "there are commands already; they are taken back by 'undo {count}'"
+        );
         return (remark, Done::Nothing);
     }
     match load(alloc, shelf, name) {
@@ -212,9 +205,8 @@ fn begin_with<S: Shelf>(
             *session = loaded;
             remark.say("loaded ");
             remark.show(name.as_bytes());
-            remark.say(": ");
-            remark.number(session.len() as u64);
-            remark.say(" commands");
+            let count = session.len();
+            let _ = write!(remark, ": {count} commands");
             (remark, Done::Changed)
         }
         Err(why) => (why, Done::Nothing),
@@ -232,15 +224,11 @@ fn play<W: Write>(
     ensures { Stays (W.contents writer.old) (W.contents writer.new) }
 {
     match session.take(alloc, line) {
-        Ok(reply) => {
-            tell_reply(alloc, session, reply, writer)?;
-            Ok(Done::Changed)
-        }
+        Ok(reply) => tell_reply(alloc, session, reply, writer).and(Ok(Done::Changed)),
         Err(refusal) => {
             let mut remark = Remark::new();
             say_refusal(&refusal, &mut remark);
-            tell(remark, writer)?;
-            Ok(Done::Nothing)
+            tell(remark, writer).and(Ok(Done::Nothing))
         }
     }
 }
@@ -260,13 +248,9 @@ pub fn obey<S: Shelf, W: Write>(
         Wish::Nothing => return Ok(Done::Nothing),
         Wish::Leave => return Ok(Done::Leaves),
         Wish::Help(word) => {
-            write_text(help_of(word).as_bytes(), writer)?;
-            return Ok(Done::Nothing);
+            return write_text(help_of(word).as_bytes(), writer).and(Ok(Done::Nothing));
         }
-        Wish::State => {
-            show_state(session, writer)?;
-            return Ok(Done::Nothing);
-        }
+        Wish::State => return show_state(session, writer).and(Ok(Done::Nothing)),
         Wish::Redo => return redo(alloc, session, writer),
         Wish::Line(line) => return play(alloc, session, line, writer),
         Wish::Undo(count) => undo(alloc, session, count),
@@ -275,6 +259,5 @@ pub fn obey<S: Shelf, W: Write>(
         Wish::Load(name) => begin_with(alloc, shelf, session, name),
         Wish::More(word) => (too_many(word), Done::Nothing),
     };
-    tell(said, writer)?;
-    Ok(done)
+    tell(said, writer).and(Ok(done))
 }

@@ -41,23 +41,16 @@ impl Keeper {
     /// Makes a new file for the session. Answers what is said of it, too.
     pub fn begin<S: Shelf>(alloc: Global, shelf: &S) -> (Keeper, Remark) {
         let mut keeper = Keeper::idle();
-        let mut remark = Remark::new();
-        match first_free(alloc, shelf) {
+        let remark = match first_free(alloc, shelf) {
             Ok(name) => {
                 keeper.name = Some(name);
-                remark.say("the session is kept in ");
-                remark.say(name);
+                kept_as(name)
             }
-            Err((_, SaveFault::Taken)) => {
-                remark.say(
-                    "the session is not kept: no name from pif-shell-1.story to pif-shell-9.story is free",
-                );
-            }
-            Err((name, why)) => {
-                remark.say("the session is not kept: ");
-                say_unsaved(name, why, &mut remark);
-            }
-        }
+            Err((_, SaveFault::Taken)) => Remark::of(&[
+                "the session is not kept: no name from pif-shell-1.story to pif-shell-9.story is free",
+            ]),
+            Err((name, why)) => not_kept(name, why),
+        };
         (keeper, remark)
     }
 
@@ -88,12 +81,7 @@ impl Keeper {
         self.is_kept = kept.is_ok();
         match kept {
             Ok(()) => None,
-            Err(why) => {
-                let mut remark = Remark::new();
-                remark.say("the session is not kept: ");
-                say_unsaved(name, why, &mut remark);
-                Some(remark)
-            }
+            Err(why) => Some(not_kept(name, why)),
         }
     }
 
@@ -105,17 +93,24 @@ impl Keeper {
             shelf.remove(name);
             return None;
         }
-        let mut remark = Remark::new();
-        if self.is_kept {
-            remark.say("the session is kept in ");
-            remark.say(name);
+        Some(if self.is_kept {
+            kept_as(name)
         } else {
-            remark.say("the session is not kept as it is now; ");
-            remark.say(name);
-            remark.say(" is older");
-        }
-        Some(remark)
+            Remark::of(&["the session is not kept as it is now; ", name, " is older"])
+        })
     }
+}
+
+/// What is said of a session that is kept in the story of this name.
+fn kept_as(name: &str) -> Remark {
+    Remark::of(&["the session is kept in ", name])
+}
+
+/// What is said of one that can't be kept there.
+fn not_kept(name: &str, why: SaveFault) -> Remark {
+    let mut remark = Remark::of(&["the session is not kept: "]);
+    say_unsaved(name, why, &mut remark);
+    remark
 }
 
 /// Puts the session into the story of this name.

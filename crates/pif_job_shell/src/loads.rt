@@ -1,4 +1,4 @@
-use crate::remarks::{Remark, say_not_loaded, say_too_large, say_unread};
+use crate::remarks::{OUT_OF_MEMORY, Remark, say_not_loaded, say_too_large, say_unread};
 use crate::sessions::{Session, session_of};
 use crate::shelves::Shelf;
 use pif_script::CliFault;
@@ -16,35 +16,42 @@ fn lines_of(alloc: Global, script: &[u8]) -> Result<Vec<&[u8]>, AllocError> {
     Ok(lines)
 }
 
-/// What is said if memory runs out.
-fn out_of_memory() -> Remark {
-    let mut remark = Remark::new();
-    remark.say("out of memory: nothing has changed");
-    remark
-}
-
 /// A session with the commands of the story of this name, of which this is the text.
 ///
 /// # Errors
 ///
 /// What is to be said of why there is none.
 fn session_of_story(alloc: Global, name: &str, story: &[u8]) -> Result<Session, Remark> {
-    let mut remark = Remark::new();
     let mut rest = story;
-    let script = match read_script_of_story(alloc, &mut rest) {
-        Ok(script) => script,
+    match read_script_of_story(alloc, &mut rest) {
+        Ok(script) => session_of_script(alloc, name, story, script.as_slice()),
         Err(CliFault::Script(line, _)) => {
+            let mut remark = Remark::new();
             say_too_large(name, line, &mut remark);
-            return Err(remark);
+            Err(remark)
         }
-        Err(_) => return Err(out_of_memory()),
-    };
-    let Ok(lines) = lines_of(alloc, script.as_slice()) else {
-        return Err(out_of_memory());
+        Err(_) => Err(Remark::of(&[OUT_OF_MEMORY])),
+    }
+}
+
+/// A session with the commands of this script, which is that of the story of this name.
+///
+/// # Errors
+///
+/// What is to be said of why there is none.
+fn session_of_script(
+    alloc: Global,
+    name: &str,
+    story: &[u8],
+    script: &[u8],
+) -> Result<Session, Remark> {
+    let Ok(lines) = lines_of(alloc, script) else {
+        return Err(Remark::of(&[OUT_OF_MEMORY]));
     };
     match session_of(alloc, lines.as_slice()) {
         Ok(session) => Ok(session),
         Err(why) => {
+            let mut remark = Remark::new();
             say_not_loaded(name, story, why.number, &why.refusal, &mut remark);
             Err(remark)
         }

@@ -1,7 +1,6 @@
 use crate::sessions::{NotRedone, NotUndone, Refusal, Unplayed};
 use crate::shelves::{LoadFault, SaveFault};
 use arrayvec::ArrayVec;
-use itoa::Buffer;
 use pif_text::Cause;
 use pif_text_errors::{
     SyntaxError, Wrong, cause_words, line_of_command, nearest_name, written_column,
@@ -26,6 +25,15 @@ impl Remark {
         }
     }
 
+    /// A remark of these texts, one behind the other.
+    pub fn of(texts: &[&str]) -> Remark {
+        let mut remark = Remark::new();
+        for text in texts {
+            remark.say(text);
+        }
+        remark
+    }
+
     /// The text of the remark.
     pub fn as_slice(&self) -> &[u8] {
         self.bytes.as_slice()
@@ -41,12 +49,6 @@ impl Remark {
         for byte in text.as_bytes() {
             self.put(*byte);
         }
-    }
-
-    /// Appends a number in decimal digits.
-    pub fn number(&mut self, number: u64) {
-        let mut buffer = Buffer::new();
-        self.say(buffer.format(number));
     }
 
     /// Appends bytes that somebody typed; what is no printable ASCII as a question mark.
@@ -102,12 +104,15 @@ fn say_wrong(syntax_error: &SyntaxError<'_>, remark: &mut Remark) {
     }
 }
 
+/// What is said if memory is refused.
+pub const OUT_OF_MEMORY: &str = "out of memory: nothing has changed";
+
 /// Why a command is not accepted, in words.
 fn unplayed_words(why: Unplayed) -> &'static str {
     match why {
         Unplayed::Fault(cause) => cause_words(cause),
         Unplayed::Full => "the script has 131072 commands, and takes no more",
-        Unplayed::NoMemory => "out of memory: nothing has changed",
+        Unplayed::NoMemory => OUT_OF_MEMORY,
     }
 }
 
@@ -115,9 +120,7 @@ fn unplayed_words(why: Unplayed) -> &'static str {
 pub fn say_refusal(refusal: &Refusal<'_>, remark: &mut Remark) {
     match refusal {
         Refusal::SyntaxError(syntax_error) => {
-            remark.say("column ");
-            remark.number(syntax_error.column as u64);
-            remark.say(": ");
+            let _ = write!(remark, "column {}: ", syntax_error.column);
             say_wrong(syntax_error, remark);
         }
         Refusal::Unplayed(why) => remark.say(unplayed_words(*why)),
@@ -126,23 +129,17 @@ pub fn say_refusal(refusal: &Refusal<'_>, remark: &mut Remark) {
 
 /// What is said of one of the shell's words that has more behind it.
 pub fn too_many(word: &'static str) -> Remark {
-    let mut remark = Remark::new();
-    remark.say(Wrong::TooMany.words());
-    remark.say(", in '");
-    remark.say(word);
-    remark.say("'");
-    remark
+    Remark::of(&[Wrong::TooMany.words(), ", in '", word, "'"])
 }
 
 /// Says why so many commands were not taken back, of those that there are.
 pub fn say_not_undone(why: NotUndone, count: usize, remark: &mut Remark) {
     match why {
-        NotUndone::NoMemory => remark.say("out of memory: nothing has changed"),
+        NotUndone::NoMemory => remark.say(OUT_OF_MEMORY),
         NotUndone::Fewer => match count {
             0 => remark.say("there is nothing to undo"),
             _ => {
-                remark.say("there are no more to undo than ");
-                remark.number(count as u64);
+                let _ = write!(remark, "there are no more to undo than {count}");
             }
         },
     }
@@ -152,62 +149,52 @@ pub fn say_not_undone(why: NotUndone, count: usize, remark: &mut Remark) {
 pub fn not_redone_words(why: NotRedone) -> &'static str {
     match why {
         NotRedone::Nothing => "there is nothing to give again",
-        NotRedone::NoMemory => "out of memory: nothing has changed",
+        NotRedone::NoMemory => OUT_OF_MEMORY,
     }
 }
 
 /// Says a file's name, and behind it why something was not done, in the system's words or else in these.
 fn say_reason(name: &str, why: Option<&'static str>, else_words: &str, remark: &mut Remark) {
+    let (between, words) = match why {
+        Some(words) => (": ", words),
+        None => (" ", else_words),
+    };
     remark.show(name.as_bytes());
-    match why {
-        Some(words) => {
-            remark.say(": ");
-            remark.say(words);
-        }
-        None => {
-            remark.say(" ");
-            remark.say(else_words);
-        }
-    }
+    remark.say(between);
+    remark.say(words);
 }
 
 /// Says why a file of this name was not saved.
 pub fn say_unsaved(name: &str, why: SaveFault, remark: &mut Remark) {
-    match why {
-        SaveFault::Taken => {
-            remark.show(name.as_bytes());
-            remark.say(" is there already, and is left as it is; 'save! FILE' replaces it");
-        }
-        SaveFault::TakenBeside => {
-            remark.show(name.as_bytes());
-            remark.say(" stays as it is, since there is a file of its name with '.new' after it");
-        }
-        SaveFault::NoPlainFile => {
-            remark.show(name.as_bytes());
-            remark.say(" is no plain file, and is left as it is");
-        }
-        SaveFault::Refused(why) => say_reason(name, why, "cannot be made", remark),
-        SaveFault::Cut(why) => say_reason(name, why, "cannot be written whole", remark),
-        SaveFault::NoMemory => say_reason(name, Some("out of memory"), "", remark),
-    }
+    let (why, else_words) = match why {
+        SaveFault::Taken => (
+            None,
+            "is there already, and is left as it is; 'save! FILE' replaces it",
+        ),
+        SaveFault::TakenBeside => (
+            None,
+            "stays as it is, since there is a file of its name with '.new' after it",
+        ),
+        SaveFault::NoPlainFile => (None, "is no plain file, and is left as it is"),
+        SaveFault::Refused(why) => (why, "cannot be made"),
+        SaveFault::Cut(why) => (why, "cannot be written whole"),
+        SaveFault::NoMemory => (Some("out of memory"), ""),
+    };
+    say_reason(name, why, else_words, remark)
 }
 
 /// Says why a file of this name was not read.
 pub fn say_unread(name: &str, why: LoadFault, remark: &mut Remark) {
     match why {
         LoadFault::Unread(why) => say_reason(name, why, "cannot be read", remark),
-        LoadFault::NoMemory => remark.say("out of memory: nothing has changed"),
+        LoadFault::NoMemory => remark.say(OUT_OF_MEMORY),
     }
 }
 
 /// Says a place in a file: its name, line and column, with a colon behind each.
 fn say_place(name: &str, line: u64, column: usize, remark: &mut Remark) {
     remark.show(name.as_bytes());
-    remark.say(":");
-    remark.number(line);
-    remark.say(":");
-    remark.number(column as u64);
-    remark.say(": ");
+    let _ = write!(remark, ":{line}:{column}: ");
 }
 
 /// Says that the file of this name is too large, at a line of this number.

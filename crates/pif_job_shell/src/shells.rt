@@ -44,10 +44,7 @@ fn hear<S: Shelf, W: Write>(
 {
     match talk.lines.found() {
         Found::Nothing => Ok(Done::Nothing),
-        Found::Long => {
-            tell_words(cause_words(Cause::Long), writer)?;
-            Ok(Done::Nothing)
-        }
+        Found::Long => { tell_words(cause_words(Cause::Long), writer).and(Ok(Done::Nothing)) }
         Found::Line => obey(
             alloc,
             shelf,
@@ -76,8 +73,7 @@ fn hear_and_keep<S: Shelf, W: Write>(
             Ok(false)
         }
         Done::Changed => {
-            tell_if(talk.keeper.keep(alloc, shelf, &talk.session), writer)?;
-            Ok(false)
+            tell_if(talk.keeper.keep(alloc, shelf, &talk.session), writer).and(Ok(false))
         }
     }
 }

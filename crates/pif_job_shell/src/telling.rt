@@ -41,9 +41,7 @@ pub fn tell<W: Write>(mut remark: Remark, writer: &mut W) -> Result<(), Unwritte
 pub fn tell_words<W: Write>(words: &str, writer: &mut W) -> Result<(), Unwritten>
     ensures { Stays (W.contents writer.old) (W.contents writer.new) }
 {
-    let mut remark = Remark::new();
-    remark.say(words);
-    tell(remark, writer)
+    tell(Remark::of(&[words]), writer)
 }
 
 /// Writes a remark, if there is one.
