@@ -41,7 +41,7 @@ pub struct Given<'n, 's> {
     pub why: Option<&'static str>,
 }
 
-/// Whether a job reads a story, and shows no line of it if its form is at fault.
+/// Whether a job reads a story, and tells its faults and differences without showing the line.
 fn is_of_story(job: Job) -> bool {
     match job {
         Job::Check | Job::Strict | Job::Fill | Job::FillSeveral => true,
@@ -100,11 +100,8 @@ impl<'n, 's> Given<'n, 's> {
         let mut message = Message::empty();
         let place = self.place_of_fault(number, cause);
         match (self.job, cause) {
-            (Job::Judge(_), _) => {
-                self.say_text_fault(&place, TextKind::History, number, cause, &mut message)
-            }
-            (Job::Explore(_), _) => {
-                self.say_text_fault(&place, TextKind::Program, number, cause, &mut message)
+            (Job::Judge(_) | Job::Explore(_), _) => {
+                self.say_text_fault(&place, number, cause, &mut message)
             }
             (Job::Replay | Job::Migrate, Cause::Command) => {
                 no_traced(&place, number, notice, &mut message)
@@ -114,33 +111,31 @@ impl<'n, 's> Given<'n, 's> {
             (Job::Draw(_), Cause::Size) => {
                 say_line(&place, 1, size_of_drawing(self.story()), b"", &mut message)
             }
-            (job, _) if is_of_story(job) => {
-                let column = column_of(MOST_LINE, cause, b"");
-                say_line(&place, column, cause_words(cause), b"", &mut message)
-            }
-            _ => {
-                let column = column_of(MOST_LINE, cause, notice.line());
-                say_line(
-                    &place,
-                    column,
-                    cause_words(cause),
-                    notice.line(),
-                    &mut message,
-                )
+            (job, _) => {
+                let line = if is_of_story(job) {
+                    b"".as_slice()
+                } else {
+                    notice.line()
+                };
+                let column = column_of(MOST_LINE, cause, line);
+                say_line(&place, column, cause_words(cause), line, &mut message)
             }
         }
         message
     }
 
-    /// Says why the line of this number is a fault of a text of this kind: of a history, or of a program.
+    /// Says why the line of this number is a fault of a history, or of a program.
     fn say_text_fault(
         &self,
         place: &Place<'_, '_>,
-        kind: TextKind,
         number: u64,
         cause: Cause,
         message: &mut Message,
     ) {
+        let kind = match self.job {
+            Job::Explore(_) => TextKind::Program,
+            _ => TextKind::History,
+        };
         let line = self.kept.and_then(|kept| kept.line(number));
         match (cause, self.kept, line) {
             (Cause::Command | Cause::Limits, Some(kept), Some(line)) => {
@@ -160,24 +155,17 @@ impl<'n, 's> Given<'n, 's> {
     /// What is told of a difference in the line of this number.
     fn difference_message(&self, number: u64, notice: &Notice) -> Message {
         let place = self.place(number);
-        match self.job {
-            Job::Check
-            | Job::Strict
-            | Job::Fill
-            | Job::FillSeveral
-            | Job::Picture(_)
-            | Job::Draw(_) => { line_message(&place, story_difference(notice)) }
-            Job::Explore(_) => line_message(&place, "a state breaks the claim"),
-            Job::Judge(_) => {
-                let words = "no run of the POSIX machine shows the lines up to here";
-                line_message(&place, words)
-            }
+        let words = match self.job {
+            job if is_of_story(job) => story_difference(notice),
+            Job::Explore(_) => "a state breaks the claim",
+            Job::Judge(_) => "no run of the POSIX machine shows the lines up to here",
             _ => {
                 let mut message = Message::empty();
                 say_difference(&place, notice, &mut message);
-                message
+                return message;
             }
-        }
+        };
+        line_message(&place, words)
     }
 }
 

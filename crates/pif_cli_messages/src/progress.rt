@@ -2,7 +2,7 @@ use crate::messages::Message;
 use pif_reach::Watch as WatchStates;
 use pif_search::Watch;
 use pif_watch::WatchSteps;
-use std::fmt::Write as _;
+use std::fmt::{Display, Write as _};
 use std::io::Write;
 use std::time::{Clock, Instant};
 
@@ -88,15 +88,20 @@ impl<'c, 'e, C: Clock, E: Write> Progress<'c, 'e, C, E> {
             Err(_) => false,
         }
     }
+
+    /// Tells this, if a person is told now.
+    fn tell<D: Display + Drop>(&mut self, what: D) {
+        if self.is_told() {
+            let mut message = Message::new();
+            let _ = write!(message, "{what}");
+            message.tell(self.errors);
+        }
+    }
 }
 
 impl<C: Clock, E: Write> Watch for Progress<'_, '_, C, E> {
     fn line(&mut self, line: usize, states: usize) {
-        if self.is_told() {
-            let mut message = Message::new();
-            let _ = write!(message, "line {line}: {states} states");
-            message.tell(self.errors);
-        }
+        self.tell(format_args!("line {line}: {states} states"));
     }
 
     fn goes_on(&mut self) -> bool {
@@ -106,21 +111,13 @@ impl<C: Clock, E: Write> Watch for Progress<'_, '_, C, E> {
 
 impl<C: Clock, E: Write> WatchStates for Progress<'_, '_, C, E> {
     fn found(&mut self, states: usize, steps: usize) {
-        if self.is_told() {
-            let mut message = Message::new();
-            let _ = write!(message, "{states} states, {steps} steps");
-            message.tell(self.errors);
-        }
+        self.tell(format_args!("{states} states, {steps} steps"));
     }
 }
 
 impl<C: Clock, E: Write> WatchFiles for Progress<'_, '_, C, E> {
     fn file(&mut self, done: usize, count: usize) {
-        if self.is_told() {
-            let mut message = Message::new();
-            let _ = write!(message, "{done} of {count} files are done");
-            message.tell(self.errors);
-        }
+        self.tell(format_args!("{done} of {count} files are done"));
     }
 }
 
@@ -135,11 +132,7 @@ fn percent(done: usize, count: usize) -> usize {
 
 impl<C: Clock, E: Write> WatchSteps for Progress<'_, '_, C, E> {
     fn step(&mut self, done: usize, count: usize) {
-        if self.is_told() {
-            let part = percent(done, count);
-            let mut message = Message::new();
-            let _ = write!(message, "{part} % is done");
-            message.tell(self.errors);
-        }
+        let part = percent(done, count);
+        self.tell(format_args!("{part} % is done"));
     }
 }
