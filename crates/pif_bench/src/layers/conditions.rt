@@ -21,31 +21,33 @@ fn variable() -> CondId {
 
 /// One thread after another, so many, locks the mutex and waits on the variable.
 pub fn park_all(core: &mut Core, parked: u32) {
+    let variable = variable();
     for number in 1..=parked {
         lock(core, number, 1);
-        wait(core, thread(number));
+        wait(core, variable, thread(number));
     }
 }
 
 /// A thread waits on the variable.
-fn wait(core: &mut Core, thread: Tid) {
-    call(core, thread, Request::Wait(variable(), MutexId::default()));
+fn wait(core: &mut Core, variable: CondId, thread: Tid) {
+    call(core, thread, Request::Wait(variable, MutexId::default()));
 }
 
 /// Of so many threads that are parked, at most 1,000, again and again one is woken by a signal of another thread,
 /// answers its wait, as it finds its mutex free, and waits again.
 pub fn wait_and_signal(core: &mut Core, parked: u32) {
     let caller = thread(parked.saturating_add(1));
+    let variable = variable();
     for round in 0..WAITS {
-        signal_one(core, caller, thread(1 + round % parked.max(1)));
+        signal_one(core, variable, caller, thread(1 + round % parked.max(1)));
     }
 }
 
 /// A caller signals, and the thread that is woken answers its wait, and waits again.
-fn signal_one(core: &mut Core, caller: Tid, woken: Tid) {
-    call(core, caller, Request::Signal(variable()));
+fn signal_one(core: &mut Core, variable: CondId, caller: Tid, woken: Tid) {
+    call(core, caller, Request::Signal(variable));
     step(core, Event::Go(woken));
-    wait(core, woken);
+    wait(core, variable, woken);
 }
 
 /// Broadcasts to so many parked threads, at most 1,000, whose caller, the thread behind them, holds the mutex, or
@@ -80,9 +82,10 @@ fn time_broadcast(rt: &impl Clock, core: &mut Core, caller: Tid, held: bool) -> 
 
 /// Each of so many threads that were woken, one after another, finds that it owns the mutex, and waits again.
 fn wait_anew(core: &mut Core, parked: u32) {
+    let variable = variable();
     for number in 1..=parked {
         let woken = thread(number);
         step(core, Event::Go(woken));
-        wait(core, woken);
+        wait(core, variable, woken);
     }
 }
