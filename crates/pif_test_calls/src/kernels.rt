@@ -4,9 +4,8 @@ mod parked;
 mod random_calls;
 mod tickets;
 
-ghost use Rattle.std.specs.Prelude.{◌≡◌, ◌<◌, ◌≤◌, ◌+◌, ℕ, true, length, IfSome};
+ghost use Rattle.std.specs.Prelude.{◌≡◌, ◌≤◌, ◌+◌, true, length, IfSome};
 ghost use Rattle.pif_model.specs.PiKernel.{has_seat, is_living, is_ready, seat_at};
-ghost use Rattle.pif_model.specs.RobustList.{robust_at};
 ghost use Rattle.pif_kernel_model.specs.Inside.{kernel_of};
 
 use crate::seen::{cond, mutex, thread};
@@ -190,20 +189,25 @@ fn read<K: PiKernel + Drop>(scene: &Scene<K>, ask: Ask) -> Reply {
             Some(prio) => Reply::Prio(prio.get()),
             None => Reply::Nobody,
         },
-        Ask::Waiter(m, place) => number_of(kernel.waiter(mutex(m), place)),
-        Ask::Parked(c, place) => number_of(kernel.parked(cond(c), place)),
-        Ask::Ready(place) => number_of(kernel.ready(place)),
+        _ => match read_thread(kernel, ask) {
+            Some(t) => Reply::Thread(t.get()),
+            None => Reply::Nobody,
+        },
+    }
+}
+
+// The thread that is read, if there is one.
+fn read_thread<K: PiKernel + Drop>(kernel: &K, ask: Ask) -> Option<Tid> {
+    match ask {
+        Ask::Waiter(m, place) => kernel.waiter(mutex(m), place),
+        Ask::Parked(c, place) => kernel.parked(cond(c), place),
+        Ask::Ready(place) => kernel.ready(place),
         Ask::Path(t, place) => {
-            number_of(
-                kernel
-                    .path(thread(t))
-                    .as_slice()
-                    .get(place as usize)
-                    .copied(),
-            )
+            let path = kernel.path(thread(t));
+            path.as_slice().get(place as usize).copied()
         }
-        Ask::Pick => number_of(kernel.pick()),
-        _ => Reply::Nobody,
+        Ask::Pick => kernel.pick(),
+        _ => None,
     }
 }
 
@@ -221,13 +225,6 @@ fn read_living<K: PiKernel + Drop>(kernel: &K, t: Tid, ask: Ask) -> Reply
         Status::Parked(c) => Reply::ParkedOn(c.get()),
         Status::Stopped => Reply::Stopped,
         Status::Ended => Reply::HasEnded,
-    }
-}
-
-fn number_of(t: Option<Tid>) -> Reply {
-    match t {
-        Some(t) => Reply::Thread(t.get()),
-        None => Reply::Nobody,
     }
 }
 
@@ -250,26 +247,20 @@ fn expire<K: PiKernel + Drop>(kernel: &mut K, t: u32) -> Option<Reply> {
     }
 }
 
-// Puts a mutex that is on no list on the robust list of the thread.
-fn list(lists: &mut RobustLists, t: Tid, m: MutexId)
-    requires thread { t < length lists.old.threads }
-    requires mutex { m ≤ lists.old.mutexes }
-    requires whole { (u : ℕ) → (robust_at lists.old u).half_linked ≡ 0 }
-{
-    if lists.holder(m).is_none() {
+// Robust lists: that of the thread has this mutex, if both have a number below 100. `None` if memory is refused.
+fn lists_of(alloc: Global, t: Tid, m: MutexId) -> Option<RobustLists> {
+    let mut lists = RobustLists::new(alloc, Limits::new(99, 99, 0, 1).unwrap()).ok()?;
+    if t.get() < 100 && m.get() < 100 && lists.holder(m).is_none() {
         lists.link_next(t, m);
         lists.link_head(t, m);
     }
+    Some(lists)
 }
 
-// A thread ends whose robust list has this mutex, if both have a number below 100.
+// A thread ends whose robust list has this mutex.
 fn end<K: PiKernel + Drop>(scene: &mut Scene<K>, t: u32, m: MutexId) -> Option<Reply> {
     let t = living(&scene.kernel, t)?;
-    let limits = Limits::new(99, 99, 0, 1).unwrap();
-    let mut lists = RobustLists::new(scene.alloc, limits).ok()?;
-    if t.get() < 100 && m.get() < 100 {
-        list(&mut lists, t, m);
-    }
+    let mut lists = lists_of(scene.alloc, t, m)?;
     scene.kernel.exit(&mut scene.words, &mut lists, t);
     Some(Reply::Done)
 }

@@ -9,7 +9,7 @@ ghost use Rattle.pif_model.specs.Posix.{names_known};
 
 use crate::seen::{cond, mutex, priority, thread};
 use pif_chains_linked::LinkedChains;
-use pif_kernel::{Chains, KernelOn, PiKernel};
+use pif_kernel::{Chains, KernelOn, PiKernel, Status};
 use pif_model::Line;
 use pif_mutex::{Parts, Progress};
 use pif_plain::PlainChains;
@@ -55,11 +55,11 @@ fn fill<K: PiKernel + Drop>(rng: &mut SplitMix64, parts: &mut Parts<K>) {
             parts.add_mutex(kind, robust);
         }
     }
-    for number in [1, SECOND] {
+    for number in &[1, SECOND] {
         let limits = parts.limits();
-        if number <= parts.mutexes()
+        if *number <= parts.mutexes()
             && parts.conds() < limits.conds()
-            && let Some(m) = MutexId::new(number)
+            && let Some(m) = MutexId::new(*number)
         {
             parts.add_cond(m);
         }
@@ -189,26 +189,41 @@ fn event<K: PiKernel + Drop>(
     Some((0, Progress::Went))
 }
 
-/// Whether both have the same words, statuses, priorities and orders.
+/// What is seen of a mutex: its word, and its first and second waiter.
+fn of_mutex<K: PiKernel + Drop>(parts: &Parts<K>, m: MutexId) -> (Option<u32>, [Option<Tid>; 2]) {
+    (parts.word(m), [parts.waiter(m, 0), parts.waiter(m, 1)])
+}
+
+/// What is seen of a thread: what it does, and its priority. `None` if it was not added.
+fn of_thread<K: PiKernel + Drop>(parts: &Parts<K>, t: Tid) -> Option<(Status, Option<Prio>)> {
+    if t.get() <= parts.threads() {
+        Some((parts.status(t), parts.effective(t)))
+    } else {
+        None
+    }
+}
+
+/// Who is ready at a place, and who is parked there on either variable.
+fn at_place<K: PiKernel + Drop>(parts: &Parts<K>, place: u32) -> [Option<Tid>; 3] {
+    let (one, two) = (cond(1), cond(2));
+    [
+        parts.ready(place),
+        parts.parked(one, place),
+        parts.parked(two, place),
+    ]
+}
+
+/// Whether both have the same words, statuses, priorities and orders, of all threads.
 fn agree<A: PiKernel + Drop, B: PiKernel + Drop>(plain: &Parts<A>, linked: &Parts<B>) -> bool {
-    let mut same = plain.pick() == linked.pick();
-    for number in LOCKED {
-        let m = mutex(number);
-        same = same && plain.word(m) == linked.word(m);
-        same = same && plain.waiter(m, 0) == linked.waiter(m, 0);
-        same = same && plain.waiter(m, 1) == linked.waiter(m, 1);
+    let mut same = plain.threads() == THREADS && plain.pick() == linked.pick();
+    for number in &LOCKED {
+        let m = mutex(*number);
+        same = same && of_mutex(plain, m) == of_mutex(linked, m);
     }
     for place in 0..THREADS {
         let t = thread(1 + place);
-        same = same
-            && t.get() <= u32::min(plain.threads(), linked.threads())
-            && plain.status(t) == linked.status(t);
-        same = same && plain.effective(t) == linked.effective(t);
-        same = same && plain.ready(place) == linked.ready(place);
-        for number in 1..=2 {
-            let c = cond(number);
-            same = same && plain.parked(c, place) == linked.parked(c, place);
-        }
+        same = same && of_thread(plain, t) == of_thread(linked, t);
+        same = same && at_place(plain, place) == at_place(linked, place);
     }
     same
 }

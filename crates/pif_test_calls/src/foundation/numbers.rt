@@ -43,15 +43,15 @@ static REFUSALS: [(Refusal, &str); 4] = [
 
 #[test]
 fn errors_have_their_numbers_and_say_what_they_are(rt: HostRuntime) {
-    for (error, number, name) in ERRORS {
-        see(&rt, error.number(), number, number);
-        check_printed(&rt, rt.alloc(), &error, name);
+    for (error, number, name) in &ERRORS {
+        see(&rt, error.number(), *number, *number);
+        check_printed(&rt, rt.alloc(), error, name);
     }
-    for (fault, text) in FAULTS {
-        check_printed(&rt, rt.alloc(), &fault, text);
+    for (fault, text) in &FAULTS {
+        check_printed(&rt, rt.alloc(), fault, text);
     }
-    for (refusal, text) in REFUSALS {
-        check_printed(&rt, rt.alloc(), &refusal, text);
+    for (refusal, text) in &REFUSALS {
+        check_printed(&rt, rt.alloc(), refusal, text);
     }
     check_printed(&rt, rt.alloc(), &NoMemory, "out of memory");
 }

@@ -23,16 +23,15 @@ fn link_and_walk(rt: &impl Abort, lists: &mut RobustLists, t: Tid, listed: Mutex
 {
     assert!(rt; lists.holder(listed).is_none());
     lists.link_next(t, listed);
-    see(rt, lists.half_linked(t), Some(listed), 0);
+    let linking = lists.half_linked(t);
     lists.link_head(t, listed);
-    see(rt, lists.half_linked(t), None, 1);
+    see(rt, [linking, lists.half_linked(t)], [Some(listed), None], 0);
     lists.set_pending(t, other);
-    see(rt, lists.pending(t), Some(other), 2);
+    let pending = lists.pending(t);
     let is_last = lists.walk(t).as_slice() == [listed, other].as_slice();
-    see(rt, is_last, true, 3);
     lists.set_pending(t, listed);
     let is_once = lists.walk(t).as_slice() == [listed].as_slice();
-    see(rt, is_once, true, 4);
+    see(rt, [is_last, is_once], [true, true], 1);
     lists.clear_pending(t);
-    see(rt, lists.pending(t), None, 5);
+    see(rt, [pending, lists.pending(t)], [Some(other), None], 2);
 }

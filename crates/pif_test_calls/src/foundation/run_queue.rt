@@ -56,24 +56,25 @@ fn pick_greatest(rt: &impl Abort, queue: &mut RunQueue, table: &mut NodeTable)
         queue.nth(table, 3),
     ];
     see(rt, places, [Some(t3), Some(t1), Some(t2), None], 0);
-    see(rt, queue.pick(table), Some(t3), 1);
-    see(rt, queue.level(table, t2), Some(priority(10)), 2);
-    see(rt, take_out(queue, table, t3), true, 3);
-    see(rt, queue.level(table, t3), None, 4);
-    see(rt, queue.pick(table), Some(t1), 5);
+    see(rt, queue.level(table, t2), Some(priority(10)), 1);
+    let first = queue.pick(table);
+    see(rt, take_out(queue, table, t3), true, 2);
+    see(rt, queue.level(table, t3), None, 3);
+    see(rt, [first, queue.pick(table)], [Some(t3), Some(t1)], 4);
 }
 
 fn pick_first(rt: &impl Abort, queue: &mut RunQueue, table: &mut NodeTable)
     requires { Holds queue.old table.old }
 {
     let (t1, t2) = (thread(1), thread(2));
-    for (level, picked) in [(10, t1), (20, t1), (10, t2)] {
-        queue.move_if_queued(table, t1, priority(level));
-        see(rt, queue.level(table, t1), Some(priority(level)), level);
-        see(rt, queue.pick(table), Some(picked), level);
+    for (level, picked) in &[(10, t1), (20, t1), (10, t2)] {
+        let prio = priority(*level);
+        queue.move_if_queued(table, t1, prio);
+        see(rt, queue.level(table, t1), Some(prio), *level);
+        see(rt, queue.pick(table), Some(*picked), *level);
     }
-    see(rt, take_out(queue, table, t2), true, 0);
-    see(rt, take_out(queue, table, t1), true, 1);
+    let taken = [take_out(queue, table, t2), take_out(queue, table, t1)];
+    see(rt, taken, [true, true], 0);
     queue.move_if_queued(table, t1, priority(20));
-    see(rt, queue.pick(table), None, 2);
+    see(rt, queue.pick(table), None, 1);
 }
