@@ -10,6 +10,7 @@ const MOST: u32 = 10_000;
 
 /// Fills the journal, and refuses its growth from then on.
 fn refuse_growth(rt: &impl Wait, desk: &Desk<NoPause>) -> Result<(), DeskFault> {
+    desk.set_growth(rt, 1);
     for _ in 0..MOST {
         if desk.spare_entries(rt) == 0 {
             break;
@@ -20,43 +21,49 @@ fn refuse_growth(rt: &impl Wait, desk: &Desk<NoPause>) -> Result<(), DeskFault> 
     Ok(())
 }
 
-/// Whether a client that is refused memory for good, since the journal is full, is given up, with no entry made.
-fn is_given_up(rt: &impl Wait, desk: &Desk<NoPause>) -> Result<bool, DeskFault> {
-    desk.set_growth(rt, 1);
+/// A fault that a client meets, what is told of it then, and how many events its end makes: none if memory is refused
+/// for good.
+type Row = (DeskFault, DriveFault, usize);
+
+/// Whether a client ends so.
+fn ends_so(rt: &impl Wait, desk: &Desk<NoPause>, row: &Row) -> Result<bool, DeskFault> {
+    let (fault, told, events) = *row;
     let client = desk.enter(rt, 1)?;
-    refuse_growth(rt, desk)?;
+    if events == 0 {
+        refuse_growth(rt, desk)?;
+    }
     let before = desk.entries(rt);
-    let fault = Err(DeskFault::NoMemory);
-    let ended = end_of(rt, desk, MutexId::default(), client, fault);
-    let is_out_of_memory = matches!(ended, Ending::Fault(DriveFault::NoMemory));
-    Ok(is_out_of_memory && desk.entries(rt) == before)
+    let ended = end_of(rt, desk, MutexId::default(), client, Err(fault));
+    let is_told = match ended {
+        Ending::Fault(fault) => fault == told,
+        Ending::Served(_) => false,
+    };
+    Ok(is_told && desk.entries(rt).wrapping_sub(before) == events)
 }
+
+const NO_MEMORY: Row = (DeskFault::NoMemory, DriveFault::NoMemory, 0);
 
 #[test]
 fn a_client_that_cannot_end_is_given_up(rt: HostRuntime) -> Result<(), Fail> {
     let desk = Desk::new(rt.alloc(), Limits::new(1, 0, 0, 1).unwrap(), NoPause)?;
-    assert!(&rt; is_given_up(&rt, &desk) == Ok(true));
+    assert!(&rt; ends_so(&rt, &desk, &NO_MEMORY) == Ok(true));
     Ok(())
 }
 
-/// A refused client ends by one event, and is told as unsettled.
-fn is_told(rt: &impl Wait, desk: &Desk<NoPause>, fault: DeskFault) -> Result<bool, DeskFault> {
-    let client = desk.enter(rt, 1)?;
-    let before = desk.entries(rt);
-    let ended = end_of(rt, desk, MutexId::default(), client, Err(fault));
-    let is_unsettled = matches!(ended, Ending::Fault(DriveFault::Unsettled));
-    Ok(is_unsettled && desk.entries(rt).wrapping_sub(before) == 1)
-}
+static REFUSED: [Row; 2] = [
+    (DeskFault::Refused(Refusal::Busy), DriveFault::Unsettled, 1),
+    (
+        DeskFault::NotAdded(AddFault::TooMany),
+        DriveFault::Unsettled,
+        1,
+    ),
+];
 
 #[test]
 fn a_refused_client_ends_unsettled(rt: HostRuntime) -> Result<(), Fail> {
     let desk = Desk::new(rt.alloc(), Limits::new(2, 0, 0, 1).unwrap(), NoPause)?;
-    let faults = [
-        DeskFault::Refused(Refusal::Busy),
-        DeskFault::NotAdded(AddFault::TooMany),
-    ];
-    for fault in faults {
-        assert!(&rt; is_told(&rt, &desk, fault) == Ok(true));
+    for row in &REFUSED {
+        assert!(&rt; ends_so(&rt, &desk, row) == Ok(true));
     }
     Ok(())
 }

@@ -163,12 +163,6 @@ fn answer_of(come: Result<Receipt, DeskFault>) -> Result<u32, DeskFault> {
     }
 }
 
-/// The same of what is answered nothing.
-fn done(come: Result<(), DeskFault>) -> Result<u32, DeskFault> {
-    come?;
-    Ok(0)
-}
-
 /// What a client's deed comes to.
 pub(super) fn serve<R: Wait + Clock + Abort>(
     rt: &R,
@@ -179,7 +173,7 @@ pub(super) fn serve<R: Wait + Clock + Abort>(
     match deed {
         Deed::Call(wish) => call(rt, desk, client, wish),
         Deed::Resume => answer_of(client.resume(rt, desk)),
-        Deed::Quit => done(client.quit(rt, desk)),
+        Deed::Quit => client.quit(rt, desk).and(Ok(0)),
         Deed::Chance => stress::make_calls(rt, desk, client),
         Deed::GiveUp => stress::give_up_all(rt, desk, client),
         Deed::WakeOthers => stress::wake_others(rt, desk, client),
@@ -208,8 +202,8 @@ fn add<R: Wait + Clock + Abort>(rt: &R, desk: &Desk<Watch>, deed: Deed) -> Resul
     match deed {
         Deed::Mutex(kind, robust) => Ok(desk.make_mutex(rt, kind, robust)?.get()),
         Deed::Cond(bound) => Ok(desk.make_cond(rt, mutex(bound))?.get()),
-        Deed::Tick(time) => done(desk.tick(rt, time)),
-        Deed::Fill(left) => done(fill(rt, desk, left)),
+        Deed::Tick(time) => desk.tick(rt, time).and(Ok(0)),
+        Deed::Fill(left) => fill(rt, desk, left).and(Ok(0)),
         Deed::Grow(entries) if entries > 0 => {
             desk.set_growth(rt, entries);
             Ok(0)

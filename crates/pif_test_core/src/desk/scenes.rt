@@ -158,10 +158,7 @@ fn serve_beside<R: Threads + Wait + Clock + Abort + Sync>(
             client
         },
     );
-    match served {
-        Ok(clients) => Ok(clients),
-        Err(_) => Err(NoMemory),
-    }
+    served.or(Err(NoMemory))
 }
 
 /// The rows of this client come to what they say.
