@@ -249,9 +249,8 @@ fn play_list(
     // The check has to be told of the type of events, which entries hold.
     let _event: Option<Event> = None;
     let limits = Limits::new(LIMITS.threads, LIMITS.mutexes, LIMITS.conds, LIMITS.signals);
-    let core = Core::new(alloc, limits.ok_or(Stop::Range)?).ok();
     let mut scene = Scene {
-        core: core.ok_or(Stop::NoMemory)?,
+        core: Core::new(alloc, limits.unwrap()).or(Err(Stop::NoMemory))?,
         cloud: Cloud::new(alloc, LIMITS)?,
         rng: SplitMix64::seed_from_u64(seed),
         mode,

@@ -29,13 +29,7 @@ enum Noting {
     Show,
 }
 
-/// What is written of notes is none of a notice.
-fn without_notes(ended: Result<Vec<u8>, CliFault>) -> Result<(), CliFault> {
-    ended?;
-    Ok(())
-}
-
-/// Does it with a text. Behind 64 bytes a read fails.
+/// Does it with a text. Behind 64 bytes a read fails. What is written of notes is none of a notice.
 fn note(noting: Noting, alloc: Global, text: &str, notice: &mut Notice) -> Result<(), CliFault> {
     let parts = [(text, 1)];
     let mut input = Stream::failing(&parts, 64, Some(ErrorKind::TimedOut));
@@ -54,15 +48,11 @@ fn note(noting: Noting, alloc: Global, text: &str, notice: &mut Notice) -> Resul
         Noting::Fill => fill_noting(alloc, b"story", reader, writer, notice),
         Noting::FillSeveral => fill_as_one_of_several(alloc, b"story", reader, writer, notice),
         Noting::Trace => trace_story(alloc, reader, writer, notice),
-        Noting::Show => without_notes(show_noting(
-            Detail::Changes,
-            alloc,
-            b"story",
-            reader,
-            writer,
-            notice,
-        )),
-        Noting::Check => without_notes(check_noting(alloc, b"story", reader, writer, notice)),
+        Noting::Show => {
+            let changes = Detail::Changes;
+            show_noting(changes, alloc, b"story", reader, writer, notice).and(Ok(()))
+        }
+        Noting::Check => check_noting(alloc, b"story", reader, writer, notice).and(Ok(())),
     }
 }
 

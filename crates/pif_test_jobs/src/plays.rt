@@ -207,10 +207,7 @@ fn plays_until_found(alloc: Global, sights: &[Sight]) -> Result<Option<usize>, S
     let lines = lines_of(alloc, &[sights])?;
     let mut told = Told::new(usize::MAX);
     let found = find_run(alloc, LIMITS, lines.as_slice(), 10_000, &mut told)?;
-    match found {
-        Some(_) => Ok(Some(told.plays)),
-        None => Ok(None),
-    }
+    Ok(found.and(Some(told.plays)))
 }
 
 #[test]
