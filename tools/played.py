@@ -168,3 +168,17 @@ def inversions(threads, lines, seed):
         rest = "0" if what[0] == "answer" else "%s m%d" % (what[2], group + 1)
         made.append("%s %s %s" % (what[0], thread, rest))
     return made
+
+
+def queued(threads, lines):
+    """The lines of a legal history in which all threads wait for one mutex, and it goes from one to the next. That comes
+    again, up to so many lines."""
+    made = ["thread 10"] * threads + ["mutex normal"]
+    while len(made) < lines:
+        made += ["begin t1 lock m1", "answer t1 0"]
+        for n in range(2, threads + 1):
+            made += ["begin t%d lock m1" % n, "rests t%d" % n]
+        made += ["begin t1 unlock m1", "answer t1 0"]
+        for n in range(2, threads + 1):
+            made += ["answer t%d 0" % n, "begin t%d unlock m1" % n, "answer t%d 0" % n]
+    return made[:lines]
