@@ -18,5 +18,5 @@ mod room;
 pub use errors::{AddFault, Answer, Errno, NoMemory, Refusal};
 pub use limits::Limits;
 pub use numbers::{CondId, MutexId, Prio, Tid};
-pub use requests::{Health, Kind, Request};
+pub use requests::{Health, Kind, Named, Request};
 pub use room::{push_within, with_room};

@@ -1,3 +1,6 @@
+ghost use Rattle.std.specs.Prelude.{◌≡◌};
+ghost use Rattle.pif_types.specs.Shapes.{names_of};
+
 use crate::{CondId, MutexId, Tid};
 
 /// The type of a mutex, as pthread_mutexattr_settype has it. PTHREAD_MUTEX_DEFAULT is `Normal`.
@@ -67,4 +70,50 @@ pub enum Request {
     /// 0. Another answer of that lock stays: EOWNERDEAD, or EDEADLK or ENOTRECOVERABLE, after which the caller
     /// doesn't hold the mutex.
     TimedWait(CondId, MutexId, u32),
+}
+
+/// What a request names, as far as it names any.
+#[derive(Clone, Copy)]
+pub struct Named {
+    /// The mutex that it locks, tries, unlocks or makes consistent, or with which it waits.
+    pub mutex: Option<MutexId>,
+    /// The condition variable that it waits for, signals or broadcasts.
+    pub cond: Option<CondId>,
+    /// The thread whose base priority it sets.
+    pub thread: Option<Tid>,
+}
+
+impl Request {
+    /// The mutex, the condition variable and the thread that this request names, each `None` if it names none. Whether
+    /// there are such is not asked.
+    pub fn names(&self) -> Named
+        ensures value { result ≡ names_of self.now }
+    {
+        match *self {
+            Request::Lock(m)
+            | Request::TimedLock(m, _)
+            | Request::TryLock(m)
+            | Request::Unlock(m)
+            | Request::Consistent(m) => Named {
+                mutex: Some(m),
+                cond: None,
+                thread: None,
+            },
+            Request::Wait(c, m) | Request::TimedWait(c, m, _) => Named {
+                mutex: Some(m),
+                cond: Some(c),
+                thread: None,
+            },
+            Request::Signal(c) | Request::Broadcast(c) => Named {
+                mutex: None,
+                cond: Some(c),
+                thread: None,
+            },
+            Request::SetPrio(t, _) => Named {
+                mutex: None,
+                cond: None,
+                thread: Some(t),
+            },
+        }
+    }
 }
