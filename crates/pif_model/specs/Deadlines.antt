@@ -6,6 +6,7 @@
 use Rattle.std.specs.Prelude.{ℕ, Bool, true, false, ◌==◌, nat_lt, Option, Some, None, if◌then◌else◌}
 use Rattle.pif_types.specs.declared.requests.Request.{Request}
 use Rattle.pif_types.specs.declared.requests.Request.TheVariants.{Lock, Wait, TimedLock, TimedWait}
+use Rattle.pif_types.specs.Shapes.{shape_of, deadline}
 use Rattle.pif_model.specs.NamedNumbers.{ETIMEDOUT}
 use Rattle.pif_model.specs.declared.events.Seen.{Seen}
 use Rattle.pif_model.specs.declared.events.Seen.TheVariants.{Answered}
@@ -21,9 +22,7 @@ plain q = q
 
 -- the deadline of a request, if it has one
 abbrev pub deadline_of : Request → Option ℕ
-deadline_of (TimedLock m d) = Some d
-deadline_of (TimedWait c m d) = Some d
-deadline_of q = None
+deadline_of q = deadline (shape_of q)
 
 -- a plain request with this deadline
 abbrev pub with_deadline : ℕ → Request → Request

@@ -7,7 +7,7 @@
 -- beginning and its answer. Threads, mutexes and variables are numbered from 1; place 0 of each list stands for nobody.
 -- What its state is made of stands in World.antt, and is passed on here.
 -- Each rule says whose it is: a page of POSIX with what it says, or 'this project's choice' if POSIX leaves it open.
-use Rattle.std.specs.Prelude.{ℕ, zero, suc, ◌≡◌, ◌≢◌, ◌≤◌, ◌<◌, ◌+◌, ◌-◌, Bool, true, false, ◌==◌, List, [], ◌∷◌, ◌++◌, length, set, map, Option, Some, None, is_some, if◌then◌else◌}
+use Rattle.std.specs.Prelude.{ℕ, zero, suc, ◌≡◌, ◌≢◌, ◌≤◌, ◌<◌, ◌+◌, ◌-◌, Bool, true, false, ◌==◌, List, [], ◌∷◌, ◌++◌, length, set, map, Option, Some, None, is_some, unwrap_or, if◌then◌else◌}
 use Rattle.std.specs.List.{list_any}
 use Rattle.pif_types.specs.Bounds.{Bounds}
 use Rattle.pif_types.specs.declared.errors.Refusal.{Refusal}
@@ -16,7 +16,9 @@ use Rattle.pif_model.specs.declared.lines.Relock.{Relock}
 use Rattle.pif_model.specs.declared.lines.Relock.TheVariants.{Deadlocks, Answers, Counts}
 use Rattle.pif_model.specs.Kinds.{relock_of}
 use Rattle.pif_types.specs.declared.requests.Request.{Request}
-use Rattle.pif_types.specs.declared.requests.Request.TheVariants.{Lock, TryLock, Unlock, Consistent, Wait, Signal, Broadcast, SetPrio, TimedLock, TimedWait}
+use Rattle.pif_types.specs.declared.requests.Request.TheVariants.{Lock, TryLock, Unlock, Consistent, Wait, Signal, Broadcast, SetPrio}
+use Rattle.pif_types.specs.Shapes.{Shape, shape_of, uses, names_of}
+use Rattle.pif_types.specs.Shapes.Shape.{Awaits, Wakes}
 use Rattle.pif_model.specs.NamedNumbers.{EPERM, ESRCH, EAGAIN, EBUSY, EINVAL, EDEADLK, EOVERFLOW, ETIMEDOUT, EOWNERDEAD, ENOTRECOVERABLE, most_holds}
 use Rattle.pif_model.specs.declared.events.Event.{Event}
 use Rattle.pif_model.specs.declared.events.Event.TheVariants.{Begin, Go, End, Tick}
@@ -225,20 +227,11 @@ pub data LocksAgain (t m : ℕ) (w v : World) : Type 0 where
 
 -- the mutex that a request names; 0 if it names none
 abbrev pub named_by : Request → ℕ
-named_by (Lock m) = m
-named_by (TryLock m) = m
-named_by (Unlock m) = m
-named_by (Consistent m) = m
-named_by (Wait c m) = m
-named_by (TimedLock m d) = m
-named_by (TimedWait c m d) = m
-named_by _ = 0
+named_by q = unwrap_or (names_of q).mutex 0
 
 -- whether a request signals or broadcasts a variable
 abbrev pub is_use : Request → Bool
-is_use (Signal c) = true
-is_use (Broadcast c) = true
-is_use _ = false
+is_use q = is_some (uses (shape_of q))
 
 -- pthread_mutex_lock by t on m, if no effect has happened yet; or the lock by which a wait of t reacquires m
 pub data Locks (t m : ℕ) (w v : World) : Type 0 where
@@ -480,14 +473,15 @@ blocked_below w c zero = []
 blocked_below w c (suc n) =
     if is_blocked_on w c n then (n, (thread_at w n).memory.waits) ∷ blocked_below w c n else blocked_below w c n
 
--- what is remembered of a thread once its call begins: a wait has the next number; a signal or broadcast finds those
--- that are blocked on its variable
+-- what is remembered of a thread once a call of this shape begins: a wait has the next number; a signal or broadcast
+-- finds those that are blocked on its variable
+abbrev pub memory_by : World → Shape → Memory → Memory
+memory_by w (Awaits c m d) x = record x { waits = x.waits + 1 }
+memory_by w (Wakes r c) x = record x { found = blocked_below w c (length w.threads) }
+memory_by w _ x = x
+
 abbrev pub begun_memory : World → Request → Memory → Memory
-begun_memory w (Wait c m) x = record x { waits = x.waits + 1 }
-begun_memory w (Signal c) x = record x { found = blocked_below w c (length w.threads) }
-begun_memory w (Broadcast c) x = record x { found = blocked_below w c (length w.threads) }
-begun_memory w (TimedWait c m d) x = record x { waits = x.waits + 1 }
-begun_memory w _ x = x
+begun_memory w q x = memory_by w (shape_of q) x
 
 -- a thread that begins this call: a timed one is its plain request, with a timer
 abbrev pub begun_thread : World → Request → Thread → Thread
@@ -533,14 +527,16 @@ pub data Releases (t : ℕ) : World → World → Type 0 where
 
 -- ONE ENTRY OF A HISTORY
 
+-- whether a mutex and a variable are known, each if there is one
+abbrev pub are_known : (ℕ → Bool) → (ℕ → Bool) → Option ℕ → Option ℕ → Bool
+are_known mutex variable (Some m) (Some c) = if variable c then mutex m else false
+are_known mutex variable (Some m) None = mutex m
+are_known mutex variable None (Some c) = variable c
+are_known mutex variable None None = true
+
 -- whether the mutex and the variable that a request names are known, as far as it names any
 abbrev pub names_known : (ℕ → Bool) → (ℕ → Bool) → Request → Bool
-names_known mutex variable (Wait c m) = if variable c then mutex m else false
-names_known mutex variable (TimedWait c m d) = if variable c then mutex m else false
-names_known mutex variable (Signal c) = variable c
-names_known mutex variable (Broadcast c) = variable c
-names_known mutex variable (SetPrio u p) = true
-names_known mutex variable q = mutex (named_by q)
+names_known mutex variable q = are_known mutex variable (names_of q).mutex (names_of q).cond
 
 -- why an event is refused, if it is
 abbrev pub refusal_of : World → Event → Option Refusal

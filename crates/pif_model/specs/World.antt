@@ -1,11 +1,11 @@
 -- The state of the POSIX machine: its threads, mutexes and condition variables, how far each call has come, who waits
 -- for whom, and who is blocked. `Posix.antt` has the rules.
-use Rattle.std.specs.Prelude.{ℕ, ◌≡◌, ◌≢◌, Bool, true, false, ◌==◌, nat_lt, List, [], ◌∷◌, length, get_or, set, Option, Some, None, if◌then◌else◌}
+use Rattle.std.specs.Prelude.{ℕ, ◌≡◌, ◌≢◌, Bool, true, false, ◌==◌, nat_lt, List, [], ◌∷◌, length, get_or, set, Option, Some, None, unwrap_or, if◌then◌else◌}
 use Rattle.std.specs.List.{list_any}
 use Rattle.pif_types.specs.declared.requests.Kind.{Kind}
 use Rattle.pif_types.specs.declared.requests.Kind.TheVariants.{Normal}
 use Rattle.pif_types.specs.declared.requests.Request.{Request}
-use Rattle.pif_types.specs.declared.requests.Request.TheVariants.{Wait, Signal, Broadcast, TimedWait}
+use Rattle.pif_types.specs.Shapes.{names_of}
 use Rattle.pif_model.specs.Graph.{effective_among, next_waiter, reaches_within, waited_by}
 use Rattle.pif_model.specs.declared.lines.Timer.{Timer}
 use Rattle.pif_model.specs.Deadlines.{no_timer}
@@ -224,11 +224,7 @@ is_blocked _ = false
 
 -- the variable that a request names; 0 if it names none
 abbrev pub variable_of : Request → ℕ
-variable_of (Wait c m) = c
-variable_of (Signal c) = c
-variable_of (Broadcast c) = c
-variable_of (TimedWait c m d) = c
-variable_of _ = 0
+variable_of q = unwrap_or (names_of q).cond 0
 
 -- whether an open call is blocked on c
 abbrev pub is_call_blocked : ℕ → Option Call → Bool
