@@ -4,7 +4,7 @@ use Rattle.std.specs.List.{list_any}
 use Rattle.std.proofs.lemmas.Bool.{cases_eq, cases_lt, true≢false}
 use Rattle.std.proofs.lemmas.List.{length-set, get_or-set_same, get_or-set_other, get_or_past}
 use Rattle.pif_types.specs.declared.requests.Request.{Request}
-use Rattle.pif_types.specs.declared.requests.Request.TheVariants.{Lock, TryLock, Unlock, Consistent, Wait, Signal, Broadcast, SetPrio, TimedLock, TimedWait}
+use Rattle.pif_types.specs.declared.requests.Request.TheVariants.{Wait, Signal, Broadcast, TimedWait}
 use Rattle.pif_model.specs.declared.events.Event.TheVariants.{Begin}
 use Rattle.pif_model.specs.declared.events.Seen.TheVariants.{Begun}
 use Rattle.pif_model.specs.declared.events.Entry.TheVariants.{Step as Happened}
@@ -41,70 +41,29 @@ idle_line (At q p) e = absurd (true≢false e)
 -- when a call begins, it rests on its thread alone
 begins_sound : (s : Table) (t : ℕ) (q : Request) → names_known (has_mutex s) (has_cond s) q ≡ true
     → is_ready (status_at s t) ≡ true → LineIsSound s t (At (plain q) (first_place q))
-begins_sound s t (Lock m) named ready = record { named = named; belongs = refl; needs = (ready, tt) }
-begins_sound s t (TryLock m) named ready = record { named = named; belongs = refl; needs = (ready, tt) }
-begins_sound s t (Unlock m) named ready = record { named = named; belongs = refl; needs = (ready, tt) }
-begins_sound s t (Consistent m) named ready = record { named = named; belongs = refl; needs = (ready, tt) }
 begins_sound s t (Wait c m) named ready = record { named = named; belongs = refl; needs = (ready, tt) }
-begins_sound s t (Signal c) named ready = record { named = named; belongs = refl; needs = (ready, tt) }
-begins_sound s t (Broadcast c) named ready = record { named = named; belongs = refl; needs = (ready, tt) }
-begins_sound s t (SetPrio u p) named ready = record { named = refl; belongs = refl; needs = (ready, tt) }
-begins_sound s t (TimedLock m d) named ready = record { named = named; belongs = refl; needs = (ready, tt) }
-begins_sound s t (TimedWait c m d) named ready = record { named = named; belongs = refl; needs = (ready, tt) }
+begins_sound s t _ named ready = record { named = named; belongs = refl; needs = (ready, tt) }
 
 -- nothing is on its thread's robust list that was not there with no call open
 begins_listed : (s : Table) (t : ℕ) (q : Request) → ListIsSound s t Idle → ListIsSound s t (At (plain q) (first_place q))
-begins_listed s t (Lock m) b = record { pending = b.pending; half_linked = b.half_linked; listed = b.listed }
-begins_listed s t (TryLock m) b = record { pending = b.pending; half_linked = b.half_linked; listed = b.listed }
-begins_listed s t (Unlock m) b = record { pending = b.pending; half_linked = b.half_linked; listed = b.listed }
-begins_listed s t (Consistent m) b = record { pending = b.pending; half_linked = b.half_linked; listed = b.listed }
 begins_listed s t (Wait c m) b = record { pending = b.pending; half_linked = b.half_linked; listed = b.listed }
-begins_listed s t (Signal c) b = record { pending = b.pending; half_linked = b.half_linked; listed = b.listed }
-begins_listed s t (Broadcast c) b = record { pending = b.pending; half_linked = b.half_linked; listed = b.listed }
-begins_listed s t (SetPrio u p) b = record { pending = b.pending; half_linked = b.half_linked; listed = b.listed }
-begins_listed s t (TimedLock m d) b = record { pending = b.pending; half_linked = b.half_linked; listed = b.listed }
-begins_listed s t (TimedWait c m d) b =
-    record { pending = b.pending; half_linked = b.half_linked; listed = b.listed }
+begins_listed s t _ b = record { pending = b.pending; half_linked = b.half_linked; listed = b.listed }
 
 -- and what it owns is in order
 begins_settled : (q : Request) → mutex_by is_unsettled (At (plain q) (first_place q)) ≡ 0
-begins_settled (Lock m) = refl
-begins_settled (TryLock m) = refl
-begins_settled (Unlock m) = refl
-begins_settled (Consistent m) = refl
 begins_settled (Wait c m) = refl
-begins_settled (Signal c) = refl
-begins_settled (Broadcast c) = refl
-begins_settled (SetPrio u p) = refl
-begins_settled (TimedLock m d) = refl
-begins_settled (TimedWait c m d) = refl
+begins_settled _ = refl
 
 -- a call that begins has had no effect
 begins_fresh : (health : ℕ → Health) (uses : ℕ → ℕ) (q : Request) (x : Status)
     → call_at health uses (At (plain q) (first_place q)) x ≡ Some (record { request = plain q; progress = Fresh })
-begins_fresh health uses (Lock m) x = refl
-begins_fresh health uses (TryLock m) x = refl
-begins_fresh health uses (Unlock m) x = refl
-begins_fresh health uses (Consistent m) x = refl
 begins_fresh health uses (Wait c m) x = refl
-begins_fresh health uses (Signal c) x = refl
-begins_fresh health uses (Broadcast c) x = refl
-begins_fresh health uses (SetPrio u p) x = refl
-begins_fresh health uses (TimedLock m d) x = refl
-begins_fresh health uses (TimedWait c m d) x = refl
+begins_fresh health uses _ x = refl
 
 -- it has used no variable yet
 begins_unused : (q : Request) → chooses_on (At (plain q) (first_place q)) ≡ 0
-begins_unused (Lock m) = refl
-begins_unused (TryLock m) = refl
-begins_unused (Unlock m) = refl
-begins_unused (Consistent m) = refl
 begins_unused (Wait c m) = refl
-begins_unused (Signal c) = refl
-begins_unused (Broadcast c) = refl
-begins_unused (SetPrio u p) = refl
-begins_unused (TimedLock m d) = refl
-begins_unused (TimedWait c m d) = refl
+begins_unused _ = refl
 
 -- WHAT IS REMEMBERED
 
@@ -150,14 +109,8 @@ record Remembers (w : World) (q : Request) (m : Memory) : Type 0 where
   next : may_enlist (At (plain q) (first_place q)) ≡ true → (begun_memory w (plain q) m).waits ≡ m.waits + 1
 
 remembers : (w : World) (q : Request) (m : Memory) → Remembers w q m
-remembers w (Lock j) m = record { waits = omega arith; found = λ u n e. inl e; next = λ e. absurd (true≢false (sym e)) }
-remembers w (TryLock j) m =
-    record { waits = omega arith; found = λ u n e. inl e; next = λ e. absurd (true≢false (sym e)) }
-remembers w (Unlock j) m =
-    record { waits = omega arith; found = λ u n e. inl e; next = λ e. absurd (true≢false (sym e)) }
-remembers w (Consistent j) m =
-    record { waits = omega arith; found = λ u n e. inl e; next = λ e. absurd (true≢false (sym e)) }
 remembers w (Wait c j) m = record { waits = omega arith; found = λ u n e. inl e; next = λ e. refl }
+remembers w (TimedWait c j d) m = record { waits = omega arith; found = λ u n e. inl e; next = λ e. refl }
 remembers w (Signal c) m = record {
   waits = omega arith;
   found = λ u n e. (let f = finds_blocked w c (length w.threads) u n e in inr (c, f.0, f.1));
@@ -168,11 +121,7 @@ remembers w (Broadcast c) m = record {
   found = λ u n e. (let f = finds_blocked w c (length w.threads) u n e in inr (c, f.0, f.1));
   next = λ e. absurd (true≢false (sym e));
 }
-remembers w (SetPrio u p) m =
-    record { waits = omega arith; found = λ u n e. inl e; next = λ e. absurd (true≢false (sym e)) }
-remembers w (TimedLock j d) m =
-    record { waits = omega arith; found = λ u n e. inl e; next = λ e. absurd (true≢false (sym e)) }
-remembers w (TimedWait c j d) m = record { waits = omega arith; found = λ u n e. inl e; next = λ e. refl }
+remembers w _ m = record { waits = omega arith; found = λ u n e. inl e; next = λ e. absurd (true≢false (sym e)) }
 
 -- who is blocked has joined the blocked threads
 blocked_joined : (c : ℕ) (health : ℕ → Health) (uses : ℕ → ℕ) (l : Line) (x : Status)

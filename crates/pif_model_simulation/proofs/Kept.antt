@@ -1,9 +1,9 @@
 -- What a change of one mutex leaves to the threads that do not make it: what their lines know outlives it.
-use Rattle.std.proofs.Common.{◌≡◌, ◌≢◌, ◌⊎◌, inl, inr, ℕ, ◌<◌, ◌≤◌, Bool, true, false, ◌==◌, nat_lt, List, [], ◌∷◌, length, get_or, refl, sym, ◌∙◌, subst, ap, true≢false, arith, if◌then◌else◌}
+use Rattle.std.proofs.Common.{◌≡◌, ◌≢◌, ◌⊎◌, inl, inr, ℕ, ◌<◌, ◌≤◌, Bool, true, false, ◌==◌, nat_lt, List, [], ◌∷◌, length, get_or, sym, ◌∙◌, subst, ap, true≢false, arith, if◌then◌else◌}
 use Rattle.std.proofs.lemmas.Bool.{cases_eq}
 use Rattle.pif_types.specs.declared.requests.Kind.{Kind}
 use Rattle.pif_types.specs.declared.requests.Request.{Request}
-use Rattle.pif_types.specs.declared.requests.Request.TheVariants.{Lock, TryLock, Unlock, Consistent, Wait, Signal, Broadcast, SetPrio, TimedLock, TimedWait}
+use Rattle.pif_types.specs.declared.requests.Request.TheVariants.{Signal, Broadcast, SetPrio}
 use Rattle.pif_model.specs.declared.lines.Line.{Line}
 use Rattle.pif_model.specs.declared.lines.Line.TheVariants.{Idle, At}
 use Rattle.pif_model.specs.declared.lines.Place.{Place}
@@ -11,12 +11,14 @@ use Rattle.pif_model.specs.declared.lines.Place.TheVariants.{Wake, SetPriority}
 use Rattle.pif_model.specs.declared.lines.WakeStep.TheVariants.{CountUse}
 use Rattle.pif_model.specs.declared.lines.Status.{Status}
 use Rattle.pif_model.specs.Kinds.{relock_of}
-use Rattle.pif_model.specs.Posix.{named_by, variable_of}
+use Rattle.pif_model.specs.Posix.{named_by, variable_of, names_known}
+use Rattle.pif_types.specs.Shapes.{names_of}
 use Rattle.pif_model.specs.PiKernel.{is_ready, is_living}
 use Rattle.pif_model.specs.Table.{Table, Cell, has_mutex, has_cond, bound_to, uses_of, status_at, cell_at}
 use Rattle.pif_model.specs.Soundness.{Need, Use, Meets, MeetsAll, needs, belongs, is_using, use_at, CallIsSound, LineIsSound, CountIsSound}
 use Rattle.pif_model.specs.Soundness.Need.{MayRun, HasStopped, NotStopped, Owns, OwnsNot, OwnsOnceReady, OwnsOnceHanded, HoldsOnce, MayStop, OfRobust, HealthIs, HealthIsNot, DiedIs, DiedBehindDisorder, IsBound, UsedAtLeast, BelowLimit}
 use Rattle.pif_model.specs.Soundness.MayStopFor.{own_normal, orphaned}
+use Rattle.pif_model_simulation.proofs.Named.{known_mutex, names_kept, variable_added}
 
 -- what a change of a mutex from c to d, and of who lives, leaves to u, who doesn't make it
 pub record Spares (living living' : ℕ → Bool) (u : ℕ) (c d : Cell) : Type 0 where
@@ -101,21 +103,6 @@ using_needs l l' u x c d z z' (Wake (CountUse v)) b o h = (h.0, (subst (λ n. v 
 using_needs l l' u x c d z z' (Wake _) b o h = h
 using_needs l l' u x c d z z' _ b o h = absurd (true≢false (sym b))
 
--- two conditions both hold, and so they do of others that hold if these do
-both_kept : (a b a' b' : Bool) → (a ≡ true → a' ≡ true) → (b ≡ true → b' ≡ true) → (if a then b else false) ≡ true
-    → (if a' then b' else false) ≡ true
-both_kept true b a' b' f g e = rw (f refl) (g e)
-both_kept false b a' b' f g e = absurd (true≢false (sym e))
-
--- of two conditions that hold the second holds
-pub second : (a b : Bool) → (if a then b else false) ≡ true → b ≡ true
-second true b e = e
-second false b e = absurd (true≢false (sym e))
-
-pub first : (a b : Bool) → (if a then b else false) ≡ true → a ≡ true
-first true b e = refl
-first false b e = absurd (true≢false (sym e))
-
 -- the variables of v in place of those of s: those that were there are, bound as they were, used as often or more
 pub record Uses (s v : Table) : Type 0 where
   pub has : (c : ℕ) → has_cond s c ≡ true → has_cond v c ≡ true
@@ -170,53 +157,26 @@ module _ (s v : Table) (u : ℕ) (status : status_at v u ≡ status_at s u) (use
       (using_needs (is_living s.kernel) (is_living v.kernel) u (status_at s u) (cell_at s (named_by q))
       (cell_at v (named_by q)) (use_at s q) (use_at v q) p b (grows uses q (inr w)) h)
 
+  -- what a call rests on: one that names a mutex, a signal or a broadcast, or one that names neither
+  needs_spared : (q : Request) (p : Place) → names_known (has_mutex s) (has_cond s) q ≡ true → belongs q p ≡ true
+      → MeetsAll (is_living s.kernel) u (status_at s u) (cell_at s (named_by q)) (use_at s q) (needs p)
+      → MeetsAll (is_living v.kernel) u (status_at v u) (cell_at v (named_by q)) (use_at v q) (needs p)
+  needs_spared (Signal c) p n b h = on_variable (Signal c) p n b h
+  needs_spared (Broadcast c) p n b h = on_variable (Broadcast c) p n b h
+  needs_spared (SetPrio t r) p n b h =
+      subst (λ x. MeetsAll (is_living v.kernel) u x (cell_at v 0) (use_at v (SetPrio t r)) (needs p)) (sym status)
+      (unnamed_needs (is_living s.kernel) (is_living v.kernel) u t r (status_at s u) (cell_at s 0)
+      (cell_at v 0) (use_at s (SetPrio t r)) (use_at v (SetPrio t r)) p b h)
+  needs_spared q p n b h = on_mutex q p (variable_added (has_mutex s) (has_cond s) q n)
+      (known_mutex (has_mutex s) (has_cond s) (named_by q) (names_of q).cond n) h
+
   -- what a call knows outlives what others change
   call_spared : (q : Request) (p : Place) → CallIsSound s u q p → CallIsSound v u q p
-  call_spared (Lock m) p h = record {
-    named = (k m h.named).0;
+  call_spared q p h = record {
+    named = names_kept (has_mutex s) (has_cond s) (has_mutex v) (has_cond v) (λ m e. (k m e).0) uses.has q h.named;
     belongs = h.belongs;
-    needs = on_mutex (Lock m) p (inl refl) h.named h.needs;
+    needs = needs_spared q p h.named h.belongs h.needs;
   }
-  call_spared (TryLock m) p h = record {
-    named = (k m h.named).0;
-    belongs = h.belongs;
-    needs = on_mutex (TryLock m) p (inl refl) h.named h.needs;
-  }
-  call_spared (Unlock m) p h = record {
-    named = (k m h.named).0;
-    belongs = h.belongs;
-    needs = on_mutex (Unlock m) p (inl refl) h.named h.needs;
-  }
-  call_spared (Consistent m) p h = record {
-    named = (k m h.named).0;
-    belongs = h.belongs;
-    needs = on_mutex (Consistent m) p (inl refl) h.named h.needs;
-  }
-  call_spared (Wait c m) p h = record {
-    named = both_kept (has_cond s c) (has_mutex s m) (has_cond v c) (has_mutex v m) (uses.has c) (λ e. (k m e).0)
-        h.named;
-    belongs = h.belongs;
-    needs = on_mutex (Wait c m) p (inr (first (has_cond s c) (has_mutex s m) h.named)) (second (has_cond s c) (has_mutex s m) h.named) h.needs;
-  }
-  call_spared (Signal c) p h = record {
-    named = uses.has c h.named;
-    belongs = h.belongs;
-    needs = on_variable (Signal c) p h.named h.belongs h.needs;
-  }
-  call_spared (Broadcast c) p h = record {
-    named = uses.has c h.named;
-    belongs = h.belongs;
-    needs = on_variable (Broadcast c) p h.named h.belongs h.needs;
-  }
-  call_spared (SetPrio t n) p h = record {
-    named = refl;
-    belongs = h.belongs;
-    needs = subst (λ x. MeetsAll (is_living v.kernel) u x (cell_at v 0) (use_at v (SetPrio t n)) (needs p)) (sym status)
-        (unnamed_needs (is_living s.kernel) (is_living v.kernel) u t n (status_at s u) (cell_at s 0)
-        (cell_at v 0) (use_at s (SetPrio t n)) (use_at v (SetPrio t n)) p h.belongs h.needs);
-  }
-  call_spared (TimedLock m d) p h = absurd (true≢false (sym h.belongs))
-  call_spared (TimedWait c m d) p h = absurd (true≢false (sym h.belongs))
 
   -- what a line knows outlives what others change
   pub line_spared : (l : Line) → LineIsSound s u l → LineIsSound v u l

@@ -1,4 +1,5 @@
 pub mod Shown
+pub mod Named
 pub mod Kept
 pub mod WeakenedInvariant
 pub mod Agreement

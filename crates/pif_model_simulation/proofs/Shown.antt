@@ -3,7 +3,6 @@ use Rattle.std.proofs.Common.{◌≡◌, ℕ, zero, suc, ◌<◌, ◌≤◌, Boo
 use Rattle.std.proofs.lemmas.Bool.{cases_lt}
 use Rattle.std.proofs.lemmas.List.{length-map, length_push, map-append, get_or_append_left, get_or_push, get_or_past, ext_get_or, get_or-set_same, set-set, set-get_or}
 use Rattle.pif_types.specs.declared.requests.Request.{Request}
-use Rattle.pif_types.specs.declared.requests.Request.TheVariants.{Lock, TryLock, Unlock, Consistent, Wait, Signal, Broadcast, SetPrio, TimedLock, TimedWait}
 use Rattle.pif_model.specs.declared.events.Event.{Event}
 use Rattle.pif_model.specs.declared.events.Event.TheVariants.{Begin, Go, End, Tick}
 use Rattle.pif_model.specs.declared.lines.Line.{Line}
@@ -178,16 +177,7 @@ module _ {s : Table} (shape : IsShaped s) where
   -- both machines know the mutex and the variable that a request names, or neither
   named_seen : (x : HistoryVariables) (q : Request)
       → names_known (is_mutex (world_of s x)) (is_variable (world_of s x)) q ≡ names_known (has_mutex s) (has_cond s) q
-  named_seen x (Lock m) = is_mutex_seen x m
-  named_seen x (TryLock m) = is_mutex_seen x m
-  named_seen x (Unlock m) = is_mutex_seen x m
-  named_seen x (Consistent m) = is_mutex_seen x m
-  named_seen x (Wait c m) = λ i. if is_variable_seen x c i then is_mutex_seen x m i else false
-  named_seen x (Signal c) = is_variable_seen x c
-  named_seen x (Broadcast c) = is_variable_seen x c
-  named_seen x (SetPrio u p) = refl
-  named_seen x (TimedLock m d) = is_mutex_seen x m
-  named_seen x (TimedWait c m d) = λ i. if is_variable_seen x c i then is_mutex_seen x m i else false
+  named_seen x q = λ i. names_known (λ m. is_mutex_seen x m i) (λ c. is_variable_seen x c i) q
 
   -- both machines refuse the same events
   pub refusal_seen : (x : HistoryVariables) (e : Event) → refusal_of (world_of s x) e ≡ table_refusal s e

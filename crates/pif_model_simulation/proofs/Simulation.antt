@@ -22,7 +22,7 @@ use Rattle.pif_model.specs.Table.{Table, has_thread, has_mutex, has_cond, line_a
 use Rattle.pif_model.specs.Lines.{is_open, table_refusal, repair_line, giving_line, shared_line, locking_line, use_line, line_of, go_outcome, accepted_outcome, by_refusal, event_outcome, Outcome, counts_at, is_line_due, is_due_in, expires_at, reported_outcome}
 use Rattle.pif_model.specs.Soundness.{belongs, is_shared, is_locking, IsSound}
 use Rattle.pif_model.specs.Deadlines.{is_reached, reported_seen}
-use Rattle.pif_model_simulation.proofs.Kept.{second}
+use Rattle.pif_model_simulation.proofs.Named.{second}
 use Rattle.pif_model_simulation.proofs.Shown.{go_allowed, end_allowed, refusal_seen}
 use Rattle.pif_model_simulation.proofs.Steps.{Keeps, GoKeeps, Going, going_knows, going_named, asked_at}
 use Rattle.pif_model_simulation.proofs.Does.{IsLocking, MayQueue, locking}

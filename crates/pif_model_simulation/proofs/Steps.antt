@@ -1,7 +1,7 @@
 -- One step of the table machine as one entry of the POSIX machine: what every line has to show.
 use Rattle.std.proofs.Common.{◌≡◌, ℕ, ◌<◌, Bool, true, false, length, Some, None, refl, sym, ap, ap₂, ◌==◌, ◌∙◌, subst, if◌then◌else◌, true≢false}
 use Rattle.pif_types.specs.declared.requests.Request.{Request}
-use Rattle.pif_types.specs.declared.requests.Request.TheVariants.{Lock, TryLock, Unlock, Consistent, Wait, Signal, Broadcast, SetPrio, TimedLock, TimedWait}
+use Rattle.pif_types.specs.declared.requests.Request.TheVariants.{Lock, Wait}
 use Rattle.pif_model.specs.declared.events.Event.TheVariants.{Go}
 use Rattle.pif_model.specs.declared.events.Seen.{Seen}
 use Rattle.pif_model.specs.declared.events.Seen.TheVariants.{Went, Waits, Answered}
@@ -91,16 +91,8 @@ taking_awake Health.Unusable = refl
 
 -- nor one that is to lock
 locking_awake : (q : Request) → is_idle (before_lock q) ≡ false
-locking_awake (Lock m) = refl
-locking_awake (TryLock m) = refl
-locking_awake (Unlock m) = refl
-locking_awake (Consistent m) = refl
 locking_awake (Wait c m) = refl
-locking_awake (Signal c) = refl
-locking_awake (Broadcast c) = refl
-locking_awake (SetPrio u p) = refl
-locking_awake (TimedLock m d) = refl
-locking_awake (TimedWait c m d) = refl
+locking_awake _ = refl
 
 -- nor a wait that has given its mutex up, and was not answered since
 released_awake : (b : Bool) → is_idle (on_release b) ≡ false

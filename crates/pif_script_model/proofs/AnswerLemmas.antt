@@ -9,7 +9,7 @@ use Rattle.pif_model.specs.declared.lines.Relock.{Relock}
 use Rattle.pif_model.specs.declared.lines.Relock.TheVariants.{Deadlocks, Answers, Counts}
 use Rattle.pif_model.specs.Kinds.{relock_of}
 use Rattle.pif_types.specs.declared.requests.Request.{Request}
-use Rattle.pif_types.specs.declared.requests.Request.TheVariants.{Lock, TryLock, Unlock, Consistent, Wait, Signal, Broadcast, SetPrio, TimedLock, TimedWait}
+use Rattle.pif_types.specs.declared.requests.Request.TheVariants.{Lock, TryLock, Unlock, Consistent, Wait, Signal, Broadcast, SetPrio}
 use Rattle.pif_model.specs.declared.events.Event.{Event}
 use Rattle.pif_model.specs.declared.events.Event.TheVariants.{Begin, Go, End, Tick}
 use Rattle.pif_model.specs.declared.events.Seen.{Seen}
@@ -441,16 +441,8 @@ go-fits (At q p) t s n h =
 
 -- where a call begins
 first-small : (q : Request) → IsSmallPlace (first_place q)
-first-small (Lock m) = tt
-first-small (TryLock m) = tt
-first-small (Unlock m) = tt
-first-small (Consistent m) = tt
 first-small (Wait c m) = tt
-first-small (Signal c) = tt
-first-small (Broadcast c) = tt
-first-small (SetPrio u p) = tt
-first-small (TimedLock m d) = tt
-first-small (TimedWait c m d) = tt
+first-small _ = tt
 
 -- an event that is not refused
 accepted-fits : (e : Event) (s : Table) → AreSmall s.lines → Fits (accepted_outcome e s)

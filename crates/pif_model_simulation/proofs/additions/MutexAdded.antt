@@ -10,9 +10,7 @@ use Rattle.pif_model.specs.Word.{Word, free_word, word_at, health_word_at}
 use Rattle.pif_model.specs.declared.lines.Line.{Line}
 use Rattle.pif_model.specs.declared.lines.Line.TheVariants.{Idle, At}
 use Rattle.pif_model.specs.declared.lines.Place.{Place}
-use Rattle.pif_types.specs.declared.requests.Request.{Request}
-use Rattle.pif_types.specs.declared.requests.Request.TheVariants.{Lock, TryLock, Unlock, Consistent, Wait, Signal, Broadcast, SetPrio, TimedLock, TimedWait}
-use Rattle.pif_model.specs.Posix.{Mutex, no_mutex, named_by, names_known}
+use Rattle.pif_model.specs.Posix.{Mutex, no_mutex, named_by}
 use Rattle.pif_model.specs.World.Health.{Fine}
 use Rattle.pif_model.specs.Posix.Step.{mutex_added as mutex_rule}
 use Rattle.pif_model.specs.PiKernel.{state_at, is_living}
@@ -22,7 +20,8 @@ use Rattle.pif_model.specs.Soundness.{CellIsSound, LineIsSound, ThreadIsSound, I
 use Rattle.pif_model_lemmas.proofs.Numbers.{above_0, below}
 use Rattle.pif_model_lemmas.proofs.kernel.Facts.{living-added}
 use Rattle.pif_model_lemmas.proofs.Waiting.{by_test}
-use Rattle.pif_model_simulation.proofs.Kept.{Spares, unwritten, unused, second, line_spared, held_once}
+use Rattle.pif_model_simulation.proofs.Kept.{Spares, unwritten, unused, line_spared, held_once}
+use Rattle.pif_model_simulation.proofs.Named.{named_added}
 use Rattle.pif_model_simulation.proofs.WeakenedInvariant.{cell_spared, each_thread, each_absent}
 use Rattle.pif_model_simulation.proofs.Shown.{mutexes_shown, mutex_seen, same_world}
 use Rattle.pif_model_simulation.proofs.Written.{mutex_of}
@@ -143,19 +142,9 @@ module _ (s : Table) (kind : Kind) (r : Bool) (h : IsSound s) (free : has_mutex_
   known_in_line : (u : ℕ) (l : Line) → LineIsSound s u l → (test : Place → Bool) → mutex_by test l ≢ k
   known_in_line u Idle b test e = absurd (less_not_same 0 k h.all.shape.some_mutex e)
   known_in_line u (At q p) b test e = by_test (λ x. (if x then named_by q else 0) ≡ k → ⊥) (test p)
-      (λ _ f. named q b.named f) (λ _ f. less_not_same 0 k h.all.shape.some_mutex f) e
-    where
-      named : (q : Request) → names_known (has_mutex s) (has_cond s) q ≡ true → named_by q ≢ k
-      named (Lock j) e f = absurd (less_not_same j k (below j k e) f)
-      named (TryLock j) e f = absurd (less_not_same j k (below j k e) f)
-      named (Unlock j) e f = absurd (less_not_same j k (below j k e) f)
-      named (Consistent j) e f = absurd (less_not_same j k (below j k e) f)
-      named (Wait c j) e f = absurd (less_not_same j k (below j k (second (has_cond s c) (has_mutex s j) e)) f)
-      named (Signal c) e f = absurd (less_not_same 0 k h.all.shape.some_mutex f)
-      named (Broadcast c) e f = absurd (less_not_same 0 k h.all.shape.some_mutex f)
-      named (SetPrio w p) e f = absurd (less_not_same 0 k h.all.shape.some_mutex f)
-      named (TimedLock j d) e f = absurd (less_not_same j k (below j k e) f)
-      named (TimedWait c j d) e f = absurd (less_not_same j k (below j k (second (has_cond s c) (has_mutex s j) e)) f)
+      (λ _ f. less_not_same (named_by q) k (below (named_by q) k (named_added (has_mutex s) (has_cond s) q b.named
+      (λ none. less_not_same 0 k h.all.shape.some_mutex (sym none ∙ f)))) f)
+      (λ _ f. less_not_same 0 k h.all.shape.some_mutex f) e
 
   -- the kinds of the others stay
   robust_else : (j : ℕ) → j ≢ k → (library_at v j).robust ≡ (library_at s j).robust

@@ -11,7 +11,7 @@ use Rattle.pif_model.specs.Soundness.{CallIsSound, LineIsSound, IsParkedLine, Is
 use Rattle.pif_model_lemmas.proofs.Waiting.{by_test, or_true, or_false}
 use Rattle.pif_model_lemmas.proofs.kernel.Facts.{living-from_added}
 use Rattle.pif_model_lemmas.proofs.kernel.Woken.{top-parked, top-added}
-use Rattle.pif_model_simulation.proofs.Kept.{first}
+use Rattle.pif_model_simulation.proofs.Named.{first}
 use Rattle.pif_model_simulation.proofs.WeakenedInvariant.{each_thread}
 
 -- whether one of these is parked on c for m

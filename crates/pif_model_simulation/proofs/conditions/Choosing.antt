@@ -19,7 +19,7 @@ use Rattle.pif_model_lemmas.proofs.kernel.Woken.{added-from_parked}
 use Rattle.pif_model_simulation.proofs.WeakenedInvariant.{each_thread}
 use Rattle.pif_model_simulation.proofs.Shown.{threads_shown, thread_seen, call_seen_of}
 use Rattle.pif_model_simulation.proofs.Effective.{effective_seen}
-use Rattle.pif_model_simulation.proofs.Kept.{first, second}
+use Rattle.pif_model_simulation.proofs.Named.{first, second}
 
 -- on which variable a thread of this status is parked
 parked_where : (x : Status) → is_parked x ≡ true → (c : ℕ) × (x ≡ Parked c)

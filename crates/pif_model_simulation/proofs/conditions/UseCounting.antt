@@ -5,7 +5,7 @@ use Rattle.std.proofs.lemmas.Bool.{cases_eq, true≢false}
 use Rattle.std.proofs.lemmas.List.{length-set, length-map, get_or-set_same, get_or-set_other, ext_get_or}
 use Rattle.std.proofs.Math.ListN.{get_or-map}
 use Rattle.pif_types.specs.declared.requests.Request.{Request}
-use Rattle.pif_types.specs.declared.requests.Request.TheVariants.{Lock, TryLock, Unlock, Consistent, Wait, Signal, Broadcast, SetPrio, TimedLock, TimedWait}
+use Rattle.pif_types.specs.declared.requests.Request.TheVariants.{Wait}
 use Rattle.pif_model.specs.declared.lines.Line.{Line}
 use Rattle.pif_model.specs.declared.lines.Line.TheVariants.{Idle, At}
 use Rattle.pif_model.specs.declared.lines.Place.{Place}
@@ -78,16 +78,8 @@ past_read v n l = ne_eqb v (n + 1) (λ e. absurd (omega arith))
 
 -- a call that is to lock is not blocked
 locking_unblocked : (q : Request) → is_blocked (before_lock q) ≡ false
-locking_unblocked (Lock m) = refl
-locking_unblocked (TryLock m) = refl
-locking_unblocked (Unlock m) = refl
-locking_unblocked (Consistent m) = refl
 locking_unblocked (Wait c m) = refl
-locking_unblocked (Signal c) = refl
-locking_unblocked (Broadcast c) = refl
-locking_unblocked (SetPrio u p) = refl
-locking_unblocked (TimedLock m d) = refl
-locking_unblocked (TimedWait c m d) = refl
+locking_unblocked _ = refl
 
 -- nor one that takes over
 step_unblocked : (y : TakeStep) (h : Health) → is_blocked (progress_taking y h) ≡ false

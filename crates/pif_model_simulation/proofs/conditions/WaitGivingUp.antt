@@ -20,7 +20,7 @@ use Rattle.pif_model.specs.Lines.{give_line}
 use Rattle.pif_model.specs.Projection.{health_of, health_at}
 use Rattle.pif_model.specs.Soundness.{Need, use_at, give_needs, needs, is_last}
 use Rattle.pif_model.specs.Soundness.Need.{MayRun, Owns, HoldsOnce, IsBound, UsedAtLeast}
-use Rattle.pif_model_simulation.proofs.Kept.{second}
+use Rattle.pif_model_simulation.proofs.Named.{second}
 use Rattle.pif_model_simulation.proofs.Facts.{Fact, is_ready_need, is_bound_need, is_used_need}
 use Rattle.pif_model_simulation.proofs.Steps.{GoKeeps, Going, going_own, going_health, going_died, going_ready, going_bound, going_used}
 use Rattle.pif_model_simulation.proofs.Does.Does.{waits_inconsistent, waits_own}

@@ -19,7 +19,7 @@ use Rattle.pif_model.specs.Lines.{wait_load, wait_uses}
 use Rattle.pif_model.specs.Projection.{HistoryVariables, world_of}
 use Rattle.pif_model.specs.Soundness.{use_at, MeetsAll, needs}
 use Rattle.pif_model_lemmas.proofs.kernel.LineCases.{wait_load_cases, wait_uses_cases}
-use Rattle.pif_model_simulation.proofs.Kept.{second}
+use Rattle.pif_model_simulation.proofs.Named.{second}
 use Rattle.pif_model_simulation.proofs.Shown.{mutex_seen, variable_seen}
 use Rattle.pif_model_simulation.proofs.Agreement.{quiet}
 use Rattle.pif_model_simulation.proofs.Steps.{GoKeeps, Going, going_named, going_met, going_called, going_bound, going_once, going_own, going_ready}

@@ -28,7 +28,7 @@ use Rattle.pif_model_lemmas.proofs.Numbers.{above_0, below, from_within}
 use Rattle.pif_model_lemmas.proofs.Waiting.{by_test}
 use Rattle.pif_model_lemmas.proofs.kernel.Facts.{ready-not_ended}
 use Rattle.pif_model_lemmas.proofs.kernel.Rested.{parked_limits, parked_length, parked_has, parked_seat_other, parked_seat_same, parked_state, parked_waiters, parked_parked, kernel-parked}
-use Rattle.pif_model_simulation.proofs.Kept.{first, second}
+use Rattle.pif_model_simulation.proofs.Named.{first, second}
 use Rattle.pif_model_simulation.proofs.WeakenedInvariant.{aims}
 use Rattle.pif_model_simulation.proofs.Agreement.{quiet, frames_same}
 use Rattle.pif_model_simulation.proofs.Written.{written, written_is, same_word, same_health, same_list, same_library}

@@ -2,7 +2,7 @@
 use Rattle.std.proofs.Common.{◌≡◌, ℕ, Bool, true, false, ◌==◌, refl, sym, ap, ◌∙◌, if◌then◌else◌}
 use Rattle.std.proofs.lemmas.Bool.{true≢false}
 use Rattle.pif_types.specs.declared.requests.Request.{Request}
-use Rattle.pif_types.specs.declared.requests.Request.TheVariants.{Lock, TryLock, Unlock, Consistent, Wait, Signal, Broadcast, SetPrio, TimedLock, TimedWait}
+use Rattle.pif_types.specs.declared.requests.Request.TheVariants.{Lock, Wait}
 use Rattle.pif_model.specs.declared.lines.Line.{Line}
 use Rattle.pif_model.specs.declared.lines.Line.TheVariants.{Idle, At}
 use Rattle.pif_model.specs.declared.lines.Place.{Place}
@@ -90,14 +90,7 @@ counts_seen (Wait c m) StayParked Stopped h n b = refl
 counts_seen (Wait c m) StayParked Ended h n b = refl
 counts_seen (Wait c m) (Wake y) x h n b = absurd (true≢false (sym b))
 counts_seen (Wait c m) _ x h n b = refl
-counts_seen (TryLock m) p x h n b = refl
-counts_seen (Unlock m) p x h n b = refl
-counts_seen (Consistent m) p x h n b = refl
-counts_seen (Signal c) p x h n b = refl
-counts_seen (Broadcast c) p x h n b = refl
-counts_seen (SetPrio u r) p x h n b = refl
-counts_seen (TimedLock m d) p x h n b = refl
-counts_seen (TimedWait c m d) p x h n b = refl
+counts_seen _ p x h n b = refl
 
 -- a living thread's call is due in the POSIX machine if it is due at its line
 pub due_seen : {s : Table} (h : IsSound s) (x : HistoryVariables) (t : ℕ) → is_living s.kernel t ≡ true

@@ -39,7 +39,7 @@ use Rattle.pif_model_simulation.proofs.Called.{IsOneCall, called_sound, called_k
 use Rattle.pif_model_simulation.proofs.deadlines.Due.{due_seen}
 use Rattle.pif_model_simulation.proofs.deadlines.Expired.{status_then, expired_one, expired_table}
 use Rattle.pif_model_simulation.proofs.WeakenedInvariant.{each_thread}
-use Rattle.pif_model_simulation.proofs.Kept.{second}
+use Rattle.pif_model_simulation.proofs.Named.{second}
 use Rattle.pif_model_simulation.proofs.Lined.{lined_sound, lined_frames, lined_call, lined_shown}
 use Rattle.pif_model_simulation.proofs.Local.{lists_after, going_cell, going_list, going_settled}
 use Rattle.pif_model_simulation.proofs.LocalLines.{stalled_lists, row_same, row_other, settled_so_far}

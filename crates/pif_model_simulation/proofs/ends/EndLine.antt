@@ -4,8 +4,6 @@ use Rattle.std.proofs.Common.{◌≡◌, ◌≢◌, ◌⊎◌, inl, inr, ℕ, �
 use Rattle.std.proofs.lemmas.Bool.{cases_eq, cases_lt, true≢false}
 use Rattle.std.proofs.lemmas.List.{length-set, get_or_past, set-get_or}
 use Rattle.pif_types.specs.declared.requests.Kind.TheVariants.{Normal}
-use Rattle.pif_types.specs.declared.requests.Request.{Request}
-use Rattle.pif_types.specs.declared.requests.Request.TheVariants.{Lock, TryLock, Unlock, Consistent, Wait, Signal, Broadcast, SetPrio, TimedLock, TimedWait}
 use Rattle.pif_model.specs.declared.events.Event.TheVariants.{End}
 use Rattle.pif_model.specs.declared.events.Seen.TheVariants.{Ended as SeenEnded}
 use Rattle.pif_model.specs.declared.events.Entry.TheVariants.{Step as Happened}
@@ -17,7 +15,7 @@ use Rattle.pif_model.specs.declared.lines.GiveStep.{GiveStep}
 use Rattle.pif_model.specs.declared.lines.GiveStep.TheVariants.{Release, CallUnlock}
 use Rattle.pif_model.specs.Graph.{has_waiter}
 use Rattle.pif_model.specs.Word.{word_at, has_word}
-use Rattle.pif_model.specs.Posix.{Mutex, Releases, mutex_at, named_by, names_known}
+use Rattle.pif_model.specs.Posix.{Mutex, Releases, mutex_at, named_by}
 use Rattle.pif_model.specs.Posix.Releases.{none_left, one_more}
 use Rattle.pif_model.specs.Posix.Step.{ended as ended_rule}
 use Rattle.pif_model.specs.declared.lines.Status.TheVariants.{Ended}
@@ -36,7 +34,7 @@ use Rattle.pif_model_simulation.proofs.WeakenedInvariant.{admit, each_thread}
 use Rattle.pif_model_simulation.proofs.WeakenedInvariant.MayBeAdmitted.{gone as may_be_gone}
 use Rattle.pif_model_simulation.proofs.Shown.{mutex_seen, refusal_seen}
 use Rattle.pif_model_simulation.proofs.Steps.{Keeps}
-use Rattle.pif_model_simulation.proofs.Kept.{second}
+use Rattle.pif_model_simulation.proofs.Named.{named_added}
 use Rattle.pif_model_simulation.proofs.Agreement.{framed}
 use Rattle.pif_model_simulation.proofs.Entries.{walks-pending, walks-listed, walked}
 use Rattle.pif_model_simulation.proofs.Lined.{tl, tr}
@@ -92,19 +90,7 @@ line_named : (s : Table) (t : ℕ) (l : Line) → LineIsSound s t l → (test : 
 line_named s t Idle h test z = absurd (z refl)
 line_named s t (At q p) h test z = by_test (λ b. (if b then named_by q else 0) ≢ 0
     → has_mutex s (if b then named_by q else 0) ≡ true) (test p)
-    (λ _ n. go q h.named n) (λ _ n. absurd (n refl)) z
-  where
-    go : (q : Request) → names_known (has_mutex s) (has_cond s) q ≡ true → named_by q ≢ 0 → has_mutex s (named_by q) ≡ true
-    go (Lock m) e n = e
-    go (TryLock m) e n = e
-    go (Unlock m) e n = e
-    go (Consistent m) e n = e
-    go (Wait c m) e n = second (has_cond s c) (has_mutex s m) e
-    go (Signal c) e n = absurd (n refl)
-    go (Broadcast c) e n = absurd (n refl)
-    go (SetPrio u p) e n = absurd (n refl)
-    go (TimedLock m d) e n = e
-    go (TimedWait c m d) e n = second (has_cond s c) (has_mutex s m) e
+    (λ _ n. named_added (has_mutex s) (has_cond s) q h.named n) (λ _ n. absurd (n refl)) z
 
 module _ (s : Table) (t : ℕ) (h : IsSound s) (known : is_living s.kernel t ≡ true) where
   abbrev row : RobustRow

@@ -2,7 +2,7 @@
 use Rattle.std.proofs.Common.{◌≡◌, ◌≢◌, ◌⊎◌, inl, inr, ℕ, Bool, true, false, ◌==◌, length, if◌then◌else◌, refl, sym, ap, ◌∙◌, subst, eq-eqb, ne_eqb}
 use Rattle.std.proofs.lemmas.Bool.{true≢false, cases_eq}
 use Rattle.pif_types.specs.declared.requests.Request.{Request}
-use Rattle.pif_types.specs.declared.requests.Request.TheVariants.{Lock, TryLock, Unlock, Consistent, Wait, Signal, Broadcast, SetPrio, TimedLock, TimedWait}
+use Rattle.pif_types.specs.declared.requests.Request.TheVariants.{Lock, Wait}
 use Rattle.pif_model.specs.declared.lines.Line.{Line}
 use Rattle.pif_model.specs.declared.lines.Line.TheVariants.{Idle, At}
 use Rattle.pif_model.specs.declared.lines.Place.{Place}
@@ -23,7 +23,7 @@ use Rattle.pif_model_lemmas.proofs.Numbers.{above_0}
 use Rattle.pif_model_lemmas.proofs.Waiting.{by_test}
 use Rattle.pif_model_simulation.proofs.Facts.{call_own, call_robust, call_stopped}
 use Rattle.pif_model_simulation.proofs.WeakenedInvariant.{each_thread, each_absent}
-use Rattle.pif_model_simulation.proofs.Kept.{second}
+use Rattle.pif_model_simulation.proofs.Named.{named_added}
 use Rattle.pif_model_simulation.specs.Steppable.{may_wait_at, is_link_next, is_unlink, CallMayStep}
 
 -- at each place where its thread doesn't wait, a call rests on that the thread may run
@@ -49,20 +49,6 @@ counts_at_rest (Wait c m) StayParked x h e = by_status x e
     by_status (Parked c) e = refl
     by_status _ e = absurd (true≢false (sym e))
 counts_at_rest _ _ x h e = absurd (true≢false (sym e))
-
--- the mutex that a call names, if it names one, was added
-named_added : (mutex variable : ℕ → Bool) (q : Request) → names_known mutex variable q ≡ true → named_by q ≢ 0
-    → mutex (named_by q) ≡ true
-named_added mutex variable (Lock m) h some = h
-named_added mutex variable (TryLock m) h some = h
-named_added mutex variable (Unlock m) h some = h
-named_added mutex variable (Consistent m) h some = h
-named_added mutex variable (Wait c m) h some = second (variable c) (mutex m) h
-named_added mutex variable (Signal c) h some = absurd (some refl)
-named_added mutex variable (Broadcast c) h some = absurd (some refl)
-named_added mutex variable (SetPrio u n) h some = absurd (some refl)
-named_added mutex variable (TimedLock m d) h some = h
-named_added mutex variable (TimedWait c m d) h some = second (variable c) (mutex m) h
 
 -- a robust mutex that a call names was added: at place 0 there is none
 robust_added : (s : Table) (q : Request) → IsSound s → names_known (has_mutex s) (has_cond s) q ≡ true

@@ -31,7 +31,7 @@ use Rattle.pif_model_lemmas.proofs.kernel.LineCases.{ends_by_cases, locked_again
 use Rattle.pif_model_lemmas.proofs.Waiting.{by_test}
 use Rattle.pif_model_simulation.proofs.Facts.{call_once, call_own}
 use Rattle.pif_model_simulation.proofs.WeakenedInvariant.{each_thread}
-use Rattle.pif_model_simulation.proofs.Kept.{second}
+use Rattle.pif_model_simulation.proofs.Named.{second}
 use Rattle.pif_model_simulation.proofs.events.Counts.{GoesOnce, words_go, word_goes, lock_owns_free, try_takes_free, lock_goes, try_goes, unlock_goes, requeue_goes}
 
 -- the outcome has the words and the mutexes of v

@@ -4,7 +4,7 @@ use Rattle.std.proofs.Common.{◌≡◌, ◌≢◌, ℕ, ◌<◌, Bool, true, fa
 use Rattle.std.proofs.lemmas.Bool.{cases_eq, true≢false}
 use Rattle.std.proofs.lemmas.List.{length-set}
 use Rattle.pif_types.specs.declared.requests.Request.{Request}
-use Rattle.pif_types.specs.declared.requests.Request.TheVariants.{Lock, TryLock, Unlock, Consistent, Wait, Signal, Broadcast, SetPrio, TimedLock, TimedWait}
+use Rattle.pif_types.specs.declared.requests.Request.TheVariants.{Lock, Wait}
 use Rattle.pif_model.specs.declared.lines.Line.{Line}
 use Rattle.pif_model.specs.declared.lines.Line.TheVariants.{At}
 use Rattle.pif_model.specs.declared.lines.Place.{Place}
@@ -35,15 +35,8 @@ use Rattle.pif_model_simulation.proofs.Agreement.{Frames, Follows, WasBlockedIn,
 -- a call that waits for a mutex names it
 waits-named : (q : Request) (m : ℕ) → m ≢ 0 → waited_in q ≡ m → named_by q ≡ m
 waits-named (Lock j) m n e = e
-waits-named (TryLock j) m n e = absurd (n (sym e))
-waits-named (Unlock j) m n e = absurd (n (sym e))
-waits-named (Consistent j) m n e = absurd (n (sym e))
 waits-named (Wait c j) m n e = e
-waits-named (Signal c) m n e = absurd (n (sym e))
-waits-named (Broadcast c) m n e = absurd (n (sym e))
-waits-named (SetPrio u p) m n e = absurd (n (sym e))
-waits-named (TimedLock j d) m n e = absurd (n (sym e))
-waits-named (TimedWait c j d) m n e = absurd (n (sym e))
+waits-named _ m n e = absurd (n (sym e))
 
 -- who is handed its mutex, at a place where it was queued, knows there what it has to
 handed_needs : (living living' : ℕ → Bool) (u m : ℕ) (c d : Cell) (z : Use) (b : Place) → is_queued_place b ≡ true

@@ -7,7 +7,7 @@ use Rattle.std.proofs.lemmas.Bool.{true≢false, cases_eq, cases_Bool, cases_lt}
 use Rattle.std.proofs.lemmas.Bool.Decides.{nat_tests}
 use Rattle.std.proofs.lemmas.List.{set-set, set-get_or, length-set, get_or_past}
 use Rattle.pif_types.specs.declared.requests.Request.{Request}
-use Rattle.pif_types.specs.declared.requests.Request.TheVariants.{Lock, TryLock, Unlock, Consistent, Wait, Signal, Broadcast, SetPrio, TimedLock, TimedWait}
+use Rattle.pif_types.specs.declared.requests.Request.TheVariants.{Lock, TryLock, Wait}
 use Rattle.pif_model.specs.Graph.{without}
 use Rattle.pif_model.specs.Posix.{Health, Progress, Call, Thread, Mutex, World, nobody, no_mutex, thread_at, mutex_at, is_thread, is_living, is_mutex, with_thread, with_mutex, with_progress, at_progress, on_taking, taken, with_health, on_death, named_by, Passes, Releases}
 use Rattle.pif_model.specs.World.Health.{Fine, Inconsistent, Unusable}
@@ -391,15 +391,8 @@ wait_may_take c m = ((λ n x e. takes x n e.0), (λ n x e. takes x n e.0))
 -- and so may a call that waits for it
 waiting_takes : (q : Request) (m : ℕ) → waited_in q ≡ m → m ≢ 0 → (named_by q ≡ m) × MayTake q Waiting
 waiting_takes (Lock k) m e some = (e, (may_take k).1)
-waiting_takes (TryLock k) m e some = absurd (some (sym e))
-waiting_takes (Unlock k) m e some = absurd (some (sym e))
-waiting_takes (Consistent k) m e some = absurd (some (sym e))
 waiting_takes (Wait c k) m e some = (e, (wait_may_take c k).1)
-waiting_takes (Signal c) m e some = absurd (some (sym e))
-waiting_takes (Broadcast c) m e some = absurd (some (sym e))
-waiting_takes (SetPrio u p) m e some = absurd (some (sym e))
-waiting_takes (TimedLock k d) m e some = absurd (some (sym e))
-waiting_takes (TimedWait c k d) m e some = absurd (some (sym e))
+waiting_takes _ m e some = absurd (some (sym e))
 
 -- m, which has no owner now, passes on
 pub IsHeld-Passes : {f : ℕ → Option Request} {counts : ℕ → ℕ → ℕ} {m : ℕ} {w v : World} → is_mutex w m ≡ true

@@ -9,7 +9,7 @@ use Rattle.pif_types.specs.Bounds.{Bounds}
 use Rattle.pif_types.specs.declared.errors.Refusal.{Refusal}
 use Rattle.pif_types.specs.declared.requests.Kind.{Kind}
 use Rattle.pif_types.specs.declared.requests.Request.{Request}
-use Rattle.pif_types.specs.declared.requests.Request.TheVariants.{Lock, TryLock, Unlock, Consistent, Wait, Signal, Broadcast, SetPrio, TimedLock, TimedWait}
+use Rattle.pif_types.specs.declared.requests.Request.TheVariants.{Lock, TryLock, Unlock, Consistent, Wait, Signal, Broadcast, SetPrio}
 use Rattle.pif_model.specs.declared.events.Event.{Event}
 use Rattle.pif_model.specs.declared.events.Event.TheVariants.{Begin, Go, End, Tick}
 use Rattle.pif_model.specs.declared.events.Seen.TheVariants.{Begun, Answered, Ended, Refused}
@@ -43,9 +43,9 @@ use Rattle.pif_model_lemmas.proofs.Among.{is_among-without, is_among}
 use Rattle.pif_model_lemmas.proofs.Numbers.{within, from_within}
 use Rattle.pif_model_lemmas.proofs.Places.{kept_at}
 use Rattle.pif_model_lemmas.proofs.Waiting.{by_test}
-use Rattle.pif_model_simulation.proofs.Kept.{second}
+use Rattle.pif_model_simulation.proofs.Named.{names_kept, names_plain}
 use Rattle.pif_model_simulation.proofs.runs.Worlds.{call_of, owner_of, written_at, push_other, push_same, call-with_thread_other, living-with_thread, begin_allowed, end_allowed}
-use Rattle.pif_model_simulation.proofs.runs.Holding.{Counted, held_before, same_progress, Eases, Holding-eases, names_mutex, Holding, Stays, request_of, held-from_holds, Holding-begins, Holding-answers, Holding-ends}
+use Rattle.pif_model_simulation.proofs.runs.Holding.{Counted, held_before, same_progress, Eases, Holding-eases, Holding, Stays, request_of, held-from_holds, Holding-begins, Holding-answers, Holding-ends}
 use Rattle.pif_model_simulation.proofs.runs.AllHolding.{IsHeld, IsActing, view_of, times_held, times-other, acting, MayTake, may_take, wait_may_take, IsOrderly-with_thread, IsHeld-but, IsHeld-stays, IsHeld-time, IsHeld-progresses, IsHeld-joins, IsHeld-takes, IsHeld-counts, IsHeld-owns, IsHeld-releases, IsHeld-with_health, IsHeld-Releases, IsOrderly-mutexes, IsOrderly-waiters, holder_is_owner}
 
 -- CALLS
@@ -532,25 +532,13 @@ IsHeld-begins h w t q held allowed =
       lives = lives ∙ let_in.1;
       held = same;
       fewer = λ m y. y;
-      named = names_only q let_in.3;
+      named = names_plain (is_mutex w) (λ c. true) q
+          ∙ names_kept (is_mutex w) (is_variable w) (is_mutex w) (λ c. true) (λ m e. e) (λ c e. refl) q let_in.3;
       fresh = λ n i e. e;
     }))
   where
     c : Call
     c = record { request = plain q; progress = Fresh }
-
-    names_only : (r : Request) → names_known (is_mutex w) (is_variable w) r ≡ true
-        → names_mutex (is_mutex w) (plain r) ≡ true
-    names_only (Lock m) e = e
-    names_only (TryLock m) e = e
-    names_only (Unlock m) e = e
-    names_only (Consistent m) e = e
-    names_only (Wait i m) e = second (is_variable w i) (is_mutex w m) e
-    names_only (Signal i) e = refl
-    names_only (Broadcast i) e = refl
-    names_only (SetPrio u p) e = refl
-    names_only (TimedLock m d) e = e
-    names_only (TimedWait i m d) e = second (is_variable w i) (is_mutex w m) e
 
     let_in : (is_thread w t ≡ true) × (is_living w t ≡ true) × (call_of w t ≡ None)
         × (names_known (is_mutex w) (is_variable w) q ≡ true)

@@ -10,8 +10,8 @@
 --
 -- TO ADD.
 -- * A new request: in the definitions what an answer to it does (`hold_count_after_answer`), what it names, and for
---   which mutex it waits; here its case in `names_kept`, `elsewhere_answered` and `unlocked_once`; in `AllHolding` its
---   case in `waiting_takes`, and `may_take` if it may take a mutex; in `Holders` in `error_changes_nothing`, and in
+--   which mutex it waits; here its case in `elsewhere_answered` and `unlocked_once`; in `AllHolding` its case in
+--   `waiting_takes`, and `may_take` if it may take a mutex; in `Holders` in `error_changes_nothing`, and in
 --   `may_lock` if it locks its mutex.
 -- * A new progress: its line in `Counted`, for the requests that can come so far, and in `unlocked_once`. If a call
 --   has given its mutex up and will own it again, `Counted` says that it holds it once by the answers and not at all by
@@ -23,13 +23,14 @@ use Rattle.std.proofs.Common.{◌≡◌, ◌≢◌, ◌⊎◌, ◌<◌, ℕ, Boo
 use Rattle.std.proofs.lemmas.Bool.{ne_eqb, eq-eqb, cases_eq, true≢false}
 use Rattle.std.proofs.lemmas.Bool.Decides.{nat_tests}
 use Rattle.pif_types.specs.declared.requests.Request.{Request}
-use Rattle.pif_types.specs.declared.requests.Request.TheVariants.{Lock, TryLock, Unlock, Consistent, Wait, Signal, Broadcast, SetPrio, TimedLock, TimedWait}
+use Rattle.pif_types.specs.declared.requests.Request.TheVariants.{Lock, TryLock, Unlock, Wait}
 use Rattle.pif_model.specs.History.{hold_count_after_answer, unlocking, waiting_with, hold_count_waited}
 use Rattle.pif_model.specs.Posix.{Progress, Call, named_by, names_known}
 use Rattle.pif_model.specs.World.Progress.{Fresh, Waiting, Stuck, Leaving, Has, Checked, Enlisted, Blocked, Reacquiring, Used}
 use Rattle.pif_model.specs.Soundness.{waited_in}
 use Rattle.pif_model.specs.Deadlines.{reported_result}
 use Rattle.pif_model_lemmas.proofs.Waiting.{by_test}
+use Rattle.pif_model_simulation.proofs.Named.{names_kept}
 
 -- what a state of the POSIX machine has of one thread
 pub record View : Type 0 where
@@ -107,20 +108,6 @@ same_progress e k = ap (λ (c : Call). c.progress) (same_call e k)
 
 -- REQUESTS
 
--- a mutex that was added stays so
-names_kept : (known more : ℕ → Bool) → ((m : ℕ) → known m ≡ true → more m ≡ true) → (q : Request)
-    → names_mutex known q ≡ true → names_mutex more q ≡ true
-names_kept known more h (Lock m) e = h m e
-names_kept known more h (TryLock m) e = h m e
-names_kept known more h (Unlock m) e = h m e
-names_kept known more h (Consistent m) e = h m e
-names_kept known more h (Wait c m) e = h m e
-names_kept known more h (Signal c) e = refl
-names_kept known more h (Broadcast c) e = refl
-names_kept known more h (SetPrio u p) e = refl
-names_kept known more h (TimedLock m d) e = h m e
-names_kept known more h (TimedWait c m d) e = h m e
-
 -- an answer changes the hold count of no other mutex
 elsewhere_answered : (m : ℕ) (q : Request) (a n : ℕ) → named_by q ≢ m → hold_count_after_answer m (Some q) a n ≡ n
 elsewhere_answered m (Lock k) a n d = rw (ne_eqb k m d) refl
@@ -148,16 +135,8 @@ apart_held _ n k h w l = λ e. omega arith
 -- machine
 unlocked_once : (q : Request) (p : Progress) (n k : ℕ) → Counted q p n k → waiting_with (named_by q) (Some q) ≡ false
     → unlocking (named_by q) (Some q) < n → k ≢ 0
-unlocked_once (Lock m) (Has a) n k h w l = λ e. grind (arith, nat_tests)
-unlocked_once (TryLock m) (Has a) n k h w l = λ e. grind (arith, nat_tests)
-unlocked_once (Unlock m) (Has a) n k h w l = λ e. grind (arith, nat_tests)
-unlocked_once (Consistent m) (Has a) n k h w l = λ e. grind (arith, nat_tests)
 unlocked_once (Wait c m) (Has a) n k h w l = absurd (true≢false (sym (eq-eqb m m refl) ∙ w))
-unlocked_once (Signal c) (Has a) n k h w l = λ e. grind (arith, nat_tests)
-unlocked_once (Broadcast c) (Has a) n k h w l = λ e. grind (arith, nat_tests)
-unlocked_once (SetPrio u p) (Has a) n k h w l = λ e. grind (arith, nat_tests)
-unlocked_once (TimedLock m d) (Has a) n k h w l = λ e. grind (arith, nat_tests)
-unlocked_once (TimedWait c m d) (Has a) n k h w l = λ e. grind (arith, nat_tests)
+unlocked_once _ (Has a) n k h w l = λ e. grind (arith, nat_tests)
 unlocked_once q Leaving n k h w l = λ e. omega arith
 unlocked_once q Checked n k h w l = λ e. omega arith
 unlocked_once q (Enlisted still) n k h w l = λ e. omega arith
@@ -206,7 +185,8 @@ Holding-stays {counts = counts} {known = known} {more = more} {x = x} {y = y} h 
     record {
       idle = λ e. s.call ∙ h.idle (s.living e);
       request = same_request ∙ h.request ∙ ap request_of (sym s.call);
-      named = λ c e. names_kept known more grows c.request (h.named c (sym s.call ∙ e));
+      named = λ c e. names_kept known (λ n. true) more (λ n. true) grows (λ n x. refl) c.request
+          (h.named c (sym s.call ∙ e));
       waiting = λ m e. subst (IsWaiting m) (sym s.call) (h.waiting m (s.fewer m e));
       own = λ c e.
           subst₂ (λ (n k : ℕ). Counted c.request c.progress n k) (sym (same_counts (named_by c.request)))
