@@ -253,17 +253,12 @@ impl Core {
     fn knows_names(&self, request: Request) -> bool
         ensures { result ≡ names_known (has_mutex self.now) (has_cond self.now) request }
     {
-        match request {
-            Request::Lock(mutex)
-            | Request::TryLock(mutex)
-            | Request::Unlock(mutex)
-            | Request::Consistent(mutex)
-            | Request::TimedLock(mutex, _) => self.has_mutex(mutex),
-            Request::Wait(cond, mutex) | Request::TimedWait(cond, mutex, _) => {
-                self.has_cond(cond) && self.has_mutex(mutex)
-            }
-            Request::Signal(cond) | Request::Broadcast(cond) => self.has_cond(cond),
-            Request::SetPrio(_, _) => true,
+        let named = request.names();
+        match (named.mutex, named.cond) {
+            (Some(mutex), Some(cond)) => self.has_cond(cond) && self.has_mutex(mutex),
+            (Some(mutex), None) => self.has_mutex(mutex),
+            (None, Some(cond)) => self.has_cond(cond),
+            (None, None) => true,
         }
     }
 

@@ -86,17 +86,12 @@ fn may_act<K: PiKernel + Drop>(parts: &Parts<K>, t: Tid, calling: bool) -> bool
 fn names_known<K: PiKernel + Drop>(parts: &Parts<K>, request: &Request) -> bool
     ensures { result ≡ true → names_known (has_mutex parts.now) (has_cond parts.now) request.now ≡ true }
 {
-    match *request {
-        Request::Lock(m)
-        | Request::TryLock(m)
-        | Request::Unlock(m)
-        | Request::Consistent(m)
-        | Request::TimedLock(m, _) => m.get() <= parts.mutexes(),
-        Request::Wait(c, m) | Request::TimedWait(c, m, _) => {
-            c.get() <= parts.conds() && m.get() <= parts.mutexes()
-        }
-        Request::Signal(c) | Request::Broadcast(c) => c.get() <= parts.conds(),
-        Request::SetPrio(_, _) => true,
+    let named = request.names();
+    match (named.mutex, named.cond) {
+        (Some(m), Some(c)) => c.get() <= parts.conds() && m.get() <= parts.mutexes(),
+        (Some(m), None) => m.get() <= parts.mutexes(),
+        (None, Some(c)) => c.get() <= parts.conds(),
+        (None, None) => true,
     }
 }
 
