@@ -1,7 +1,8 @@
 use pif_text_model::Cause;
 use thiserror::Error;
 
-/// Why a run or a replay ended before the end of its script or trace, or why a trace was not written.
+/// Why a run or a replay ended before the end of its script or trace, or why a trace was not written. The published
+/// interface of `pif_cli` fixes this name, so it stays, though the crates below answer it too.
 #[derive(Clone, Copy, Debug, PartialEq, Eq, Error)]
 pub enum CliFault {
     /// A read failed.
