@@ -17,11 +17,11 @@ use Rattle.pif_model_lemmas.proofs.kernel.Taken.{FitsState, owned, requeued, wok
 use Rattle.pif_model_lemmas.proofs.kernel.Requeued.{taking-parked, taking-has_word}
 use Rattle.pif_model_lemmas.proofs.kernel.AllTaken.{parked-few}
 use Rattle.pif_kernel_model.specs.Inside.{Inside, IsSoundInside, kernel_of, state_at}
-use Rattle.pif_kernel_model.specs.Systems.{system_of}
+use Rattle.pif_kernel.specs.Systems.{system_of}
 use Rattle.pif_kernel_model.specs.Takings.{FitsWord}
 use Rattle.pif_kernel_model.proofs.Seats.{states_seen, seats_length}
 use Rattle.pif_kernel_model.proofs.Standing.{fits}
-use Rattle.pif_kernel_model.proofs.Answering.{some_word, cell_of_word}
+use Rattle.pif_kernel.proofs.Answering.{some_word, cell_of_word}
 
 -- THE THREE CASES
 

@@ -3,7 +3,7 @@ ghost use Rattle.pif_model.specs.declared.lines.Status.TheVariants.{Ended};
 ghost use Rattle.pif_model.specs.PiKernel.{seat_at, after_death, after_deaths};
 ghost use Rattle.pif_model.specs.RobustList.{robust_at, walk_of};
 ghost use Rattle.pif_kernel_model.specs.Inside.{IsSoundInside, kernel_of};
-ghost use Rattle.pif_kernel_model.specs.Systems.{system_of};
+ghost use Rattle.pif_kernel.specs.Systems.{system_of};
 
 use crate::chains::Chains;
 use crate::parts::Parts;

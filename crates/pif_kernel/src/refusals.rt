@@ -9,7 +9,7 @@ ghost use Rattle.pif_kernel.specs.Answers.{test_answer, wait_test_answer};
 ghost use Rattle.pif_kernel_calls.specs.Answers.{unit_answer};
 ghost use Rattle.pif_kernel.specs.Found.{IsWord, IsFound, IsOwn, lock_test_answer};
 ghost use Rattle.pif_kernel_model.specs.Inside.{IsSoundInside, kernel_of, owner_under};
-ghost use Rattle.pif_kernel_model.specs.Systems.{system_of};
+ghost use Rattle.pif_kernel.specs.Systems.{system_of};
 ghost use Rattle.pif_kernel_model.specs.Takings.{FitsWord, requeue_test_answer};
 
 use crate::chains::Chains;

@@ -3,7 +3,7 @@ ghost use Rattle.pif_model.specs.PiKernel.{seat_at, is_parked, has_parked, parke
 ghost use Rattle.pif_word.specs.declared.cells.Cell.TheVariants.{Mutex};
 ghost use Rattle.pif_word.specs.WordMap.{HasCell};
 ghost use Rattle.pif_kernel_model.specs.Inside.{IsSoundInside, kernel_of};
-ghost use Rattle.pif_kernel_model.specs.Systems.{system_of};
+ghost use Rattle.pif_kernel.specs.Systems.{system_of};
 ghost use Rattle.pif_kernel_model.specs.Takings.{FitsWord};
 
 use crate::chains::Chains;

@@ -33,9 +33,7 @@ pub mod RestSound
 pub mod WakeSound
 pub mod NextParked
 pub mod RequeueAnswers
-pub mod TakingSound
 pub mod ParkingFacts
-pub mod Answering
 pub mod NewSound
 pub mod AddSound
 pub mod ChainLaws

@@ -16,7 +16,6 @@ pub mod Inside
 pub mod Codes
 pub mod Leaving
 pub mod Tickets
-pub mod Systems
 pub mod Takings
 pub mod Orders
 pub mod Chained

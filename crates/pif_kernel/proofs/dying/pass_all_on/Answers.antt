@@ -4,7 +4,7 @@ use Rattle.pif_model.specs.RobustList.{robust_at, walk_of}
 use Rattle.pif_model_lemmas.proofs.kernel.Exit.{deaths-none, deaths-more}
 use Rattle.pif_model_lemmas.specs.RobustWalks.{behind, ahead}
 use Rattle.pif_model_lemmas.proofs.RobustWalks.{first-ahead, first-on, next-ahead, next-on, next-smaller}
-use Rattle.pif_kernel_model.specs.Systems.{system_of}
+use Rattle.pif_kernel.specs.Systems.{system_of}
 use Rattle.pif_kernel.proofs.dying.pass_all_on.Goals as goal
 
 pub loop-next-init : goal.loop-next-init

@@ -4,7 +4,7 @@ use Rattle.pif_model.specs.RobustList.{robust_at, walk_of, has_entry}
 use Rattle.pif_model.specs.PiKernel.{seat_at, after_deaths}
 use Rattle.pif_model_lemmas.specs.RobustWalks.{ahead}
 use Rattle.pif_kernel_model.specs.Inside.{IsSoundInside, kernel_of}
-use Rattle.pif_kernel_model.specs.Systems.{system_of}
+use Rattle.pif_kernel.specs.Systems.{system_of}
 use Rattle.pif_kernel.proofs.dying.pass_all_on.Given as goal
 
 -- those that are still to pass on lead to what all lead to

@@ -5,8 +5,8 @@ use Rattle.pif_model.specs.PiKernel.{Kernel, System, seat_at, state_at, after_de
 use Rattle.pif_word.specs.WordMap.{words_of}
 use Rattle.pif_model_lemmas.proofs.kernel.Exit.{death-no_word, death-other_number, death-other_owner, death-orphaned, death-inherited, death-ended}
 use Rattle.pif_kernel_model.specs.Inside.{Inside, kernel_of, state_key_at}
-use Rattle.pif_kernel_model.specs.Systems.{system_of}
-use Rattle.pif_kernel_model.proofs.Answering.{word_seen, number_seen, some_word, no_word, words_stored}
+use Rattle.pif_kernel.specs.Systems.{system_of}
+use Rattle.pif_kernel.proofs.Answering.{word_seen, number_seen, some_word, no_word, words_stored}
 use Rattle.pif_kernel_model.proofs.CallFacts.{some_state, no_state, state_named, next_below}
 use Rattle.pif_kernel.proofs.dying.pass_on.Goals.{After-get, After-store-in-Some}
 use Rattle.pif_kernel.proofs.dying.pass_on.Goals as goal

@@ -6,7 +6,7 @@ use Rattle.pif_kernel.specs.Answers.{wait_test_answer}
 use Rattle.pif_kernel.specs.Found.{lock_test_answer}
 use Rattle.pif_kernel_model.specs.Inside.{kernel_of, owner_under}
 use Rattle.pif_kernel_model.proofs.Seats.{states_seen}
-use Rattle.pif_kernel_model.proofs.Answering.{number_seen, some_word, no_word, none_zero, some_value, lock_fault, lock_own, lock_free, lock_disagrees, lock_waits}
+use Rattle.pif_kernel.proofs.Answering.{number_seen, some_word, no_word, none_zero, some_value, lock_fault, lock_own, lock_free, lock_disagrees, lock_waits}
 use Rattle.pif_kernel_model.proofs.CallFacts.{state_keyed, state_keyless}
 use Rattle.pif_kernel.proofs.refusals.test_lock.Goals.{After-get, After-test_wait}
 use Rattle.pif_kernel.proofs.refusals.test_lock.Goals as goal

@@ -3,8 +3,8 @@ use Rattle.pif_model.specs.Word.{word_at}
 use Rattle.pif_model.specs.PiKernel.{has_parked, top_parked, state_at, fits_state}
 use Rattle.pif_word.specs.WordMap.{words_of}
 use Rattle.pif_kernel_model.specs.Inside.{kernel_of}
-use Rattle.pif_kernel_model.specs.Systems.{system_of}
-use Rattle.pif_kernel_model.proofs.Answering.{number_seen}
+use Rattle.pif_kernel.specs.Systems.{system_of}
+use Rattle.pif_kernel.proofs.Answering.{number_seen}
 use Rattle.pif_kernel_model.proofs.RequeueAnswers.{requeue_fault, requeue_many, requeue_changed, requeue_other, requeue_nobody, requeue_unfit, requeue_goes, none_counted, fits_word}
 use Rattle.pif_kernel.proofs.refusals.test_requeue.Goals.{After-is_none, After-fits_state}
 use Rattle.pif_kernel.proofs.refusals.test_requeue.Goals as goal

@@ -1,6 +1,6 @@
 use Rattle.std.proofs.Common.{◌≤◌, sym, ◌∙◌}
 use Rattle.pif_kernel_model.specs.Inside.{kernel_of}
-use Rattle.pif_kernel_model.proofs.Answering.{none_out, some_in, set_prio_invalid, set_prio_dead, set_prio_done}
+use Rattle.pif_kernel.proofs.Answering.{none_out, some_in, set_prio_invalid, set_prio_dead, set_prio_done}
 use Rattle.pif_kernel.proofs.refusals.test_set_prio.Goals as goal
 
 pub returns-in-None-clause-answer : goal.returns-in-None-clause-answer

@@ -1,7 +1,7 @@
 use Rattle.std.proofs.Common.{◌≡◌, true, false, sym, ◌∙◌, arith}
 use Rattle.pif_model.specs.Word.{word_at}
 use Rattle.pif_word.specs.WordMap.{words_of}
-use Rattle.pif_kernel_model.proofs.Answering.{number_seen, some_word, no_word, try_fault, try_own, try_held, try_free, try_disagrees}
+use Rattle.pif_kernel.proofs.Answering.{number_seen, some_word, no_word, try_fault, try_own, try_held, try_free, try_disagrees}
 use Rattle.pif_kernel_model.proofs.CallFacts.{state_keyed, state_keyless}
 use Rattle.pif_kernel.proofs.refusals.test_try_lock.Goals.{After-get}
 use Rattle.pif_kernel.proofs.refusals.test_try_lock.Goals as goal

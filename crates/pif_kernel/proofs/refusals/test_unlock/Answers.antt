@@ -4,7 +4,7 @@ use Rattle.pif_model.specs.Word.{word_at}
 use Rattle.pif_model.specs.PiKernel.{state_at}
 use Rattle.pif_word.specs.WordMap.{words_of}
 use Rattle.pif_kernel_model.specs.Inside.{kernel_of, state_key_at}
-use Rattle.pif_kernel_model.proofs.Answering.{number_seen, some_word, no_word, unlock_fault, unlock_other, unlock_done, unlock_disagrees}
+use Rattle.pif_kernel.proofs.Answering.{number_seen, some_word, no_word, unlock_fault, unlock_other, unlock_done, unlock_disagrees}
 use Rattle.pif_kernel_model.proofs.CallFacts.{some_state, no_state, state_named, named_or_none, named_other}
 use Rattle.pif_kernel.proofs.refusals.test_unlock.Goals.{After-get}
 use Rattle.pif_kernel.proofs.refusals.test_unlock.Goals as goal

@@ -5,11 +5,11 @@ use Rattle.pif_model.specs.PiKernel.{Kernel, System, seat_at, is_living, may_que
 use Rattle.pif_model_lemmas.proofs.kernel.Taken.{may_queue-facts}
 use Rattle.pif_word.specs.WordMap.{words_of}
 use Rattle.pif_kernel_model.specs.Inside.{kernel_of}
-use Rattle.pif_kernel_model.specs.Systems.{system_of}
-use Rattle.pif_kernel_model.proofs.Answering.{word_seen, number_seen, none_zero, some_value, words_stored}
+use Rattle.pif_kernel.specs.Systems.{system_of}
+use Rattle.pif_kernel.proofs.Answering.{word_seen, number_seen, none_zero, some_value, words_stored}
 use Rattle.pif_kernel_model.proofs.CallFacts.{number_below}
 use Rattle.pif_kernel_model.proofs.WakeSound.{parked_somewhere, parked_added}
-use Rattle.pif_kernel_model.proofs.TakingSound.{taking_owns, taking_queues, taking_again, again_added, again_ready, again_lives, again_state, again_unreached, again_queued}
+use Rattle.pif_kernel.proofs.TakingSound.{taking_owns, taking_queues, taking_again, again_added, again_ready, again_lives, again_state, again_unreached, again_queued}
 use Rattle.pif_kernel.proofs.requeueing.take.Goals.{Start, After-new}
 use Rattle.pif_kernel.proofs.requeueing.take.Goals as goal
 

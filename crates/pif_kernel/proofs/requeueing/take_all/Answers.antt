@@ -4,9 +4,9 @@ use Rattle.pif_model.specs.PiKernel.{System, seat_at, is_parked, has_parked, top
 use Rattle.pif_model_lemmas.proofs.kernel.Woken.{top-parked}
 use Rattle.pif_model_lemmas.proofs.kernel.Taken.{takings-none, takings-more}
 use Rattle.pif_kernel_model.specs.Inside.{kernel_of}
-use Rattle.pif_kernel_model.specs.Systems.{system_of}
+use Rattle.pif_kernel.specs.Systems.{system_of}
 use Rattle.pif_kernel_model.proofs.RequeueAnswers.{count_none}
-use Rattle.pif_kernel_model.proofs.TakingSound.{taken_cell, taken_fits, taken_count, count_few, min_first, takings_zero, next_some, next_none}
+use Rattle.pif_kernel.proofs.TakingSound.{taken_cell, taken_fits, taken_count, count_few, min_first, takings_zero, next_some, next_none}
 use Rattle.pif_kernel.proofs.requeueing.take_all.Goals.{In-Some, In-None}
 use Rattle.pif_kernel.proofs.requeueing.take_all.Goals as goal
 

@@ -3,7 +3,7 @@ use Rattle.pif_model.specs.PiKernel.{has_parked, parked_count, after_takings}
 use Rattle.pif_word.specs.declared.cells.Cell.TheVariants.{Mutex}
 use Rattle.pif_word.specs.WordMap.{HasCell}
 use Rattle.pif_kernel_model.specs.Inside.{IsSoundInside, kernel_of}
-use Rattle.pif_kernel_model.specs.Systems.{system_of}
+use Rattle.pif_kernel.specs.Systems.{system_of}
 use Rattle.pif_kernel_model.specs.Takings.{FitsWord}
 use Rattle.pif_kernel.proofs.requeueing.take_all.Given as goal
 

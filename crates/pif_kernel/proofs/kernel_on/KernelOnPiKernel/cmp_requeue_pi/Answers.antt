@@ -2,8 +2,8 @@ use Rattle.std.proofs.Common.{◌≡◌, Ok, ◌+◌, ap, ◌∙◌}
 use Rattle.pif_model.specs.PiKernel.{System, after_takings, after_requeue}
 use Rattle.pif_word.specs.WordMap.{words_of}
 use Rattle.pif_kernel_model.specs.Inside.{Inside, kernel_of}
-use Rattle.pif_kernel_model.specs.Systems.{system_of}
-use Rattle.pif_kernel_model.proofs.TakingSound.{requeued_is}
+use Rattle.pif_kernel.specs.Systems.{system_of}
+use Rattle.pif_kernel.proofs.TakingSound.{requeued_is}
 use Rattle.pif_kernel.proofs.kernel_on.KernelOnPiKernel.cmp_requeue_pi.Goals.{After-take_all}
 use Rattle.pif_kernel.proofs.kernel_on.KernelOnPiKernel.cmp_requeue_pi.Goals as goal
 

@@ -5,7 +5,7 @@ use Rattle.pif_word.specs.WordMap.{words_of}
 use Rattle.pif_kernel.specs.declared.refusals.Found.{Found}
 use Rattle.pif_kernel.specs.Found.{IsWord, IsHeld, IsFound}
 use Rattle.pif_kernel_model.specs.Inside.{Inside, kernel_of}
-use Rattle.pif_kernel_model.proofs.Answering.{word_seen, words_stored}
+use Rattle.pif_kernel.proofs.Answering.{word_seen, words_stored}
 use Rattle.pif_kernel_model.proofs.CallFacts.{number_below, words_owns, words_queued, kernel_queued}
 use Rattle.pif_kernel.proofs.kernel_on.KernelOnPiKernel.lock_pi.Goals as goal
 

@@ -3,7 +3,7 @@ use Rattle.pif_model.specs.Word.{Words, word_of, word_at, set_word, taken_word}
 use Rattle.pif_model.specs.PiKernel.{has_seat}
 use Rattle.pif_word.specs.WordMap.{words_of}
 use Rattle.pif_kernel_model.specs.Inside.{Inside, kernel_of}
-use Rattle.pif_kernel_model.proofs.Answering.{word_seen, words_stored}
+use Rattle.pif_kernel.proofs.Answering.{word_seen, words_stored}
 use Rattle.pif_kernel_model.proofs.CallFacts.{number_below, words_tried}
 use Rattle.pif_kernel.proofs.kernel_on.KernelOnPiKernel.trylock_pi.Goals as goal
 

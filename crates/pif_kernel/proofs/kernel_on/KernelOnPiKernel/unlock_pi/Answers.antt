@@ -5,7 +5,7 @@ use Rattle.pif_word.specs.WordMap.{words_of}
 use Rattle.pif_kernel_model.specs.Inside.{Inside, kernel_of, state_key_at}
 use Rattle.pif_model_lemmas.proofs.kernel.Statuses.{ready-queued_on_nothing}
 use Rattle.pif_kernel_model.proofs.Seats.{states_seen}
-use Rattle.pif_kernel_model.proofs.Answering.{words_stored}
+use Rattle.pif_kernel.proofs.Answering.{words_stored}
 use Rattle.pif_kernel_model.proofs.CallFacts.{some_state, no_state, next_below, zero_word, words_freed, words_handed, kernel_freed, kernel_handed}
 use Rattle.pif_kernel.proofs.kernel_on.KernelOnPiKernel.unlock_pi.Goals as goal
 use Rattle.pif_kernel.proofs.kernel_on.KernelOnPiKernel.unlock_pi.Goals.{in-Some, in-None}

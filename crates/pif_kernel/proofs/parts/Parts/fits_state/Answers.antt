@@ -3,7 +3,7 @@ use Rattle.std.proofs.lemmas.Bool.Decides.{nat_tests}
 use Rattle.pif_model.specs.PiKernel.{state_at, is_living}
 use Rattle.pif_kernel_model.specs.Inside.{Inside, kernel_of, state_key_at}
 use Rattle.pif_kernel.specs.declared.parts.Parts.TheView.{view}
-use Rattle.pif_kernel_model.proofs.Answering.{none_zero, some_value}
+use Rattle.pif_kernel.proofs.Answering.{none_zero, some_value}
 use Rattle.pif_kernel_model.proofs.CallFacts.{some_state, no_state, state_named}
 use Rattle.pif_kernel_model.proofs.RequeueAnswers.{fits_stateless, fits_numberless, fits_owner}
 use Rattle.pif_kernel.proofs.parts.Parts.fits_state.Goals as goal

@@ -3,7 +3,7 @@ use Rattle.pif_model.specs.Graph.{reaches_within}
 use Rattle.pif_model.specs.PiKernel.{is_living, waits_for, may_queue}
 use Rattle.pif_kernel_model.specs.Inside.{Inside, IsSoundInside, kernel_of}
 use Rattle.pif_kernel.specs.declared.parts.Parts.TheView.{view}
-use Rattle.pif_kernel_model.proofs.Answering.{closes_seen}
+use Rattle.pif_kernel.proofs.Answering.{closes_seen}
 use Rattle.pif_kernel.proofs.parts.Parts.may_queue.Goals as goal
 
 pub returns-then-lives : goal.returns-then-lives

@@ -3,7 +3,7 @@ use Rattle.pif_model.specs.PiKernel.{is_living, waits_for}
 use Rattle.pif_model.specs.Graph.{reaches_within}
 use Rattle.pif_kernel_model.specs.Inside.{Inside, IsSoundInside, kernel_of, owner_under}
 use Rattle.pif_kernel.specs.declared.parts.Parts.TheView.{view}
-use Rattle.pif_kernel_model.proofs.Answering.{closes_seen, wait_closes, wait_queues}
+use Rattle.pif_kernel.proofs.Answering.{closes_seen, wait_closes, wait_queues}
 use Rattle.pif_kernel.proofs.parts.Parts.test_wait.Goals as goal
 
 pub returns-then-would_close : goal.returns-then-would_close
