@@ -1,7 +1,8 @@
 """The proved core of pif from Python, by ctypes over libpif.so.
 
-`make -C c` builds the library. It is looked for in the file that PIF_LIBRARY names, in c/out beside this folder, and
-where the system looks for libraries.
+`make -C c proved` proves the library's crates, and then `make -C c` builds it. It is looked for in the file that
+PIF_LIBRARY names, in c/out beside this folder, and where the system looks for libraries. If it can't be loaded, an
+ImportError says how to make it.
 
     >>> core = Core(threads=4, mutexes=4)
     >>> low, high = core.add_thread(10), core.add_thread(50)
@@ -197,10 +198,14 @@ def checked(function, takes):
 
 
 def load():
-    """The functions of the library by their names."""
+    """The functions of the library by their names; an ImportError says how to make it if it can't be loaded."""
     beside = Path(__file__).resolve().parent.parent / "c" / "out" / "libpif.so"
     found = os.environ.get("PIF_LIBRARY") or (str(beside) if beside.exists() else ctypes.util.find_library("pif"))
-    library, functions = ctypes.CDLL(found or "libpif.so"), {}
+    try:
+        library, functions = ctypes.CDLL(found or "libpif.so"), {}
+    except OSError as why:
+        raise ImportError("%s; in a clone of pif 'make -C c proved' and then 'make -C c' make c/out/libpif.so, within "
+                          "an hour or two; PIF_LIBRARY names one that is elsewhere" % why) from None
     for name, (answers, *takes) in SIGNATURES.items():
         function = getattr(library, name)
         function.restype, function.argtypes = answers, takes
