@@ -1,10 +1,13 @@
 """The programs of this clone: which crates `pif` stands on, the sum of their sources, and the program that is kept in
-out/ with what it is. tools/kept, tools/prove and tools/install use this."""
+out/ with what it is, and how long a proof of it takes. tools/kept, tools/prove and tools/install use this."""
 
 import hashlib
+import math
 import os
+import re
 import shutil
 import subprocess
+import sys
 from pathlib import Path
 
 TOP = Path(__file__).resolve().parent.parent
@@ -18,6 +21,14 @@ PROVED = TOP / "crates" / "pif" / "out" / "pif"
 
 HOW = {"proved": "proved", "checked": "checked as it runs, not proved"}
 
+# The page with a row of costs for each crate, of the newest commit last: its name, and the processor seconds of its
+# proof.
+COSTS = TOP / "bench" / "results" / "gate.md"
+COMMIT = "\n## Commit "
+ROW = re.compile(r"^\| `(pif\w*)` \| ([\d,]+) \|", re.M)
+# Of a crate that is newer than the page.
+USUAL = 60
+
 
 def said_by(*words):
     """What a command prints, without blanks at its ends; None if it can't be run or fails."""
@@ -26,6 +37,18 @@ def said_by(*words):
     except OSError:
         return None
     return done.stdout.decode("utf-8", "replace").strip() if done.returncode == 0 else None
+
+
+def printed(text):
+    """Prints a text; the status that this makes, which is that of the program too."""
+    try:
+        print(text, end="", flush=True)
+    except OSError:
+        # Else Python tries to write the rest once more at its end.
+        os.dup2(os.open(os.devnull, os.O_WRONLY), sys.stdout.fileno())
+        print("pif: the output cannot be written", file=sys.stderr)
+        return 3
+    return 0
 
 
 def crates():
@@ -40,6 +63,34 @@ def crates():
         if name in wanted:
             wanted.update(uses[name])
     return {name: [other for other in used if other in uses] for name, used in uses.items() if name in wanted}
+
+
+def costs():
+    """The seconds of each crate's proof by the page."""
+    newest = COSTS.read_text("utf-8").rpartition(COMMIT)[2]
+    return {name: int(seconds.replace(",", "")) for name, seconds in ROW.findall(newest)}
+
+
+def side_by_side():
+    """How many crates are proved at a time: one for each processor and each five gigabytes of memory, as the gate does
+    (bench/gate_sample.py)."""
+    bytes_of_memory = os.sysconf("SC_PAGE_SIZE") * os.sysconf("SC_PHYS_PAGES")
+    return max(1, min(len(os.sched_getaffinity(0)), bytes_of_memory // 5_000_000_000))
+
+
+def seconds_to_prove(left, costs, most):
+    """The seconds for the proofs of these crates, each of which has those that it uses: those of all, shared among what
+    runs side by side, or of the longest chain."""
+    chain = {}
+    for name, uses in left.items():
+        below = [chain[other] for other in uses if other in chain]
+        chain[name] = costs.get(name, USUAL) + max(below, default=0)
+    return max(sum(costs.get(name, USUAL) for name in left) / most, *chain.values()) if chain else 0
+
+
+def minutes_to_prove():
+    """The minutes that a proof of all takes here by the page."""
+    return math.ceil(seconds_to_prove(crates(), costs(), side_by_side()) / 60)
 
 
 def sources():
