@@ -1,4 +1,5 @@
-/* What the recorder leaves out, beside what it keeps. */
+/* What the recorder leaves out or misses, beside what it keeps. */
+#include <dlfcn.h>
 #include <linux/capability.h>
 #include <sched.h>
 #include <signal.h>
@@ -61,6 +62,32 @@ static void shared_variable(void)
     pthread_cond_timedwait(&variable, &mutex, &deadline);
     pthread_mutex_unlock(&mutex);
     lock_and_unlock(&kept);
+}
+
+/* As a library does that RTLD_DEEPBIND opens: it calls glibc itself. */
+static void missed_unlock(void)
+{
+    void *library = dlopen("libc.so.6", RTLD_LAZY | RTLD_NOLOAD);
+    int (*unlock)(pthread_mutex_t *);
+
+    *(void **)&unlock = dlsym(library, "pthread_mutex_unlock");
+    make_inheriting(&mutex);
+    pthread_mutex_lock(&mutex);
+    unlock(&mutex);
+    lock_and_unlock(&mutex);
+    lock_and_unlock(&mutex);
+    dlclose(library);
+}
+
+/* A static initialiser is a store, which nobody sees. */
+static void made_anew_unseen(void)
+{
+    static const pthread_mutex_t initialiser = PTHREAD_MUTEX_INITIALIZER;
+
+    mutex = initialiser;
+    pthread_mutex_lock(&mutex);
+    mutex = initialiser;
+    lock_and_unlock(&mutex);
 }
 
 static void c11_mutex(void)
@@ -232,6 +259,8 @@ const Feature left_out_features[] = {
     {"shared_mutex", "a mutex shared between processes, and a robust one", shared_mutex},
     {"shared_alone", "nothing but a mutex shared between processes", shared_alone},
     {"shared_variable", "a variable shared between processes", shared_variable},
+    {"missed_unlock", "an unlock that no library can wrap", missed_unlock},
+    {"made_anew_unseen", "a static initialiser that is written again", made_anew_unseen},
     {"c11_mutex", "mtx_t", c11_mutex},
     {"cancelled_wait", "a thread that is cancelled inside a wait", cancelled_wait},
     {"cancelled_lock", "a thread that is cancelled inside a lock, with RECORD_ALL=1", cancelled_lock},

@@ -157,6 +157,7 @@ static void make_history(void)
         return;
     }
     write_lines(&history);
+    count_missed(&history);
     if (!close_text(history_file))
         say("RECORD_FILE cannot be written", 0, NULL);
     say_left_out(&history);

@@ -93,6 +93,7 @@ void say_left_out(const History *history)
     say_some(counted(UNKNOWN_THREADS), "left out: calls that name a thread which isn't recorded: ");
     say_some(counted(PRIORITIES_IN_CALLS),
              "left out: calls that give a priority inside another call of the same thread: ");
+    say_some(history->missed, "missed: calls on mutexes, since a thread got one that it had: ");
     if (atomic_load(&lost_place) <= history->cut)
         say("cut where a thread had more records than RECORD_MAX, or memory was short: ", most_records, "");
     if (history->is_late)

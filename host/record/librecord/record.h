@@ -65,6 +65,8 @@ typedef struct Object {
     struct Object *next_line;
     Variable *first_variable, *last_variable; /* of a variable: what it is in the history, one behind another */
     Variable *variable;                       /* which of them it is at this line; NULL: the first */
+    struct Thread *owner;                     /* of a mutex at this line; NULL: nobody, or it isn't known */
+    uint32_t takers;                          /* open calls that may give up what another thread owns */
 } Object;
 
 /* A call, or what befell a thread. Times are nanoseconds of CLOCK_MONOTONIC, read after the stamp. */
@@ -86,6 +88,7 @@ typedef struct {
     What what;
     int16_t answer;
     bool bad_time; /* the timespec is none, or its clock: the call is a lock or wait if it isn't answered EINVAL */
+    bool takes_from_others; /* while the history is written: it is one of its mutex's takers */
 } Record;
 
 typedef struct Thread {
@@ -197,6 +200,7 @@ typedef struct {
     uint32_t waiting_count;
     uint64_t least_deadline, greatest_time;
     uint64_t tick; /* the time at this line */
+    uint64_t missed; /* answers that a thread got what it owns by all that was seen */
 } History;
 
 void write_history(void);
@@ -209,8 +213,9 @@ uint64_t time_at(const Record *, uint64_t place);
 uint64_t ticks_of(const History *, uint64_t time);
 uint64_t ticks_of_deadline(const History *, uint64_t deadline);
 
-/* its parts: leave_out.c, numbers.c, ticks.c, lines.c */
+/* its parts: leave_out.c, missed.c, numbers.c, ticks.c, lines.c */
 void leave_out_cancelled(History *);
+void count_missed(History *);
 void say_left_out(const History *);
 void number_all(History *);
 bool make_clock(History *);
