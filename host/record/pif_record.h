@@ -86,6 +86,20 @@ unsigned long pif_dump(void (*put)(char));
 
 #include <stdarg.h>
 
+/* A line is whole for whoever finds its place, also on another processor: the place is stored with release, and read
+   with acquire. While the line is written its place is 0, and that is stored before all else. A compiler without these
+   stores has to keep the order of volatile accesses and the calls around them. */
+#if defined __GNUC__ && __GCC_ATOMIC_LONG_LOCK_FREE == 2
+#define PIF_PUBLISH(line, number) __atomic_store_n(&(line)->place, (number), __ATOMIC_RELEASE)
+#define PIF_PLACE_OF(line) __atomic_load_n(&(line)->place, __ATOMIC_ACQUIRE)
+#define PIF_OPEN(line) \
+    (__atomic_store_n(&(line)->place, 0, __ATOMIC_RELAXED), __atomic_thread_fence(__ATOMIC_RELEASE))
+#else
+#define PIF_PUBLISH(line, number) ((line)->place = (number))
+#define PIF_PLACE_OF(line) ((line)->place)
+#define PIF_OPEN(line) ((line)->place = 0)
+#endif
+
 typedef struct {
     volatile unsigned long place; /* 0: nothing stands here, or it is being written */
     const char *front;            /* and the thread behind it; or none */
@@ -129,14 +143,14 @@ void pif_note(unsigned long place, const char *front, unsigned thread, const cha
     PifLine *line = &pif_lines[place % PIF_RECORD_LINES];
     va_list numbers;
 
-    line->place = 0;
+    PIF_OPEN(line);
     line->front = front;
     line->thread = thread;
     line->time = PIF_CLOCK();
     va_start(numbers, format);
     pif_keep(line, format, numbers);
     va_end(numbers);
-    line->place = place;
+    PIF_PUBLISH(line, place);
 }
 
 void pif_forget(unsigned long place) { pif_first = place + 1; }
@@ -176,11 +190,11 @@ static void pif_put_line(void (*put)(char), const PifLine *line)
 
 static unsigned long pif_last(void)
 {
-    unsigned long last = 0;
+    unsigned long last = 0, place;
 
     for (unsigned at = 0; at < PIF_RECORD_LINES; at++)
-        if (pif_lines[at].place > last)
-            last = pif_lines[at].place;
+        if ((place = PIF_PLACE_OF(&pif_lines[at])) > last)
+            last = place;
     return last;
 }
 
@@ -251,7 +265,7 @@ static unsigned long pif_put_lines(void (*put)(char), unsigned long first, unsig
     unsigned long lost = 0;
 
     for (unsigned long place = first; place <= last; place++) {
-        if (pif_lines[place % PIF_RECORD_LINES].place != place) {
+        if (PIF_PLACE_OF(&pif_lines[place % PIF_RECORD_LINES]) != place) {
             before += place > PIF_RECORD_LINES;
             continue;
         }
