@@ -1,8 +1,8 @@
 //! `pif explore`: all outcomes of a small program that locks, told in lines; and which of them its programs come to when
 //! they are played on [`Core`](pif_core::Core).
 //!
-//! The machine of exploring does all that POSIX allows; a core need not. So schedules are drawn, and each is played on a
-//! core of its own. What is kept is which outcomes they came to, and which claims they broke.
+//! A core need not do all that the machine of exploring does. So schedules are drawn, and each is played on a core of its
+//! own. What is kept is which outcomes they came to, and which claims they broke.
 //!
 //! ```text
 //!     sheet, plan, start ──> player: a core, and where each thread is in its program
