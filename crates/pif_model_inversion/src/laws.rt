@@ -1,0 +1,58 @@
+ghost use Rattle.std.specs.Prelude.{◌≡◌, ◌≢◌, ◌≤◌, ◌⊎◌, ℕ, List, length, true, false};
+ghost use Rattle.std.specs.List.{sum_by};
+ghost use Rattle.pif_types.specs.Bounds.{Bounds};
+ghost use Rattle.pif_model.specs.declared.events.Entry.{Entry};
+ghost use Rattle.pif_model.specs.Graph.{Reaches};
+ghost use Rattle.pif_model.specs.Posix.{World, IsRun, WaitsFor, is_living};
+ghost use Rattle.pif_model.specs.Table.{Table};
+ghost use Rattle.pif_model.specs.Standing.{IsPick, Stands};
+ghost use Rattle.pif_model_inversion.specs.Inversion.{IsReady, IsHighestAwake, IsHighest, RunsNoLower, IsLost};
+ghost use Rattle.pif_model_inversion.specs.Delays.{IsDelay, IsCalmDelay, IsEngaged, AreAllLowerEngaged, IsAlwaysHighestAwake, AreOnItsChain, has_run, ran_high, times_owning, lower_turns};
+
+/// A law: in each state that a run of the POSIX machine reaches, let a thread wait, through any chain, for one that is
+/// ready. Then somebody runs next, with at least the effective priority of the first. And a living thread lends it that:
+/// itself, or one that waits for it through a chain, whose own base priority is as great.
+pub fn who_runs_is_no_lower()
+    ensures { (limits : Bounds) (history : List Entry) (states : List World) (last : World) → IsRun limits history states last → (high end pick : ℕ) → Reaches (WaitsFor last) high end → IsReady last end → IsPick last pick → RunsNoLower last high pick }
+{}
+
+/// A law: wherever a core stands, let a thread live. Then whoever runs next does so with at least its effective
+/// priority, as above. Or the chain of the thread is lost: it ends at one that has ended, waits for good, or is blocked
+/// on a variable.
+pub fn who_runs_is_no_lower_or_the_chain_is_lost()
+    ensures { (table : Table) (history : List Entry) (states : List World) (last : World) → Stands table history states last → (high pick : ℕ) → is_living last high ≡ true → IsPick last pick → RunsNoLower last high pick ⊎ IsLost last high }
+{}
+
+/// A law: if a thread waits, through any chain, for one that is ready, and its base priority is above that of all others
+/// that are ready or wait for mutexes, then that end of its chain runs next.
+pub fn who_runs_is_on_the_chain()
+    ensures { (limits : Bounds) (history : List Entry) (states : List World) (last : World) → IsRun limits history states last → (high end pick : ℕ) → Reaches (WaitsFor last) high end → IsReady last end → IsHighestAwake last high → IsPick last pick → pick ≡ end }
+{}
+
+/// A law: in a delay of a thread, each one that runs, and always with a lower base priority, was engaged when the delay
+/// began: it owned a mutex, waited for one, waited for good, or was blocked on a variable. So no lower thread runs that
+/// was ready then and owned nothing.
+pub fn no_middle_thread_runs()
+    ensures { (limits : Bounds) (history : List Entry) (states : List World) (first : World) → IsRun limits history states first → (high : ℕ) (turns : List (ℕ × World)) (last : World) → IsDelay limits high first turns last → (thread : ℕ) → has_run turns thread ≡ true → ran_high high turns thread ≡ false → IsEngaged first thread }
+{}
+
+/// A law: lower threads have no more turns in a delay than those of them that were engaged when it began had there
+/// together while they owned a mutex.
+pub fn inversion_is_bounded()
+    ensures { (limits : Bounds) (history : List Entry) (states : List World) (first : World) → IsRun limits history states first → (high : ℕ) (turns : List (ℕ × World)) (last : World) → IsDelay limits high first turns last → (engaged : List ℕ) → AreAllLowerEngaged first high turns engaged → lower_turns high turns ≤ sum_by (times_owning turns) engaged }
+{}
+
+/// A law: if the base priority of the delayed thread is above that of all others that are ready or wait for mutexes,
+/// whenever somebody runs, then nobody runs but threads for which it waits there. All of them are lower ones, so that
+/// the same number bounds the turns of the whole delay.
+pub fn only_the_chain_runs()
+    ensures chain { (limits : Bounds) (history : List Entry) (states : List World) (first : World) → IsRun limits history states first → (high : ℕ) (turns : List (ℕ × World)) (last : World) → IsDelay limits high first turns last → IsAlwaysHighestAwake high turns → AreOnItsChain high turns }
+    ensures lower { (limits : Bounds) (history : List Entry) (states : List World) (first : World) → IsRun limits history states first → (high : ℕ) (turns : List (ℕ × World)) (last : World) → IsDelay limits high first turns last → IsAlwaysHighestAwake high turns → (thread : ℕ) → ran_high high turns thread ≡ false }
+    ensures bounded { (limits : Bounds) (history : List Entry) (states : List World) (first : World) → IsRun limits history states first → (high : ℕ) (turns : List (ℕ × World)) (last : World) → IsDelay limits high first turns last → IsAlwaysHighestAwake high turns → (engaged : List ℕ) → AreAllLowerEngaged first high turns engaged → length turns ≤ sum_by (times_owning turns) engaged }
+{}
+
+/// A law: the highest of all living threads is so whenever somebody runs, if the delay is calm: nobody takes a step of a
+/// setprio, and no thread of its base priority or more is added.
+pub fn highest_stays_above()
+    ensures { (limits : Bounds) (first : World) (high : ℕ) (turns : List (ℕ × World)) (last : World) → IsHighest first high → IsCalmDelay limits high first turns last → IsDelay limits high first turns last × IsAlwaysHighestAwake high turns }
+{}
