@@ -1,12 +1,12 @@
-ghost use Rattle.std.specs.Prelude.{◌≡◌, ◌≢◌, ◌≤◌, ◌⊎◌, ℕ, List, length, true, false};
+ghost use Rattle.std.specs.Prelude.{◌≡◌, ◌≤◌, ◌⊎◌, ℕ, List, [], ◌∷◌, length, true, false};
 ghost use Rattle.std.specs.List.{sum_by};
 ghost use Rattle.pif_types.specs.Bounds.{Bounds};
 ghost use Rattle.pif_model.specs.declared.events.Entry.{Entry};
 ghost use Rattle.pif_model.specs.Graph.{Reaches};
-ghost use Rattle.pif_model.specs.Posix.{World, IsRun, WaitsFor, is_living};
+ghost use Rattle.pif_model.specs.Posix.{World, IsRun, WaitsFor, is_living, effective_of};
 ghost use Rattle.pif_model.specs.Table.{Table};
 ghost use Rattle.pif_model.specs.Standing.{IsPick, Stands};
-ghost use Rattle.pif_model_inversion.specs.Inversion.{IsReady, IsHighestAwake, IsHighest, RunsNoLower, IsLost};
+ghost use Rattle.pif_model_inversion.specs.Inversion.{IsReady, IsHighestAwake, IsHighest, RunsNoLower, IsLost, RunOn, is_one_of};
 ghost use Rattle.pif_model_inversion.specs.Delays.{IsDelay, IsCalmDelay, IsEngaged, AreAllLowerEngaged, IsAlwaysHighestAwake, AreOnItsChain, has_run, ran_high, times_owning, lower_turns};
 
 /// A law: in each state that a run of the POSIX machine reaches, let a thread wait, through any chain, for one that is
@@ -55,4 +55,12 @@ pub fn only_the_chain_runs()
 /// setprio, and no thread of its base priority or more is added.
 pub fn highest_stays_above()
     ensures { (limits : Bounds) (first : World) (high : ℕ) (turns : List (ℕ × World)) (last : World) → IsHighest first high → IsCalmDelay limits high first turns last → IsDelay limits high first turns last × IsAlwaysHighestAwake high turns }
+{}
+
+/// A law on several processors: in each state that a run of the POSIX machine reaches, let a thread wait, through any
+/// chain, for one that is ready. Then that end of its chain is among the threads that run, or each of these has at least
+/// the effective priority of the first. On one processor it is who runs next that has.
+pub fn processors_run_the_end_or_no_lower()
+    ensures several { (limits : Bounds) (history : List Entry) (states : List World) (last : World) → IsRun limits history states last → (high end : ℕ) → Reaches (WaitsFor last) high end → IsReady last end → (processors : ℕ) (running : List ℕ) → RunOn last processors running → (is_one_of running end ≡ true) ⊎ ((thread : ℕ) → is_one_of running thread ≡ true → effective_of last high ≤ effective_of last thread) }
+    ensures one { (limits : Bounds) (history : List Entry) (states : List World) (last : World) → IsRun limits history states last → (high end pick : ℕ) → Reaches (WaitsFor last) high end → IsReady last end → IsPick last pick → RunOn last 1 (pick ∷ []) × (effective_of last high ≤ effective_of last pick) }
 {}
