@@ -1,0 +1,9 @@
+thread 10       = t1
+thread 90       = t2
+mutex normal    = m1
+call t1 lock m1 = answer 0
+call t2 lock m1 = waits
+pick            = t1
+thread 95       = t3
+prio t1         = 90
+pick            = t3

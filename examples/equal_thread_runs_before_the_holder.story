@@ -1,0 +1,9 @@
+thread 10       = t1
+thread 50       = t2
+thread 50       = t3
+mutex normal    = m1
+call t1 lock m1 = answer 0
+pick            = t2
+call t3 lock m1 = waits
+prio t1         = 50
+pick            = t2

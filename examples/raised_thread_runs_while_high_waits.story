@@ -1,0 +1,10 @@
+thread 10             = t1
+thread 50             = t2
+thread 90             = t3
+mutex normal          = m1
+call t1 lock m1       = answer 0
+call t3 lock m1       = waits
+pick                  = t1
+call t1 setprio t2 95 = answer 0
+prio t1               = 90
+pick                  = t2
