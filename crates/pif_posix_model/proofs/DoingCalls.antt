@@ -3,7 +3,7 @@
 use Rattle.std.proofs.Common.{ℕ, ◌≡◌, ◌≢◌, ◌<◌, ◌⊎◌, ◌∙◌, true, false, Option, Some, None, refl, sym, ap, inl, inr, arith, if◌then◌else◌, nat_lt, ◌==◌}
 use Rattle.std.proofs.lemmas.Bool.{ne_eqb, eq-eqb, lt-ltb, cases_eq, cases_order, cases_Bool}
 use Rattle.pif_types.specs.declared.requests.Request.{Request}
-use Rattle.pif_types.specs.declared.requests.Request.TheVariants.{Lock, TryLock, Unlock, Consistent, Wait, Signal, Broadcast, SetPrio, TimedLock, TimedWait}
+use Rattle.pif_types.specs.declared.requests.Request.TheVariants.{Lock, Wait}
 use Rattle.pif_model.specs.Graph.{is_priority}
 use Rattle.pif_model.specs.NamedNumbers.{EPERM, EINVAL, ESRCH, EOVERFLOW}
 use Rattle.pif_model.specs.World.Progress.{Has, Checked, Used}
@@ -183,15 +183,8 @@ module _ (t : ℕ) (w : World) where
 
   expires_by : (q : Request) (p : Progress) (v : World) → HasCome w t q p → expired_by q t w ≡ Some v → Expires t w v
   expires_by (Lock m) p v h e = lock m p h (some_is refl e)
-  expires_by (TryLock m) p v h e = absurd (none_is_not refl e)
-  expires_by (Unlock m) p v h e = absurd (none_is_not refl e)
-  expires_by (Consistent m) p v h e = absurd (none_is_not refl e)
   expires_by (Wait c m) p v h e = wait c m p h (some_is refl e)
-  expires_by (Signal c) p v h e = absurd (none_is_not refl e)
-  expires_by (Broadcast c) p v h e = absurd (none_is_not refl e)
-  expires_by (SetPrio u b) p v h e = absurd (none_is_not refl e)
-  expires_by (TimedLock m d) p v h e = absurd (none_is_not refl e)
-  expires_by (TimedWait c m d) p v h e = absurd (none_is_not refl e)
+  expires_by _ p v h e = absurd (none_is_not refl e)
 
   pub expired_to : (v : World) → expired t w ≡ Some v → Expires t w v
   expired_to v e = by_call (thread_at w t).call refl e

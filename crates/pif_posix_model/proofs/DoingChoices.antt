@@ -6,7 +6,7 @@ use Rattle.std.proofs.lemmas.List.{get_or_past, nil_from_length}
 use Rattle.std.proofs.lemmas.List.Elements.{Contains-append_left, Contains-append_right, Contains-append_cases, Contains-get_or, All-contains}
 use Rattle.std.proofs.lemmas.List.Sums.{AllPass-from_list_all, list_all-from_AllPass}
 use Rattle.pif_types.specs.declared.requests.Request.{Request}
-use Rattle.pif_types.specs.declared.requests.Request.TheVariants.{Lock, TryLock, Unlock, Consistent, Wait, Signal, Broadcast, SetPrio, TimedLock, TimedWait}
+use Rattle.pif_types.specs.declared.requests.Request.TheVariants.{Signal, Broadcast}
 use Rattle.pif_model.specs.World.Progress.{Has}
 use Rattle.pif_model.specs.Posix.{World, Thread, nobody, is_call_blocked, is_blocked_on, is_found, is_still_blocked, effective_of, with_progress, all_unblocked, Chooses, IsBlocked, AreBlocked, NoneFoundIsAbove, NoneFoundIsLeft, AllFoundAreAmong}
 use Rattle.pif_model.specs.Posix.Chooses.{one, no_one, all}
@@ -227,13 +227,6 @@ module _ (t : ℕ) (w : World) where
       (λ b e. among_from r.0 b (s.enough b (all_blocked_from w c b (still_is_blocked w t c b e)) e)) (sym r.2)
 
   pub chosen_to : (q : Request) (v : World) → Contains (chosen t q w) v → Chooses t q w v
-  chosen_to (Lock m) v k = absurd (not_in_none v k)
-  chosen_to (TryLock m) v k = absurd (not_in_none v k)
-  chosen_to (Unlock m) v k = absurd (not_in_none v k)
-  chosen_to (Consistent m) v k = absurd (not_in_none v k)
-  chosen_to (Wait c m) v k = absurd (not_in_none v k)
   chosen_to (Signal c) v k = signalled_to c v k
   chosen_to (Broadcast c) v k = broadcast_to c v k
-  chosen_to (SetPrio u p) v k = absurd (not_in_none v k)
-  chosen_to (TimedLock m d) v k = absurd (not_in_none v k)
-  chosen_to (TimedWait c m d) v k = absurd (not_in_none v k)
+  chosen_to _ v k = absurd (not_in_none v k)

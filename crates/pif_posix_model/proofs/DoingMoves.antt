@@ -4,7 +4,7 @@ use Rattle.std.proofs.lemmas.Bool.{both_ways}
 use Rattle.std.proofs.lemmas.List.Elements.{Contains-append_left, Contains-append_right, Contains-append_cases}
 use Rattle.pif_types.specs.declared.errors.Refusal.{Refusal}
 use Rattle.pif_types.specs.declared.requests.Request.{Request}
-use Rattle.pif_types.specs.declared.requests.Request.TheVariants.{Lock, TryLock, Unlock, Consistent, Wait, Signal, Broadcast, SetPrio, TimedLock, TimedWait}
+use Rattle.pif_types.specs.declared.requests.Request.TheVariants.{Lock, TryLock, Unlock, Consistent, Wait, Signal, Broadcast, SetPrio}
 use Rattle.pif_model.specs.declared.events.Event.{Event}
 use Rattle.pif_model.specs.declared.events.Event.TheVariants.{Go, End}
 use Rattle.pif_model.specs.NamedNumbers.{ENOTRECOVERABLE}
@@ -27,40 +27,33 @@ module _ (t : ℕ) (w : World) where
   pub effects_of : (q : Request) (p : Progress) → HasCome w t q p → effects t w ≡ next_effects p q t w
   effects_of q p h = ap (λ (o : Option Call). call_effects o t w) h
 
-  in_next : (q : Request) (p : Progress) (v : World) → HasCome w t q p → Contains (next_effects p q t w) v → Contains (effects t w) v
-  in_next q p v h k = subst (λ (xs : List World). Contains xs v) (sym (effects_of q p h)) k
+  in_next : {q : Request} {p : Progress} (v : World) → HasCome w t q p → Contains (next_effects p q t w) v → Contains (effects t w) v
+  in_next {q} {p} v h k = subst (λ (xs : List World). Contains xs v) (sym (effects_of q p h)) k
 
   -- a use of the variable that a request names is its first effect
   use_is_first : (q : Request) (v : World) → is_use q ≡ true → v ≡ variable_used t (variable_of q) w → Contains (first_effects q t w) v
-  use_is_first (Lock m) v e x = absurd (both_ways false refl e)
-  use_is_first (TryLock m) v e x = absurd (both_ways false refl e)
-  use_is_first (Unlock m) v e x = absurd (both_ways false refl e)
-  use_is_first (Consistent m) v e x = absurd (both_ways false refl e)
-  use_is_first (Wait c m) v e x = absurd (both_ways false refl e)
   use_is_first (Signal c) v e x = in_one_from (variable_used t c w) v x
   use_is_first (Broadcast c) v e x = in_one_from (variable_used t c w) v x
-  use_is_first (SetPrio u p) v e x = absurd (both_ways false refl e)
-  use_is_first (TimedLock m d) v e x = absurd (both_ways false refl e)
-  use_is_first (TimedWait c m d) v e x = absurd (both_ways false refl e)
+  use_is_first _ v e x = absurd (both_ways false refl e)
 
   pub effects_from : (v : World) → t ≢ 0 → Effect t w v → Contains (effects t w) v
-  effects_from v n (lock m h x) = in_next (Lock m) Fresh v h (in_option_from (locked t m w) v (locked_from t m w v x))
-  effects_from v n (try_lock m h x) = in_next (TryLock m) Fresh v h (in_option_from (tried t m w) v (tried_from t m w v n x))
-  effects_from v n (unlock m h x) = in_next (Unlock m) Fresh v h (in_option_from (unlocked t m w) v (unlocked_from t m w v x))
+  effects_from v n (lock m h x) = in_next v h (in_option_from (locked t m w) v (locked_from t m w v x))
+  effects_from v n (try_lock m h x) = in_next v h (in_option_from (tried t m w) v (tried_from t m w v n x))
+  effects_from v n (unlock m h x) = in_next v h (in_option_from (unlocked t m w) v (unlocked_from t m w v x))
   effects_from v n (consistent m h x) =
-      in_next (Consistent m) Fresh v h (in_one_from (made_consistent t m w) v (made_consistent_from t m w v x))
+      in_next v h (in_one_from (made_consistent t m w) v (made_consistent_from t m w v x))
   effects_from v n (set_prio u p h x) =
-      in_next (SetPrio u p) Fresh v h (in_one_from (priority_set t u p w) v (priority_set_from t u p w v x))
+      in_next v h (in_one_from (priority_set t u p w) v (priority_set_from t u p w v x))
   effects_from v n (check_wait c m h x) =
-      in_next (Wait c m) Fresh v h (in_option_from (wait_checked t c m w) v (wait_checked_from t c m w v x))
-  effects_from v n (enlist c m h x) = in_next (Wait c m) Checked v h (in_one_from (enlisted t w) v x)
+      in_next v h (in_option_from (wait_checked t c m w) v (wait_checked_from t c m w v x))
+  effects_from v n (enlist c m h x) = in_next v h (in_one_from (enlisted t w) v x)
   effects_from v n (give_up c m still h x) =
-      in_next (Wait c m) (Enlisted still) v h (in_option_from (given_up t m still w) v (given_up_from t m w still v x))
-  effects_from v n (lock_again c m h x) = in_next (Wait c m) Reacquiring v h (in_option_from (locked t m w) v (locked_from t m w v x))
-  effects_from v n (use_variable q h e x) = in_next q Fresh v h (use_is_first q v e (variable_used_from t (variable_of q) w v x))
-  effects_from v n (choose q h x) = in_next q Used v h (chosen_from t w q v x)
+      in_next v h (in_option_from (given_up t m still w) v (given_up_from t m w still v x))
+  effects_from v n (lock_again c m h x) = in_next v h (in_option_from (locked t m w) v (locked_from t m w v x))
+  effects_from v n (use_variable q h e x) = in_next v h (use_is_first q v e (variable_used_from t (variable_of q) w v x))
+  effects_from v n (choose q h x) = in_next v h (chosen_from t w q v x)
   effects_from v n (leave q h x) =
-      in_next q Leaving v h (in_one_from (left t q w) v (passed_from (named_by q) (with_progress t (Has ENOTRECOVERABLE) w) v x))
+      in_next v h (in_one_from (left t q w) v (passed_from (named_by q) (with_progress t (Has ENOTRECOVERABLE) w) v x))
 
   first_to : (q : Request) (v : World) → HasCome w t q Fresh → Contains (first_effects q t w) v → Effect t w v
   first_to (Lock m) v h k = lock m h (locked_to t m w v (in_option (locked t m w) v k))
@@ -71,8 +64,7 @@ module _ (t : ℕ) (w : World) where
   first_to (Signal c) v h k = use_variable (Signal c) h refl (variable_used_to t c w v (sym (in_one (variable_used t c w) v k)))
   first_to (Broadcast c) v h k = use_variable (Broadcast c) h refl (variable_used_to t c w v (sym (in_one (variable_used t c w) v k)))
   first_to (SetPrio u p) v h k = set_prio u p h (priority_set_to t u p w v (sym (in_one (priority_set t u p w) v k)))
-  first_to (TimedLock m d) v h k = absurd (not_in_none v k)
-  first_to (TimedWait c m d) v h k = absurd (not_in_none v k)
+  first_to _ v h k = absurd (not_in_none v k)
 
   wait_to : (c m : ℕ) (p : Progress) (v : World) → HasCome w t (Wait c m) p → Contains (wait_effects p t m w) v → Effect t w v
   wait_to c m Fresh v h k = absurd (not_in_none v k)
@@ -87,16 +79,8 @@ module _ (t : ℕ) (w : World) where
   wait_to c m Used v h k = absurd (not_in_none v k)
 
   later_to : (q : Request) (p : Progress) (v : World) → HasCome w t q p → Contains (later_effects q p t w) v → Effect t w v
-  later_to (Lock m) p v h k = absurd (not_in_none v k)
-  later_to (TryLock m) p v h k = absurd (not_in_none v k)
-  later_to (Unlock m) p v h k = absurd (not_in_none v k)
-  later_to (Consistent m) p v h k = absurd (not_in_none v k)
   later_to (Wait c m) p v h k = wait_to c m p v h k
-  later_to (Signal c) p v h k = absurd (not_in_none v k)
-  later_to (Broadcast c) p v h k = absurd (not_in_none v k)
-  later_to (SetPrio u b) p v h k = absurd (not_in_none v k)
-  later_to (TimedLock m d) p v h k = absurd (not_in_none v k)
-  later_to (TimedWait c m d) p v h k = absurd (not_in_none v k)
+  later_to _ p v h k = absurd (not_in_none v k)
 
   next_to : (p : Progress) (q : Request) (v : World) → HasCome w t q p → Contains (next_effects p q t w) v → Effect t w v
   next_to Fresh q v h k = first_to q v h k
@@ -136,15 +120,7 @@ module _ (t : ℕ) (w : World) where
 
   unnoted_to : (q : Request) (p : Progress) (v : World) → HasCome w t q p → may_be_noted q p ≡ true → v ≡ noted t w → Acts t w v
   unnoted_to (Wait c m) p v h e x = noting_to c m p v h e x
-  unnoted_to (Lock m) p v h e x = absurd (both_ways false refl e)
-  unnoted_to (TryLock m) p v h e x = absurd (both_ways false refl e)
-  unnoted_to (Unlock m) p v h e x = absurd (both_ways false refl e)
-  unnoted_to (Consistent m) p v h e x = absurd (both_ways false refl e)
-  unnoted_to (Signal c) p v h e x = absurd (both_ways false refl e)
-  unnoted_to (Broadcast c) p v h e x = absurd (both_ways false refl e)
-  unnoted_to (SetPrio u b) p v h e x = absurd (both_ways false refl e)
-  unnoted_to (TimedLock m d) p v h e x = absurd (both_ways false refl e)
-  unnoted_to (TimedWait c m d) p v h e x = absurd (both_ways false refl e)
+  unnoted_to _ p v h e x = absurd (both_ways false refl e)
 
   pub noted_to : (v : World) → is_unnoted (thread_at w t).call ≡ true → v ≡ noted t w → Acts t w v
   noted_to v e x = by_call (thread_at w t).call refl e

@@ -5,7 +5,7 @@ use Rattle.std.proofs.lemmas.Bool.{cases_Bool, cases_eq, ne_eqb, true≢false}
 use Rattle.std.proofs.lemmas.List.{set-get_or}
 use Rattle.pif_types.specs.Bounds.{Bounds}
 use Rattle.pif_types.specs.declared.requests.Request.{Request}
-use Rattle.pif_types.specs.declared.requests.Request.TheVariants.{Lock, TryLock, Unlock, Consistent, Wait, SetPrio}
+use Rattle.pif_types.specs.declared.requests.Request.TheVariants.{Lock, Wait}
 use Rattle.pif_model.specs.declared.events.Event.TheVariants.{Go}
 use Rattle.pif_model.specs.declared.events.Seen.TheVariants.{Went, Waits, Answered}
 use Rattle.pif_model.specs.declared.events.Entry.{Entry}
@@ -17,7 +17,7 @@ use Rattle.pif_model.specs.Posix.Effects.{none as no_effect, then as effect_then
 use Rattle.pif_model.specs.Posix.Moves.{expires as move_expires, acts as move_acts}
 use Rattle.pif_model.specs.Posix.Step.{went as step_went, waits as step_waits, answered as step_answered}
 use Rattle.pif_model.specs.Posix.IsRun.{next}
-use Rattle.pif_model.specs.World.Progress.{Fresh, Leaving, Has, Checked, Enlisted, Blocked, Reacquiring, Used}
+use Rattle.pif_model.specs.World.Progress.{Fresh, Leaving, Has, Blocked, Used}
 use Rattle.pif_model_lemmas.proofs.Among.{is_among, is_among_here, is_among_there}
 use Rattle.pif_model_simulation.proofs.runs.Worlds.{call_of}
 use Rattle.pif_model_simulation.proofs.runs.Timing.{call-recalled}
@@ -66,27 +66,25 @@ pub record IsUncounted (w : World) (t : ℕ) : Type 0 where
   pub call : HasCome w t request progress
   pub counts_not : counts_now request progress ≡ false
 
--- nor is one that has an effect
+-- a call that has come to where its deadline doesn't count
+uncounted : {t : ℕ} {w : World} {q : Request} {p : Progress} → HasCome w t q p → counts_now q p ≡ false
+    → IsUncounted w t
+uncounted {q = q} {p = p} c none = record { request = q; progress = p; call = c; counts_not = none }
+
+-- who has an effect has such a call open
 pub uncounted-from_effect : {t : ℕ} {w v : World} → Effect t w v → IsUncounted w t
-uncounted-from_effect (lock m c e) = record { request = Lock m; progress = Fresh; call = c; counts_not = refl }
-uncounted-from_effect (try_lock m c e) = record { request = TryLock m; progress = Fresh; call = c; counts_not = refl }
-uncounted-from_effect (unlock m c e) = record { request = Unlock m; progress = Fresh; call = c; counts_not = refl }
-uncounted-from_effect (consistent m c e) =
-    record { request = Consistent m; progress = Fresh; call = c; counts_not = refl }
-uncounted-from_effect (set_prio u p c e) =
-    record { request = SetPrio u p; progress = Fresh; call = c; counts_not = refl }
-uncounted-from_effect (check_wait x m c e) =
-    record { request = Wait x m; progress = Fresh; call = c; counts_not = refl }
-uncounted-from_effect (enlist x m c e) = record { request = Wait x m; progress = Checked; call = c; counts_not = refl }
-uncounted-from_effect (give_up x m still c e) =
-    record { request = Wait x m; progress = Enlisted still; call = c; counts_not = refl }
-uncounted-from_effect (lock_again x m c e) =
-    record { request = Wait x m; progress = Reacquiring; call = c; counts_not = refl }
-uncounted-from_effect (use_variable q c i e) =
-    record { request = q; progress = Fresh; call = c; counts_not = fresh_counts_not q }
-uncounted-from_effect (choose q c e) = record { request = q; progress = Used; call = c; counts_not = used_counts_not q }
-uncounted-from_effect (leave q c e) =
-    record { request = q; progress = Leaving; call = c; counts_not = leaving_counts_not q }
+uncounted-from_effect (lock m c e) = uncounted c refl
+uncounted-from_effect (try_lock m c e) = uncounted c refl
+uncounted-from_effect (unlock m c e) = uncounted c refl
+uncounted-from_effect (consistent m c e) = uncounted c refl
+uncounted-from_effect (set_prio u p c e) = uncounted c refl
+uncounted-from_effect (check_wait x m c e) = uncounted c refl
+uncounted-from_effect (enlist x m c e) = uncounted c refl
+uncounted-from_effect (give_up x m still c e) = uncounted c refl
+uncounted-from_effect (lock_again x m c e) = uncounted c refl
+uncounted-from_effect (use_variable q c i e) = uncounted c (fresh_counts_not q)
+uncounted-from_effect (choose q c e) = uncounted c (used_counts_not q)
+uncounted-from_effect (leave q c e) = uncounted c (leaving_counts_not q)
 
 pub undue-from_effect : {t : ℕ} {w v : World} → Effect t w v → is_due w t ≡ false
 undue-from_effect {t} {w} e =

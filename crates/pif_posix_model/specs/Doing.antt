@@ -7,7 +7,7 @@ use Rattle.std.specs.List.{filter, flat_map, list_all}
 use Rattle.pif_types.specs.Bounds.{Bounds}
 use Rattle.pif_types.specs.declared.requests.Kind.{Kind}
 use Rattle.pif_types.specs.declared.requests.Request.{Request}
-use Rattle.pif_types.specs.declared.requests.Request.TheVariants.{Lock, TryLock, Unlock, Consistent, Wait, Signal, Broadcast, SetPrio, TimedLock, TimedWait}
+use Rattle.pif_types.specs.declared.requests.Request.TheVariants.{Lock, TryLock, Unlock, Consistent, Wait, Signal, Broadcast, SetPrio}
 use Rattle.pif_model.specs.declared.lines.Relock.{Relock}
 use Rattle.pif_model.specs.declared.lines.Relock.TheVariants.{Deadlocks, Answers, Counts}
 use Rattle.pif_model.specs.declared.events.Event.{Event}
@@ -224,7 +224,7 @@ expired t w = expired_call (thread_at w t).call t w
 
 -- MOVES
 
--- the first effect of t's call of this request: all results
+-- the first effect of t's call of this request, which has no deadline: all results
 abbrev pub first_effects : Request → ℕ → World → List World
 first_effects (Lock m) t w = option_to_list (locked t m w)
 first_effects (TryLock m) t w = option_to_list (tried t m w)
@@ -234,8 +234,7 @@ first_effects (SetPrio u p) t w = priority_set t u p w ∷ []
 first_effects (Wait c m) t w = option_to_list (wait_checked t c m w)
 first_effects (Signal c) t w = variable_used t c w ∷ []
 first_effects (Broadcast c) t w = variable_used t c w ∷ []
-first_effects (TimedLock m d) t w = []
-first_effects (TimedWait c m d) t w = []
+first_effects q t w = []
 
 -- the next effect of t's wait with m, which has come so far: all results
 abbrev pub wait_effects : Progress → ℕ → ℕ → World → List World
