@@ -5,7 +5,7 @@ use Rattle.std.proofs.lemmas.Bool.{true≢false, cases_lt}
 use Rattle.std.proofs.lemmas.List.{get_or_past}
 use Rattle.pif_types.specs.Bounds.{Bounds}
 use Rattle.pif_types.specs.declared.requests.Request.{Request}
-use Rattle.pif_types.specs.declared.requests.Request.TheVariants.{Lock, TryLock, Unlock, Consistent, Wait, Signal, Broadcast, SetPrio, TimedLock, TimedWait}
+use Rattle.pif_types.specs.declared.requests.Request.TheVariants.{Lock, Signal, TimedLock, TimedWait}
 use Rattle.pif_model.specs.declared.events.Event.TheVariants as event
 use Rattle.pif_model.specs.declared.events.Seen.TheVariants as seen
 use Rattle.pif_model.specs.declared.events.Entry.{Entry}
@@ -120,26 +120,12 @@ even_move p t w v m x = kept_move (StaysEven p) (StaysEven-kept p) m x
 begun_plainly : (p : Option ℕ) (q : Request) → asks_plainly p q ≡ true → asks_plainly p (plain q) ≡ true
 begun_plainly p (TimedWait c m d) e = refl
 begun_plainly p (TimedLock m d) e = absurd (true≢false (sym e))
-begun_plainly p (Lock m) e = e
-begun_plainly p (TryLock m) e = e
-begun_plainly p (Unlock m) e = e
-begun_plainly p (Consistent m) e = e
-begun_plainly p (Wait c m) e = e
-begun_plainly p (Signal c) e = e
-begun_plainly p (Broadcast c) e = e
-begun_plainly p (SetPrio u b) e = e
+begun_plainly p _ e = e
 
 begun_untimed : (p : Option ℕ) (q : Request) → asks_plainly p q ≡ true → is_lock (plain q) ≡ true → (timer_of q).deadline ≡ None
 begun_untimed p (TimedWait c m d) e k = absurd (true≢false (sym k))
 begun_untimed p (TimedLock m d) e k = absurd (true≢false (sym e))
-begun_untimed p (Lock m) e k = refl
-begun_untimed p (TryLock m) e k = refl
-begun_untimed p (Unlock m) e k = refl
-begun_untimed p (Consistent m) e k = refl
-begun_untimed p (Wait c m) e k = refl
-begun_untimed p (Signal c) e k = refl
-begun_untimed p (Broadcast c) e k = refl
-begun_untimed p (SetPrio u b) e k = refl
+begun_untimed p _ e k = refl
 
 pub even_start : (p : Option ℕ) (n : ℕ) → AreEven p (empty_world n)
 even_start p n zero = even_nobody

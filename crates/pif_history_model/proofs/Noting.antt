@@ -5,7 +5,7 @@ use Rattle.std.proofs.lemmas.Bool.{true≢false, cases_eq, eq-eqb, lt-ltb}
 use Rattle.std.proofs.lemmas.List.{get_or-set_same, get_or-set_other, length-set}
 use Rattle.pif_types.specs.Bounds.{Bounds}
 use Rattle.pif_types.specs.declared.requests.Request.{Request}
-use Rattle.pif_types.specs.declared.requests.Request.TheVariants.{Lock, TryLock, Unlock, Consistent, Wait, Signal, Broadcast, SetPrio, TimedLock, TimedWait}
+use Rattle.pif_types.specs.declared.requests.Request.TheVariants.{Wait}
 use Rattle.pif_model.specs.declared.events.Event.TheVariants as event
 use Rattle.pif_model.specs.Refusals.{go_refused}
 use Rattle.pif_model.specs.Deadlines.{is_reached}
@@ -73,15 +73,7 @@ effect_awake (leave q c x) = (ap has_note c, ap awaits_note c)
 -- whose deadline counts doesn't await it
 counts_blocked : (q : Request) → counts_now q (Blocked false) ≡ true → true ≡ false
 counts_blocked (Wait c m) e = sym e
-counts_blocked (Lock m) e = sym e
-counts_blocked (TryLock m) e = sym e
-counts_blocked (Unlock m) e = sym e
-counts_blocked (Consistent m) e = sym e
-counts_blocked (Signal c) e = sym e
-counts_blocked (Broadcast c) e = sym e
-counts_blocked (SetPrio u p) e = sym e
-counts_blocked (TimedLock m d) e = sym e
-counts_blocked (TimedWait c m d) e = sym e
+counts_blocked _ e = sym e
 
 counting_awaits : (q : Request) (p : Progress) → counts_now q p ≡ true → is_unnoted p ≡ false
 counting_awaits q (Blocked true) e = refl

@@ -5,7 +5,7 @@ use Rattle.std.proofs.lemmas.Bool.{true≢false}
 use Rattle.std.proofs.lemmas.List.{set-set, length-map}
 use Rattle.pif_types.specs.Bounds.{Bounds}
 use Rattle.pif_types.specs.declared.requests.Request.{Request}
-use Rattle.pif_types.specs.declared.requests.Request.TheVariants.{Lock, TryLock, Unlock, Consistent, Wait, Signal, Broadcast, SetPrio, TimedLock, TimedWait}
+use Rattle.pif_types.specs.declared.requests.Request.TheVariants.{Lock, Unlock, Wait, Signal}
 use Rattle.pif_model.specs.declared.events.Event.TheVariants.{Go}
 use Rattle.pif_model.specs.declared.events.Entry.{Entry}
 use Rattle.pif_model.specs.NamedNumbers.{EPERM, ESRCH, EAGAIN, EBUSY, EINVAL, EDEADLK, EOVERFLOW, ENOTRECOVERABLE}
@@ -168,14 +168,7 @@ no_next f m = refl
 locks_of : (x m : ℕ) (r : Request) {u v : World} → waited_in r ≡ m → m ≢ 0 → HasCome u x r (before_lock r) → Locks x m u v → Effect x u v
 locks_of x m (Lock k) {u} {v} e some c y = lock k c (subst (λ n. Locks x n u v) (sym e) y)
 locks_of x m (Wait d k) {u} {v} e some c y = lock_again d k c (subst (λ n. Locks x n u v) (sym e) y)
-locks_of x m (TryLock k) e some c y = absurd (some (sym e))
-locks_of x m (Unlock k) e some c y = absurd (some (sym e))
-locks_of x m (Consistent k) e some c y = absurd (some (sym e))
-locks_of x m (Signal d) e some c y = absurd (some (sym e))
-locks_of x m (Broadcast d) e some c y = absurd (some (sym e))
-locks_of x m (SetPrio k n) e some c y = absurd (some (sym e))
-locks_of x m (TimedLock k d) e some c y = absurd (some (sym e))
-locks_of x m (TimedWait d k n) e some c y = absurd (some (sym e))
+locks_of x m _ e some c y = absurd (some (sym e))
 
 module _ (l : Bounds) (dying : List ℕ) {h : List Entry} {r : List World} (w : World) (run : IsRun l h r w) where
   -- one move of the same thread
@@ -291,15 +284,15 @@ module _ (l : Bounds) (dying : List ℕ) (o : Option ℕ) {h : List Entry} {r : 
   effect_aside t v allowed (lock m c x) = by_lock (lock_aside w (Lock m) Fresh c refl x)
     where
       by_lock : Locks t m (unqueued w) (unqueued v) ⊎ (unqueued v ≡ unqueued w) → Goes l dying (unqueued w) (unqueued v)
-      by_lock (inl y) = acts_aside l dying w run t v allowed (effect (lock m (come_aside w t (Lock m) Fresh c) y))
+      by_lock (inl y) = acts_aside l dying w run t v allowed (effect (lock m (come_aside w t _ Fresh c) y))
       by_lock (inr e) = stays l dying e
   effect_aside t v allowed (lock_again d m c x) = by_lock (lock_aside w (Wait d m) Reacquiring c refl x)
     where
       by_lock : Locks t m (unqueued w) (unqueued v) ⊎ (unqueued v ≡ unqueued w) → Goes l dying (unqueued w) (unqueued v)
-      by_lock (inl y) = acts_aside l dying w run t v allowed (effect (lock_again d m (come_aside w t (Wait d m) Reacquiring c) y))
+      by_lock (inl y) = acts_aside l dying w run t v allowed (effect (lock_again d m (come_aside w t _ Reacquiring c) y))
       by_lock (inr e) = stays l dying e
   effect_aside t v allowed (try_lock m c x) =
-      acts_aside l dying w run t v allowed (effect (try_lock m (come_aside w t (TryLock m) Fresh c) (try_aside w x)))
+      acts_aside l dying w run t v allowed (effect (try_lock m (come_aside w t _ Fresh c) (try_aside w x)))
   effect_aside t v allowed (unlock m c x) = by_unlock x
     where
       come : HasCome (unqueued w) t (Unlock m) Fresh
@@ -317,14 +310,14 @@ module _ (l : Bounds) (dying : List ℕ) (o : Option ℕ) {h : List Entry} {r : 
           passes_aside l dying w run t m (Unlock m) Fresh (Has 0) c (λ k. absurd (cc)) (λ q. refl)
           (owned_there l dying w run t m _ c y) (λ u k. effect (unlock m come (released y z i k))) v allowed s
   effect_aside t v allowed (consistent m c x) =
-      acts_aside l dying w run t v allowed (effect (consistent m (come_aside w t (Consistent m) Fresh c) (consistent_aside w x)))
+      acts_aside l dying w run t v allowed (effect (consistent m (come_aside w t _ Fresh c) (consistent_aside w x)))
   effect_aside t v allowed (set_prio u n c x) =
-      acts_aside l dying w run t v allowed (effect (set_prio u n (come_aside w t (SetPrio u n) Fresh c) (sets_aside w x)))
+      acts_aside l dying w run t v allowed (effect (set_prio u n (come_aside w t _ Fresh c) (sets_aside w x)))
   effect_aside t v allowed (check_wait d m c x) =
-      acts_aside l dying w run t v allowed (effect (check_wait d m (come_aside w t (Wait d m) Fresh c) (check_aside w x)))
+      acts_aside l dying w run t v allowed (effect (check_wait d m (come_aside w t _ Fresh c) (check_aside w x)))
   effect_aside t v allowed (enlist d m c e) =
       acts_aside l dying w run t v allowed
-      (effect (enlist d m (come_aside w t (Wait d m) Checked c) (comes_aside t (Enlisted true) (λ q. refl) w _ e)))
+      (effect (enlist d m (come_aside w t _ Checked c) (comes_aside t (Enlisted true) (λ q. refl) w _ e)))
   effect_aside t v allowed (give_up d m still c x) = by_release x
     where
       come : HasCome (unqueued w) t (Wait d m) (Enlisted still)
