@@ -3,7 +3,7 @@ use Rattle.std.proofs.Common.{ℕ, ◌≡◌, ◌==◌, ◌∙◌, Bool, true, f
 use Rattle.std.proofs.lemmas.Bool.{true≢false}
 use Rattle.std.proofs.lemmas.Bool.Decides.{nat_tests}
 use Rattle.pif_types.specs.declared.requests.Request.{Request}
-use Rattle.pif_types.specs.declared.requests.Request.TheVariants.{Lock, TryLock, Unlock, Consistent, Wait, Signal, Broadcast, SetPrio, TimedLock, TimedWait}
+use Rattle.pif_types.specs.declared.requests.Request.TheVariants.{Wait}
 use Rattle.pif_model.specs.Deadlines.{reported_result}
 use Rattle.pif_model.specs.NamedNumbers.{ETIMEDOUT, ENOTRECOVERABLE}
 use Rattle.pif_model.specs.Posix.{Progress, on_unblocking}
@@ -39,29 +39,13 @@ told_may_come : (q : Request) (r a : ℕ) (x : Bool) → (a == reported_result q
     → may_come_to q (not (r == ETIMEDOUT)) x a ≡ true
 told_may_come (Wait c m) r a true e = grind (arith, nat_tests)
 told_may_come (Wait c m) r a false e = grind (arith, nat_tests)
-told_may_come (Lock m) r a x e = refl
-told_may_come (TryLock m) r a x e = refl
-told_may_come (Unlock m) r a x e = refl
-told_may_come (Consistent m) r a x e = refl
-told_may_come (Signal c) r a x e = refl
-told_may_come (Broadcast c) r a x e = refl
-told_may_come (SetPrio u p) r a x e = refl
-told_may_come (TimedLock m d) r a x e = refl
-told_may_come (TimedWait c m d) r a x e = refl
+told_may_come _ r a x e = refl
 
 -- a call that took an Unusable mutex is told so, also if it has run out of time
 unrecoverable : (q : Request) (x : Bool) → reported_result q x ENOTRECOVERABLE ≡ ENOTRECOVERABLE
 unrecoverable (Wait c m) true = refl
 unrecoverable (Wait c m) false = refl
-unrecoverable (Lock m) x = refl
-unrecoverable (TryLock m) x = refl
-unrecoverable (Unlock m) x = refl
-unrecoverable (Consistent m) x = refl
-unrecoverable (Signal c) x = refl
-unrecoverable (Broadcast c) x = refl
-unrecoverable (SetPrio u p) x = refl
-unrecoverable (TimedLock m d) x = refl
-unrecoverable (TimedWait c m d) x = refl
+unrecoverable _ x = refl
 
 may_wake : (q : Request) (p : Progress) (x : Bool) (a : ℕ) → may_be_answered q p x a ≡ true
     → may_come_to q (may_wake_to p) x a ≡ true
@@ -82,15 +66,7 @@ less_awake : (q : Request) (b c x : Bool) (a : ℕ) → (b ≡ true → c ≡ tr
 less_awake (Wait d m) b c true a h e = e
 less_awake (Wait d m) false c false a h e = refl
 less_awake (Wait d m) true c false a h e = ap (λ (k : Bool). if k then not (a == ETIMEDOUT) else true) (sym (h refl)) ∙ e
-less_awake (Lock m) b c x a h e = refl
-less_awake (TryLock m) b c x a h e = refl
-less_awake (Unlock m) b c x a h e = refl
-less_awake (Consistent m) b c x a h e = refl
-less_awake (Signal d) b c x a h e = refl
-less_awake (Broadcast d) b c x a h e = refl
-less_awake (SetPrio u p) b c x a h e = refl
-less_awake (TimedLock m d) b c x a h e = refl
-less_awake (TimedWait d m k) b c x a h e = refl
+less_awake _ b c x a h e = refl
 
 -- a call that comes further may be answered no more than before
 pub answered_before : (q : Request) (p o : Progress) (x : Bool) (a : ℕ) → is_settled p ≡ false

@@ -6,7 +6,7 @@ use Rattle.std.proofs.lemmas.Bool.{cases_eq, cases_lt, eq-eqb, or_from, or_parts
 use Rattle.std.proofs.lemmas.List.{get_or_past}
 use Rattle.pif_types.specs.Bounds.{Bounds}
 use Rattle.pif_types.specs.declared.requests.Request.{Request}
-use Rattle.pif_types.specs.declared.requests.Request.TheVariants.{Lock, TryLock, Unlock, Consistent, Wait, SetPrio}
+use Rattle.pif_types.specs.declared.requests.Request.TheVariants.{TryLock}
 use Rattle.pif_model.specs.declared.lines.Timer.{Timer}
 use Rattle.pif_model.specs.declared.events.Event.TheVariants as event
 use Rattle.pif_model.specs.declared.events.Seen.TheVariants as seen
@@ -99,26 +99,29 @@ module _ (t m : ℕ) (w v : World) (call : IsCalling w t (TryLock m)) (kept : Ma
       (may_come (with_mutex n (record (mutex_at w n) { owner = t; count = 1 }) w) (on_taking (mutex_at w n).health)
       refl e))
 
+  -- the open call is no other request
+  no_other : {q : Request} {p : Progress} {A : Type 0} → HasCome w t q p → (TryLock m ≡ q → ⊥) → A
+  no_other c other = absurd (other (same_request call c))
+
   fails_Effect : Effect t w v → v ≡ with_progress t (Has EBUSY) w
   fails_Effect (try_lock n c x) = fails_TriesToLock n x
-  fails_Effect (lock n c x) = absurd (let other : TryLock m ≡ Lock n = same_request call c in cc)
-  fails_Effect (unlock n c x) = absurd (let other : TryLock m ≡ Unlock n = same_request call c in cc)
-  fails_Effect (consistent n c x) = absurd (let other : TryLock m ≡ Consistent n = same_request call c in cc)
-  fails_Effect (set_prio u p c x) = absurd (let other : TryLock m ≡ SetPrio u p = same_request call c in cc)
-  fails_Effect (check_wait d n c x) = absurd (let other : TryLock m ≡ Wait d n = same_request call c in cc)
-  fails_Effect (enlist d n c x) = absurd (let other : TryLock m ≡ Wait d n = same_request call c in cc)
-  fails_Effect (give_up d n still c x) = absurd (let other : TryLock m ≡ Wait d n = same_request call c in cc)
-  fails_Effect (lock_again d n c x) = absurd (let other : TryLock m ≡ Wait d n = same_request call c in cc)
+  fails_Effect (lock n c x) = no_other c (λ e. cc)
+  fails_Effect (unlock n c x) = no_other c (λ e. cc)
+  fails_Effect (consistent n c x) = no_other c (λ e. cc)
+  fails_Effect (set_prio u p c x) = no_other c (λ e. cc)
+  fails_Effect (check_wait d n c x) = no_other c (λ e. cc)
+  fails_Effect (enlist d n c x) = no_other c (λ e. cc)
+  fails_Effect (give_up d n still c x) = no_other c (λ e. cc)
+  fails_Effect (lock_again d n c x) = no_other c (λ e. cc)
   fails_Effect (use_variable q c u x) = absurd (true≢false (sym u ∙ ap is_use (sym (same_request call c))))
   fails_Effect (choose q c x) = absurd (let other : Fresh ≡ Used = same_progress call c in cc)
   fails_Effect (leave q c x) = absurd (let other : Fresh ≡ Leaving = same_progress call c in cc)
 
   fails_Acts : Acts t w v → v ≡ with_progress t (Has EBUSY) w
   fails_Acts (effect x) = fails_Effect x
-  fails_Acts (expires due (lock_expires n p c e)) = absurd (let other : TryLock m ≡ Lock n = same_request call c in cc)
-  fails_Acts (expires due (wait_expires d n p c e)) =
-      absurd (let other : TryLock m ≡ Wait d n = same_request call c in cc)
-  fails_Acts (notes d n c e) = absurd (let other : TryLock m ≡ Wait d n = same_request call c in cc)
+  fails_Acts (expires due (lock_expires n p c e)) = no_other c (λ e. cc)
+  fails_Acts (expires due (wait_expires d n p c e)) = no_other c (λ e. cc)
+  fails_Acts (notes d n c e) = no_other c (λ e. cc)
 
 -- t's own move is that it fails
 pub own_move : (l : Bounds) (all : Bool) (lines : List Line) (t : ℕ) (s n v : Counted) → n.count ≡ s.count

@@ -2,7 +2,7 @@
 use Rattle.std.proofs.Common.{ℕ, ◌≡◌, ◌⊎◌, ◌∙◌, Bool, true, false, not, refl, sym, ap, subst, inl, inr}
 use Rattle.std.proofs.lemmas.Bool.{true≢false}
 use Rattle.pif_types.specs.declared.requests.Request.{Request}
-use Rattle.pif_types.specs.declared.requests.Request.TheVariants.{Lock, TryLock, Unlock, Consistent, Wait, SetPrio}
+use Rattle.pif_types.specs.declared.requests.Request.TheVariants.{Lock, Wait}
 use Rattle.pif_model.specs.Deadlines.{ran_out}
 use Rattle.pif_model.specs.NamedNumbers.{EPERM, ESRCH, EAGAIN, EBUSY, EINVAL, EDEADLK, EOVERFLOW, ETIMEDOUT, ENOTRECOVERABLE}
 use Rattle.pif_model.specs.Posix.{World, Thread, Progress, Health, at_progress, on_taking, nobody, thread_at, mutex_at, with_progress, with_waiter, without_waiter, with_base, is_newly_blocked, used, after_timeout, effective_of, counts_now, is_due, taken, on_release, HasCome, Comes, Locks, LocksAgain, TriesToLock, Passes, Unlocks, MakesConsistent, SetsPriority, ChecksWait, GivesUp, Uses, Chooses, Effect, Expires}
@@ -165,19 +165,19 @@ follows_Chooses {t} {q} {w} ok x (all k us is b among e) =
     (follows_then (moves_to x (Has 0) ok (λ _. refl) refl) (λ i. follows_all_unblocked us (with_progress t (Has 0) w) i))
 
 follows_Effect : {t : ℕ} {w v : World} → AreWaiting w → Effect t w v → Follows w v
-follows_Effect {t} ok (lock m c e) = follows_Locks ok (mover t (Lock m) Fresh ok c refl (λ i. absurd (cc))) e
-follows_Effect {t} ok (try_lock m c e) = follows_TriesToLock ok (mover t (TryLock m) Fresh ok c refl (λ i. absurd (cc))) e
-follows_Effect {t} ok (unlock m c e) = follows_Unlocks ok (mover t (Unlock m) Fresh ok c refl (λ i. absurd (cc))) e
+follows_Effect {t} ok (lock m c e) = follows_Locks ok (mover t _ Fresh ok c refl (λ i. absurd (cc))) e
+follows_Effect {t} ok (try_lock m c e) = follows_TriesToLock ok (mover t _ Fresh ok c refl (λ i. absurd (cc))) e
+follows_Effect {t} ok (unlock m c e) = follows_Unlocks ok (mover t _ Fresh ok c refl (λ i. absurd (cc))) e
 follows_Effect {t} ok (consistent m c e) =
-    follows_MakesConsistent ok (mover t (Consistent m) Fresh ok c refl (λ i. absurd (cc))) e
+    follows_MakesConsistent ok (mover t _ Fresh ok c refl (λ i. absurd (cc))) e
 follows_Effect {t} ok (set_prio n p c e) =
-    follows_SetsPriority ok (mover t (SetPrio n p) Fresh ok c refl (λ i. absurd (cc))) e
+    follows_SetsPriority ok (mover t _ Fresh ok c refl (λ i. absurd (cc))) e
 follows_Effect ok (check_wait k m c e) = follows_ChecksWait ok c e
 follows_Effect {t} ok (enlist k m c e) =
-    moves_to (mover t (Wait k m) Checked ok c refl (λ i. absurd (cc))) (Enlisted true) ok (λ j. absurd (true≢false (sym j))) e
+    moves_to (mover t _ Checked ok c refl (λ i. absurd (cc))) (Enlisted true) ok (λ j. absurd (true≢false (sym j))) e
 follows_Effect {t} ok (give_up k m still c e) = follows_GivesUp {k = k} ok c e
 follows_Effect {t} ok (lock_again k m c e) =
-    follows_Locks ok (mover t (Wait k m) Reacquiring ok c refl (λ i. absurd (cc))) e
+    follows_Locks ok (mover t _ Reacquiring ok c refl (λ i. absurd (cc))) e
 follows_Effect ok (use_variable q c o e) = follows_Uses q ok c e
 follows_Effect {t} ok (choose q c e) = follows_Chooses ok (mover t q Used ok c refl (λ i. absurd (cc))) e
 follows_Effect {t} {w} ok (leave q c e) =

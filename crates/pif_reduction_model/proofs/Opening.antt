@@ -2,7 +2,7 @@
 use Rattle.std.proofs.Common.{ℕ, ◌≡◌, ◌⊎◌, ◌∙◌, ◌==◌, true, false, List, [], ◌∷◌, Option, Some, None, refl, sym, ap, inl, inr, eqb-true, if◌then◌else◌}
 use Rattle.std.proofs.lemmas.Bool.{true≢false, eq-eqb}
 use Rattle.pif_types.specs.declared.requests.Request.{Request}
-use Rattle.pif_types.specs.declared.requests.Request.TheVariants.{Lock, TryLock, Unlock, Consistent, Wait, Signal, Broadcast, SetPrio, TimedLock, TimedWait}
+use Rattle.pif_types.specs.declared.requests.Request.TheVariants.{Signal, Broadcast}
 use Rattle.pif_model_lemmas.proofs.Waiting.{by_test}
 use Rattle.pif_history_model.specs.declared.lines.Line.{Line}
 use Rattle.pif_history_model.specs.declared.lines.Line.TheVariants.{Thread, Mutex, Cond, Begin, Answer, Dying, End, Tick, Rests, Prio}
@@ -13,16 +13,9 @@ use Rattle.pif_reduction_model.specs.Wakeups.MayBeWoken.{found, used, before}
 
 -- a wait is no use
 wait_is_no_use : (q : Request) (c d : ℕ) → waited_variable q ≡ Some c → is_use_of d q ≡ true → ⊥
-wait_is_no_use (Wait c m) k d w e = true≢false (sym e)
-wait_is_no_use (TimedWait c m n) k d w e = true≢false (sym e)
 wait_is_no_use (Signal c) k d w e = cc
 wait_is_no_use (Broadcast c) k d w e = cc
-wait_is_no_use (Lock m) k d w e = true≢false (sym e)
-wait_is_no_use (TryLock m) k d w e = true≢false (sym e)
-wait_is_no_use (Unlock m) k d w e = true≢false (sym e)
-wait_is_no_use (Consistent m) k d w e = true≢false (sym e)
-wait_is_no_use (SetPrio u p) k d w e = true≢false (sym e)
-wait_is_no_use (TimedLock m n) k d w e = true≢false (sym e)
+wait_is_no_use _ k d w e = true≢false (sym e)
 
 -- ONE LINE MORE
 

@@ -5,7 +5,7 @@ use Rattle.std.proofs.lemmas.List.{get_or_past}
 use Rattle.std.proofs.lemmas.Bool.Decides.{nat_tests}
 use Rattle.pif_types.specs.Bounds.{Bounds}
 use Rattle.pif_types.specs.declared.requests.Request.{Request}
-use Rattle.pif_types.specs.declared.requests.Request.TheVariants.{Lock, TryLock, Unlock, Consistent, Wait, Signal, Broadcast, SetPrio, TimedLock, TimedWait}
+use Rattle.pif_types.specs.declared.requests.Request.TheVariants.{Wait, TimedWait}
 use Rattle.pif_model.specs.declared.events.Event.TheVariants as event
 use Rattle.pif_model.specs.declared.events.Seen.TheVariants as seen
 use Rattle.pif_model.specs.declared.events.Entry.TheVariants as entry
@@ -112,14 +112,7 @@ woken-from_answer (Wait k m) c r true w e = absurd (not_0_late r e)
 woken-from_answer (Wait k m) c r false w e = eq-eqb r 0 (sym e)
 woken-from_answer (TimedWait k m d) c r true w e = absurd (not_0_late r e)
 woken-from_answer (TimedWait k m d) c r false w e = eq-eqb r 0 (sym e)
-woken-from_answer (Lock m) c r x w e = absurd (cc)
-woken-from_answer (TryLock m) c r x w e = absurd (cc)
-woken-from_answer (Unlock m) c r x w e = absurd (cc)
-woken-from_answer (Consistent m) c r x w e = absurd (cc)
-woken-from_answer (Signal k) c r x w e = absurd (cc)
-woken-from_answer (Broadcast k) c r x w e = absurd (cc)
-woken-from_answer (SetPrio u p) c r x w e = absurd (cc)
-woken-from_answer (TimedLock m d) c r x w e = absurd (cc)
+woken-from_answer _ c r x w e = absurd (cc)
 
 -- so it may have been woken by the lines
 woken_at_answer : (lines : List Line) (w v : World) (t c : ℕ) (q : Request) → AreTold lines w → Answers t 0 w v

@@ -4,7 +4,7 @@ use Rattle.std.specs.List.{list_any}
 use Rattle.std.proofs.lemmas.Bool.{true≢false, eq-eqb}
 use Rattle.std.proofs.Math.ListN.{get_or-map}
 use Rattle.pif_types.specs.declared.requests.Request.{Request}
-use Rattle.pif_types.specs.declared.requests.Request.TheVariants.{Lock, TryLock, Unlock, Consistent, Wait, Signal, Broadcast, SetPrio, TimedLock, TimedWait}
+use Rattle.pif_types.specs.declared.requests.Request.TheVariants.{Wait, TimedWait}
 use Rattle.pif_model.specs.Deadlines.{ran_out}
 use Rattle.pif_model.specs.Posix.{World, Thread, Call, Progress, nobody, thread_at, at_progress, with_progress, with_call_by, with_base, after_unblocking, on_unblocking, after_use, after_timeout, all_unblocked, used, variable_of, is_idle, is_blocked, is_newly_blocked, is_call_blocked}
 use Rattle.pif_model_lemmas.proofs.Places.{kept_at}
@@ -25,14 +25,7 @@ pub record IsInUse (lines : List Line) (o : Option Request) : Type 0 where
 waited_is_named : (q : Request) (c : ℕ) → waited_variable q ≡ Some c → variable_of q ≡ c
 waited_is_named (Wait d m) c e = cc
 waited_is_named (TimedWait d m k) c e = cc
-waited_is_named (Lock m) c e = absurd (cc)
-waited_is_named (TryLock m) c e = absurd (cc)
-waited_is_named (Unlock m) c e = absurd (cc)
-waited_is_named (Consistent m) c e = absurd (cc)
-waited_is_named (Signal d) c e = absurd (cc)
-waited_is_named (Broadcast d) c e = absurd (cc)
-waited_is_named (SetPrio u p) c e = absurd (cc)
-waited_is_named (TimedLock m k) c e = absurd (cc)
+waited_is_named _ c e = absurd (cc)
 
 -- who is blocked on a variable in use waits for one
 pub in_use-from_blocked : (lines : List Line) (c : ℕ) (o : Option Call) → HasOpenUse c lines

@@ -3,7 +3,7 @@ use Rattle.std.proofs.Common.{ℕ, ◌≡◌, ◌≢◌, ◌⊎◌, ◌∙◌, �
 use Rattle.std.proofs.lemmas.Bool.{true≢false, eq-eqb, cases_lt}
 use Rattle.std.proofs.lemmas.List.{get_or-set_same, get_or_past}
 use Rattle.pif_types.specs.declared.requests.Request.{Request}
-use Rattle.pif_types.specs.declared.requests.Request.TheVariants.{Lock, TryLock, Unlock, Consistent, Wait, Signal, Broadcast, SetPrio, TimedLock, TimedWait}
+use Rattle.pif_types.specs.declared.requests.Request.TheVariants.{Lock, Unlock, Wait, Signal, Broadcast, TimedWait}
 use Rattle.pif_model.specs.Deadlines.{plain}
 use Rattle.pif_model.specs.NamedNumbers.{EPERM, ESRCH, EAGAIN, EBUSY, EINVAL, EDEADLK, EOVERFLOW, ETIMEDOUT, ENOTRECOVERABLE}
 use Rattle.pif_model.specs.Posix.{World, Thread, Mutex, Progress, on_taking, nobody, thread_at, mutex_at, with_progress, with_mutex, with_waiter, without_waiter, with_base, is_newly_blocked, is_use, variable_of, used, after_timeout, effective_of, taken, on_release, HasCome, Comes, IsBlocked, Locks, LocksAgain, TriesToLock, Passes, Unlocks, MakesConsistent, SetsPriority, ChecksWait, GivesUp, Uses, Chooses, Effect, Expires}
@@ -129,15 +129,14 @@ told_MakesConsistent told x (consistent_not_owner o e) = told_moves x (Has EPERM
 told_MakesConsistent told x (not_inconsistent o k e) = told_moves x (Has EINVAL) told e
 told_MakesConsistent {m = m} told x (made_fine o k e) = told_moves_mutex m _ x (Has 0) told e
 
-told_SetsPriority : {lines : List Line} {t n p : ℕ} {w v : World} → AreTold lines w → HasCome w t (SetPrio n p) Fresh
+told_SetsPriority : {lines : List Line} {t n p : ℕ} {w v : World} → AreTold lines w → Mover t w
     → SetsPriority t n p w v → AreTold lines v
-told_SetsPriority {t = t} {n = n} {p = p} told c (no_priority o e) =
-    told_moves (other_mover t (SetPrio n p) Fresh c refl) (Has EINVAL) told e
-told_SetsPriority {t = t} {n = n} {p = p} told c (not_living o k e) =
-    told_moves (other_mover t (SetPrio n p) Fresh c refl) (Has ESRCH) told e
-told_SetsPriority {t = t} {n = n} {p = p} {w = w} told c (changed o k e) =
-    told_moves (other_mover {w = with_base n p w} t (SetPrio n p) Fresh
-    (kept_at (λ (z : Thread). z.call) w.threads n (record (thread_at w n) { base = p }) nobody refl t ∙ c) refl) (Has 0)
+told_SetsPriority told x (no_priority o e) = told_moves x (Has EINVAL) told e
+told_SetsPriority told x (not_living o k e) = told_moves x (Has ESRCH) told e
+told_SetsPriority {t = t} {n = n} {p = p} {w = w} told x (changed o k e) =
+    let come = kept_at (λ (z : Thread). z.call) w.threads n (record (thread_at w n) { base = p }) nobody refl t ∙ x.come in
+    told_moves {w = with_base n p w}
+    (record { request = x.request; progress = x.progress; come = come; anywhere = x.anywhere }) (Has 0)
     (told_base n p told) e
 
 -- VARIABLES
@@ -169,39 +168,16 @@ told_GivesUp {t = t} {m = m} {still = still} k ok told c (wait_released o i e) =
 
 use_waits_not : (q : Request) → is_use q ≡ true → is_wait q ≡ false
 use_waits_not (Wait c m) e = sym e
-use_waits_not (Signal c) e = refl
-use_waits_not (Broadcast c) e = refl
-use_waits_not (Lock m) e = refl
-use_waits_not (TryLock m) e = refl
-use_waits_not (Unlock m) e = refl
-use_waits_not (Consistent m) e = refl
-use_waits_not (SetPrio u p) e = refl
-use_waits_not (TimedLock m d) e = refl
-use_waits_not (TimedWait c m d) e = refl
+use_waits_not _ e = refl
 
 use_of_its_own : (q : Request) → is_use q ≡ true → is_use_of (variable_of q) q ≡ true
 use_of_its_own (Signal c) e = eq-eqb c c refl
 use_of_its_own (Broadcast c) e = eq-eqb c c refl
-use_of_its_own (Wait c m) e = e
-use_of_its_own (Lock m) e = e
-use_of_its_own (TryLock m) e = e
-use_of_its_own (Unlock m) e = e
-use_of_its_own (Consistent m) e = e
-use_of_its_own (SetPrio u p) e = e
-use_of_its_own (TimedLock m d) e = e
-use_of_its_own (TimedWait c m d) e = e
+use_of_its_own _ e = e
 
 use_plain : (c : ℕ) (q : Request) → is_use_of c (plain q) ≡ is_use_of c q
-use_plain c (Signal d) = refl
-use_plain c (Broadcast d) = refl
-use_plain c (Wait d m) = refl
-use_plain c (Lock m) = refl
-use_plain c (TryLock m) = refl
-use_plain c (Unlock m) = refl
-use_plain c (Consistent m) = refl
-use_plain c (SetPrio u p) = refl
-use_plain c (TimedLock m d) = refl
-use_plain c (TimedWait e m d) = refl
+use_plain c (TimedWait d m k) = refl
+use_plain c _ = refl
 
 -- a use that is open in the state is open by the lines
 open_use : {lines : List Line} {w : World} (t : ℕ) (q : Request) (p : Progress) → AreTold lines w → HasCome w t q p
@@ -252,11 +228,11 @@ told_Chooses {lines} {w} t q told c (all k us is b among e) =
 
 told_Effect : {lines : List Line} {w v : World} (t : ℕ) → AreWaiting w → AreTold lines w → Effect t w v
     → AreTold lines v
-told_Effect t ok told (lock m c e) = told_Locks told (other_mover t (Lock m) Fresh c refl) e
-told_Effect t ok told (try_lock m c e) = told_TriesToLock told (other_mover t (TryLock m) Fresh c refl) e
+told_Effect t ok told (lock m c e) = told_Locks told (other_mover t _ Fresh c refl) e
+told_Effect t ok told (try_lock m c e) = told_TriesToLock told (other_mover t _ Fresh c refl) e
 told_Effect t ok told (unlock m c e) = told_Unlocks ok told c e
-told_Effect t ok told (consistent m c e) = told_MakesConsistent told (other_mover t (Consistent m) Fresh c refl) e
-told_Effect t ok told (set_prio n p c e) = told_SetsPriority told c e
+told_Effect t ok told (consistent m c e) = told_MakesConsistent told (other_mover t _ Fresh c refl) e
+told_Effect t ok told (set_prio n p c e) = told_SetsPriority told (other_mover t _ Fresh c refl) e
 told_Effect t ok told (check_wait k m c e) = told_ChecksWait told c e
 told_Effect t ok told (enlist k m c e) = told_unroused t (Wait k m) Checked (Enlisted true) told c refl e
 told_Effect t ok told (give_up k m still c e) = told_GivesUp k ok told c e

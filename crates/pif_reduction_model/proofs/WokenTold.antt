@@ -4,7 +4,7 @@ use Rattle.std.proofs.Common.{ℕ, ◌≡◌, ◌≢◌, ◌⊎◌, ◌∙◌, �
 use Rattle.std.proofs.lemmas.Bool.{true≢false, cases_eq, cases_lt}
 use Rattle.std.proofs.lemmas.List.{get_or-set_same, get_or-set_other, get_or_past, set_past}
 use Rattle.pif_types.specs.declared.requests.Request.{Request}
-use Rattle.pif_types.specs.declared.requests.Request.TheVariants.{Lock, TryLock, Unlock, Consistent, Wait, Signal, Broadcast, SetPrio, TimedLock, TimedWait}
+use Rattle.pif_types.specs.declared.requests.Request.TheVariants.{Wait, TimedWait}
 use Rattle.pif_model.specs.Deadlines.{plain}
 use Rattle.pif_model.specs.Posix.{World, Thread, Progress, nobody, thread_at, at_progress, with_thread, HasCome, Comes}
 use Rattle.pif_model.specs.World.Progress.{Waiting, Stuck, Leaving, Has, Enlisted, Reacquiring}
@@ -70,16 +70,8 @@ woken_before q p o x roused e =
 
 -- a deadline doesn't change which variable is waited for
 pub waited_plain : (q : Request) → waited_variable (plain q) ≡ waited_variable q
-waited_plain (Wait c m) = refl
 waited_plain (TimedWait c m d) = refl
-waited_plain (Lock m) = refl
-waited_plain (TryLock m) = refl
-waited_plain (Unlock m) = refl
-waited_plain (Consistent m) = refl
-waited_plain (Signal c) = refl
-waited_plain (Broadcast c) = refl
-waited_plain (SetPrio u p) = refl
-waited_plain (TimedLock m d) = refl
+waited_plain _ = refl
 
 -- these lines tell of t's open call, whose plain request is q. If it is a woken wait, they tell how it may have been
 pub record IsTold (lines : List Line) (t : ℕ) (q : Request) (woken : Bool) : Type 0 where
