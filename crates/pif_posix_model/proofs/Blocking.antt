@@ -7,6 +7,7 @@ use Rattle.pif_types.specs.declared.requests.Request.{Request}
 use Rattle.pif_types.specs.declared.requests.Request.TheVariants.{Wait}
 use Rattle.pif_model.specs.declared.events.Entry.{Entry}
 use Rattle.pif_model.specs.Deadlines.{ran_out}
+use Rattle.pif_model.specs.Projection.{is_wait}
 use Rattle.pif_model.specs.Posix.{World, Thread, Call, Progress, Health, nobody, HasCome, Effect, Effects, Expires, Moves, Locks, LocksAgain, TriesToLock, Passes, Unlocks, MakesConsistent, SetsPriority, ChecksWait, GivesUp, Uses, Chooses, Releases, Step, IsRun, with_call_by, with_thread, with_progress, at_progress, after_waits, without_call, after_unblocking, on_unblocking, on_taking, taken, used, after_use, is_newly_blocked, all_unblocked, after_timeout, with_base, new_thread, begun_thread, mutex_at, without_waiter, thread_at}
 use Rattle.pif_model.specs.Posix.Locks.{own_normal, own_errorcheck, own_recursive as lock_own_recursive, free as lock_free, orphaned as lock_orphaned, cycle, joins}
 use Rattle.pif_model.specs.Posix.LocksAgain.{rises, at_limit}
@@ -30,11 +31,6 @@ use Rattle.pif_model.specs.World.Progress.{Fresh, Waiting, Stuck, Has, Checked, 
 use Rattle.pif_model_lemmas.proofs.Places.{kept_at}
 use Rattle.pif_model_lemmas.proofs.Waiting.{by_test}
 use Rattle.pif_model_simulation.proofs.runs.Worlds.{call_of, push_same}
-
--- whether a request is a wait
-abbrev is_wait : Request → Bool
-is_wait (Wait c m) = true
-is_wait _ = false
 
 -- whether a call that has come this far is blocked, or is about to be
 abbrev is_blocking : Progress → Bool

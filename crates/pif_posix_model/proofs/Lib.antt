@@ -15,6 +15,7 @@ pub mod Splits
 pub mod Reaching
 pub mod Passing
 pub mod Ending
+pub mod Remembering
 pub mod AlikeThreads
 pub mod AlikeMoves
 pub mod AlikeEntries
