@@ -17,8 +17,6 @@ pub fn would_close(owners: &RtMutexes, table: &NodeTable, t: Tid, owner: Tid) ->
     ensures reached { IsTrue result ↔ Reaches (WaitsFor (owners_in owners.now table.now)) owner t }
     ensures path { (us : List ℕ) → IsPath (waits_for (owners_in owners.now table.now)) owner us → IsTrue result ↔ (has t us ≡ true) }
 {
-    // For the prover: a thread has a number from 1.
-    let _number = owner.get();
     let mut at = owner;
     for _hop in 0..owners.threads() + 1 {
         if at.get() == t.get() {

@@ -20,8 +20,6 @@ pub fn path(owners: &RtMutexes, table: &NodeTable, start: Tid) -> ArrayVec<Tid, 
     let mut passed = ArrayVec::new();
     let mut next = Some(start);
     while let Some(at) = next {
-        // For the prover: a thread has a number from 1.
-        let _number = at.get();
         passed.push(at);
         next = awaited(owners, table, at);
     }

@@ -1,4 +1,4 @@
-use Rattle.std.proofs.Common.{refl, sym, ◌∙◌, arith}
+use Rattle.std.proofs.Common.{refl, sym, ◌∙◌, arith, rules}
 use Rattle.std.proofs.lemmas.Bool.{false≢true}
 use Rattle.pif_model.specs.Graph.{Reaches}
 use Rattle.pif_kernel_model.specs.Owners.{WaitsFor}
@@ -16,7 +16,7 @@ returns-then-get c =
       reached = (λ _. found, λ _. refl);
       path = λ us p. (
         λ _. stands (owners_in c.args.owners.now c.args.table.now) c.args.owner c.args.t found
-            (omega (arith, c.get-number.ensures.range)) us p,
+            (search rules) us p,
         λ _. refl,
       );
     }
