@@ -117,8 +117,6 @@ impl Chains for LinkedChains {
     }
 
     fn enqueue(&mut self, key: Key, t: Tid, prio: Prio, ticket: u64) {
-        // For the prover: a thread has a number from 1.
-        let _number = t.get();
         self.owners.enqueue(&mut self.table, key, t, prio, ticket);
     }
 
@@ -141,9 +139,6 @@ impl Chains for LinkedChains {
     }
 
     fn park(&mut self, t: Tid, c: CondId, m: MutexId) {
-        // For the prover: a thread and a variable have a number from 1.
-        let _number = t.get();
-        let _variable = c.get();
         let ticket = take_ticket(&mut self.buckets, &mut self.table, &mut self.next);
         let prio = self.owners.local(&self.table, t).unwrap();
         self.buckets.park(&mut self.table, t, c, m, prio, ticket);
@@ -160,8 +155,6 @@ impl Chains for LinkedChains {
     }
 
     fn nth_parked(&self, c: CondId, place: u32) -> Option<Tid> {
-        // For the prover: a variable has a number from 1.
-        let _number = c.get();
         self.buckets.nth_parked(&self.table, c, place)
     }
 
@@ -170,8 +163,6 @@ impl Chains for LinkedChains {
     }
 
     fn add(&mut self, t: Tid, prio: Prio) {
-        // For the prover: a thread has a number from 1.
-        let _number = t.get();
         self.queue.add(&mut self.table, t, prio);
     }
 

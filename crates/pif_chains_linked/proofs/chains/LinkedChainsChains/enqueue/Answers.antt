@@ -1,4 +1,4 @@
-use Rattle.std.proofs.Common.{false, ◌≡◌, ◌<◌, ℕ, IsSome, Some, None, length, subst, sym, ap, ◌∙◌, arith}
+use Rattle.std.proofs.Common.{false, ◌≡◌, ◌<◌, ℕ, IsSome, Some, None, length, subst, sym, ap, ◌∙◌, arith, rules}
 use Rattle.pif_model.specs.Graph.{Reaches}
 use Rattle.pif_kernel_model.specs.Owners.{owner_at, waits_on, WaitsFor, with_wait}
 use Rattle.pif_kernel_model.specs.States.{owners_in}
@@ -21,7 +21,7 @@ enqueue-requires-clause-node c =
     let row : c.args.t < length (owners_in c.self.inside.owners c.self.inside.table).seats =
     subst (λ (x : Chained). c.args.t < length x.owners.seats) (sym c.self.view_is) c.requires.row in
     idle_node c.self.inside.owners c.self.inside.queue c.self.inside.buckets c.self.inside.table c.self.invariant.stand c.args.t (
-      omega (arith, c.get-number.ensures.value, c.get-number.ensures.range),
+      search rules,
       omega (
         arith,
         row,

@@ -1,4 +1,4 @@
-use Rattle.std.proofs.Common.{◌≡◌, ◌⊎◌, ◌<◌, ◌≤◌, ℕ, List, sym, ap, ◌∙◌, inl, inr, arith}
+use Rattle.std.proofs.Common.{◌≡◌, ◌⊎◌, ◌<◌, ◌≤◌, ℕ, List, sym, ap, ◌∙◌, inl, inr, rules}
 use Rattle.std.proofs.lemmas.Bool.{cases_lt}
 use Rattle.std.specs.List.{slice_get}
 use Rattle.pif_model.specs.Graph.{waiting_order}
@@ -25,7 +25,7 @@ returns c =
         (local_of (owners_in c.self.inside.owners c.self.inside.table)) c.self.invariant.parked.ranked c.args.c past))
     by_cond (inr few) =
         let is : IsCond c.self.inside.buckets.parked c.args.c
-        = (omega (arith, c.get-number.ensures.value, c.get-number.ensures.range), few) in
+        = (search rules, few) in
         c.nth_parked.ensures.on is
         ∙ ap (λ (xs : List ℕ). slice_get xs c.args.place) (order_seen c.self.inside.buckets.parked c.self.inside.table c.self.inside.next c.self.invariant.stand.buckets.parked.stand c.self.invariant.parked.parked
         (local_of (owners_in c.self.inside.owners c.self.inside.table)) c.self.invariant.parked.ranked c.args.c is)

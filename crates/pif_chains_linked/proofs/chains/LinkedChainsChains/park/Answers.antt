@@ -1,4 +1,4 @@
-use Rattle.std.proofs.Common.{◌≡◌, ◌<◌, ◌≤◌, ◌++◌, ℕ, false, [], ◌∷◌, length, Option, None, IfSome, subst, sym, ap, ◌∙◌, arith}
+use Rattle.std.proofs.Common.{◌≡◌, ◌<◌, ◌≤◌, ◌++◌, ℕ, false, [], ◌∷◌, length, Option, None, IfSome, subst, sym, ap, ◌∙◌, arith, rules}
 use Rattle.pif_model.specs.PiKernel.{parked_pairs}
 use Rattle.pif_kernel_model.specs.Owners.{waits_on}
 use Rattle.pif_kernel_model.specs.States.{owners_in}
@@ -24,7 +24,7 @@ take_ticket-ticket-requires-clause-few c =
 pub unwrap-prio-requires : goal.unwrap-prio-requires
 unwrap-prio-requires c =
     c.local.ensures.given.1 (ticket_admitted c.self.inside.owners c.self.inside.queue c.self.inside.buckets c.self.inside.table c.self.inside.next c.self.invariant c.args.t
-    (omega (arith, c.get-number.ensures.value, c.get-number.ensures.range))
+    (search rules)
     (subst (λ (x : Chained). c.args.t < length x.owners.seats) (sym c.self.view_is) c.requires.row)
     (subst (λ (x : Chained). waits_on x.owners c.args.t ≡ None) (sym c.self.view_is) c.requires.free)
     (subst (λ (x : Chained). is_named c.args.t (parked_pairs x.parked) ≡ false) (sym c.self.view_is) c.requires.unparked)
@@ -37,7 +37,7 @@ unwrap-prio-requires c =
 pub park-requires-clause-thread : goal.park-requires-clause-thread
 park-requires-clause-thread c =
     ticket_thread c.self.inside.owners c.self.inside.queue c.self.inside.buckets c.self.inside.table c.self.inside.next c.self.invariant c.args.t
-    (omega (arith, c.get-number.ensures.value, c.get-number.ensures.range))
+    (search rules)
     (subst (λ (x : Chained). c.args.t < length x.owners.seats) (sym c.self.view_is) c.requires.row)
     (subst (λ (x : Chained). waits_on x.owners c.args.t ≡ None) (sym c.self.view_is) c.requires.free)
     (subst (λ (x : Chained). is_named c.args.t (parked_pairs x.parked) ≡ false) (sym c.self.view_is) c.requires.unparked)
@@ -50,7 +50,7 @@ park-requires-clause-thread c =
 pub park-requires-clause-node : goal.park-requires-clause-node
 park-requires-clause-node c =
     ticket_node c.self.inside.owners c.self.inside.queue c.self.inside.buckets c.self.inside.table c.self.inside.next c.self.invariant c.args.t
-    (omega (arith, c.get-number.ensures.value, c.get-number.ensures.range))
+    (search rules)
     (subst (λ (x : Chained). c.args.t < length x.owners.seats) (sym c.self.view_is) c.requires.row)
     (subst (λ (x : Chained). waits_on x.owners c.args.t ≡ None) (sym c.self.view_is) c.requires.free)
     (subst (λ (x : Chained). is_named c.args.t (parked_pairs x.parked) ≡ false) (sym c.self.view_is) c.requires.unparked)
@@ -68,7 +68,7 @@ invariant_of-self c =
     subst (λ (n : ℕ). IsLinked c.self.inside.owners c.self.inside.queue c.park.new.self c.park.new.table n)
     (sym c.take_ticket-ticket.ensures.next)
     (linked_park c.self.inside.owners c.self.inside.queue c.self.inside.buckets c.self.inside.table c.self.inside.next c.self.invariant c.args.t
-    (omega (arith, c.get-number.ensures.value, c.get-number.ensures.range))
+    (search rules)
     (subst (λ (x : Chained). c.args.t < length x.owners.seats) (sym c.self.view_is) c.requires.row)
     (subst (λ (x : Chained). waits_on x.owners c.args.t ≡ None) (sym c.self.view_is) c.requires.free)
     (subst (λ (x : Chained). is_named c.args.t (parked_pairs x.parked) ≡ false) (sym c.self.view_is) c.requires.unparked)
@@ -77,14 +77,14 @@ invariant_of-self c =
     c.take_ticket-ticket.ensures.numbered c.take_ticket-ticket.ensures.order c.take_ticket-ticket.ensures.same
     c.take_ticket-ticket.ensures.words c.take_ticket-ticket.ensures.place c.take_ticket-ticket.ensures.outside
     c.take_ticket-ticket.ensures.holds c.args.c c.args.m c.unwrap-prio.result
-    (omega (arith, c.get-variable.ensures.value, c.get-variable.ensures.range))
+    (search rules)
     (omega (arith, c.local.ensures.most, ranked c)) (ranked c) c.park.new.self c.park.new.table c.park.ensures.parked
     c.park.ensures.words c.park.ensures.place c.park.ensures.outside c.park.ensures.holds)
 
 pub returns-clause-owners : goal.returns-clause-owners
 returns-clause-owners c =
     park_owners c.self.inside.owners c.self.inside.queue c.self.inside.buckets c.self.inside.table c.self.inside.next c.self.invariant c.args.t
-    (omega (arith, c.get-number.ensures.value, c.get-number.ensures.range))
+    (search rules)
     (subst (λ (x : Chained). c.args.t < length x.owners.seats) (sym c.self.view_is) c.requires.row)
     (subst (λ (x : Chained). waits_on x.owners c.args.t ≡ None) (sym c.self.view_is) c.requires.free)
     (subst (λ (x : Chained). is_named c.args.t (parked_pairs x.parked) ≡ false) (sym c.self.view_is) c.requires.unparked)
@@ -93,7 +93,7 @@ returns-clause-owners c =
     c.take_ticket-ticket.ensures.numbered c.take_ticket-ticket.ensures.order c.take_ticket-ticket.ensures.same
     c.take_ticket-ticket.ensures.words c.take_ticket-ticket.ensures.place c.take_ticket-ticket.ensures.outside
     c.take_ticket-ticket.ensures.holds c.args.c c.args.m c.unwrap-prio.result
-    (omega (arith, c.get-variable.ensures.value, c.get-variable.ensures.range))
+    (search rules)
     (omega (arith, c.local.ensures.most, ranked c)) (ranked c) c.park.new.self c.park.new.table c.park.ensures.parked
     c.park.ensures.words c.park.ensures.place c.park.ensures.outside c.park.ensures.holds
     ∙ ap (λ (x : Chained). x.owners) c.self.view_is
@@ -103,7 +103,7 @@ returns-clause-kept c =
     subst (λ (x : Chained). KeepsLevels (record x { parked = x.parked ++ record { thread = c.args.t; cond = c.args.c; target = c.args.m } ∷ [] })
     (linked c.self.inside.owners c.self.inside.queue c.park.new.self c.park.new.table)) c.self.view_is
     (park_kept c.self.inside.owners c.self.inside.queue c.self.inside.buckets c.self.inside.table c.self.inside.next c.self.invariant c.args.t
-    (omega (arith, c.get-number.ensures.value, c.get-number.ensures.range))
+    (search rules)
     (subst (λ (x : Chained). c.args.t < length x.owners.seats) (sym c.self.view_is) c.requires.row)
     (subst (λ (x : Chained). waits_on x.owners c.args.t ≡ None) (sym c.self.view_is) c.requires.free)
     (subst (λ (x : Chained). is_named c.args.t (parked_pairs x.parked) ≡ false) (sym c.self.view_is) c.requires.unparked)
@@ -112,6 +112,6 @@ returns-clause-kept c =
     c.take_ticket-ticket.ensures.numbered c.take_ticket-ticket.ensures.order c.take_ticket-ticket.ensures.same
     c.take_ticket-ticket.ensures.words c.take_ticket-ticket.ensures.place c.take_ticket-ticket.ensures.outside
     c.take_ticket-ticket.ensures.holds c.args.c c.args.m c.unwrap-prio.result
-    (omega (arith, c.get-variable.ensures.value, c.get-variable.ensures.range))
+    (search rules)
     (omega (arith, c.local.ensures.most, ranked c)) (ranked c) c.park.new.self c.park.new.table c.park.ensures.parked
     c.park.ensures.words c.park.ensures.place c.park.ensures.outside c.park.ensures.holds)
