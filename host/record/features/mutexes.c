@@ -111,6 +111,38 @@ static void owners_end(void)
     pthread_mutex_lock(&robust);
 }
 
+/* As programs name them that were linked with an older glibc; on other machines the versions have other numbers. */
+#ifdef __x86_64__
+__asm__(".symver old_init, __pthread_mutex_init@GLIBC_2.2.5");
+__asm__(".symver old_lock, __pthread_mutex_lock@GLIBC_2.2.5");
+__asm__(".symver old_trylock, __pthread_mutex_trylock@GLIBC_2.2.5");
+__asm__(".symver old_unlock, __pthread_mutex_unlock@GLIBC_2.2.5");
+__asm__(".symver old_destroy, __pthread_mutex_destroy@GLIBC_2.2.5");
+__asm__(".symver old_consistent, pthread_mutex_consistent_np@GLIBC_2.4");
+int old_init(pthread_mutex_t *, const pthread_mutexattr_t *);
+int old_lock(pthread_mutex_t *), old_trylock(pthread_mutex_t *), old_unlock(pthread_mutex_t *);
+int old_destroy(pthread_mutex_t *), old_consistent(pthread_mutex_t *);
+#else
+#define old_init pthread_mutex_init
+#define old_lock pthread_mutex_lock
+#define old_trylock pthread_mutex_trylock
+#define old_unlock pthread_mutex_unlock
+#define old_destroy pthread_mutex_destroy
+#define old_consistent pthread_mutex_consistent
+#endif
+
+static void old_names(void)
+{
+    static pthread_mutex_t mutex;
+
+    old_init(&mutex, NULL);
+    old_lock(&mutex);
+    old_trylock(&mutex);
+    old_consistent(&mutex);
+    old_unlock(&mutex);
+    old_destroy(&mutex);
+}
+
 static void initialised_again(void)
 {
     static pthread_mutex_t mutex;
@@ -138,6 +170,7 @@ const Feature mutex_features[] = {
     {"inheriting_alone", "a plain mutex beside one that inherits", plain_and_inheriting},
     {"timed_locks", "deadlines on both clocks, reached, past and far", timed_locks},
     {"bad_times", "calls with a timespec that is none", bad_times},
+    {"old_names", "the names that older glibcs had", old_names},
     {"owners_end", "threads that end while they hold a robust mutex", owners_end},
     {"initialised_again", "an address with one object after another", initialised_again},
     {NULL, NULL, NULL},

@@ -63,3 +63,8 @@ int pthread_mutex_clocklock(pthread_mutex_t *mutex, clockid_t clock, const struc
     answer_call(call, answer);
     return answer;
 }
+
+OLD_NAME("__pthread_mutex_lock", pthread_mutex_lock);
+OLD_NAME("__pthread_mutex_trylock", pthread_mutex_trylock);
+OLD_NAME("__pthread_mutex_unlock", pthread_mutex_unlock);
+OLD_NAME("pthread_mutex_consistent_np", pthread_mutex_consistent);

@@ -214,6 +214,9 @@ int pthread_mutex_destroy(pthread_mutex_t *mutex)
     return answer;
 }
 
+OLD_NAME("__pthread_mutex_init", pthread_mutex_init);
+OLD_NAME("__pthread_mutex_destroy", pthread_mutex_destroy);
+
 static void add_initialised_variable(pthread_cond_t *variable, const pthread_condattr_t *attributes)
 {
     int shared = PTHREAD_PROCESS_PRIVATE;

@@ -9,6 +9,9 @@
 #include <stdint.h>
 #include <time.h>
 
+/* Another name of a call, by which programs of older glibcs make it. */
+#define OLD_NAME(old, name) extern __typeof__(name) old_##name __asm__(old) __attribute__((alias(#name), copy(name)))
+
 typedef enum {
     CALL_LOCK,
     CALL_TRYLOCK,
