@@ -75,7 +75,7 @@ held-from_sleeps None h = h
 held-from_sleeps (Some c) h = rw h refl
 
 -- who is among all waiters is among those of a mutex
-among-from_named : (ws : List (ℕ × ℕ)) (t : ℕ) → list_any (λ p. p.0 == t) ws ≡ true → (m : ℕ) × (is_among ws t m ≡ true)
+pub among-from_named : (ws : List (ℕ × ℕ)) (t : ℕ) → list_any (λ p. p.0 == t) ws ≡ true → (m : ℕ) × (is_among ws t m ≡ true)
 among-from_named [] t h = absurd (true≢false (sym h))
 among-from_named (p ∷ ws) t h = go (cases_eq p.0 t) (among-from_named ws t)
   where
