@@ -1,10 +1,11 @@
 -- A thread is unblocked by a use of the variable that it waits for, or runs out of time.
-use Rattle.std.proofs.Common.{ℕ, ◌≡◌, ◌∙◌, ◌==◌, ◌||◌, true, false, List, [], ◌∷◌, Option, Some, None, refl, sym, ap, subst, eqb-true, if◌then◌else◌}
+use Rattle.std.proofs.Common.{ℕ, ◌≡◌, ◌∙◌, ◌==◌, ◌||◌, true, false, List, [], ◌∷◌, Option, Some, None, unwrap_or, refl, sym, ap, subst, eqb-true, if◌then◌else◌}
 use Rattle.std.specs.List.{list_any}
 use Rattle.std.proofs.lemmas.Bool.{true≢false, eq-eqb}
 use Rattle.std.proofs.Math.ListN.{get_or-map}
 use Rattle.pif_types.specs.declared.requests.Request.{Request}
-use Rattle.pif_types.specs.declared.requests.Request.TheVariants.{Wait, TimedWait}
+use Rattle.pif_types.specs.Shapes.{Shape, shape_of, waits, names}
+use Rattle.pif_types.specs.Shapes.Shape.{Awaits}
 use Rattle.pif_model.specs.Deadlines.{ran_out}
 use Rattle.pif_model.specs.Posix.{World, Thread, Call, Progress, nobody, thread_at, at_progress, with_progress, with_call_by, with_base, after_unblocking, on_unblocking, after_use, after_timeout, all_unblocked, used, variable_of, is_idle, is_blocked, is_newly_blocked, is_call_blocked}
 use Rattle.pif_model_lemmas.proofs.Places.{kept_at}
@@ -22,9 +23,8 @@ pub record IsInUse (lines : List Line) (o : Option Request) : Type 0 where
   pub each : (q : Request) (c : ℕ) → o ≡ Some q → waited_variable q ≡ Some c → HasOpenUse c lines
 
 -- a wait names the variable for which it waits
-waited_is_named : (q : Request) (c : ℕ) → waited_variable q ≡ Some c → variable_of q ≡ c
-waited_is_named (Wait d m) c e = cc
-waited_is_named (TimedWait d m k) c e = cc
+waited_is_named : (s : Shape) (c : ℕ) → waits s ≡ Some c → unwrap_or (names s).cond 0 ≡ c
+waited_is_named (Awaits d m k) c e = cc
 waited_is_named _ c e = absurd (cc)
 
 -- who is blocked on a variable in use waits for one
@@ -43,7 +43,7 @@ in_use-from_blocked lines c (Some x) i e =
     same : (q : Request) (d : ℕ) → Some x.request ≡ Some q → waited_variable q ≡ Some d → d ≡ c
     same q d is waits =
         let asked : x.request ≡ q = cc in
-        sym (waited_is_named x.request d (ap waited_variable asked ∙ waits)) ∙ named
+        sym (waited_is_named (shape_of x.request) d (ap waited_variable asked ∙ waits)) ∙ named
 
 -- so is who is newly blocked
 in_use-from_newly : (lines : List Line) (c : ℕ) (o : Option Call) → HasOpenUse c lines → is_newly_blocked c o ≡ true

@@ -1,11 +1,12 @@
 -- Behind a move the lines that were shown still tell of each open call.
-use Rattle.std.proofs.Common.{ℕ, ◌≡◌, ◌≢◌, ◌⊎◌, ◌∙◌, ◌<◌, ◌≤◌, List, length, Option, None, Bool, true, false, refl, sym, ap, subst, inl, inr}
+use Rattle.std.proofs.Common.{ℕ, ◌≡◌, ◌≢◌, ◌==◌, ◌⊎◌, ◌∙◌, ◌<◌, ◌≤◌, List, length, Option, None, Bool, true, false, refl, sym, ap, subst, inl, inr, if◌then◌else◌}
 use Rattle.std.proofs.lemmas.Bool.{true≢false, eq-eqb, cases_lt}
 use Rattle.std.proofs.lemmas.List.{get_or-set_same, get_or_past}
 use Rattle.pif_types.specs.declared.requests.Request.{Request}
-use Rattle.pif_types.specs.declared.requests.Request.TheVariants.{Lock, Unlock, Wait, Signal, Broadcast, TimedWait}
+use Rattle.pif_types.specs.declared.requests.Request.TheVariants.{Lock, Unlock, Wait, TimedWait}
 use Rattle.pif_model.specs.Deadlines.{plain}
 use Rattle.pif_model.specs.NamedNumbers.{EPERM, ESRCH, EAGAIN, EBUSY, EINVAL, EDEADLK, EOVERFLOW, ETIMEDOUT, ENOTRECOVERABLE}
+use Rattle.pif_model.specs.Projection.{is_wait}
 use Rattle.pif_model.specs.Posix.{World, Thread, Mutex, Progress, on_taking, nobody, thread_at, mutex_at, with_progress, with_mutex, with_waiter, without_waiter, with_base, is_newly_blocked, is_use, variable_of, used, after_timeout, effective_of, taken, on_release, HasCome, Comes, IsBlocked, Locks, LocksAgain, TriesToLock, Passes, Unlocks, MakesConsistent, SetsPriority, ChecksWait, GivesUp, Uses, Chooses, Effect, Expires}
 use Rattle.pif_model.specs.World.Progress.{Fresh, Waiting, Stuck, Leaving, Has, Checked, Enlisted, Blocked, Reacquiring, Used}
 use Rattle.pif_model.specs.Posix.Locks.{own_normal, own_errorcheck, own_recursive as lock_own_recursive, free as lock_free, orphaned as lock_orphaned, cycle, joins}
@@ -30,7 +31,7 @@ use Rattle.pif_posix_model.specs.Once.Acts.{effect, expires, notes}
 use Rattle.pif_reduction_model.proofs.Leading.{AreWaiting, call_used}
 use Rattle.pif_history_model.specs.declared.lines.Line.{Line}
 use Rattle.pif_reduction_model.specs.Wakeups.{is_use_of, HasOpenUse}
-use Rattle.pif_reduction_model.proofs.WokenTold.{AreTold, Mover, is_wait, is_roused, not_expired, unroused_not_woken, told_comes, told_moves, told_same}
+use Rattle.pif_reduction_model.proofs.WokenTold.{AreTold, Mover, is_roused, not_expired, unroused_not_woken, told_comes, told_moves, told_same}
 use Rattle.pif_reduction_model.proofs.Unblocking.{IsInUse, in_use-from_blocked, progress_request, told_all_unblocked, told_base, told_timeout, told_unblocked, told_uses}
 
 -- WHO MOVES
@@ -166,15 +167,17 @@ told_GivesUp {t = t} {m = m} {still = still} k ok told c (wait_released o i e) =
     told_passes_on _ t (Wait k m) (Enlisted still) (on_release still) ok c (λ n. absurd (cc))
     (told_releases t k m still told c refl) e
 
+-- a signal or a broadcast waits for nothing
 use_waits_not : (q : Request) → is_use q ≡ true → is_wait q ≡ false
 use_waits_not (Wait c m) e = sym e
 use_waits_not _ e = refl
 
+-- it uses the variable that it names
 use_of_its_own : (q : Request) → is_use q ≡ true → is_use_of (variable_of q) q ≡ true
-use_of_its_own (Signal c) e = eq-eqb c c refl
-use_of_its_own (Broadcast c) e = eq-eqb c c refl
-use_of_its_own _ e = e
+use_of_its_own q e =
+    ap (λ b. if b then variable_of q == variable_of q else false) e ∙ eq-eqb (variable_of q) (variable_of q) refl
 
+-- a deadline doesn't change which variable is used
 use_plain : (c : ℕ) (q : Request) → is_use_of c (plain q) ≡ is_use_of c q
 use_plain c (TimedWait d m k) = refl
 use_plain c _ = refl

@@ -4,8 +4,9 @@ use Rattle.std.proofs.Common.{ℕ, ◌≡◌, ◌≢◌, ◌⊎◌, ◌∙◌, �
 use Rattle.std.proofs.lemmas.Bool.{true≢false, cases_eq, cases_lt}
 use Rattle.std.proofs.lemmas.List.{get_or-set_same, get_or-set_other, get_or_past, set_past}
 use Rattle.pif_types.specs.declared.requests.Request.{Request}
-use Rattle.pif_types.specs.declared.requests.Request.TheVariants.{Wait, TimedWait}
+use Rattle.pif_types.specs.declared.requests.Request.TheVariants.{TimedWait}
 use Rattle.pif_model.specs.Deadlines.{plain}
+use Rattle.pif_model.specs.Projection.{is_wait}
 use Rattle.pif_model.specs.Posix.{World, Thread, Progress, nobody, thread_at, at_progress, with_thread, HasCome, Comes}
 use Rattle.pif_model.specs.World.Progress.{Waiting, Stuck, Leaving, Has, Enlisted, Reacquiring}
 use Rattle.pif_model_lemmas.proofs.Waiting.{by_test}
@@ -15,11 +16,6 @@ use Rattle.pif_reduction_model.specs.Wakeups.{waited_variable, open_request, Has
 use Rattle.pif_reduction_model.proofs.Opening.{woken_by_use}
 
 -- WHO WAS WOKEN
-
--- whether a request waits for a variable
-abbrev pub is_wait : Request → Bool
-is_wait (Wait c m) = true
-is_wait q = false
 
 -- whether a wait that has come so far is blocked no more, and may still be answered 0
 abbrev pub is_roused : Progress → Bool

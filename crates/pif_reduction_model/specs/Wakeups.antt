@@ -2,21 +2,18 @@
 -- together with them. Lines are listed newest first.
 use Rattle.std.specs.Prelude.{ℕ, ◌≡◌, ◌==◌, Bool, true, false, List, [], ◌∷◌, Option, Some, None, if◌then◌else◌}
 use Rattle.pif_types.specs.declared.requests.Request.{Request}
-use Rattle.pif_types.specs.declared.requests.Request.TheVariants.{Wait, Signal, Broadcast, TimedWait}
+use Rattle.pif_types.specs.Shapes.{shape_of, waits}
+use Rattle.pif_model.specs.Posix.{is_use, variable_of}
 use Rattle.pif_history_model.specs.declared.lines.Line.{Line}
 use Rattle.pif_history_model.specs.declared.lines.Line.TheVariants.{Begin, Answer}
 
 -- the variable that a request waits for, if it is a wait
 abbrev pub waited_variable : Request → Option ℕ
-waited_variable (Wait c m) = Some c
-waited_variable (TimedWait c m d) = Some c
-waited_variable q = None
+waited_variable q = waits (shape_of q)
 
 -- whether a request signals or broadcasts c
 abbrev pub is_use_of : ℕ → Request → Bool
-is_use_of c (Signal d) = d == c
-is_use_of c (Broadcast d) = d == c
-is_use_of c q = false
+is_use_of c q = if is_use q then variable_of q == c else false
 
 -- the request of t's open call behind one more line, if that was it before
 abbrev pub request_after : ℕ → Line → Option Request → Option Request
