@@ -6,7 +6,7 @@
 //! | `find_run_allowing` | a witness, if a guided search finds one |
 //! | `possible_answers_allowing`, `possible_priorities_allowing` | with which answers, or priorities, a line would be shown |
 //!
-//! The searches are `find` and `judge` of `pif_search`, over the states of `pif_posix_rules`. The first is guided by what
+//! The searches are `find` and `judge` of `pif_search`, over the states of `pif_posix`. The first is guided by what
 //! later lines say, and finds witnesses alone; the second is exact. What is legal without rules is legal with them, so
 //! the guided search of `pif_history` comes before both.
 #![tactic(auto)]

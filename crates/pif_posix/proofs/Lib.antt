@@ -7,3 +7,4 @@ pub mod Matching
 pub mod Nobody
 pub mod Results
 pub mod Waits
+pub mod Listed

@@ -1,3 +1,5 @@
 pub mod Choices
 pub mod Results
 pub mod Shapes
+pub mod Beside
+pub mod Moving

@@ -1,4 +1,5 @@
-//! The POSIX machine as a program: its state, and where one move of a thread or one entry of a history leads.
+//! The POSIX machine as a program: its state, and where one move of a thread or one entry of a history leads, also by
+//! rules that allow what implementations do otherwise.
 #![tactic(auto)]
 
 mod acts;
@@ -10,19 +11,29 @@ mod choices;
 mod copies;
 mod ends;
 mod entries;
+mod health;
 mod keys;
+mod locks;
+mod lost;
 mod moves;
 mod mutexes;
+mod next;
 mod parts;
 mod playing;
 mod progress;
 mod readers;
 mod refusals;
 mod requests;
+mod rule;
+mod ruled_entries;
+mod ruled_moves;
 mod same;
 mod state;
 mod variables;
 mod waiting;
+mod wakes;
+mod wide;
+mod wide_lists;
 
 pub use keys::mixed;
 pub use mutexes::MOST_HOLDS;
@@ -30,3 +41,4 @@ pub use parts::{Lockable, Signalled, Task};
 pub use progress::{Call, Progress};
 pub use requests::{named_by, reported_result, variable_of};
 pub use state::State;
+pub use wide::Wide;

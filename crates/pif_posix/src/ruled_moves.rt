@@ -1,0 +1,130 @@
+ghost use Rattle.std.specs.Prelude.{◌≡◌, ◌==◌, ◌<◌, ℕ, length, All, Contains, IfOk};
+ghost use Rattle.std.specs.List.{list_any};
+ghost use Rattle.pif_model.specs.World.{with_progress};
+ghost use Rattle.pif_model.specs.World.Progress.{Has};
+ghost use Rattle.pif_rules_model.specs.Rules.{Wide as Widened, WideMoves, without_one};
+ghost use Rattle.pif_rules_model.specs.Ruled.{one_if, by_recursion, signal_lost, moved_by_rule, widely_moved};
+ghost use Rattle.pif_posix.specs.Moving.{moved_by};
+
+use crate::Progress;
+use crate::health::mended_by_any;
+use crate::locks::{locked_beyond, stolen_by, tried_own};
+use crate::lost::{is_lost, without_one};
+use crate::next::signalled_next;
+use crate::rule::{EACH_RULE, Rule};
+use crate::wakes::{any_woken, waiting_held, woken_by_itself};
+use crate::wide::Wide;
+use crate::wide_lists::{append, joined};
+use pif_rules_model::Rules;
+use pif_search::{Stop, one};
+use std::alloc::Global;
+
+/// Where moves lead, by the plain machine and by rules.
+impl Wide {
+    /// The state once a signal of a thread on a variable is lost; none if it can't be lost.
+    fn signal_lost_on(&self, alloc: Global, thread: u32, variable: u32) -> Result<Vec<Wide>, Stop>
+        requires { thread < length self.now.world.threads }
+        ensures { IfOk result (λ v. v.items ≡ one_if (list_any (λ x. x == variable) self.now.lost) (record { world = with_progress thread (Has 0) self.now.world; lost = without_one variable self.now.lost })) }
+    {
+        if !is_lost(self.lost.as_slice(), variable) {
+            return Ok(Vec::new(alloc));
+        }
+        let mut state = self.state.copied(alloc)?;
+        state.set_progress(thread as usize, Progress::Has(0));
+        let lost = without_one(alloc, variable, self.lost.as_slice())?;
+        one(alloc, Wide { state, lost })
+    }
+
+    /// The state once a signal of a thread is lost; none if it can't be lost.
+    fn signal_lost(&self, alloc: Global, thread: u32) -> Result<Vec<Wide>, Stop>
+        requires { thread < length self.now.world.threads }
+        ensures { IfOk result (λ v. v.items ≡ signal_lost thread self.now) }
+    {
+        match signalled_next(&self.state, thread as usize) {
+            None => Ok(Vec::new(alloc)),
+            Some(variable) => self.signal_lost_on(alloc, thread, variable),
+        }
+    }
+
+    /// By `recursion`: the thread locks a recursive mutex beyond 255 holds, or is refused.
+    fn locked_beyond(
+        &self,
+        alloc: Global,
+        thread: u32,
+        most: Option<u32>,
+    ) -> Result<Vec<Wide>, Stop>
+        requires { thread < length self.now.world.threads }
+        ensures { IfOk result (λ v. v.items ≡ by_recursion most thread self.now) }
+    {
+        match most {
+            None => Ok(Vec::new(alloc)),
+            Some(most) => self.beside(alloc, locked_beyond(alloc, &self.state, most, thread)),
+        }
+    }
+
+    /// A move of a thread by one rule, which is allowed: all states to which it leads.
+    fn moved_by(
+        &self,
+        alloc: Global,
+        thread: u32,
+        rules: &Rules,
+        rule: &Rule,
+    ) -> Result<Vec<Wide>, Stop>
+        requires { thread < length self.now.world.threads }
+        ensures { IfOk result (λ v. v.items ≡ moved_by rule.now rules.now thread self.now) }
+    {
+        let state = &self.state;
+        match rule {
+            Rule::Steal => self.beside(alloc, stolen_by(alloc, state, thread)),
+            Rule::Recursion => self.locked_beyond(alloc, thread, rules.recursion),
+            Rule::OwnErrorcheck => self.beside(alloc, tried_own(alloc, state, thread)),
+            Rule::AnyWaiter => self.beside(alloc, any_woken(alloc, state, thread)),
+            Rule::Spurious => self.beside(alloc, woken_by_itself(alloc, state, thread)),
+            Rule::LostSignal => self.signal_lost(alloc, thread),
+            Rule::AnyConsistent => self.beside(alloc, mended_by_any(alloc, state, thread)),
+            Rule::HeldWait => self.beside(alloc, waiting_held(alloc, state, thread)),
+        }
+    }
+
+    /// A move of a thread by a rule: all states to which it leads.
+    fn moved_by_rule(&self, alloc: Global, thread: u32, rules: &Rules) -> Result<Vec<Wide>, Stop>
+        requires { thread < length self.now.world.threads }
+        ensures { IfOk result (λ v. v.items ≡ moved_by_rule rules.now thread self.now) }
+    {
+        let mut all = Vec::new(alloc);
+        for rule in &EACH_RULE {
+            if rule.is_allowed(rules) {
+                append(&mut all, self.moved_by(alloc, thread, rules, rule))?;
+            }
+        }
+        Ok(all)
+    }
+
+    /// A move of a thread, by the plain machine or by a rule: all states to which it leads.
+    fn widely_moved(&self, alloc: Global, thread: u32, rules: &Rules) -> Result<Vec<Wide>, Stop>
+        ensures { IfOk result (λ v. v.items ≡ widely_moved rules.now thread self.now) }
+    {
+        let plain = self.beside(alloc, self.state.moves(alloc, thread));
+        if self.state.go_refusal(thread).is_some() {
+            return plain;
+        }
+        if thread as usize >= self.state.thread_count() {
+            return Err(Stop::Range);
+        }
+        joined(plain, self.moved_by_rule(alloc, thread, rules))
+    }
+
+    /// The states to which one move of a thread leads, by the plain machine or by one of the rules that are allowed.
+    /// First come those of `State::moves`. None if it can do nothing, or was never added. This state stays as it is.
+    ///
+    /// # Errors
+    ///
+    /// Out of memory, or a number got too great for a state.
+    pub fn moves(&self, alloc: Global, thread: u32, rules: &Rules) -> Result<Vec<Wide>, Stop>
+        ensures sound { IfOk result (λ vs. All (λ v. WideMoves rules.now thread self.now v) vs.items) }
+        ensures complete { IfOk result (λ vs. (v : Widened) → WideMoves rules.now thread self.now v → Contains vs.items v) }
+        ensures value { IfOk result (λ vs. vs.items ≡ widely_moved rules.now thread self.now) }
+    {
+        self.widely_moved(alloc, thread, rules)
+    }
+}

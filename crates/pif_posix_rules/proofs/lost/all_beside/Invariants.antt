@@ -1,6 +1,0 @@
-use Rattle.std.proofs.Common.{◌≡◌, map}
-use Rattle.pif_posix_rules.specs.Beside.{with_lost}
-use Rattle.pif_posix_rules.proofs.lost.all_beside.Given as goal
-
-abbrev pub invariant-loop-state : goal.invariant-loop-state
-invariant-loop-state l = l.all.items ≡ map (with_lost l.lost) l.yielded
