@@ -33,7 +33,10 @@ MEASURED = re.compile(r"(\w+) (proof|tests|edits): ([0-9.]+) s$")
 # The names that crates had before they were named by layers; several were merged into one.
 RENAMED = {
     "pif_posix_model": ["pif_posix_model", "pif_alike_model", "pif_independence_model"],
+    "pif_posix": ["pif_posix", "pif_posix_rules"],
     "pif_history_model": ["pif_history_model", "pif_allow_model"],
+    "pif_history_machine": ["pif_history_machine", "pif_allow_machine"],
+    "pif_history": ["pif_history", "pif_history_scene", "pif_history_exact", "pif_allow"],
     "pif_reduction_model": ["pif_known_model", "pif_wakeups_model", "pif_lazy_model"],
     "pif_explore_model": ["pif_explore_model", "pif_explore_reduced_model", "pif_explore_uses_model"],
     "pif_model_lemmas": ["pif_chains"],

@@ -1,3 +1,9 @@
 mod Settling
-pub mod Guided
+mod Guided
 mod Playing
+mod Halves
+mod Through
+mod Searched
+mod Keeping
+mod Mapped
+mod Narrowing

@@ -1,13 +1,15 @@
 //! A scout plays all lines once and leaves open whom each use of a variable wakes, until a later line tells. So it finds
 //! which waits a player has to leave blocked. Its steps are none of the POSIX machine: nothing is said of what it finds.
+use crate::needs::Need;
+use crate::plans::Trial;
 use crate::player::{Next, next_of};
 use crate::stepping;
 use crate::stepping::scene_of;
 use pif_history_lines::{Later, Leaving};
 use pif_history_machine::{HistoryMachine, Position, thread_numbered};
 use pif_history_model::{HistoryLimits, Label, Line};
-use pif_history_scene::{Need, Trial};
 use pif_posix::Progress;
+use pif_rules_model::no_rules;
 use pif_search::{Stop, Watch, push};
 use std::alloc::Global;
 
@@ -47,10 +49,10 @@ impl Scout {
 
     /// The open call of a thread has come this far.
     fn come(&mut self, thread: usize, progress: Progress) -> bool {
-        if thread >= self.position.world.thread_count() {
+        if thread >= self.position.wide.state.thread_count() {
             return false;
         }
-        self.position.world.set_progress(thread, progress);
+        self.position.wide.state.set_progress(thread, progress);
         true
     }
 
@@ -64,7 +66,7 @@ impl Scout {
     ) -> Result<Vec<usize>, Stop> {
         let scene = scene_of(&self.position, later, line);
         let mut all = Vec::new(alloc);
-        for other in 0..self.position.world.thread_count() {
+        for other in 0..self.position.wide.state.thread_count() {
             if scene.is_wakeable(other, variable) {
                 push(&mut all, other)?;
             }
@@ -311,7 +313,7 @@ pub(crate) fn scouted<W: Watch>(
 ) -> Result<Option<Vec<usize>>, Stop> {
     let mut later = Later::of(alloc, lines)?;
     later.leaving = Leaving::for_scout(alloc);
-    let machine = HistoryMachine::new(limits);
+    let machine = HistoryMachine::new(limits, no_rules());
     let mut scout = Scout::new(alloc, limits)?;
     if !scout.reach_all(alloc, &machine, &mut later, lines, moves, watch)? {
         return Ok(None);

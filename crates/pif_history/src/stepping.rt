@@ -1,23 +1,26 @@
 //! Steps of a position, which is changed in place.
 ghost use Rattle.std.specs.Prelude.{◌≡◌, true, false, Some, None, List, ℕ, IfOk};
 ghost use Rattle.pif_types.specs.Bounds.{Bounds};
+ghost use Rattle.pif_rules_model.specs.declared.rules.Rules.{Rules};
+ghost use Rattle.pif_rules_model.specs.Rules.{WideMoves, WideEnters, end_of};
 ghost use Rattle.pif_history_model.specs.declared.labels.Label.TheVariants.{Shown, Moves};
-ghost use Rattle.pif_history_model.specs.Lines.{is_line_among, dying_after};
+ghost use Rattle.pif_history_model.specs.Lines.{is_line_among, dying_after, ended_by};
 ghost use Rattle.pif_history_model.specs.Listed.{entry_for};
 ghost use Rattle.pif_history_model.specs.Searched.{Advances};
 
+use crate::scene::Scene;
 use pif_history_lines::{Later, is_line_among};
 use pif_history_machine::{HistoryMachine, Position, entry_of, is_seen};
 use pif_history_model::{HistoryLimits, Label, Line};
-use pif_history_scene::Scene;
 use pif_model::{Entry, Event};
+use pif_posix::Wide;
 use pif_search::{Stop, unless_many};
 use pif_types::{Request, Tid};
 use std::alloc::Global;
 
 /// The scene of a position in front of a line.
 pub(crate) fn scene_of<'a>(position: &'a Position, later: &'a Later, line: usize) -> Scene<'a> {
-    Scene::new(&position.world, position.dying(), later, line)
+    Scene::new(position.world(), position.dying(), later, line)
 }
 
 /// The place of the position that is best kept, the first of several: a hopeful one, of best rank for the variable that
@@ -44,9 +47,10 @@ fn used_by(scene: &Scene<'_>, label: &Label) -> u32 {
     }
 }
 
-/// Whether a line leaves it as it is who is dying.
+/// Whether a line is neither the end of a thread nor tells that one is dying. It then leaves it as it is who is dying.
 fn keeps_dying(line: &Line) -> bool
-    ensures { result ≡ true → (us : List ℕ) → dying_after line.now us ≡ us }
+    ensures kept { result ≡ true → (us : List ℕ) → dying_after line.now us ≡ us }
+    ensures no_end { result ≡ true → ended_by line.now ≡ None }
 {
     match *line {
         Line::Dying(_) => false,
@@ -55,11 +59,31 @@ fn keeps_dying(line: &Line) -> bool
     }
 }
 
-/// The open call of a thread makes the only move that it can make; false if it has none, or a choice.
-pub(crate) fn go(position: &mut Position, alloc: Global, thread: Tid) -> Result<bool, Stop>
-    ensures { IfOk result (λ b. b ≡ true → (l : Bounds) → Advances l position.old (Moves thread) position.new) }
+/// The open call of a thread makes the only plain move that it can make; false if it has none, or a choice.
+fn go_on(wide: &mut Wide, alloc: Global, thread: Tid) -> Result<bool, Stop>
+    ensures { IfOk result (λ b. b ≡ true → (r : Rules) → WideMoves r thread wide.old wide.new) }
 {
-    position.world.go(alloc, thread.get())
+    wide.state.go(alloc, thread.get())
+}
+
+/// The open call of a thread makes the only plain move that it can make; false if it has none, or a choice.
+pub(crate) fn go(position: &mut Position, alloc: Global, thread: Tid) -> Result<bool, Stop>
+    ensures { IfOk result (λ b. b ≡ true → (r : Rules) (l : Bounds) → Advances r l position.old (Moves thread) position.new) }
+{
+    go_on(&mut position.wide, alloc, thread)
+}
+
+/// This entry, which is no end of a thread, comes; false if it can't.
+fn come_on(
+    wide: &mut Wide,
+    alloc: Global,
+    limits: &HistoryLimits,
+    entry: &Entry,
+) -> Result<bool, Stop>
+    requires { end_of entry.now ≡ None }
+    ensures { IfOk result (λ b. b ≡ true → (r : Rules) → WideEnters r limits.now wide.old entry.now wide.new) }
+{
+    wide.state.come(alloc, limits, entry)
 }
 
 /// What the line shows happens, which is this entry; false if it can't.
@@ -72,19 +96,19 @@ fn come(
 ) -> Result<bool, Stop>
     requires among { is_line_among position.old.dying line.now ≡ false }
     requires kept { dying_after line.now position.old.dying ≡ position.old.dying }
-    requires entry { Some entry.now ≡ entry_for position.old.world line.now }
-    ensures { IfOk result (λ b. b ≡ true → Advances limits.now position.old (Shown line.now) position.new) }
+    requires no_end { ended_by line.now ≡ None }
+    requires entry { Some entry.now ≡ entry_for position.old.wide.world line.now }
+    ensures { IfOk result (λ b. b ≡ true → (r : Rules) → Advances r limits.now position.old (Shown line.now) position.new) }
 {
     let _line = line;
-    position.world.come(alloc, limits, entry)
+    come_on(&mut position.wide, alloc, limits, entry)
 }
 
 /// Whether the line tells of the state, and what it tells is so.
 fn tells(position: &Position, limits: &HistoryLimits, line: &Line) -> bool
     requires among { is_line_among position.now.dying line.now ≡ false }
     requires kept { dying_after line.now position.now.dying ≡ position.now.dying }
-    requires entry { None ≡ entry_for position.now.world line.now }
-    ensures { result ≡ true → Advances limits.now position.now (Shown line.now) position.now }
+    ensures { result ≡ true → (r : Rules) → Advances r limits.now position.now (Shown line.now) position.now }
 {
     let _limits = limits;
     is_seen(position.world(), line)
@@ -99,7 +123,7 @@ pub(crate) fn switch(
     label: &Label,
     line: usize,
 ) -> Result<bool, Stop>
-    ensures { IfOk result (λ b. b ≡ true → Advances machine.now.limits position.old label.now position.new) }
+    ensures { IfOk result (λ b. b ≡ true → Advances machine.now.rules machine.now.limits position.old label.now position.new) }
 {
     let variable = used_by(&scene_of(position, later, line), label);
     let found = machine.behind(alloc, position, label);
@@ -123,7 +147,8 @@ fn show_kept(
 ) -> Result<bool, Stop>
     requires among { is_line_among position.old.dying line.now ≡ false }
     requires kept { dying_after line.now position.old.dying ≡ position.old.dying }
-    ensures { IfOk result (λ b. b ≡ true → Advances limits.now position.old (Shown line.now) position.new) }
+    requires no_end { ended_by line.now ≡ None }
+    ensures { IfOk result (λ b. b ≡ true → (r : Rules) → Advances r limits.now position.old (Shown line.now) position.new) }
 {
     // The check has to be told of the types of requests and events, which entries hold.
     let _no_request: Option<Request> = None;
@@ -143,7 +168,7 @@ pub(crate) fn show(
     line: &Line,
     place: usize,
 ) -> Result<bool, Stop>
-    ensures { IfOk result (λ b. b ≡ true → Advances machine.now.limits position.old (Shown line.now) position.new) }
+    ensures { IfOk result (λ b. b ≡ true → Advances machine.now.rules machine.now.limits position.old (Shown line.now) position.new) }
 {
     if !keeps_dying(line) {
         return switch(position, alloc, machine, later, &Label::Shown(*line), place);

@@ -1,21 +1,22 @@
--- What is said of the lines of a history, oldest first.
+-- What is said of the lines of a history, oldest first, if these rules are allowed.
 use Rattle.std.specs.Prelude.{ℕ, zero, suc, ◌≡◌, ◌≤◌, List, length, reverse, Option}
 use Rattle.pif_types.specs.Bounds.{Bounds}
 use Rattle.pif_search.specs.declared.verdicts.Verdict.{Verdict as Found}
 use Rattle.pif_search.specs.declared.verdicts.Verdict.TheVariants as found
+use Rattle.pif_rules_model.specs.declared.rules.Rules.{Rules}
 use Rattle.pif_history_lines.specs.declared.verdicts.Verdict.{Verdict}
 use Rattle.pif_history_lines.specs.declared.verdicts.Verdict.TheVariants.{Legal, Illegal, Undecided}
 use Rattle.pif_history_model.specs.declared.lines.Line.{Line}
 use Rattle.pif_history_model.specs.declared.labels.Label.{Label}
 use Rattle.pif_history_model.specs.declared.refusals.LineRefusal.{LineRefusal}
 use Rattle.pif_history_model.specs.Refused.{refusal_of_line}
-use Rattle.pif_history_model.specs.Verdicts.{IsLegalBy, IsIllegalAt}
+use Rattle.pif_history_model.specs.Verdicts.{IsLegal, IsIllegal}
 
 -- a verdict on these lines: a witness; how many of them no run shows; or nothing but that it is one of them
-abbrev pub IsVerdictOf : Bounds → List Line → Verdict → Type 0
-IsVerdictOf l lines (Legal witness) = IsLegalBy l lines witness.items
-IsVerdictOf l lines (Illegal n) = (1 ≤ n) × (n ≤ length lines) × IsIllegalAt l lines n
-IsVerdictOf l lines (Undecided n) = (1 ≤ n) × (n ≤ length lines)
+abbrev pub IsVerdictOf : Rules → Bounds → List Line → Verdict → Type 0
+IsVerdictOf r l lines (Legal witness) = IsLegal r l lines witness.items
+IsVerdictOf r l lines (Illegal n) = (1 ≤ n) × (n ≤ length lines) × IsIllegal r l lines n
+IsVerdictOf r l lines (Undecided n) = (1 ≤ n) × (n ≤ length lines)
 
 -- the number of a line from 1: a search that gave up before the first one gave up at it
 abbrev pub line_number : ℕ → ℕ

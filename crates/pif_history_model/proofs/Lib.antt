@@ -7,7 +7,6 @@ pub mod Moving
 pub mod Keeping
 pub mod Telling
 pub mod RefusedLines
-pub mod Judging
 pub mod Fitting
 pub mod Forgetting
 mod Aside
@@ -20,11 +19,12 @@ mod LaggingEntries
 mod Noting
 mod Needed
 pub mod Taking
-mod LineLemmas
+pub mod LineLemmas
 pub mod Labelled
 pub mod Listing
 pub mod Selections
 pub mod Numbers
 pub mod ShownLines
 pub mod Widening
-pub mod AllowedListing
+pub mod Judging
+pub mod Covered

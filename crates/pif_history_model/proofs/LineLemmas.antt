@@ -13,9 +13,10 @@ use Rattle.pif_model.specs.Posix.Step.{thread_added, mutex_added, cond_added, re
 use Rattle.pif_model_lemmas.proofs.kernel.Settled.{priority-from_range}
 use Rattle.pif_posix_model.specs.Once.{Enters}
 use Rattle.pif_posix_model.specs.Once.Enters.{answered as by_answer, other}
+use Rattle.pif_rules_model.specs.Rules.{end_of}
 use Rattle.pif_history_model.specs.declared.lines.Line.{Line}
 use Rattle.pif_history_model.specs.declared.lines.Line.TheVariants.{Thread, Mutex, Cond, Begin, Answer, Dying, End, Tick, Rests, Prio}
-use Rattle.pif_history_model.specs.Lines.{line_of}
+use Rattle.pif_history_model.specs.Lines.{line_of, ended_by}
 use Rattle.pif_history_model.specs.Shown.{IsSeen}
 use Rattle.pif_history_model.specs.Shown.IsSeen.{rests as by_rests, prio as by_prio, dying as by_dying}
 use Rattle.pif_history_model.specs.Listed.{entry_for, is_seen}
@@ -36,6 +37,23 @@ shows-entry_for w (Tick n) e h = cc
 shows-entry_for w (Dying t) e h = absurd (cc)
 shows-entry_for w (Rests t) e h = absurd (cc)
 shows-entry_for w (Prio t p) e h = absurd (cc)
+
+-- the entry of a line that says of no thread that it has ended is no end
+pub no_end : (w : World) (line : Line) (e : Entry) → entry_for w line ≡ Some e → ended_by line ≡ None → end_of e ≡ None
+no_end w (Thread p) e h k = thread (is_priority p) h
+  where
+    thread : (b : Bool) → (if b then Some (entry.Thread (length w.threads) p) else None) ≡ Some e → end_of e ≡ None
+    thread true h = let is : e ≡ entry.Thread (length w.threads) p = cc in ap end_of is
+    thread false h = absurd (cc)
+no_end w (Mutex k r) e h i = let is : e ≡ entry.Mutex (length w.mutexes) k r = cc in ap end_of is
+no_end w (Cond m) e h k = let is : e ≡ entry.Cond (length w.variables) m = cc in ap end_of is
+no_end w (Begin t q) e h k = let is : e ≡ entry.Step (event.Begin t q) seen.Begun = cc in ap end_of is
+no_end w (Answer t a) e h k = let is : e ≡ entry.Step (event.Go t) (seen.Answered a) = cc in ap end_of is
+no_end w (Tick n) e h k = let is : e ≡ entry.Step (event.Tick n) seen.Ticked = cc in ap end_of is
+no_end w (End t) e h k = absurd (cc)
+no_end w (Dying t) e h k = absurd (cc)
+no_end w (Rests t) e h k = absurd (cc)
+no_end w (Prio t p) e h k = absurd (cc)
 
 -- what is added has the next number
 thread_step : (l : Bounds) (w v : World) (t p : ℕ) → Step l w (entry.Thread t p) v → (t ≡ length w.threads) × (1 ≤ p) × (p ≤ 99)

@@ -20,7 +20,7 @@ use Rattle.pif_search.specs.Runs.{Runs, shown}
 use Rattle.pif_history_model.specs.declared.labels.Label.{Label}
 use Rattle.pif_history_model.specs.declared.labels.Label.TheVariants.{Moves}
 use Rattle.pif_history_model.specs.Searched.{hides}
-use Rattle.pif_history_model.specs.Searched.Advances.{moves}
+use Rattle.pif_history_model.specs.Plain.PlainAdvances.{moves}
 use Rattle.pif_history_model.specs.Queues.{is_taken}
 use Rattle.pif_history_model.specs.Notes.{is_unnoted, awaits_note, is_fresh, will_use, variable_of_call, used_below, is_used_soon, is_asked, Needs}
 use Rattle.pif_history_model.proofs.Running.{Runs-append, shown-append}

@@ -3,11 +3,12 @@ use Rattle.std.proofs.Common.{ℕ, ◌≡◌, ◌⊎◌, ◌∙◌, ◌↔◌, �
 use Rattle.std.specs.List.{All, AllPairs, Contains}
 use Rattle.std.proofs.lemmas.Bool.{ltb-true, ltb-false}
 use Rattle.std.proofs.lemmas.List.{take_more, map-append}
-use Rattle.std.proofs.lemmas.List.Elements.{All-nil, All-cons, All-push, All-weaker, All-contains, Contains-append_left, Contains-push}
+use Rattle.std.proofs.lemmas.List.Elements.{All-nil, All-cons, All-push, All-weaker, All-contains, Contains-append_left, Contains-append_cases, Contains-push}
 use Rattle.std.proofs.lemmas.List.Kept.{AllPairs-cons}
 use Rattle.std.proofs.lemmas.List.Quantifiers.{all_pairs_push}
 use Rattle.pif_types.specs.Bounds.{Bounds}
-use Rattle.pif_posix_model.proofs.DoingLists.{among_is}
+use Rattle.pif_posix_model.proofs.DoingLists.{among_is, among_from, in_one, not_in_none}
+use Rattle.pif_rules_model.specs.declared.rules.Rules.{Rules}
 use Rattle.pif_search.specs.Verdicts.{IsSelection, CanFollow, AreNext}
 use Rattle.pif_history_model.proofs.Selections.{IsSelection-pairs, IsSelection-sound, IsSelection-complete}
 use Rattle.pif_history_model.specs.declared.lines.Line.{Line}
@@ -15,10 +16,8 @@ use Rattle.pif_history_model.specs.declared.lines.Line.TheVariants.{Answer, Prio
 use Rattle.pif_history_model.specs.declared.labels.Label.{Label}
 use Rattle.pif_history_model.specs.declared.labels.Label.TheVariants.{Shown}
 use Rattle.pif_history_model.specs.Searched.{Advances, hides, start_of}
-use Rattle.pif_history_model.specs.Shown.{IsShown}
-use Rattle.pif_history_model.specs.Verdicts.{answers, AreJust, ArePossibleAnswers, ArePossiblePriorities}
+use Rattle.pif_history_model.specs.Verdicts.{answers, is_answer, AreJust, IsShownBy, ArePossibleAnswers, ArePossiblePriorities}
 use Rattle.pif_history_model.proofs.Judging.{labels_of, shown-from_next, next-from_shown}
-use Rattle.pif_history_model.proofs.Fitting.{answer-from_shown, priority-from_shown}
 use Rattle.pif_history_model.specs.Numbers.{number_of, before_if, numbers_in, up_to}
 
 -- of candidates that show a number each, just those numbers are kept of which P holds, if P says that a run shows the
@@ -50,15 +49,26 @@ just_kept P ns found rising known s = record {
       | inr never ↦ absurd (never x)
     ]
 
-possible : (l : Bounds) (before : List Line) (line : ℕ → Line) (all : List ℕ) (found : List Label)
+-- what holds of all candidates may be asked beside
+both : (A P : ℕ → Type 0) (ns found : List ℕ) → ((n : ℕ) → Contains ns n → A n) → IsSelection P (λ n. P n → ⊥) ns found
+    → IsSelection (λ n. A n × P n) (λ n. (A n × P n) → ⊥) ns found
+both A P [] found all s = s
+both A P (n ∷ ns) found all (inl s) =
+    inl (s.0, (all n (zero, omega arith, refl), s.1), s.2, both A P ns s.0 (λ m c. all m (suc c.0, omega (arith, c.1), c.2)) s.3)
+both A P (n ∷ ns) found all (inr s) =
+    inr (λ x. s.0 x.1, both A P ns found (λ m c. all m (suc c.0, omega (arith, c.1), c.2)) s.1)
+
+-- of rising candidates, which are just the numbers of which A holds, those are found with which a run shows the line next
+possible : (r : Rules) (l : Bounds) (before : List Line) (line : ℕ → Line) (A : ℕ → Type 0) (all : List ℕ) (found : List Label)
     → ((n : ℕ) → number_of (Shown (line n)) ≡ Some n) → AllPairs (λ m n. m < n) all
-    → ((n : ℕ) → IsShown l (line n ∷ reverse before) → Contains all n)
-    → AreNext (Advances l) hides (start_of l) (labels_of before) (map (λ n. Shown (line n)) all) found
-    → AreJust (λ n. IsShown l (line n ∷ reverse before)) (numbers_in found)
-possible l before line all found number rising known next =
-    just_kept (λ n. IsShown l (line n ∷ reverse before)) all (numbers_in found) rising known
-    (kept (Advances l) (start_of l) (labels_of before) (λ n. IsShown l (line n ∷ reverse before)) line number
-    (λ n x. shown-from_next l before (line n) x) (λ n x. next-from_shown l before (line n) x) all found next.selection)
+    → ((n : ℕ) → A n → Contains all n) → ((n : ℕ) → Contains all n → A n)
+    → AreNext (Advances r l) hides (start_of l) (labels_of before) (map (λ n. Shown (line n)) all) found
+    → AreJust (λ n. A n × IsShownBy r l (line n ∷ reverse before)) (numbers_in found)
+possible r l before line A all found number rising known within next =
+    just_kept (λ n. A n × IsShownBy r l (line n ∷ reverse before)) all (numbers_in found) rising (λ n x. known n x.0)
+    (both A (λ n. IsShownBy r l (line n ∷ reverse before)) all (numbers_in found) within
+    (kept (Advances r l) (start_of l) (labels_of before) (λ n. IsShownBy r l (line n ∷ reverse before)) line number
+    (λ n x. shown-from_next r l before (line n) x) (λ n x. next-from_shown r l before (line n) x) all found next.selection))
 
 -- numbers that rise from m, each above the one before it
 abbrev Rise : ℕ → List ℕ → Type 0
@@ -81,12 +91,12 @@ answers_rise =
     rise_in_pairs 0 (1 ∷ 3 ∷ 11 ∷ 16 ∷ 22 ∷ 35 ∷ 75 ∷ 110 ∷ 130 ∷ 131 ∷ [])
     (omega arith, (omega arith, (omega arith, (omega arith, (omega arith, (omega arith, (omega arith, (omega arith, (omega arith, (omega arith, tt))))))))))
 
-possible_answers : (l : Bounds) (before : List Line) (t : ℕ) (found : List Label)
-    → AreNext (Advances l) hides (start_of l) (labels_of before) (map (λ a. Shown (Answer t a)) answers) found
-    → ArePossibleAnswers l before t (numbers_in found)
-possible_answers l before t found next =
-    possible l before (λ a. Answer t a) answers found (λ n. refl) answers_rise
-    (λ n x. among_is answers n (answer-from_shown l (reverse before) t n x)) next
+possible_answers : (r : Rules) (l : Bounds) (before : List Line) (t : ℕ) (found : List Label)
+    → AreNext (Advances r l) hides (start_of l) (labels_of before) (map (λ a. Shown (Answer t a)) answers) found
+    → ArePossibleAnswers r l before t (numbers_in found)
+possible_answers r l before t found next =
+    possible r l before (λ a. Answer t a) (λ n. is_answer n ≡ true) answers found (λ n. refl) answers_rise
+    (λ n x. among_is answers n x) (λ n c. among_from answers n c) next
 
 -- PRIORITIES
 
@@ -123,12 +133,22 @@ unfolding up_to
 up_to-rises zero = λ i j d lt within. absurd (omega arith)
 up_to-rises (suc n) = all_pairs_push (λ i j. i < j) (up_to n) (suc n) (up_to-rises n) (up_to-within n)
 
-possible_priorities : (l : Bounds) (before : List Line) (t : ℕ) (found : List Label)
-    → AreNext (Advances l) hides (start_of l) (labels_of before) (map (λ p. Shown (Prio t p)) (up_to 99)) found
-    → ArePossiblePriorities l before t (numbers_in found)
-possible_priorities l before t found next =
-    possible l before (λ p. Prio t p) (up_to 99) found (λ n. refl) (up_to-rises 99)
-    (λ n x. let r = priority-from_shown l (reverse before) t n x in in_up_to 99 n r.0 r.1) next
+-- the numbers from 1 to n are just those
+within_up_to : (n p : ℕ) → Contains (up_to n) p → (1 ≤ p) × (p ≤ n)
+unfolding up_to
+within_up_to zero p c = absurd (not_in_none p c)
+within_up_to (suc n) p c =
+    elim (Contains-append_cases (up_to n) (suc n ∷ []) p c) [
+      | inl a ↦ let q = within_up_to n p a in (q.0, omega (arith, q.1))
+      | inr b ↦ let same : suc n ≡ p = in_one (suc n) p b in (omega (arith, same), omega (arith, same))
+    ]
+
+possible_priorities : (r : Rules) (l : Bounds) (before : List Line) (t : ℕ) (found : List Label)
+    → AreNext (Advances r l) hides (start_of l) (labels_of before) (map (λ p. Shown (Prio t p)) (up_to 99)) found
+    → ArePossiblePriorities r l before t (numbers_in found)
+possible_priorities r l before t found next =
+    possible r l before (λ p. Prio t p) (λ n. (1 ≤ n) × (n ≤ 99)) (up_to 99) found (λ n. refl) (up_to-rises 99)
+    (λ n x. in_up_to 99 n x.0 x.1) (within_up_to 99) next
 
 -- ONE LABEL MORE
 
@@ -166,16 +186,16 @@ no_priority t new e = let z : 1 - 1 ≡ 0 = omega arith in e ∙ ap (λ (k : ℕ
 
 -- WHAT THE CALLS ANSWER
 
-pub answers_by : (l : Bounds) (before : List Line) (t : ℕ) (found candidates : List Label) (numbers : List ℕ)
+pub answers_by : (r : Rules) (l : Bounds) (before : List Line) (t : ℕ) (found candidates : List Label) (numbers : List ℕ)
     → candidates ≡ map (λ a. Shown (Answer t a)) answers → numbers ≡ numbers_in found
-    → AreNext (Advances l) hides (start_of l) (labels_of before) candidates found → ArePossibleAnswers l before t numbers
-answers_by l before t found candidates numbers c n next =
-    let x = subst (λ (cs : List Label). AreNext (Advances l) hides (start_of l) (labels_of before) cs found) c next in
-    subst (λ (ns : List ℕ). ArePossibleAnswers l before t ns) (sym n) (possible_answers l before t found x)
+    → AreNext (Advances r l) hides (start_of l) (labels_of before) candidates found → ArePossibleAnswers r l before t numbers
+answers_by r l before t found candidates numbers c n next =
+    let x = subst (λ (cs : List Label). AreNext (Advances r l) hides (start_of l) (labels_of before) cs found) c next in
+    subst (λ (ns : List ℕ). ArePossibleAnswers r l before t ns) (sym n) (possible_answers r l before t found x)
 
-pub priorities_by : (l : Bounds) (before : List Line) (t : ℕ) (found candidates : List Label) (numbers : List ℕ)
+pub priorities_by : (r : Rules) (l : Bounds) (before : List Line) (t : ℕ) (found candidates : List Label) (numbers : List ℕ)
     → candidates ≡ map (λ p. Shown (Prio t p)) (up_to 99) → numbers ≡ numbers_in found
-    → AreNext (Advances l) hides (start_of l) (labels_of before) candidates found → ArePossiblePriorities l before t numbers
-priorities_by l before t found candidates numbers c n next =
-    let x = subst (λ (cs : List Label). AreNext (Advances l) hides (start_of l) (labels_of before) cs found) c next in
-    subst (λ (ns : List ℕ). ArePossiblePriorities l before t ns) (sym n) (possible_priorities l before t found x)
+    → AreNext (Advances r l) hides (start_of l) (labels_of before) candidates found → ArePossiblePriorities r l before t numbers
+priorities_by r l before t found candidates numbers c n next =
+    let x = subst (λ (cs : List Label). AreNext (Advances r l) hides (start_of l) (labels_of before) cs found) c next in
+    subst (λ (ns : List ℕ). ArePossiblePriorities r l before t ns) (sym n) (possible_priorities r l before t found x)

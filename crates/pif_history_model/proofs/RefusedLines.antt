@@ -30,8 +30,8 @@ use Rattle.pif_history_model.specs.declared.refusals.LineRefusal.TheVariants.{Ad
 use Rattle.pif_history_model.specs.Lines.{line_of, is_among, is_line_among, dying_by, dying_after}
 use Rattle.pif_history_model.specs.Shown.{IsSeen, IsShown}
 use Rattle.pif_history_model.specs.Shown.IsSeen.{rests, prio, dying}
-use Rattle.pif_history_model.specs.Searched.{Configuration, Advances, start_of}
-use Rattle.pif_history_model.specs.Searched.Advances.{moves, ends, enters, sees, has_ended}
+use Rattle.pif_history_model.specs.Plain.{PlainConfiguration, PlainAdvances, plain_start_of}
+use Rattle.pif_history_model.specs.Plain.PlainAdvances.{moves, ends, enters, sees, has_ended}
 use Rattle.pif_history_model.specs.Refused.{threads_in, mutexes_in, conds_in, is_known, time_by, is_open, is_gone, room_refused, event_refused, living_refused, refusal_of_line}
 use Rattle.pif_history_model.proofs.Keeping.{keeps_move}
 use Rattle.pif_history_model.proofs.Telling.{Tells, Tells-start, Tells-keeps, Tells-ends, Tells-said_ended, Leaves, leaves-from_ends, leaves-from_dead, one_more_known, gone-cases, alive, known, begin_ok, go_ok, living_ok, room_ok}
@@ -371,18 +371,18 @@ follows-from_entry {l} {lines} {w} {v} {d} y e x is apart (other no_go no_refusa
         (λ k. one_tick n x allowed after)
 
 -- what a step that shows a line, or a hidden one, leaves
-abbrev pub StepTells : Bounds → List Line → Label → Configuration → Type 0
+abbrev pub StepTells : Bounds → List Line → Label → PlainConfiguration → Type 0
 StepTells l lines (Shown x) n = Tells (x ∷ lines) n.world n.dying × (refusal_of_line l lines x ≡ None)
 StepTells l lines _ n = Tells lines n.world n.dying
 
-step_tells : {l : Bounds} {lines : List Line} {s n : Configuration} (x : Label) → Tells lines s.world s.dying
-    → Advances l s x n → StepTells l lines x n
+step_tells : {l : Bounds} {lines : List Line} {s n : PlainConfiguration} (x : Label) → Tells lines s.world s.dying
+    → PlainAdvances l s x n → StepTells l lines x n
 step_tells {l} {lines} {s} {n} x y (moves t v is m e) =
     subst (λ (z : Label). StepTells l lines z n) (sym is)
-    (subst (λ (z : Configuration). Tells lines z.world z.dying) (sym e) (Tells-keeps y (keeps_move m)))
+    (subst (λ (z : PlainConfiguration). Tells lines z.world z.dying) (sym e) (Tells-keeps y (keeps_move m)))
 step_tells {l} {lines} {s} {n} x y (ends t v is among m e) =
     subst (λ (z : Label). StepTells l lines z n) (sym is)
-    (subst (λ (z : Configuration). Tells lines z.world z.dying) (sym e) (Tells-ends y (y.gone t among) (by_entry m)))
+    (subst (λ (z : PlainConfiguration). Tells lines z.world z.dying) (sym e) (Tells-ends y (y.gone t among) (by_entry m)))
   where
     by_step : Step l s.world (entry.Step (event.End t) seen.Ended) v → Leaves t s.world v
     by_step (ended u same e) =
@@ -404,33 +404,33 @@ step_tells {l} {lines} {s} {n} x y (ends t v is among m e) =
 step_tells {l} {lines} {s} {n} x y (enters z e v is of apart m same) =
     let f : Follows l lines z v s.dying = follows-from_entry z e y of apart m in
     subst (λ (k : Label). StepTells l lines k n) (sym is)
-    (subst (λ (k : Configuration). Tells (z ∷ lines) k.world k.dying) (sym same) f.tells, f.allowed)
+    (subst (λ (k : PlainConfiguration). Tells (z ∷ lines) k.world k.dying) (sym same) f.tells, f.allowed)
 step_tells {l} {lines} {s} {n} x y (sees z is apart look same) =
     let f : Follows l lines z s.world s.dying = one_look z y apart look in
     subst (λ (k : Label). StepTells l lines k n) (sym is)
-    (subst (λ (k : Configuration). Tells (z ∷ lines) k.world k.dying) (sym same) f.tells, f.allowed)
+    (subst (λ (k : PlainConfiguration). Tells (z ∷ lines) k.world k.dying) (sym same) f.tells, f.allowed)
 step_tells {l} {lines} {s} {n} x y (has_ended t is among dead same) =
     let f : Follows l lines (line.End t) s.world s.dying = one_over t y among dead in
     subst (λ (k : Label). StepTells l lines k n) (sym is)
-    (subst (λ (k : Configuration). Tells (line.End t ∷ lines) k.world k.dying) (sym same) f.tells, f.allowed)
+    (subst (λ (k : PlainConfiguration). Tells (line.End t ∷ lines) k.world k.dying) (sym same) f.tells, f.allowed)
 
 -- RUNS
 
-tells_of : (l : Bounds) (lines : List Line) (n : Configuration) (x : Label) → StepTells l lines x n
+tells_of : (l : Bounds) (lines : List Line) (n : PlainConfiguration) (x : Label) → StepTells l lines x n
     → Tells (lines_after x lines) n.world n.dying
 tells_of l lines n (Shown x) y = y.0
 tells_of l lines n (Moves t) y = y
 tells_of l lines n (EndsHidden t) y = y
 
 -- lines tell of the states that they lead to
-run_tells : (l : Bounds) (h : List Label) (n : Configuration) → Runs (Advances l) (start_of l) h n
+run_tells : (l : Bounds) (h : List Label) (n : PlainConfiguration) → Runs (PlainAdvances l) (plain_start_of l) h n
     → Tells (lines_in h) n.world n.dying
-run_tells l [] n e = subst (λ (k : Configuration). Tells [] k.world k.dying) e (Tells-start l)
+run_tells l [] n e = subst (λ (k : PlainConfiguration). Tells [] k.world k.dying) e (Tells-start l)
 run_tells l (x ∷ h) n r = tells_of l (lines_in h) n x (step_tells x (run_tells l h r.0 r.1) r.2)
 
 -- the last line of a run is not refused
-last_allowed : (l : Bounds) (h : List Label) (n : Configuration) (x : Line) (lines : List Line)
-    → Runs (Advances l) (start_of l) h n → lines_in h ≡ x ∷ lines → refusal_of_line l lines x ≡ None
+last_allowed : (l : Bounds) (h : List Label) (n : PlainConfiguration) (x : Line) (lines : List Line)
+    → Runs (PlainAdvances l) (plain_start_of l) h n → lines_in h ≡ x ∷ lines → refusal_of_line l lines x ≡ None
 last_allowed l [] n x lines r e = absurd (cc)
 last_allowed l (Shown y ∷ h) n x lines r e =
     let same : y ≡ x = cc in

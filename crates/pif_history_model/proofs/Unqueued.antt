@@ -40,8 +40,9 @@ use Rattle.pif_posix_model.specs.Once.Acts.{effect, expires, notes}
 use Rattle.pif_search.specs.Runs.{Runs, shown}
 use Rattle.pif_history_model.specs.declared.labels.Label.{Label}
 use Rattle.pif_history_model.specs.declared.labels.Label.TheVariants.{Moves}
-use Rattle.pif_history_model.specs.Searched.{Configuration, hides}
-use Rattle.pif_history_model.specs.Searched.Advances.{moves}
+use Rattle.pif_history_model.specs.Plain.{PlainConfiguration}
+use Rattle.pif_history_model.specs.Searched.{hides}
+use Rattle.pif_history_model.specs.Plain.PlainAdvances.{moves}
 use Rattle.pif_history_model.specs.Queues.{is_waiter, Takes}
 use Rattle.pif_history_model.proofs.Running.{Runs-append, shown-append}
 use Rattle.pif_history_model.proofs.Completeness.{at}

@@ -1,6 +1,7 @@
 pub mod Lines
 pub mod Shown
 pub mod Searched
+pub mod Plain
 pub mod Refused
 pub mod Verdicts
 pub mod Forgetting
@@ -8,6 +9,3 @@ pub mod Queues
 pub mod Notes
 pub mod Listed
 pub mod Numbers
-pub mod Allowed
-pub mod AllowedVerdicts
-pub mod AllowedListed

@@ -20,6 +20,11 @@ line_of (entry.Step (event.End t) seen.Ended) = Some (End t)
 line_of (entry.Step (event.Tick n) seen.Ticked) = Some (Tick n)
 line_of _ = None
 
+-- the thread that a line says has ended
+abbrev pub ended_by : Line → Option ℕ
+ended_by (End t) = Some t
+ended_by _ = None
+
 -- the thread whose line it is: a setprio is a line of the thread that begins it
 abbrev pub thread_of : Line → Option ℕ
 thread_of (Begin t q) = Some t

@@ -4,7 +4,7 @@ ghost use Rattle.pif_rules_model.specs.declared.rules.Rules.{Rules};
 ghost use Rattle.pif_rules_model.specs.Rules.{AreAmong, no_rules};
 ghost use Rattle.pif_history_model.specs.declared.lines.Line.{Line};
 ghost use Rattle.pif_history_model.specs.Shown.{IsShown};
-ghost use Rattle.pif_history_model.specs.Allowed.{IsShownWith};
+ghost use Rattle.pif_history_model.specs.Searched.{IsShownWith};
 
 /// A law: lines that some run shows by rules are shown with more rules too. So what is legal stays legal.
 pub fn more_rules_show_more()

@@ -8,7 +8,8 @@ ghost use Rattle.pif_history_model.specs.declared.lines.Line.TheVariants.{Answer
 ghost use Rattle.pif_history_model.specs.declared.refusals.LineRefusal.{LineRefusal};
 ghost use Rattle.pif_history_model.specs.declared.labels.Label.TheVariants.{Shown};
 ghost use Rattle.pif_history_model.specs.Shown.{IsShown};
-ghost use Rattle.pif_history_model.specs.Searched.{Configuration, Advances, start_of, hides};
+ghost use Rattle.pif_history_model.specs.Plain.{PlainConfiguration, PlainAdvances, plain_start_of};
+ghost use Rattle.pif_history_model.specs.Searched.{hides};
 ghost use Rattle.pif_history_model.specs.Refused.{refusal_of_line};
 ghost use Rattle.pif_history_model.specs.Verdicts.{is_answer};
 ghost use Rattle.pif_history_model.specs.Forgetting.{StandsFor};
@@ -17,12 +18,12 @@ ghost use Rattle.pif_history_model.specs.Notes.{Needs, tells_of_no_rest};
 
 /// A law: lines that the machine that is searched can show, some run of the POSIX machine shows.
 pub fn searched_lines_are_shown()
-    ensures { (limits : Bounds) (lines : List Line) (last : Configuration) → CanShow (Advances limits) hides (start_of limits) (map (λ line. Shown line) lines) last → IsShown limits lines }
+    ensures { (limits : Bounds) (lines : List Line) (last : PlainConfiguration) → CanShow (PlainAdvances limits) hides (plain_start_of limits) (map (λ line. Shown line) lines) last → IsShown limits lines }
 {}
 
 /// A law: lines that some run of the POSIX machine shows, the machine that is searched can show.
 pub fn shown_lines_are_searched()
-    ensures { (limits : Bounds) (lines : List Line) → IsShown limits lines → (last : Configuration) × CanShow (Advances limits) hides (start_of limits) (map (λ line. Shown line) lines) last }
+    ensures { (limits : Bounds) (lines : List Line) → IsShown limits lines → (last : PlainConfiguration) × CanShow (PlainAdvances limits) hides (plain_start_of limits) (map (λ line. Shown line) lines) last }
 {}
 
 /// A law: a line that the lines before it refuse is shown by no run, whatever was answered.
@@ -43,17 +44,17 @@ pub fn shown_priorities_are_priorities()
 /// A law: it is enough to search all steps that are needed, and to leave out a state for which another stands that is
 /// kept. It stands for it if they differ only in what no step sees.
 pub fn what_no_step_sees_is_forgotten()
-    ensures { (limits : Bounds) (all : Bool) (start : Configuration) → IsEnough (Needs limits all) hides (Needs limits all) StandsFor start }
+    ensures { (limits : Bounds) (all : Bool) (start : PlainConfiguration) → IsEnough (Needs limits all) hides (Needs limits all) StandsFor start }
 {}
 
 /// A law: lines that tell of no waiters are shown without them, if they are shown at all. Threads all have the same base
 /// priority, or nobody signals.
 pub fn waiters_show_nothing_more()
-    ensures { (limits : Bounds) (same : Option ℕ) (lines : List Line) (last : Configuration) → list_all (tells_of_no_waiters same) lines ≡ true → CanShow (Advances limits) hides (start_of limits) (map (λ line. Shown line) lines) last → (other : Configuration) × CanShow (Takes limits false) hides (start_of limits) (map (λ line. Shown line) lines) other }
+    ensures { (limits : Bounds) (same : Option ℕ) (lines : List Line) (last : PlainConfiguration) → list_all (tells_of_no_waiters same) lines ≡ true → CanShow (PlainAdvances limits) hides (plain_start_of limits) (map (λ line. Shown line) lines) last → (other : PlainConfiguration) × CanShow (Takes limits false) hides (plain_start_of limits) (map (λ line. Shown line) lines) other }
 {}
 
 /// A law: lines that don't tell who rests are shown by runs in which a wait is noted only if that may matter, if they
 /// are shown at all.
 pub fn notes_show_nothing_more()
-    ensures { (limits : Bounds) (all : Bool) (lines : List Line) (last : Configuration) → list_all tells_of_no_rest lines ≡ true → CanShow (Takes limits all) hides (start_of limits) (map (λ line. Shown line) lines) last → (other : Configuration) × CanShow (Needs limits all) hides (start_of limits) (map (λ line. Shown line) lines) other }
+    ensures { (limits : Bounds) (all : Bool) (lines : List Line) (last : PlainConfiguration) → list_all tells_of_no_rest lines ≡ true → CanShow (Takes limits all) hides (plain_start_of limits) (map (λ line. Shown line) lines) last → (other : PlainConfiguration) × CanShow (Needs limits all) hides (plain_start_of limits) (map (λ line. Shown line) lines) other }
 {}

@@ -10,19 +10,20 @@ use Rattle.pif_model.specs.declared.events.Entry.{Entry}
 use Rattle.pif_model.specs.declared.events.Entry.TheVariants as entry
 use Rattle.pif_posix_model.specs.Doing.{moved, is_allowed, robust_of, ended}
 use Rattle.pif_rules_model.specs.declared.rules.Rules.{Rules}
-use Rattle.pif_rules_model.specs.Rules.{Wide, WideEnters, MovesByRule, no_rules}
+use Rattle.pif_rules_model.specs.Rules.{Wide, WideEnters, MovesByRule, no_rules, end_of}
 use Rattle.pif_rules_model.specs.Rules.WideMoves.{plain, ruled}
 use Rattle.pif_rules_model.specs.Rules.WideEnters.{ended as wide_end, other as wide_other}
 use Rattle.pif_rules_model.specs.Rules.EndsOrRevives.{as_ever, after_reviving}
 use Rattle.pif_rules_model.specs.Rules.MovesByRule.{steal, any_waiter, spurious, recursion, own_errorcheck, any_consistent, held_wait, lost_signal}
-use Rattle.pif_rules_model.specs.Ruled.{beside, remembering, moved_by_rule, ended_after_reviving}
-use Rattle.pif_history_model.specs.declared.lines.Line.TheVariants.{Thread, Mutex, Cond, Begin, Answer, Dying, End, Tick, Rests, Prio}
+use Rattle.pif_rules_model.specs.Ruled.{beside, remembering, moved_by_rule, ended_after_reviving, entered_as}
+use Rattle.pif_history_model.specs.declared.lines.Line.{Line}
 use Rattle.pif_history_model.specs.declared.labels.Label.{Label}
 use Rattle.pif_history_model.specs.declared.labels.Label.TheVariants.{Shown, Moves, Ends}
-use Rattle.pif_history_model.specs.Lines.{is_among, dying_after}
-use Rattle.pif_history_model.specs.Allowed.{WideConfiguration, WideAdvances}
-use Rattle.pif_history_model.specs.Allowed.WideAdvances.{moves, ends, enters, sees, has_ended}
-use Rattle.pif_history_model.specs.AllowedListed.{with_dying, behind_entry, behind_plainly, behind_end_line, behind_move, behind_end, behind}
+use Rattle.pif_history_model.specs.Lines.{is_among, is_line_among, dying_after}
+use Rattle.pif_history_model.specs.Searched.{Configuration, Advances}
+use Rattle.pif_history_model.specs.Searched.Advances.{moves, ends, enters, sees, has_ended}
+use Rattle.pif_history_model.specs.Listed as listed
+use Rattle.pif_history_model.specs.Listed.{with_dying, entry_for, one_if, behind_entry, behind_some, behind_line, behind_move, behind_end, behind}
 use Rattle.pif_rules.specs.declared.rules.Rule.{Rule}
 use Rattle.pif_rules.specs.declared.rules.Rule.TheVariants.{Steal, AnyWaiter, Spurious, Recursion, OwnErrorcheck, AnyConsistent, HeldWait, LostSignal, Revives}
 use Rattle.pif_rules.specs.Sets.{has, only}
@@ -49,7 +50,7 @@ entered_by_one r l s e n (wide_end t v q (after_reviving m a o k u h) f) =
     inr (Revives, a, wide_end t v q (after_reviving m a o k u h) f)
 entered_by_one r l s e n (wide_other v q h f) = inl (wide_other v q h f)
 
-pub by_one : (r : Rules) (l : Bounds) (s : WideConfiguration) (x : Label) (n : WideConfiguration) → WideAdvances r l s x n
+pub by_one : (r : Rules) (l : Bounds) (s : Configuration) (x : Label) (n : Configuration) → Advances r l s x n
     → (rule : Option Rule) × IsStepBy r l s x rule n
 by_one r l s x n (moves t v i (plain w g f) e) = (None, moves t v i (plain w g f) e)
 by_one r l s x n (moves t v i (ruled a m) e) =
@@ -77,21 +78,24 @@ twice_grown : {A B C : Type 0} (g : B → C) (f : A → B) (xs ys : List A)
 twice_grown g f xs ys = ap (λ l. map g l) (grown f xs ys) ∙ map-append g (map f (xs ++ [])) (map f ys)
 
 -- one list begins with another
-abbrev BeginsWith : List WideConfiguration → List WideConfiguration → Type 0
-BeginsWith all first = (rest : List WideConfiguration) × (all ≡ first ++ rest)
+abbrev BeginsWith : List Configuration → List Configuration → Type 0
+BeginsWith all first = (rest : List Configuration) × (all ≡ first ++ rest)
 
-itself : (all : List WideConfiguration) → BeginsWith all all
+itself : (all : List Configuration) → BeginsWith all all
 itself all = ([], sym (append-nil all))
 
-entry_first : (r : Rules) (l : Bounds) (s : WideConfiguration) (t : ℕ) (us : List ℕ)
-    → BeginsWith (behind_entry r l s (entry.Step (event.End t) seen.Ended) us)
-    (behind_entry no_rules l s (entry.Step (event.End t) seen.Ended) us)
-entry_first r l s t us =
-    let w = s.wide.world in
-    let more = if r.revives then flat_map (ended_after_reviving t w) (robust_of w t) else [] in
-    (map (with_dying us) (map (remembering t s.wide) more), twice_grown (with_dying us) (remembering t s.wide) (ended t w) more)
+entry_first : (r : Rules) (l : Bounds) (s : Configuration) (e : Entry) (us : List ℕ)
+    → BeginsWith (behind_entry r l s e us) (behind_entry no_rules l s e us)
+entry_first r l s e us = go (end_of e)
+  where
+    go : (o : Option ℕ) → BeginsWith (map (with_dying us) (entered_as r l s.wide e o)) (map (with_dying us) (entered_as no_rules l s.wide e o))
+    go None = itself _
+    go (Some t) =
+        let w = s.wide.world in
+        let more = if r.revives then flat_map (ended_after_reviving t w) (robust_of w t) else [] in
+        (map (with_dying us) (map (remembering t s.wide) more), twice_grown (with_dying us) (remembering t s.wide) (ended t w) more)
 
-move_first : (r : Rules) (s : WideConfiguration) (t : ℕ) → BeginsWith (behind_move r s t) (behind_move no_rules s t)
+move_first : (r : Rules) (s : Configuration) (t : ℕ) → BeginsWith (behind_move r s t) (behind_move no_rules s t)
 move_first r s t = go (is_allowed s.wide.world (event.Go t))
   where
     go : (b : Bool)
@@ -103,36 +107,28 @@ move_first r s t = go (is_allowed s.wide.world (event.Go t))
     )
     go false = itself _
 
-end_first : (r : Rules) (l : Bounds) (s : WideConfiguration) (t : ℕ) → BeginsWith (behind_end r l s t) (behind_end no_rules l s t)
+end_first : (r : Rules) (l : Bounds) (s : Configuration) (t : ℕ) → BeginsWith (behind_end r l s t) (behind_end no_rules l s t)
 end_first r l s t = go (is_among s.dying t)
   where
     go : (b : Bool)
         → BeginsWith (if b then behind_entry r l s (entry.Step (event.End t) seen.Ended) s.dying else [])
         (if b then behind_entry no_rules l s (entry.Step (event.End t) seen.Ended) s.dying else [])
-    go true = entry_first r l s t s.dying
+    go true = entry_first r l s (entry.Step (event.End t) seen.Ended) s.dying
     go false = itself []
 
-end_line_first : (r : Rules) (l : Bounds) (s : WideConfiguration) (t : ℕ)
-    → BeginsWith (behind_end_line r l s t) (behind_end_line no_rules l s t)
-end_line_first r l s t = go (is_among s.dying t)
+line_first : (r : Rules) (l : Bounds) (s : Configuration) (line : Line) → BeginsWith (behind_line r l s line) (behind_line no_rules l s line)
+line_first r l s line = go (is_line_among s.dying line) (entry_for s.wide.world line)
   where
-    go : (b : Bool)
-        → BeginsWith
-        (if b then behind_plainly l s (End t) else behind_entry r l s (entry.Step (event.End t) seen.Ended) (dying_after (End t) s.dying))
-        (if b then behind_plainly l s (End t) else behind_entry no_rules l s (entry.Step (event.End t) seen.Ended) (dying_after (End t) s.dying))
-    go true = itself _
-    go false = entry_first r l s t (dying_after (End t) s.dying)
+    over : List Configuration
+    over = one_if (listed.has_ended s.wide.world line) (dying_after line s.dying) s.wide
 
-pub plain_first : (r : Rules) (l : Bounds) (s : WideConfiguration) (x : Label) → BeginsWith (behind r l s x) (behind no_rules l s x)
-plain_first r l s (Shown (End t)) = end_line_first r l s t
-plain_first r l s (Shown (Thread p)) = itself _
-plain_first r l s (Shown (Mutex k b)) = itself _
-plain_first r l s (Shown (Cond m)) = itself _
-plain_first r l s (Shown (Begin t q)) = itself _
-plain_first r l s (Shown (Answer t a)) = itself _
-plain_first r l s (Shown (Dying t)) = itself _
-plain_first r l s (Shown (Tick n)) = itself _
-plain_first r l s (Shown (Rests t)) = itself _
-plain_first r l s (Shown (Prio t p)) = itself _
+    go : (b : Bool) (o : Option Entry)
+        → BeginsWith (if b then over else behind_some r l s line o) (if b then over else behind_some no_rules l s line o)
+    go true o = itself _
+    go false None = itself _
+    go false (Some e) = entry_first r l s e (dying_after line s.dying)
+
+pub plain_first : (r : Rules) (l : Bounds) (s : Configuration) (x : Label) → BeginsWith (behind r l s x) (behind no_rules l s x)
+plain_first r l s (Shown line) = line_first r l s line
 plain_first r l s (Moves t) = move_first r s t
 plain_first r l s (Ends t) = end_first r l s t

@@ -3,7 +3,7 @@ use Rattle.std.proofs.Common.{◌≡◌, ℕ, Option, List, [], ◌∷◌, ◌++
 use Rattle.pif_types.specs.Bounds.{Bounds}
 use Rattle.pif_history_model.specs.declared.labels.Label.{Label}
 use Rattle.pif_rules_model.specs.declared.rules.Rules.{Rules}
-use Rattle.pif_history_model.specs.Allowed.{WideConfiguration, wide_start_of}
+use Rattle.pif_history_model.specs.Searched.{Configuration, start_of}
 use Rattle.pif_rules.specs.declared.rules.Rule.{Rule}
 use Rattle.pif_history_told.specs.Steps.{IsStepBy}
 use Rattle.pif_history_text.specs.Tellings.{step_telling}
@@ -11,7 +11,7 @@ use Rattle.pif_history_told.specs.Tellings.{IsTold}
 use Rattle.pif_history_told.specs.Tellings.IsTold.{start as told_start, then as told_then}
 
 -- one step more
-pub IsTold-step : (r : Rules) (l : Bounds) (xs ys : List Label) (x : Label) (rule : Option Rule) (s to : WideConfiguration)
+pub IsTold-step : (r : Rules) (l : Bounds) (xs ys : List Label) (x : Label) (rule : Option Rule) (s to : Configuration)
     (old text : List ℕ) → ys ≡ x ∷ xs → IsStepBy r l s x rule to → text ≡ old ++ step_telling rule x s.wide.world to.wide.world
     → IsTold r l xs s old → IsTold r l ys to text
 IsTold-step r l xs ys x rule s to old text more by grown told =
@@ -19,9 +19,9 @@ IsTold-step r l xs ys x rule s to old text more by grown told =
     (subst (λ (b : List ℕ). IsTold r l (x ∷ xs) to b) (sym grown) (told_then x rule to told by))
 
 -- before the first step
-pub IsTold-start : (r : Rules) (l : Bounds) (xs : List Label) (s : WideConfiguration) (text : List ℕ) → xs ≡ []
-    → s ≡ wide_start_of l → text ≡ [] → IsTold r l xs s text
+pub IsTold-start : (r : Rules) (l : Bounds) (xs : List Label) (s : Configuration) (text : List ℕ) → xs ≡ []
+    → s ≡ start_of l → text ≡ [] → IsTold r l xs s text
 IsTold-start r l xs s text none first nothing =
     subst (λ (ys : List Label). IsTold r l ys s text) (sym none)
     (subst (λ (b : List ℕ). IsTold r l [] s b) (sym nothing)
-    (subst (λ (z : WideConfiguration). IsTold r l [] z []) (sym first) told_start))
+    (subst (λ (z : Configuration). IsTold r l [] z []) (sym first) told_start))

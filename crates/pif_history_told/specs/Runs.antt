@@ -6,7 +6,7 @@ use Rattle.pif_history_model.specs.declared.labels.Label.{Label}
 use Rattle.pif_history_model.specs.declared.labels.Label.TheVariants.{Shown, Moves, Ends}
 use Rattle.pif_history_model.specs.declared.lines.Line.{Line}
 use Rattle.pif_rules_model.specs.declared.rules.Rules.{Rules}
-use Rattle.pif_history_model.specs.Allowed.{WideConfiguration, wide_start_of}
+use Rattle.pif_history_model.specs.Searched.{Configuration, start_of}
 use Rattle.pif_rules.specs.declared.rules.Rule.{Rule}
 use Rattle.pif_rules.specs.Sets.{name_of}
 use Rattle.pif_history_told.specs.Steps.{IsStepBy}
@@ -86,8 +86,8 @@ with_step from numbers (Ends u) rule w v t = with_move from (codes "end") u rule
 
 -- A run of these labels, newest first, which leads from the start to s, is told so. It may use these rules. The lines of
 -- the history have these numbers in the file, and the first `from` of them are left out.
-pub data IsTold (r : Rules) (l : Bounds) (numbers : List ℕ) (from : ℕ) : List Label → WideConfiguration → Telling → Type 0 where
-  start : IsTold r l numbers from [] (wide_start_of l) untold
-  then : {xs : List Label} {s : WideConfiguration} {t : Telling} (x : Label) (rule : Option Rule) (n : WideConfiguration)
+pub data IsTold (r : Rules) (l : Bounds) (numbers : List ℕ) (from : ℕ) : List Label → Configuration → Telling → Type 0 where
+  start : IsTold r l numbers from [] (start_of l) untold
+  then : {xs : List Label} {s : Configuration} {t : Telling} (x : Label) (rule : Option Rule) (n : Configuration)
       → IsTold r l numbers from xs s t → IsStepBy r l s x rule n
       → IsTold r l numbers from (x ∷ xs) n (with_step from numbers x rule s.wide.world n.wide.world t)

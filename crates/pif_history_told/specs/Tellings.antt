@@ -3,14 +3,14 @@ use Rattle.std.specs.Prelude.{ℕ, List, [], ◌∷◌, ◌++◌, Option}
 use Rattle.pif_types.specs.Bounds.{Bounds}
 use Rattle.pif_history_model.specs.declared.labels.Label.{Label}
 use Rattle.pif_rules_model.specs.declared.rules.Rules.{Rules}
-use Rattle.pif_history_model.specs.Allowed.{WideConfiguration, wide_start_of}
+use Rattle.pif_history_model.specs.Searched.{Configuration, start_of}
 use Rattle.pif_rules.specs.declared.rules.Rule.{Rule}
 use Rattle.pif_history_told.specs.Steps.{IsStepBy}
 use Rattle.pif_history_text.specs.Tellings.{step_telling}
 
 -- A run of these labels, newest first, which leads from the start to s, is told so. It may use these rules.
-pub data IsTold (r : Rules) (l : Bounds) : List Label → WideConfiguration → List ℕ → Type 0 where
-  start : IsTold r l [] (wide_start_of l) []
-  then : {xs : List Label} {s : WideConfiguration} {text : List ℕ} (x : Label) (rule : Option Rule) (n : WideConfiguration)
+pub data IsTold (r : Rules) (l : Bounds) : List Label → Configuration → List ℕ → Type 0 where
+  start : IsTold r l [] (start_of l) []
+  then : {xs : List Label} {s : Configuration} {text : List ℕ} (x : Label) (rule : Option Rule) (n : Configuration)
       → IsTold r l xs s text → IsStepBy r l s x rule n
       → IsTold r l (x ∷ xs) n (text ++ step_telling rule x s.wide.world n.wide.world)

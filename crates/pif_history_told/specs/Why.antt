@@ -2,7 +2,7 @@
 use Rattle.std.specs.Prelude.{ℕ, ◌≡◌, ◌≤◌, ◌-◌, ◌==◌, Bool, true, false, List, [], ◌∷◌, reverse, take, slice_get, Option, Some, None, if◌then◌else◌}
 use Rattle.pif_history_model.specs.declared.lines.Line.{Line}
 use Rattle.pif_history_model.specs.declared.lines.Line.TheVariants.{Answer, Begin, Prio}
-use Rattle.pif_history_model.specs.AllowedVerdicts.{ArePossibleAnswersWith, ArePossiblePrioritiesWith}
+use Rattle.pif_history_model.specs.Verdicts.{ArePossibleAnswers, ArePossiblePriorities}
 use Rattle.pif_history_lines.specs.Verdicts.{IsRefusalThere}
 use Rattle.pif_history_text.specs.Histories.{Heard, limits_of}
 use Rattle.pif_history_told.specs.declared.verdicts.Began.{Began}
@@ -24,8 +24,8 @@ IsUnfound h n unfound = (place : ℕ) × (n ≤ place) × IsNumbered h place unf
 -- Exactly these numbers may stand, by the rules that a history allows, in a line behind its first `before` lines: as its
 -- answer, or its priority.
 abbrev pub ArePossible : (h : Heard) → (before : ℕ) → Line → List ℕ → Type 0
-ArePossible h before (Answer t a) numbers = ArePossibleAnswersWith h.allowed (limits_of h) (take before h.shown) t numbers
-ArePossible h before (Prio t p) numbers = ArePossiblePrioritiesWith h.allowed (limits_of h) (take before h.shown) t numbers
+ArePossible h before (Answer t a) numbers = ArePossibleAnswers h.allowed (limits_of h) (take before h.shown) t numbers
+ArePossible h before (Prio t p) numbers = ArePossiblePriorities h.allowed (limits_of h) (take before h.shown) t numbers
 ArePossible h before line numbers = ⊥
 
 -- Whether a line has a number that may be another one: an answer, or a priority.

@@ -1,10 +1,10 @@
 ghost use Rattle.std.specs.Prelude.{◌≡◌, ◌<◌, ◌++◌, Some, drop, length, slice_get, IfOk, OnOk};
 ghost use Rattle.pif_rules_model.specs.Rules.{no_rules};
-ghost use Rattle.pif_history_model.specs.Allowed.{WideConfiguration, WideAdvances};
-ghost use Rattle.pif_history_model.specs.AllowedListed.{behind};
+ghost use Rattle.pif_history_model.specs.Searched.{Configuration, Advances};
+ghost use Rattle.pif_history_model.specs.Listed.{behind};
 ghost use Rattle.pif_history_told.specs.Steps.{AreSteps, IsLedTo, added_by, led_by, steps_of};
 
-use pif_allow_machine::{AllowingMachine, WidePosition};
+use pif_history_machine::{HistoryMachine, Position};
 use pif_history_model::{HistoryLimits, Label};
 use pif_rules::{RULES, Rule, has, no_rules, only};
 use pif_rules_model::Rules;
@@ -17,14 +17,14 @@ pub struct Step {
     /// The rule by which it is, if it needs one.
     pub rule: Option<Rule>,
     /// The position to which it leads.
-    pub position: WidePosition,
+    pub position: Position,
 }
 
 /// Adds the steps by a rule, or by none, to these positions, but for so many of the first ones.
 fn add(
     rule: Option<Rule>,
     first: usize,
-    positions: Vec<WidePosition>,
+    positions: Vec<Position>,
     found: &mut Vec<Step>,
 ) -> Result<(), Stop>
     ensures { OnOk result (found.new.items ≡ found.old.items ++ led_by rule (drop first positions.items)) }
@@ -42,7 +42,7 @@ fn add_by(
     limits: HistoryLimits,
     rule: Rule,
     plain: usize,
-    from: &WidePosition,
+    from: &Position,
     label: &Label,
     found: &mut Vec<Step>,
 ) -> Result<(), Stop>
@@ -52,7 +52,7 @@ fn add_by(
     if !has(rules, rule) {
         return Ok(());
     }
-    let machine = AllowingMachine::new(limits, only(rules, rule));
+    let machine = HistoryMachine::new(limits, only(rules, rule));
     let positions = machine.behind(alloc, from, label)?;
     add(Some(rule), plain, positions, found)
 }
@@ -67,12 +67,12 @@ pub fn steps(
     alloc: Global,
     rules: &Rules,
     limits: HistoryLimits,
-    from: &WidePosition,
+    from: &Position,
     label: &Label,
 ) -> Result<Vec<Step>, Stop>
     ensures listed { IfOk result (λ v. v.items ≡ steps_of rules.now limits from.now label.now) }
     ensures sound { IfOk result (λ v. AreSteps rules.now limits from.now label.now v.items) }
-    ensures complete { IfOk result (λ v. (n : WideConfiguration) → WideAdvances rules.now limits from.now label.now n → IsLedTo v.items n) }
+    ensures complete { IfOk result (λ v. (n : Configuration) → Advances rules.now limits from.now label.now n → IsLedTo v.items n) }
 {
     let found = listed(alloc, rules, limits, from, label)?;
     Ok(found)
@@ -84,13 +84,13 @@ fn listed(
     alloc: Global,
     rules: &Rules,
     limits: HistoryLimits,
-    from: &WidePosition,
+    from: &Position,
     label: &Label,
 ) -> Result<Vec<Step>, Stop>
     ensures { IfOk result (λ v. v.items ≡ steps_of rules.now limits from.now label.now) }
 {
     let mut found = Vec::new(alloc);
-    let machine = AllowingMachine::new(limits, no_rules());
+    let machine = HistoryMachine::new(limits, no_rules());
     let positions = machine.behind(alloc, from, label)?;
     let plain = positions.len();
     add(None, 0, positions, &mut found)?;
@@ -105,7 +105,7 @@ pub(crate) fn step_at(
     alloc: Global,
     rules: &Rules,
     limits: HistoryLimits,
-    from: &WidePosition,
+    from: &Position,
     label: &Label,
     place: usize,
 ) -> Result<Step, Stop>

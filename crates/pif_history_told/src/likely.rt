@@ -1,7 +1,7 @@
 //! Which of several positions are likely to come to the end of the labels that are left. Nothing that is told of a run
 //! rests on it: a run that is found is one, and if none is found so, all positions are followed.
 
-use pif_allow_machine::WidePosition;
+use pif_history_machine::Position;
 use pif_history_model::{Label, Line};
 use pif_search::{Stop, push};
 use pif_types::{Answer, Errno, Request, Tid};
@@ -77,7 +77,7 @@ fn to_be_woken(alloc: Global, labels: &[Label]) -> Result<Vec<Tid>, Stop> {
 
 /// How unlikely a position is: how many of these threads come from the first one on that still rests; and how many
 /// threads of all don't rest.
-fn rank_of(position: &WidePosition, threads: &[Tid]) -> (usize, usize) {
+fn rank_of(position: &Position, threads: &[Tid]) -> (usize, usize) {
     let world = position.world();
     let mut left = threads.len();
     for thread in threads {
@@ -103,7 +103,7 @@ fn rank_of(position: &WidePosition, threads: &[Tid]) -> (usize, usize) {
 /// Out of memory.
 pub fn are_left_out(
     alloc: Global,
-    positions: &[WidePosition],
+    positions: &[Position],
     labels: &[Label],
     most: usize,
 ) -> Result<Vec<bool>, Stop> {

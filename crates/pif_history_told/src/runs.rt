@@ -1,5 +1,5 @@
 ghost use Rattle.std.specs.Prelude.{◌≡◌, ◌≤◌, ◌-◌, ◌∷◌, Option, drop, length, IfOk};
-ghost use Rattle.pif_history_model.specs.Allowed.{WideConfiguration};
+ghost use Rattle.pif_history_model.specs.Searched.{Configuration};
 ghost use Rattle.pif_rules.specs.declared.rules.Rule.{Rule};
 ghost use Rattle.pif_history_told.specs.Runs.{IsTold, Telling, with_step};
 ghost use Rattle.pif_history_told.specs.Steps.{IsStepBy};
@@ -7,7 +7,7 @@ ghost use Rattle.pif_history_told.specs.Ways.{HasCome, IsRun};
 
 use crate::run_lines::{Frame, Leap, Telling};
 use crate::ways::{choices, next_step};
-use pif_allow_machine::WidePosition;
+use pif_history_machine::Position;
 use pif_history_model::{HistoryLimits, Label};
 use pif_rules_model::Rules;
 use pif_search::Stop;
@@ -22,9 +22,9 @@ fn take_step(
     labels: &[Label],
     choices: &[usize],
     left: usize,
-    from: &WidePosition,
+    from: &Position,
     told: &mut Telling,
-) -> Result<WidePosition, Stop>
+) -> Result<Position, Stop>
     requires some { 1 ≤ left }
     requires within { left ≤ length labels.now }
     requires come { HasCome rules.now limits labels.now choices.now left from.now }
@@ -60,12 +60,12 @@ pub fn run_text(
     witness: &[Label],
 ) -> Result<Vec<u8>, Stop>
     requires run { IsRun rules.now limits witness.now }
-    ensures { IfOk result (λ text. (last : WideConfiguration) × (told : Telling)
+    ensures { IfOk result (λ text. (last : Configuration) × (told : Telling)
         × IsTold rules.now limits numbers.now from witness.now last told × (text.items ≡ told.done)) }
 {
     let chosen = choices(alloc, rules, limits, witness)?;
     let frame = Frame { numbers, from };
-    let mut position = WidePosition::start(alloc, limits)?;
+    let mut position = Position::start(alloc, limits)?;
     let mut told = Telling::new(alloc);
     let mut left = witness.len();
     while left > 0 {

@@ -8,11 +8,10 @@ use Rattle.pif_history_model.specs.declared.lines.Line.{Line}
 use Rattle.pif_history_model.specs.declared.lines.Line.TheVariants.{Answer, Prio}
 use Rattle.pif_history_model.specs.declared.refusals.LineRefusal.{LineRefusal}
 use Rattle.pif_history_model.specs.Lines.{thread_of}
-use Rattle.pif_history_model.specs.AllowedVerdicts.{ArePossibleAnswersWith, ArePossiblePrioritiesWith}
+use Rattle.pif_history_model.specs.Verdicts.{ArePossibleAnswers, ArePossiblePriorities}
 use Rattle.pif_history_lines.specs.declared.verdicts.Verdict.{Verdict}
 use Rattle.pif_history_lines.specs.declared.verdicts.Verdict.TheVariants.{Illegal, Undecided}
-use Rattle.pif_allow.specs.Verdicts.{IsVerdictWith}
-use Rattle.pif_history_lines.specs.Verdicts.{IsRefusalThere}
+use Rattle.pif_history_lines.specs.Verdicts.{IsVerdictOf, IsRefusalThere}
 use Rattle.pif_history_text.specs.Histories.{Heard, limits_of}
 use Rattle.pif_history_text.specs.Verdicts.{illegal_line, legal_line, undecided_line}
 use Rattle.pif_history_told.specs.Pages.{IsPageOf}
@@ -62,18 +61,18 @@ tells_undecided h n old mid new number unfound numbered there first second = (
 )
 
 -- a history of each verdict
-pub told_legal : (form : Form) (h : Heard) (v : Verdict) (witness old new : List ℕ) → IsVerdictWith h.allowed (limits_of h) h.shown v
+pub told_legal : (form : Form) (h : Heard) (v : Verdict) (witness old new : List ℕ) → IsVerdictOf h.allowed (limits_of h) h.shown v
     → TellsVerdict form h.allowed (limits_of h) v witness → new ≡ old ++ (legal_line h.count ++ witness)
     → AppendsLines form h (Ok tt) old new
 told_legal form h v witness old new is told e = (_, legal v witness is told refl refl, e)
 
 pub told_illegal : (form : Form) (h : Heard) (n : ℕ) (old new : List ℕ) (end : JudgeFault)
-    → IsVerdictWith h.allowed (limits_of h) h.shown (Illegal n) → TellsIllegal h n old new end → AppendsLines form h (Err end) old new
+    → IsVerdictOf h.allowed (limits_of h) h.shown (Illegal n) → TellsIllegal h n old new end → AppendsLines form h (Err end) old new
 told_illegal form h n old new end is t =
     (_, illegal n t.0 t.1 t.2 is t.3 t.4 t.5 refl (ap (λ (e : JudgeFault). Err e) t.7), t.6)
 
 pub told_undecided : (form : Form) (h : Heard) (n : ℕ) (old new : List ℕ) (end : JudgeFault)
-    → IsVerdictWith h.allowed (limits_of h) h.shown (Undecided n) → TellsUndecided h n old new end → AppendsLines form h (Err end) old new
+    → IsVerdictOf h.allowed (limits_of h) h.shown (Undecided n) → TellsUndecided h n old new end → AppendsLines form h (Err end) old new
 told_undecided form h n old new end is t =
     (_, undecided n t.0 t.1 is t.2 t.3 refl (ap (λ (e : JudgeFault). Err e) t.5), t.4)
 
@@ -123,21 +122,21 @@ judged form h held holds front old new end result e told w =
 pub answers_known : (h : Heard) (before : ℕ) (line : Line) (t a : ℕ) (l : Bounds) (lines : List Line) (o : Option (Vec ℕ Global))
     → line ≡ Answer t a → l ≡ limits_of h → lines ≡ take before h.shown
     → IsRefusalThere (limits_of h) (take before h.shown) line None
-    → IfSome o (λ v. ArePossibleAnswersWith h.allowed l lines t v.items) → IsKnown h before line (Numbers o)
+    → IfSome o (λ v. ArePossibleAnswers h.allowed l lines t v.items) → IsKnown h before line (Numbers o)
 answers_known h before line t a l lines None e b s n x = (n, ap (λ (z : Line). has_number z) e)
 answers_known h before line t a l lines (Some v) e b s n x =
-    let x1 = subst (λ (ls : List Line). ArePossibleAnswersWith h.allowed l ls t v.items) s x in
-    let x2 = subst (λ (k : Bounds). ArePossibleAnswersWith h.allowed k (take before h.shown) t v.items) b x1 in
+    let x1 = subst (λ (ls : List Line). ArePossibleAnswers h.allowed l ls t v.items) s x in
+    let x2 = subst (λ (k : Bounds). ArePossibleAnswers h.allowed k (take before h.shown) t v.items) b x1 in
     (n, subst (λ (z : Line). ArePossible h before z v.items) (sym e) x2)
 
 pub priorities_known : (h : Heard) (before : ℕ) (line : Line) (t p : ℕ) (l : Bounds) (lines : List Line) (o : Option (Vec ℕ Global))
     → line ≡ Prio t p → l ≡ limits_of h → lines ≡ take before h.shown
     → IsRefusalThere (limits_of h) (take before h.shown) line None
-    → IfSome o (λ v. ArePossiblePrioritiesWith h.allowed l lines t v.items) → IsKnown h before line (Numbers o)
+    → IfSome o (λ v. ArePossiblePriorities h.allowed l lines t v.items) → IsKnown h before line (Numbers o)
 priorities_known h before line t p l lines None e b s n x = (n, ap (λ (z : Line). has_number z) e)
 priorities_known h before line t p l lines (Some v) e b s n x =
-    let x1 = subst (λ (ls : List Line). ArePossiblePrioritiesWith h.allowed l ls t v.items) s x in
-    let x2 = subst (λ (k : Bounds). ArePossiblePrioritiesWith h.allowed k (take before h.shown) t v.items) b x1 in
+    let x1 = subst (λ (ls : List Line). ArePossiblePriorities h.allowed l ls t v.items) s x in
+    let x2 = subst (λ (k : Bounds). ArePossiblePriorities h.allowed k (take before h.shown) t v.items) b x1 in
     (n, subst (λ (z : Line). ArePossible h before z v.items) (sym e) x2)
 
 pub refused_there : (k l : Bounds) (ls lines : List Line) (line : Line) (o p : Option LineRefusal) → k ≡ l → ls ≡ lines → o ≡ p

@@ -7,10 +7,10 @@ use Rattle.pif_types.specs.Bounds.{Bounds}
 use Rattle.pif_history_model.specs.declared.labels.Label.{Label}
 use Rattle.pif_history_model.specs.declared.lines.Line.{Line}
 use Rattle.pif_history_model.specs.Lines.{thread_of}
-use Rattle.pif_history_model.specs.AllowedVerdicts.{IsLegalWith}
+use Rattle.pif_history_model.specs.Verdicts.{IsLegal}
 use Rattle.pif_history_lines.specs.declared.verdicts.Verdict.{Verdict}
 use Rattle.pif_history_lines.specs.declared.verdicts.Verdict.TheVariants.{Illegal, Undecided}
-use Rattle.pif_allow.specs.Verdicts.{IsVerdictWith}
+use Rattle.pif_history_lines.specs.Verdicts.{IsVerdictOf}
 use Rattle.pif_history_text.specs.Histories.{Heard, limits_of}
 use Rattle.pif_history_told.specs.declared.verdicts.Began.{Began}
 use Rattle.pif_history_told.specs.declared.verdicts.Known.{Known}
@@ -29,11 +29,11 @@ on_ok (Err e) P Q f holds = tt
 
 -- the lines of a run that shows the first lines of a history
 pub before_told : (h : Heard) (before left_out : ℕ) (l : Bounds) (lines : List Line) (labels given : List Label)
-    (old new : List ℕ) → l ≡ limits_of h → lines ≡ take before h.shown → given ≡ labels → IsLegalWith h.allowed l lines labels
+    (old new : List ℕ) → l ≡ limits_of h → lines ≡ take before h.shown → given ≡ labels → IsLegal h.allowed l lines labels
     → AppendsSteps h left_out given old new → AppendsBefore h before left_out old new
 before_told h before left_out l lines labels given old new limits are same_labels by told =
-    let one = subst (λ (k : Bounds). IsLegalWith h.allowed k lines labels) limits by in
-    let two = subst (λ (ls : List Line). IsLegalWith h.allowed (limits_of h) ls labels) are one in
+    let one = subst (λ (k : Bounds). IsLegal h.allowed k lines labels) limits by in
+    let two = subst (λ (ls : List Line). IsLegal h.allowed (limits_of h) ls labels) are one in
     let steps = subst (λ (xs : List Label). AppendsSteps h left_out xs old new) same_labels told in
     (steps.0, inl (labels, two, steps.1), steps.2)
 
@@ -46,11 +46,11 @@ none_undecided v n e = subst (λ (z : Verdict). HasNoWitness z) (sym e) tt
 
 -- no run that shows them was found
 pub before_untold : (h : Heard) (before left_out : ℕ) (l : Bounds) (lines : List Line) (v : Verdict) (old new : List ℕ)
-    → l ≡ limits_of h → lines ≡ take before h.shown → IsVerdictWith h.allowed l lines v → HasNoWitness v → new ≡ old
+    → l ≡ limits_of h → lines ≡ take before h.shown → IsVerdictOf h.allowed l lines v → HasNoWitness v → new ≡ old
     → AppendsBefore h before left_out old new
 before_untold h before left_out l lines v old new limits are is none same =
-    let one = subst (λ (k : Bounds). IsVerdictWith h.allowed k lines v) limits is in
-    let two = subst (λ (ls : List Line). IsVerdictWith h.allowed (limits_of h) ls v) are one in
+    let one = subst (λ (k : Bounds). IsVerdictOf h.allowed k lines v) limits is in
+    let two = subst (λ (ls : List Line). IsVerdictOf h.allowed (limits_of h) ls v) are one in
     ([], inr (v, two, none, refl), same ∙ sym (append-nil old))
 
 -- two texts, one behind the other
@@ -60,7 +60,7 @@ both old mid new one two first second =
 
 -- a history of each verdict
 pub legal_told : (form : Form) (h : Heard) (labels : List Label) (left n : ℕ) (old mid new : List ℕ)
-    → left ≡ left_out_of form (length h.shown) → n ≡ left → IsLegalWith h.allowed (limits_of h) h.shown labels
+    → left ≡ left_out_of form (length h.shown) → n ≡ left → IsLegal h.allowed (limits_of h) h.shown labels
     → mid ≡ old ++ legal_object h.count n → AppendsSteps h left labels mid new → AppendsObjects form h (Ok tt) old new
 legal_told form h labels left n old mid new out written by first told =
     let all : ℕ = left_out_of form (length h.shown) in
@@ -72,7 +72,7 @@ legal_told form h labels left n old mid new out written by first told =
     )
 
 pub illegal_told : (form : Form) (h : Heard) (n number : ℕ) (line : Line) (known : Known) (began : Option Began) (left m : ℕ)
-    (old mid new : List ℕ) → IsVerdictWith h.allowed (limits_of h) h.shown (Illegal n) → slice_get h.shown (n - 1) ≡ Some line
+    (old mid new : List ℕ) → IsVerdictOf h.allowed (limits_of h) h.shown (Illegal n) → slice_get h.shown (n - 1) ≡ Some line
     → IsNumbered h n number → IsKnown h (n - 1) line known
     → began ≡ began_with known (open_of (thread_of line) h (n - 1)) → left ≡ left_out_of form (n - 1) → m ≡ left
     → mid ≡ old ++ illegal_object number line known began m → AppendsBefore h (n - 1) left mid new
@@ -89,7 +89,7 @@ illegal_told form h n number line known began left m old mid new is there number
     )
 
 pub undecided_told : (form : Form) (h : Heard) (n number : ℕ) (unfound : Unfound) (left m : ℕ) (old mid new : List ℕ)
-    → IsVerdictWith h.allowed (limits_of h) h.shown (Undecided n) → IsNumbered h n number → IsUnfound h n unfound
+    → IsVerdictOf h.allowed (limits_of h) h.shown (Undecided n) → IsNumbered h n number → IsUnfound h n unfound
     → left ≡ left_out_of form (n - 1) → m ≡ left
     → mid ≡ old ++ undecided_object number unfound m → AppendsBefore h (n - 1) left mid new
     → AppendsObjects form h (Err (fault.Undecided number)) old new

@@ -4,18 +4,18 @@ use Rattle.pif_types.specs.Bounds.{Bounds}
 use Rattle.pif_rules_model.specs.declared.rules.Rules.{Rules}
 use Rattle.pif_history_model.specs.declared.labels.Label.{Label}
 use Rattle.pif_history_model.specs.declared.lines.Line.{Line}
-use Rattle.pif_history_model.specs.AllowedVerdicts.{IsLegalWith, IsIllegalWith}
+use Rattle.pif_history_model.specs.Verdicts.{IsLegal, IsIllegal}
 use Rattle.pif_job_judge.specs.declared.search.Needed.{Needed}
 use Rattle.pif_job_judge.specs.declared.search.Needed.TheVariants.{Legal, Undecided}
 use Rattle.pif_history_told.specs.Sets.{sets_in_order}
 
 -- Lines are legal with these rules.
 abbrev pub IsLegalSomehow : Bounds → List Line → Rules → Type 0
-IsLegalSomehow l lines r = (witness : List Label) × IsLegalWith r l lines witness
+IsLegalSomehow l lines r = (witness : List Label) × IsLegal r l lines witness
 
 -- Lines are illegal with these rules.
 abbrev pub IsIllegalSomewhere : Bounds → List Line → Rules → Type 0
-IsIllegalSomewhere l lines r = (n : ℕ) × IsIllegalWith r l lines n
+IsIllegalSomewhere l lines r = (n : ℕ) × IsIllegal r l lines n
 
 -- A set of rules of a, beside those of base, stands in the order, and with each set before it lines are illegal.
 abbrev pub IsBehindIllegal : (base a : Rules) → Bounds → List Line → Rules → Type 0

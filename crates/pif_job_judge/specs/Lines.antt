@@ -7,9 +7,9 @@ use Rattle.pif_history_model.specs.declared.lines.Line.{Line}
 use Rattle.pif_history_lines.specs.declared.verdicts.Verdict.{Verdict}
 use Rattle.pif_history_lines.specs.declared.verdicts.Verdict.TheVariants.{Legal, Illegal, Undecided}
 use Rattle.pif_rules_model.specs.declared.rules.Rules.{Rules}
-use Rattle.pif_allow.specs.Verdicts.{IsVerdictWith}
+use Rattle.pif_history_lines.specs.Verdicts.{IsVerdictOf}
 use Rattle.pif_history_model.specs.Lines.{thread_of}
-use Rattle.pif_history_model.specs.Allowed.{WideConfiguration}
+use Rattle.pif_history_model.specs.Searched.{Configuration}
 use Rattle.pif_history_text.specs.Histories.{Heard, limits_of}
 use Rattle.pif_history_text.specs.Verdicts.{illegal_line, legal_line, undecided_line}
 use Rattle.pif_history_told.specs.Tellings.{IsTold as IsRunTold}
@@ -29,7 +29,7 @@ TellsWhy h before line text =
 
 -- A text tells a run with these rules, whose steps have these labels, newest first, if the witness is wanted; else nothing.
 abbrev pub TellsRun : Form → Rules → Bounds → List Label → (text : List ℕ) → Type 0
-TellsRun Witness r l labels text = (last : WideConfiguration) × IsRunTold r l labels last text
+TellsRun Witness r l labels text = (last : Configuration) × IsRunTold r l labels last text
 TellsRun form r l labels text = text ≡ []
 
 -- A verdict that there is a run, which a text tells if it is wanted.
@@ -42,13 +42,13 @@ TellsVerdict form r l (Undecided n) text = ⊥
 -- line of a legal one its witness is told, if it is wanted. If the search was given up, its line or one behind it is
 -- named as the first for which no witness was found.
 pub data IsTold (form : Form) (h : Heard) (text : List ℕ) (end : Result (Unit {0}) JudgeFault) : Type 0 where
-  legal : (v : Verdict) (witness : List ℕ) → IsVerdictWith h.allowed (limits_of h) h.shown v
+  legal : (v : Verdict) (witness : List ℕ) → IsVerdictOf h.allowed (limits_of h) h.shown v
       → TellsVerdict form h.allowed (limits_of h) v witness → text ≡ legal_line h.count ++ witness → end ≡ Ok tt
       → IsTold form h text end
-  illegal : (n number : ℕ) (line : Line) (why : List ℕ) → IsVerdictWith h.allowed (limits_of h) h.shown (Illegal n)
+  illegal : (n number : ℕ) (line : Line) (why : List ℕ) → IsVerdictOf h.allowed (limits_of h) h.shown (Illegal n)
       → slice_get h.shown (n - 1) ≡ Some line → IsNumbered h n number → TellsWhy h (n - 1) line why
       → text ≡ illegal_line number line ++ why → end ≡ Err (fault.Cli (Differs number)) → IsTold form h text end
-  undecided : (n number : ℕ) (unfound : Unfound) → IsVerdictWith h.allowed (limits_of h) h.shown (Undecided n)
+  undecided : (n number : ℕ) (unfound : Unfound) → IsVerdictOf h.allowed (limits_of h) h.shown (Undecided n)
       → IsNumbered h n number → IsUnfound h n unfound → text ≡ undecided_line number ++ unfound_text unfound → end ≡ Err (fault.Undecided number) → IsTold form h text end
 
 -- Bytes grew by what is told in lines of a history that ends so.

@@ -4,11 +4,11 @@ use Rattle.pif_script_model.specs.declared.faults.CliFault.TheVariants.{Differs}
 use Rattle.pif_history_model.specs.declared.labels.Label.{Label}
 use Rattle.pif_history_model.specs.declared.lines.Line.{Line}
 use Rattle.pif_history_model.specs.Lines.{thread_of}
-use Rattle.pif_history_model.specs.Allowed.{WideConfiguration}
-use Rattle.pif_history_model.specs.AllowedVerdicts.{IsLegalWith}
+use Rattle.pif_history_model.specs.Searched.{Configuration}
+use Rattle.pif_history_model.specs.Verdicts.{IsLegal}
 use Rattle.pif_history_lines.specs.declared.verdicts.Verdict.{Verdict}
 use Rattle.pif_history_lines.specs.declared.verdicts.Verdict.TheVariants.{Legal, Illegal, Undecided}
-use Rattle.pif_allow.specs.Verdicts.{IsVerdictWith}
+use Rattle.pif_history_lines.specs.Verdicts.{IsVerdictOf}
 use Rattle.pif_history_text.specs.Histories.{Heard, limits_of}
 use Rattle.pif_history_told.specs.declared.verdicts.Began.{Began}
 use Rattle.pif_history_told.specs.declared.verdicts.Known.{Known}
@@ -35,7 +35,7 @@ left_out_of form lines = 0
 -- A text tells a run whose steps have these labels, newest first. So many of its lines are left out.
 abbrev pub TellsSteps : Heard → (left_out : ℕ) → List Label → (text : List ℕ) → Type 0
 TellsSteps h left_out labels text =
-    (last : WideConfiguration) × (told : Telling) × IsRunTold h.allowed (limits_of h) h.numbers left_out labels last told
+    (last : Configuration) × (told : Telling) × IsRunTold h.allowed (limits_of h) h.numbers left_out labels last told
     × (text ≡ told.done)
 
 -- A verdict has no witness: no run shows the lines, or the search was given up.
@@ -48,8 +48,8 @@ HasNoWitness (Undecided n) = ⊤
 -- witness. If some run shows them, that is a search that was given up.
 abbrev pub TellsBefore : Heard → (before left_out : ℕ) → (text : List ℕ) → Type 0
 TellsBefore h before left_out text =
-    ((labels : List Label) × IsLegalWith h.allowed (limits_of h) (take before h.shown) labels × TellsSteps h left_out labels text)
-    ⊎ ((v : Verdict) × IsVerdictWith h.allowed (limits_of h) (take before h.shown) v × HasNoWitness v × (text ≡ []))
+    ((labels : List Label) × IsLegal h.allowed (limits_of h) (take before h.shown) labels × TellsSteps h left_out labels text)
+    ⊎ ((v : Verdict) × IsVerdictOf h.allowed (limits_of h) (take before h.shown) v × HasNoWitness v × (text ≡ []))
 
 -- The open call that is told with what is known of an illegal line: none, if the line is refused.
 abbrev pub began_with : Known → Option Began → Option Began
@@ -61,18 +61,18 @@ began_with Nothing began = began
 -- or those before the line of the verdict, if it was found. If the search was given up, its line or one behind it is
 -- named as the first for which no witness was found.
 pub data AreObjects (form : Form) (h : Heard) (text : List ℕ) (end : Result (Unit {0}) JudgeFault) : Type 0 where
-  legal : (labels : List Label) (run : List ℕ) → IsLegalWith h.allowed (limits_of h) h.shown labels
+  legal : (labels : List Label) (run : List ℕ) → IsLegal h.allowed (limits_of h) h.shown labels
       → TellsSteps h (left_out_of form (length h.shown)) labels run
       → text ≡ legal_object h.count (left_out_of form (length h.shown)) ++ run → end ≡ Ok tt
       → AreObjects form h text end
-  illegal : (n number : ℕ) (line : Line) (known : Known) (run : List ℕ) → IsVerdictWith h.allowed (limits_of h) h.shown (Illegal n)
+  illegal : (n number : ℕ) (line : Line) (known : Known) (run : List ℕ) → IsVerdictOf h.allowed (limits_of h) h.shown (Illegal n)
       → slice_get h.shown (n - 1) ≡ Some line → IsNumbered h n number → IsKnown h (n - 1) line known
       → TellsBefore h (n - 1) (left_out_of form (n - 1)) run
       → text
       ≡ illegal_object number line known (began_with known (open_of (thread_of line) h (n - 1))) (left_out_of form (n - 1))
       ++ run
       → end ≡ Err (fault.Cli (Differs number)) → AreObjects form h text end
-  undecided : (n number : ℕ) (unfound : Unfound) (run : List ℕ) → IsVerdictWith h.allowed (limits_of h) h.shown (Undecided n)
+  undecided : (n number : ℕ) (unfound : Unfound) (run : List ℕ) → IsVerdictOf h.allowed (limits_of h) h.shown (Undecided n)
       → IsNumbered h n number → IsUnfound h n unfound → TellsBefore h (n - 1) (left_out_of form (n - 1)) run
       → text ≡ undecided_object number unfound (left_out_of form (n - 1)) ++ run → end ≡ Err (fault.Undecided number)
       → AreObjects form h text end

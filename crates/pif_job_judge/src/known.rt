@@ -4,7 +4,7 @@ ghost use Rattle.pif_history_text.specs.Histories.{limits_of};
 ghost use Rattle.pif_history_text.specs.Reading.{heard_of};
 ghost use Rattle.pif_history_told.specs.Why.{IsKnown};
 
-use pif_allow::{possible_answers_allowing, possible_priorities_allowing};
+use pif_history::{possible_answers, possible_priorities};
 use pif_history_lines::refusal;
 use pif_history_model::Line;
 use pif_history_text::History;
@@ -31,13 +31,13 @@ fn numbers_of<V: Watch>(
     let limits = history.limits();
     let rules = &history.allowed;
     match line {
-        Line::Answer(thread, _) => match possible_answers_allowing(
+        Line::Answer(thread, _) => match possible_answers(
             alloc, rules, limits, lines, *thread, states, watch,
         ) {
             Ok(answers) => Ok(Known::Numbers(answers)),
             Err(_) => Err(CliFault::NoMemory),
         },
-        Line::Prio(thread, _) => match possible_priorities_allowing(
+        Line::Prio(thread, _) => match possible_priorities(
             alloc, rules, limits, lines, *thread, states, watch,
         ) {
             Ok(priorities) => Ok(Known::Numbers(priorities)),

@@ -1,7 +1,7 @@
 ghost use Rattle.std.specs.Prelude.{◌≡◌, ◌≤◌, ◌-◌, Err, IfErr, IfOk, Ok, OnOk, vec_len};
 ghost use Rattle.pif_history_lines.specs.declared.verdicts.Verdict.TheVariants.{Illegal, Undecided};
-ghost use Rattle.pif_allow.specs.Verdicts.{IsVerdictWith};
-ghost use Rattle.pif_history_model.specs.AllowedVerdicts.{IsLegalWith};
+ghost use Rattle.pif_history_lines.specs.Verdicts.{IsVerdictOf};
+ghost use Rattle.pif_history_model.specs.Verdicts.{IsLegal};
 ghost use Rattle.pif_history_told.specs.Ways.{IsRun};
 ghost use Rattle.pif_history_text.specs.Histories.{limits_of};
 ghost use Rattle.pif_history_text.specs.Reading.{IsPaired, heard_of};
@@ -11,7 +11,7 @@ use crate::faults::JudgeFault;
 use crate::forms::{Form, Judging};
 use crate::known::known_of;
 use crate::unfound::unfound_at;
-use pif_allow::judge_allowing;
+use pif_history::judge_lines;
 use pif_history_lines::Verdict;
 use pif_history_model::Label;
 use pif_history_text::History;
@@ -98,7 +98,7 @@ fn append_before<V: Watch>(
     ensures failed { IfErr result (λ fault. fault ≡ CliFault.NoMemory) }
 {
     let lines = &history.shown.as_slice()[..before];
-    match judge_allowing(
+    match judge_lines(
         alloc,
         &history.allowed,
         history.limits(),
@@ -123,7 +123,7 @@ fn append_legal_history(
     labels: &[Label],
     out: &mut Vec<u8>,
 ) -> Result<(), CliFault>
-    requires { IsLegalWith history.now.allowed (limits_of (heard_of history.now)) history.now.shown.items labels.now }
+    requires { IsLegal history.now.allowed (limits_of (heard_of history.now)) history.now.shown.items labels.now }
     ensures told { OnOk result (AppendsObjects form (heard_of history.now) (Ok tt) out.old.items out.new.items) }
     ensures failed { IfErr result (λ fault. fault ≡ CliFault.NoMemory) }
 {
@@ -146,7 +146,7 @@ fn append_illegal_history<V: Watch>(
     watch: &mut V,
 ) -> Result<JudgeFault, CliFault>
     requires paired { IsPaired history.now }
-    requires verdict { IsVerdictWith history.now.allowed (limits_of (heard_of history.now)) history.now.shown.items (Illegal count) }
+    requires verdict { IsVerdictOf history.now.allowed (limits_of (heard_of history.now)) history.now.shown.items (Illegal count) }
     ensures told { IfOk result (λ end. AppendsObjects asked.now.form (heard_of history.now) (Err end) out.old.items out.new.items) }
     ensures failed { IfErr result (λ fault. fault ≡ CliFault.NoMemory) }
 {
@@ -176,7 +176,7 @@ fn append_undecided_history<V: Watch>(
     watch: &mut V,
 ) -> Result<JudgeFault, CliFault>
     requires paired { IsPaired history.now }
-    requires verdict { IsVerdictWith history.now.allowed (limits_of (heard_of history.now)) history.now.shown.items (Undecided count) }
+    requires verdict { IsVerdictOf history.now.allowed (limits_of (heard_of history.now)) history.now.shown.items (Undecided count) }
     ensures told { IfOk result (λ end. AppendsObjects asked.now.form (heard_of history.now) (Err end) out.old.items out.new.items) }
     ensures failed { IfErr result (λ fault. fault ≡ CliFault.NoMemory) }
 {
@@ -208,7 +208,7 @@ pub fn tell_objects<V: Watch>(
     watch: &mut V,
 ) -> Result<Result<(), JudgeFault>, CliFault>
     requires paired { IsPaired history.now }
-    requires verdict { IsVerdictWith history.now.allowed (limits_of (heard_of history.now)) history.now.shown.items verdict }
+    requires verdict { IsVerdictOf history.now.allowed (limits_of (heard_of history.now)) history.now.shown.items verdict }
     ensures told { IfOk result (λ end. AppendsObjects asked.now.form (heard_of history.now) end out.old.items out.new.items) }
     ensures failed { IfErr result (λ fault. fault ≡ CliFault.NoMemory) }
 {

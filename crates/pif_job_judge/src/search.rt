@@ -1,9 +1,9 @@
 ghost use Rattle.std.specs.Prelude.{◌≡◌, IfOk};
 ghost use Rattle.pif_job_judge.specs.LeastRules.{IsLeast, IsLegalSomehow};
-ghost use Rattle.pif_allow.specs.Verdicts.{IsVerdictWith};
+ghost use Rattle.pif_history_lines.specs.Verdicts.{IsVerdictOf};
 ghost use Rattle.pif_rules.specs.Sets.{both};
 
-use pif_allow::judge_allowing;
+use pif_history::judge_lines;
 use pif_history_lines::Verdict;
 use pif_history_model::{HistoryLimits, Line};
 use pif_history_told::sets_but_all;
@@ -44,7 +44,7 @@ pub fn least<W: Watch>(
     let sets = sets_but_all(alloc, base, asked)?;
     for place in 0..sets.len() {
         let rules = sets[place];
-        match judge_allowing(alloc, &rules, limits, lines, states, watch)? {
+        match judge_lines(alloc, &rules, limits, lines, states, watch)? {
             Verdict::Legal(_) => return Ok(Needed::Legal(rules)),
             Verdict::Undecided(line) => return Ok(Needed::Undecided(rules, line)),
             Verdict::Illegal(_) => {}

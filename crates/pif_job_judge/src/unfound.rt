@@ -3,7 +3,7 @@ ghost use Rattle.pif_history_text.specs.Reading.{heard_of};
 ghost use Rattle.pif_history_told.specs.Why.{IsUnfound};
 
 use crate::judging::Numbered;
-use pif_allow::find_run_allowing;
+use pif_history::find_run;
 use pif_history_lines::{answers_of, numbers_of, priorities_of};
 use pif_history_model::{Label, Line};
 use pif_history_text::History;
@@ -28,7 +28,7 @@ pub fn find_further<V: Watch>(
         }
         let middle = usize::min(watch.shown.saturating_add(gap / 2), history.shown.len());
         let lines = &history.shown.as_slice()[..middle];
-        let run = find_run_allowing(
+        let run = find_run(
             alloc,
             &history.allowed,
             history.limits(),
@@ -60,7 +60,7 @@ fn add_if_found<V: Watch>(
         _ => return Ok(()),
     };
     push(lines, line)?;
-    let run = find_run_allowing(
+    let run = find_run(
         alloc,
         &history.allowed,
         history.limits(),

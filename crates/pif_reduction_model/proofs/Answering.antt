@@ -19,8 +19,8 @@ use Rattle.pif_history_model.specs.declared.labels.Label.{Label}
 use Rattle.pif_history_model.specs.Lines.{is_among, is_line_among, dying_after}
 use Rattle.pif_history_model.specs.Shown.{IsSeen}
 use Rattle.pif_history_model.specs.Shown.IsSeen.{rests as sees_rest, prio as sees_prio, dying as sees_dying}
-use Rattle.pif_history_model.specs.Searched.{Configuration, Advances}
-use Rattle.pif_history_model.specs.Searched.Advances.{moves, ends, enters, sees, has_ended}
+use Rattle.pif_history_model.specs.Plain.{PlainConfiguration, PlainAdvances}
+use Rattle.pif_history_model.specs.Plain.PlainAdvances.{moves, ends, enters, sees, has_ended}
 use Rattle.pif_history_model.proofs.Soundness.{lines_after}
 use Rattle.pif_reduction_model.specs.Known.{is_over, answer_of, known_answer, may_be_answered, KeepsTo}
 use Rattle.pif_reduction_model.proofs.Leading.{Leads, AreWaiting, leads_kept}
@@ -89,26 +89,26 @@ dies_before_line k rest us own d u a e = go (known_cases u a k rest e)
 own_apart : (k : Line) (us : List ℕ) → is_line_among us k ≡ false → (u a : ℕ) → k ≡ Answer u a → is_among us u ≡ false
 own_apart k us apart u a is = sym (ap (is_line_among us) is) ∙ apart
 
-pub dies_before : (l : Bounds) (s n : Configuration) (x : Label) (rest : List Line) → Advances l s x n
+pub dies_before : (l : Bounds) (s n : PlainConfiguration) (x : Label) (rest : List Line) → PlainAdvances l s x n
     → NoneDies rest n.dying → NoneDies (lines_after x rest) s.dying
 dies_before l s n x rest (moves t v is m e) d =
     subst (λ (z : Label). NoneDies (lines_after z rest) s.dying) (sym is)
-    (subst (λ (z : Configuration). NoneDies rest z.dying) e d)
+    (subst (λ (z : PlainConfiguration). NoneDies rest z.dying) e d)
 dies_before l s n x rest (ends t v is among m e) d =
     subst (λ (z : Label). NoneDies (lines_after z rest) s.dying) (sym is)
-    (subst (λ (z : Configuration). NoneDies rest z.dying) e d)
+    (subst (λ (z : PlainConfiguration). NoneDies rest z.dying) e d)
 dies_before l s n x rest (enters k e v is of apart m same) d =
     subst (λ (z : Label). NoneDies (lines_after z rest) s.dying) (sym is)
     (dies_before_line k rest s.dying (own_apart k s.dying apart)
-    (subst (λ (z : Configuration). NoneDies rest z.dying) same d))
+    (subst (λ (z : PlainConfiguration). NoneDies rest z.dying) same d))
 dies_before l s n x rest (sees k is apart look same) d =
     subst (λ (z : Label). NoneDies (lines_after z rest) s.dying) (sym is)
     (dies_before_line k rest s.dying (own_apart k s.dying apart)
-    (subst (λ (z : Configuration). NoneDies rest z.dying) same d))
+    (subst (λ (z : PlainConfiguration). NoneDies rest z.dying) same d))
 dies_before l s n x rest (has_ended t is among dead same) d =
     subst (λ (z : Label). NoneDies (lines_after z rest) s.dying) (sym is)
     (dies_before_line (End t) rest s.dying (λ u a e. absurd (cc))
-    (subst (λ (z : Configuration). NoneDies rest z.dying) same d))
+    (subst (λ (z : PlainConfiguration). NoneDies rest z.dying) same d))
 
 -- CALLS
 
@@ -124,7 +124,7 @@ no_look u a k w is (sees_rest t e lives rest) = absurd (let other : Rests t ≡ 
 no_look u a k w is (sees_prio t p e lives same) = absurd (let other : Prio t p ≡ Answer u a = sym e ∙ is in cc)
 no_look u a k w is (sees_dying t e lives) = absurd (let other : Dying t ≡ Answer u a = sym e ∙ is in cc)
 
-module _ (l : Bounds) (s n : Configuration) (rest : List Line) {h : List Entry} {r : List World} (run : IsRun l h r s.world)
+module _ (l : Bounds) (s n : PlainConfiguration) (rest : List Line) {h : List Entry} {r : List World} (run : IsRun l h r s.world)
     (d : NoneDies rest n.dying) (k : KeepsTo rest n.world) where
   -- a call may be answered as is known if it leads to where it may
   by_state : (v : World) → n.world ≡ v → (u : ℕ) (q : Request) (p : Progress) (a : ℕ) → HasCome s.world u q p
@@ -146,35 +146,35 @@ module _ (l : Bounds) (s n : Configuration) (rest : List Line) {h : List Entry} 
       go (inl it) = own u q p a come it
       go (inr o) = by_state v is u q p a come o.1 (leads u o.0)
 
-  kept_before_step : (x : Label) → Advances l s x n → KeepsTo (lines_after x rest) s.world
+  kept_before_step : (x : Label) → PlainAdvances l s x n → KeepsTo (lines_after x rest) s.world
   kept_before_step x (moves t v is m e) =
       subst (λ (z : Label). KeepsTo (lines_after z rest) s.world) (sym is)
-      (λ u q p a come known. by_state v (ap (λ (z : Configuration). z.world) e) u q p a come known
+      (λ u q p a come known. by_state v (ap (λ (z : PlainConfiguration). z.world) e) u q p a come known
       (leads_move u t s.world v (waiting_at l s.world run) m))
   kept_before_step x (ends t v is among m e) =
       subst (λ (z : Label). KeepsTo (lines_after z rest) s.world) (sym is)
-      (λ u q p a come known. by_state v (ap (λ (z : Configuration). z.world) e) u q p a come known
+      (λ u q p a come known. by_state v (ap (λ (z : PlainConfiguration). z.world) e) u q p a come known
       (leads_entry u l s.world v (entry.Step (event.End t) seen.Ended) (End t) (waiting_at l s.world run) refl
-      (ne_eqb t u (λ i. true≢false (sym among ∙ ap (λ (z : Configuration). is_among z.dying t) (sym e)
+      (ne_eqb t u (λ i. true≢false (sym among ∙ ap (λ (z : PlainConfiguration). is_among z.dying t) (sym e)
       ∙ ap (is_among n.dying) i ∙ d u a known))) m))
   kept_before_step x (enters line e v is of apart m same) =
       subst (λ (z : Label). KeepsTo (lines_after z rest) s.world) (sym is)
-      (by_line line v (ap (λ (z : Configuration). z.world) same)
+      (by_line line v (ap (λ (z : PlainConfiguration). z.world) same)
       (λ u q p a come it. may_be_answered-from_entry u l s.world v e a q p (of ∙ ap Some it) m come)
       (λ u o. leads_entry u l s.world v e line (waiting_at l s.world run) of o m))
   kept_before_step x (sees line is apart look same) =
       subst (λ (z : Label). KeepsTo (lines_after z rest) s.world) (sym is)
-      (by_line line s.world (ap (λ (z : Configuration). z.world) same)
+      (by_line line s.world (ap (λ (z : PlainConfiguration). z.world) same)
       (λ u q p a come it. absurd (no_look u a line s.world it look))
       (λ u o. leads_kept u s.world s.world refl refl))
   kept_before_step x (has_ended t is among dead same) =
       subst (λ (z : Label). KeepsTo (lines_after z rest) s.world) (sym is)
-      (by_line (End t) s.world (ap (λ (z : Configuration). z.world) same)
+      (by_line (End t) s.world (ap (λ (z : PlainConfiguration). z.world) same)
       (λ u q p a come it. absurd (cc))
       (λ u o. leads_kept u s.world s.world refl refl))
 
 -- what the lines still to come say is kept to before a step, if it is behind it
-pub kept_before : (l : Bounds) (s n : Configuration) (x : Label) (rest : List Line) {h : List Entry} {r : List World}
-    → IsRun l h r s.world → Advances l s x n → NoneDies rest n.dying → KeepsTo rest n.world
+pub kept_before : (l : Bounds) (s n : PlainConfiguration) (x : Label) (rest : List Line) {h : List Entry} {r : List World}
+    → IsRun l h r s.world → PlainAdvances l s x n → NoneDies rest n.dying → KeepsTo rest n.world
     → KeepsTo (lines_after x rest) s.world
 kept_before l s n x rest run step d k = kept_before_step l s n rest run d k x step

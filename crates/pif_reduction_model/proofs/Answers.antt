@@ -26,8 +26,9 @@ use Rattle.pif_history_model.specs.declared.lines.Line.TheVariants as line
 use Rattle.pif_history_model.specs.declared.labels.Label.{Label}
 use Rattle.pif_history_model.specs.declared.labels.Label.TheVariants.{Shown, Moves, Ends}
 use Rattle.pif_history_model.specs.Lines.{is_among, dying_after}
-use Rattle.pif_history_model.specs.Searched.{Configuration, Advances, hides}
-use Rattle.pif_history_model.specs.Searched.Advances.{moves, ends, enters, sees, has_ended}
+use Rattle.pif_history_model.specs.Plain.{PlainConfiguration, PlainAdvances}
+use Rattle.pif_history_model.specs.Searched.{hides}
+use Rattle.pif_history_model.specs.Plain.PlainAdvances.{moves, ends, enters, sees, has_ended}
 use Rattle.pif_history_model.specs.Notes.{will_use, Needs}
 use Rattle.pif_reduction_model.specs.Known.{KeepsTo, Counted, GoesKnown}
 use Rattle.pif_reduction_model.proofs.Entering.{answer-from_entry}
@@ -36,7 +37,7 @@ use Rattle.pif_reduction_model.proofs.Reaching.{same_dying}
 use Rattle.pif_reduction_model.proofs.Beside.{ComesBefore, GoesBeside, changed, beside_hidden, kept_behind, exchanged}
 
 -- t's call has its result, and is told a. t isn't dying, and is among no waiters
-pub record IsReady (s : Configuration) (t a : ℕ) : Type 0 where
+pub record IsReady (s : PlainConfiguration) (t a : ℕ) : Type 0 where
   pub request : Request
   pub result : ℕ
   pub call : HasCome s.world t request (Has result)
@@ -83,7 +84,7 @@ module _ (t : ℕ) (w v : World) (q : Request) (r : ℕ) (call : HasCome w t q (
 done_uses_not : (q : Request) (r d : ℕ) → will_use d (Some (record { request = q; progress = Has r })) ≡ false
 done_uses_not q r d = by_test (λ b. (if b then false else false) ≡ false) (is_use q) (λ _. refl) (λ _. refl)
 
-done_steps_not : (l : Bounds) (s n : Configuration) (x : Label) (t a : ℕ) → IsReady s t a → Advances l s x n
+done_steps_not : (l : Bounds) (s n : PlainConfiguration) (x : Label) (t a : ℕ) → IsReady s t a → PlainAdvances l s x n
     → x ≢ Moves t
 done_steps_not l s n x t a ready (moves u w is y e) same =
     let whose : u ≡ t = (let here : Moves u ≡ Moves t = sym is ∙ same in cc) in
@@ -100,20 +101,20 @@ done_steps_not l s n x t a ready (has_ended u is among dead at) same =
 -- LINES
 
 -- what a step by the line of an answer is
-record IsAnswered (t a : ℕ) (s n : Configuration) : Type 0 where
+record IsAnswered (t a : ℕ) (s n : PlainConfiguration) : Type 0 where
   answers : Answers t a s.world n.world
   dying : n.dying ≡ s.dying
 
-is_answered_by : (l : Bounds) (t a : ℕ) (s n : Configuration) → Advances l s (Shown (line.Answer t a)) n
+is_answered_by : (l : Bounds) (t a : ℕ) (s n : PlainConfiguration) → PlainAdvances l s (Shown (line.Answer t a)) n
     → IsAnswered t a s n
 is_answered_by l t a s n (moves u w is y e) = absurd (let other : Shown (line.Answer t a) ≡ Moves u = is in cc)
 is_answered_by l t a s n (ends u w is among y e) = absurd (let other : Shown (line.Answer t a) ≡ Ends u = is in cc)
 is_answered_by l t a s n (enters k e w is of spared y same) =
     let same_line : k ≡ line.Answer t a = (let here : Shown (line.Answer t a) ≡ Shown k = is in cc) in
     record {
-      answers = subst (λ (z : Configuration). Answers t a s.world z.world) (sym same)
+      answers = subst (λ (z : PlainConfiguration). Answers t a s.world z.world) (sym same)
           (answer-from_entry t l s.world w e a (of ∙ ap Some same_line) y);
-      dying = ap (λ (z : Configuration). z.dying) same ∙ ap (λ z. dying_after z s.dying) same_line;
+      dying = ap (λ (z : PlainConfiguration). z.dying) same ∙ ap (λ z. dying_after z s.dying) same_line;
     }
 is_answered_by l t a s n (sees k is spared y same) =
     absurd (no_look t a k s.world (let here : Shown (line.Answer t a) ≡ Shown k = is in cc) y)
@@ -141,7 +142,7 @@ module _ (l : Bounds) (all : Bool) (lines : List Line) (s v : Counted) (x : Labe
   uses_not : (d : ℕ) → will_use d (call_of w t) ≡ false
   uses_not d = ap (will_use d) ready.call ∙ done_uses_not ready.request ready.result d
 
-  abbrev first : Configuration
+  abbrev first : PlainConfiguration
   first =
       changed l t None timer memory refl (λ d. refl) s.state (ap is_calm ready.call) uses_not ready.unqueued
       ready.spared s.state
@@ -196,4 +197,4 @@ module _ (l : Bounds) (all : Bool) (lines : List Line) (s v : Counted) (x : Labe
         kept_behind l t None timer memory refl (λ d. refl) s.state (ap is_calm ready.call) uses_not ready.unqueued
         ready.spared (line.Answer t a) rest (λ u d. ne_eqb t u (λ e. d (sym e))) (λ o. refl)
         (subst (λ (zs : List Line). KeepsTo zs w) is keeps))
-        (subst (λ (z : Configuration). Needs l all first x z) (sym same_end) beside.step)
+        (subst (λ (z : PlainConfiguration). Needs l all first x z) (sym same_end) beside.step)

@@ -21,8 +21,8 @@ use Rattle.pif_search.specs.Runs.{Runs}
 use Rattle.pif_history_model.specs.declared.lines.Line.{Line}
 use Rattle.pif_history_model.specs.declared.labels.Label.{Label}
 use Rattle.pif_history_model.specs.declared.labels.Label.TheVariants.{Moves}
-use Rattle.pif_history_model.specs.Searched.{start_of}
-use Rattle.pif_history_model.specs.Searched.Advances.{moves}
+use Rattle.pif_history_model.specs.Plain.{plain_start_of}
+use Rattle.pif_history_model.specs.Plain.PlainAdvances.{moves}
 use Rattle.pif_history_model.specs.Notes.{Needs, awaits_note, is_asked, is_needed}
 use Rattle.pif_history_model.specs.Queues.{is_taken}
 use Rattle.pif_history_model.proofs.Soundness.{run_is_reached}
@@ -138,7 +138,7 @@ module _ (l : Bounds) (all : Bool) (lines : List Line) where
       → AreWaiting s.state.world
   run_waits h s r =
       let plain = run-from_known (Needs l all) lines (known_start_of l) s h r in
-      let searched = advancing l (Needs l all) (λ a n x y. y.advances) lines (start_of l) s.state h plain in
+      let searched = advancing l (Needs l all) (λ a n x y. y.advances) lines (plain_start_of l) s.state h plain in
       waiting_at l s.state.world (run_is_reached l h s.state searched).run
 
   module _ (h : List Label) (s : Counted) (r : Runs (GoesKnown (Needs l all) lines) (known_start_of l) h s) (t : ℕ)

@@ -23,8 +23,9 @@ use Rattle.pif_history_model.specs.declared.labels.Label.TheVariants.{Shown, Mov
 use Rattle.pif_history_model.specs.Lines.{line_of, is_among, is_line_among, dying_after}
 use Rattle.pif_history_model.specs.Shown.{IsSeen}
 use Rattle.pif_history_model.specs.Shown.IsSeen.{rests as sees_rest, prio as sees_prio, dying as sees_dying}
-use Rattle.pif_history_model.specs.Searched.{Configuration, Advances, hides}
-use Rattle.pif_history_model.specs.Searched.Advances.{moves, ends, enters, sees, has_ended}
+use Rattle.pif_history_model.specs.Plain.{PlainConfiguration, PlainAdvances}
+use Rattle.pif_history_model.specs.Searched.{hides}
+use Rattle.pif_history_model.specs.Plain.PlainAdvances.{moves, ends, enters, sees, has_ended}
 use Rattle.pif_history_model.specs.Notes.{will_use, Needs}
 use Rattle.pif_reduction_model.specs.Known.{may_be_answered, KeepsTo, Counted, GoesKnown}
 use Rattle.pif_reduction_model.specs.Tested.{is_call_kept}
@@ -73,12 +74,12 @@ no_look t q k w is (sees_prio u p e lives same) = absurd (let other : line.Prio 
 no_look t q k w is (sees_dying u e lives) = absurd (let other : line.Dying u ≡ line.Begin t q = sym e ∙ is in cc)
 
 -- what a step by the line of a begin is
-record IsBegun (l : Bounds) (t : ℕ) (q : Request) (s n : Configuration) : Type 0 where
+record IsBegun (l : Bounds) (t : ℕ) (q : Request) (s n : PlainConfiguration) : Type 0 where
   spared : is_among s.dying t ≡ false
   enters : Enters l s.world (entry.Step (event.Begin t q) seen.Begun) n.world
   dying : n.dying ≡ s.dying
 
-is_begun : (l : Bounds) (t : ℕ) (q : Request) (s n : Configuration) → Advances l s (Shown (line.Begin t q)) n
+is_begun : (l : Bounds) (t : ℕ) (q : Request) (s n : PlainConfiguration) → PlainAdvances l s (Shown (line.Begin t q)) n
     → IsBegun l t q s n
 is_begun l t q s n (moves u w is y e) = absurd (let other : Shown (line.Begin t q) ≡ Moves u = is in cc)
 is_begun l t q s n (ends u w is among y e) = absurd (let other : Shown (line.Begin t q) ≡ Ends u = is in cc)
@@ -87,9 +88,9 @@ is_begun l t q s n (enters k e w is of spared y same) =
     let begin : e ≡ entry.Step (event.Begin t q) seen.Begun = begin_entry e t q (of ∙ ap Some same_line) in
     record {
       spared = sym (ap (is_line_among s.dying) same_line) ∙ spared;
-      enters = subst (λ (z : Configuration). Enters l s.world (entry.Step (event.Begin t q) seen.Begun) z.world) (sym same)
+      enters = subst (λ (z : PlainConfiguration). Enters l s.world (entry.Step (event.Begin t q) seen.Begun) z.world) (sym same)
           (subst (λ z. Enters l s.world z w) begin y);
-      dying = ap (λ (z : Configuration). z.dying) same ∙ ap (λ z. dying_after z s.dying) same_line;
+      dying = ap (λ (z : PlainConfiguration). z.dying) same ∙ ap (λ z. dying_after z s.dying) same_line;
     }
 is_begun l t q s n (sees k is spared y same) =
     absurd (no_look t q k s.world (let here : Shown (line.Begin t q) ≡ Shown k = is in cc) y)
@@ -110,8 +111,8 @@ idle_moves_not t w v none x = by_tests (is_thread w t) (is_living w t) refused
     by_tests true false e = cc
     by_tests false b e = cc
 
-idle_steps_not : (l : Bounds) (t : ℕ) (s n : Configuration) (x : Label) → call_of s.world t ≡ None
-    → Advances l s x n → x ≢ Moves t
+idle_steps_not : (l : Bounds) (t : ℕ) (s n : PlainConfiguration) (x : Label) → call_of s.world t ≡ None
+    → PlainAdvances l s x n → x ≢ Moves t
 idle_steps_not l t s n x none (moves u w is y e) same =
     let whose : u ≡ t = (let here : Moves u ≡ Moves t = sym is ∙ same in cc) in
     idle_moves_not t s.world w none (subst (λ k. MovesOnce k s.world w) whose y)
@@ -161,7 +162,7 @@ module _ (l : Bounds) (all : Bool) (lines : List Line) (s v n : Counted) (x : La
   unqueued : is_queued w t ≡ false
   unqueued = idle_is_unqueued w t ok idle
 
-  abbrev first : Configuration
+  abbrev first : PlainConfiguration
   first =
       changed l t (opened q) (timer_of q) memory refl (no_use_at q unused) s.state (ap is_calm idle)
       (λ d. ap (will_use d) idle) unqueued spared s.state
@@ -195,4 +196,4 @@ module _ (l : Bounds) (all : Bool) (lines : List Line) (s v n : Counted) (x : La
       kept_behind l t (opened q) (timer_of q) memory refl (no_use_at q unused) s.state (ap is_calm idle)
       (λ d. ap (will_use d) idle) unqueued spared (line.Begin t q) rest (λ u d. refl) (fresh_kept q)
       (subst (λ (zs : List Line). KeepsTo zs w) is keeps))
-      (subst (λ (z : Configuration). Needs l all first x z) (sym same_end) beside.step)
+      (subst (λ (z : PlainConfiguration). Needs l all first x z) (sym same_end) beside.step)

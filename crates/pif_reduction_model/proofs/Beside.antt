@@ -16,8 +16,9 @@ use Rattle.pif_history_model.specs.declared.lines.Line.TheVariants as line
 use Rattle.pif_history_model.specs.declared.labels.Label.{Label}
 use Rattle.pif_history_model.specs.declared.labels.Label.TheVariants.{Shown, Moves}
 use Rattle.pif_history_model.specs.Lines.{is_among}
-use Rattle.pif_history_model.specs.Searched.{Configuration, Advances, hides}
-use Rattle.pif_history_model.specs.Searched.Advances.{moves, ends, enters, sees, has_ended}
+use Rattle.pif_history_model.specs.Plain.{PlainConfiguration, PlainAdvances}
+use Rattle.pif_history_model.specs.Searched.{hides}
+use Rattle.pif_history_model.specs.Plain.PlainAdvances.{moves, ends, enters, sees, has_ended}
 use Rattle.pif_history_model.specs.Queues.{is_taken}
 use Rattle.pif_history_model.specs.Notes.{awaits_note, will_use, variable_of_call, used_below, is_used_soon, is_asked, is_needed, Needs}
 use Rattle.pif_reduction_model.specs.Known.{is_over, answer_of, known_answer, KeepsTo, Counted, GoesKnown}
@@ -42,14 +43,14 @@ pub record ComesBefore (l : Bounds) (all : Bool) (lines : List Line) (s : Counte
 
 -- t's call in s is calm, and uses no variable, and so is the call c, with the timer i and the memory m
 module _ (l : Bounds) (t : ℕ) (c : Option Call) (i : Timer) (m : Memory) (new : is_calm c ≡ true)
-    (no_use : (d : ℕ) → will_use d c ≡ false) (s : Configuration) (old : is_calm (call_of s.world t) ≡ true)
+    (no_use : (d : ℕ) → will_use d c ≡ false) (s : PlainConfiguration) (old : is_calm (call_of s.world t) ≡ true)
     (none_before : (d : ℕ) → will_use d (call_of s.world t) ≡ false) (out : is_queued s.world t ≡ false)
     (spared : is_among s.dying t ≡ false) where
   -- a state of the machine, or of the search, in which t has that call
   abbrev later : World → World
   later v = put t c i m v
 
-  abbrev pub changed : Configuration → Configuration
+  abbrev pub changed : PlainConfiguration → PlainConfiguration
   changed n = record n { world = later n.world }
 
   -- another thread is the same
@@ -87,7 +88,7 @@ module _ (l : Bounds) (t : ℕ) (c : Option Call) (i : Timer) (m : Memory) (new 
       ∙ ap (λ (b : Bool). if is_reached (thread_at s.world u).timer.deadline s.world.time then true else b)
       (used_soon (variable_of_call (call_of s.world u)))
 
-  same_needed : (all : Bool) (u : ℕ) → u ≢ t → (v : Configuration)
+  same_needed : (all : Bool) (u : ℕ) → u ≢ t → (v : PlainConfiguration)
       → is_needed all (changed s) (Moves u) (changed v) ≡ is_needed all s (Moves u) v
   same_needed all u d v = λ j.
       if awaits_note (other_at s.world u d j).call then same_asked u d j else is_taken all (Moves u) v
@@ -95,17 +96,17 @@ module _ (l : Bounds) (t : ℕ) (c : Option Call) (i : Timer) (m : Memory) (new 
   -- THE STEP
 
   -- the step is possible and needed if t has the call, and t stays as it is
-  pub record GoesBeside (all : Bool) (x : Label) (v : Configuration) : Type 0 where
+  pub record GoesBeside (all : Bool) (x : Label) (v : PlainConfiguration) : Type 0 where
     pub step : Needs l all (changed s) x (changed v)
     pub stays : Stays t s.world v.world
 
-  pub beside_hidden : (all : Bool) (x : Label) (v : Configuration) → hides x ≡ true → x ≢ Moves t
-      → is_needed all s x v ≡ true → Advances l s x v → GoesBeside all x v
+  pub beside_hidden : (all : Bool) (x : Label) (v : PlainConfiguration) → hides x ≡ true → x ≢ Moves t
+      → is_needed all s x v ≡ true → PlainAdvances l s x v → GoesBeside all x v
   beside_hidden all x v hidden others needed (moves u w is y e) =
       let d : u ≢ t = (λ same. others (is ∙ ap (λ k. Moves k) same)) in
       let f = beside_move t c i m new s.world old out u d y in
-      let next : Configuration = record s { world = w } in
-      subst (λ (n : Configuration). is_needed all s x n ≡ true → GoesBeside all x n) (sym e) (λ need. record {
+      let next : PlainConfiguration = record s { world = w } in
+      subst (λ (n : PlainConfiguration). is_needed all s x n ≡ true → GoesBeside all x n) (sym e) (λ need. record {
         step = record {
           advances = moves u (later w) is f.step refl;
           needed = subst (λ (z : Label). is_needed all (changed s) z (changed next) ≡ true) (sym is)
@@ -116,8 +117,8 @@ module _ (l : Bounds) (t : ℕ) (c : Option Call) (i : Timer) (m : Memory) (new 
   beside_hidden all x v hidden others needed (ends u w is among y e) =
       let d : u ≢ t = (λ same. true≢false (sym among ∙ ap (is_among s.dying) same ∙ spared)) in
       let f = beside_end t c i m new s.world out u d l y in
-      let next : Configuration = record s { world = w } in
-      subst (λ (n : Configuration). GoesBeside all x n) (sym e) (record {
+      let next : PlainConfiguration = record s { world = w } in
+      subst (λ (n : PlainConfiguration). GoesBeside all x n) (sym e) (record {
         step = record {
           advances = ends u (later w) is among f.step refl;
           needed = ap (λ (z : Label). is_needed all (changed s) z (changed next)) is;
@@ -156,8 +157,8 @@ module _ (l : Bounds) (t : ℕ) (c : Option Call) (i : Timer) (m : Memory) (new 
 
 -- the line that is shown behind a hidden step may be shown before it, if its state is the same one
 pub exchanged : (l : Bounds) (all : Bool) (lines : List Line) (s v n : Counted) (k : Line) (x : Label)
-    (first : Configuration) → hides x ≡ true → GoesKnown (Needs l all) lines s x v
-    → GoesKnown (Needs l all) lines v (Shown k) n → Advances l s.state (Shown k) first
+    (first : PlainConfiguration) → hides x ≡ true → GoesKnown (Needs l all) lines s x v
+    → GoesKnown (Needs l all) lines v (Shown k) n → PlainAdvances l s.state (Shown k) first
     → ((rest : List Line) → drop s.count lines ≡ k ∷ rest → KeepsTo rest first.world)
     → Needs l all first x n.state → ComesBefore l all lines s k x n
 exchanged l all lines s v n k x first hidden step line advances keeps next = record {

@@ -38,8 +38,9 @@ use Rattle.pif_history_model.specs.declared.labels.Label.TheVariants.{Shown, Mov
 use Rattle.pif_history_model.specs.Lines.{line_of, is_among, dying_after}
 use Rattle.pif_history_model.specs.Shown.{IsSeen}
 use Rattle.pif_history_model.specs.Shown.IsSeen.{rests as sees_rest, prio as sees_prio, dying as sees_dying}
-use Rattle.pif_history_model.specs.Searched.{Configuration, Advances, hides}
-use Rattle.pif_history_model.specs.Searched.Advances.{moves, ends, enters, sees, has_ended}
+use Rattle.pif_history_model.specs.Plain.{PlainConfiguration, PlainAdvances}
+use Rattle.pif_history_model.specs.Searched.{hides}
+use Rattle.pif_history_model.specs.Plain.PlainAdvances.{moves, ends, enters, sees, has_ended}
 use Rattle.pif_history_model.specs.Queues.{is_taken}
 use Rattle.pif_history_model.specs.Notes.{awaits_note, will_use, variable_of_call, used_below, is_used_soon, is_asked, is_needed, Needs}
 use Rattle.pif_history_model.proofs.Soundness.{lines_after}
@@ -50,7 +51,7 @@ use Rattle.pif_reduction_model.proofs.Answering.{known_cases, no_look}
 use Rattle.pif_reduction_model.proofs.Testing.{one_kept}
 
 -- t has failed ahead: n is s, but that t's trylock has come to EBUSY, which is known to be its answer
-pub record HasFailed (rest : List Line) (t : ℕ) (s n : Configuration) : Type 0 where
+pub record HasFailed (rest : List Line) (t : ℕ) (s n : PlainConfiguration) : Type 0 where
   pub mutex : ℕ
   pub call : IsCalling s.world t (TryLock mutex)
   pub unqueued : is_queued s.world t ≡ false
@@ -136,12 +137,12 @@ own_move l all lines t s n v count h g = by_step g.step.advances
     by_world w e x =
         let fails : w ≡ with_progress t (Has EBUSY) s.state.world =
         fails_Acts t h.mutex s.state.world w h.call
-        (subst (MayFail t h.mutex) (ap (λ (y : Configuration). y.world) e) kept) x.acts in
+        (subst (MayFail t h.mutex) (ap (λ (y : PlainConfiguration). y.world) e) kept) x.acts in
         let state : v.state ≡ n.state = e ∙ ap (λ (z : World). record s.state { world = z }) fails ∙ sym h.is in
         let same_count : v.count ≡ n.count = g.count ∙ sym count in
         λ j. record { state = state j; count = same_count j }
 
-    by_step : Advances l s.state (Moves t) v.state → v ≡ n
+    by_step : PlainAdvances l s.state (Moves t) v.state → v ≡ n
     by_step (moves u w is x e) =
         let whose : u ≡ t = (let same : Moves t ≡ Moves u = is in cc) in
         by_world w e (subst (λ k. MovesOnce k s.state.world w) whose x)
@@ -160,7 +161,7 @@ failed_call m = Some (record { request = TryLock m; progress = Has EBUSY })
 abbrev failed_in : (t m : ℕ) (w v : World) → World
 failed_in t m w v = put t (failed_call m) (thread_at w t).timer (thread_at w t).memory v
 
-abbrev failed : (t m : ℕ) → World → Configuration → Configuration
+abbrev failed : (t m : ℕ) → World → PlainConfiguration → PlainConfiguration
 failed t m w n = record n { world = failed_in t m w n.world }
 
 failed_is : (t m : ℕ) (w : World) → IsCalling w t (TryLock m) → with_progress t (Has EBUSY) w ≡ failed_in t m w w
@@ -207,7 +208,7 @@ still_apart t (line.Rests u) us o a = a
 still_apart t (line.Prio u p) us o a = a
 
 -- the lines still to come before a step are those after it, and the line that it shows
-lines_before : (Step : Configuration → Label → Configuration → Type 0) (lines : List Line) (s : Counted) (x : Label)
+lines_before : (Step : PlainConfiguration → Label → PlainConfiguration → Type 0) (lines : List Line) (s : Counted) (x : Label)
     (v : Counted) → GoesKnown Step lines s x v → drop s.count lines ≡ lines_after x (drop v.count lines)
 lines_before Step lines s (Shown k) v g = g.next k refl
 lines_before Step lines s (Moves u) v g = ap (λ k. drop k lines) (sym g.count)
@@ -231,7 +232,7 @@ is_move_of t (Moves u) = by_thread (cases_eq u t)
     by_thread (inr d) = inr (λ e. d (let same : Moves u ≡ Moves t = e in cc))
 
 -- t's trylock of m is open in s, and has had no effect yet. It isn't among the waiters, and isn't dying
-module _ (l : Bounds) (t m : ℕ) (s : Configuration) (call : IsCalling s.world t (TryLock m))
+module _ (l : Bounds) (t m : ℕ) (s : PlainConfiguration) (call : IsCalling s.world t (TryLock m))
     (out : is_queued s.world t ≡ false) (spared : is_among s.dying t ≡ false) where
   -- what t has there
   abbrev timer : Timer
@@ -244,7 +245,7 @@ module _ (l : Bounds) (t m : ℕ) (s : Configuration) (call : IsCalling s.world 
   abbrev later : World → World
   later v = failed_in t m s.world v
 
-  abbrev ahead : Configuration → Configuration
+  abbrev ahead : PlainConfiguration → PlainConfiguration
   ahead n = failed t m s.world n
 
   calm : is_calm (call_of s.world t) ≡ true
@@ -347,7 +348,7 @@ module _ (l : Bounds) (t m : ℕ) (s : Configuration) (call : IsCalling s.world 
       ∙ ap (λ (b : Bool). if is_reached (thread_at s.world u).timer.deadline s.world.time then true else b)
       (used_soon (variable_of_call (call_of s.world u)))
 
-  same_needed : (all : Bool) (u : ℕ) → u ≢ t → (v : Configuration)
+  same_needed : (all : Bool) (u : ℕ) → u ≢ t → (v : PlainConfiguration)
       → is_needed all (ahead s) (Moves u) (ahead v) ≡ is_needed all s (Moves u) v
   same_needed all u d v = λ j.
       if awaits_note (other_at s.world u d j).call then same_asked u d j else is_taken all (Moves u) v
@@ -369,7 +370,7 @@ module _ (l : Bounds) (t m : ℕ) (s : Configuration) (call : IsCalling s.world 
           ∙ one_kept rest v k u
 
   -- a step to v is possible if t has failed, and t is as before. These lines are still to come after it
-  record GoesBeside (all : Bool) (x : Label) (rest : List Line) (v : Configuration) : Type 0 where
+  record GoesBeside (all : Bool) (x : Label) (rest : List Line) (v : PlainConfiguration) : Type 0 where
     step : Needs l all (ahead s) x (ahead v)
     remains : Remains t s.world v.world
     apart : is_among v.dying t ≡ false
@@ -391,13 +392,13 @@ module _ (l : Bounds) (t m : ℕ) (s : Configuration) (call : IsCalling s.world 
         by_case (inl e) = absurd (not_its e)
         by_case (inr p) = p
 
-    beside_step : (v : Configuration) → x ≢ Moves t → is_needed all s x v ≡ true → Advances l s x v
+    beside_step : (v : PlainConfiguration) → x ≢ Moves t → is_needed all s x v ≡ true → PlainAdvances l s x v
         → GoesBeside all x rest v
     beside_step v others needed (moves u w is y e) =
         let d : u ≢ t = (λ same. others (is ∙ ap (λ k. Moves k) same)) in
         let f = beside_move t (failed_call m) timer memory refl s.world calm out u d y in
-        let next : Configuration = record s { world = w } in
-        subst (λ (n : Configuration). is_needed all s x n ≡ true → GoesBeside all x rest n) (sym e) (λ need. record {
+        let next : PlainConfiguration = record s { world = w } in
+        subst (λ (n : PlainConfiguration). is_needed all s x n ≡ true → GoesBeside all x rest n) (sym e) (λ need. record {
           step = record {
             advances = moves u (later w) is f.step refl;
             needed = subst (λ (z : Label). is_needed all (ahead s) z (ahead next) ≡ true) (sym is)
@@ -410,8 +411,8 @@ module _ (l : Bounds) (t m : ℕ) (s : Configuration) (call : IsCalling s.world 
     beside_step v others needed (ends u w is among y e) =
         let d : u ≢ t = (λ same. true≢false (sym among ∙ ap (is_among s.dying) same ∙ spared)) in
         let f = beside_end t (failed_call m) timer memory refl s.world out u d l y in
-        let next : Configuration = record s { world = w } in
-        subst (λ (n : Configuration). GoesBeside all x rest n) (sym e) (record {
+        let next : PlainConfiguration = record s { world = w } in
+        subst (λ (n : PlainConfiguration). GoesBeside all x rest n) (sym e) (record {
           step = record {
             advances = ends u (later w) is among f.step refl;
             needed = ap (λ (z : Label). is_needed all (ahead s) z (ahead next)) is;
@@ -425,8 +426,8 @@ module _ (l : Bounds) (t m : ℕ) (s : Configuration) (call : IsCalling s.world 
         goes_on k is
         (λ it. answered_not t EBUSY w (answer-from_entry t l s.world w e EBUSY (of ∙ ap Some it) y) refl) in
         let f = beside_entry e k of o.0 y in
-        let next : Configuration = record { world = w; dying = dying_after k s.dying } in
-        subst (λ (n : Configuration). GoesBeside all x rest n) (sym same) (record {
+        let next : PlainConfiguration = record { world = w; dying = dying_after k s.dying } in
+        subst (λ (n : PlainConfiguration). GoesBeside all x rest n) (sym same) (record {
           step = record {
             advances = enters k e (later w) is of look f.step refl;
             needed = ap (λ (z : Label). is_needed all (ahead s) z (ahead next)) is;
@@ -437,8 +438,8 @@ module _ (l : Bounds) (t m : ℕ) (s : Configuration) (call : IsCalling s.world 
         })
     beside_step v others needed (sees k is look y same) =
         let o = goes_on k is (λ it. no_look t EBUSY k s.world it y) in
-        let next : Configuration = record s { dying = dying_after k s.dying } in
-        subst (λ (n : Configuration). GoesBeside all x rest n) (sym same) (record {
+        let next : PlainConfiguration = record s { dying = dying_after k s.dying } in
+        subst (λ (n : PlainConfiguration). GoesBeside all x rest n) (sym same) (record {
           step = record {
             advances = sees k is look (beside_look k y) refl;
             needed = ap (λ (z : Label). is_needed all (ahead s) z (ahead next)) is;
@@ -449,8 +450,8 @@ module _ (l : Bounds) (t m : ℕ) (s : Configuration) (call : IsCalling s.world 
         })
     beside_step v others needed (has_ended u is among dead same) =
         let o = goes_on (line.End u) is (λ it. (let here : line.End u ≡ line.Answer t EBUSY = it in cc)) in
-        let next : Configuration = record s { dying = dying_after (line.End u) s.dying } in
-        subst (λ (n : Configuration). GoesBeside all x rest n) (sym same) (record {
+        let next : PlainConfiguration = record s { dying = dying_after (line.End u) s.dying } in
+        subst (λ (n : PlainConfiguration). GoesBeside all x rest n) (sym same) (record {
           step = record {
             advances = has_ended u is among (living_at u ∙ dead) refl;
             needed = ap (λ (z : Label). is_needed all (ahead s) z (ahead next)) is;
@@ -484,7 +485,7 @@ followed l all lines t s n v x count h g = by_label (is_move_of t x)
         failed_is t h.mutex v.state.world call ∙ failed_later t h.mutex w v.state.world f.remains in
         beside (record { state = failed t h.mutex w v.state; count = v.count })
         (record {
-          step = subst (λ (y : Configuration). Needs l all y x (failed t h.mutex w v.state)) (sym there) f.step;
+          step = subst (λ (y : PlainConfiguration). Needs l all y x (failed t h.mutex w v.state)) (sym there) f.step;
           count = g.count ∙ ap (count_after x) (sym count);
           next = λ k e. ap (λ i. drop i lines) count ∙ g.next k e;
           keeps = still_kept l t h.mutex s.state h.call h.unqueued h.apart (drop v.count lines) v.state.world f.known

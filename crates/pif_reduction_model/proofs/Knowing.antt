@@ -6,7 +6,8 @@ use Rattle.pif_search.specs.Runs.{Runs, CanShow}
 use Rattle.pif_history_model.specs.declared.lines.Line.{Line}
 use Rattle.pif_history_model.specs.declared.labels.Label.{Label}
 use Rattle.pif_history_model.specs.declared.labels.Label.TheVariants.{Shown, Moves, Ends}
-use Rattle.pif_history_model.specs.Searched.{Configuration, Advances, start_of, hides}
+use Rattle.pif_history_model.specs.Plain.{PlainConfiguration, PlainAdvances, plain_start_of}
+use Rattle.pif_history_model.specs.Searched.{hides}
 use Rattle.pif_history_model.proofs.Soundness.{lines_in, lines_after, shown-lines_in, same-from_shown, run_is_reached}
 use Rattle.pif_reduction_model.specs.Known.{KeepsTo, Counted, known_start_of, count_after, GoesKnown}
 use Rattle.pif_reduction_model.proofs.Answering.{NoneDies, dies_before, kept_before}
@@ -28,7 +29,7 @@ one_shown {X} x xs ys =
 
 -- SOUND
 
-module _ (Step : Configuration → Label → Configuration → Type 0) (lines : List Line) where
+module _ (Step : PlainConfiguration → Label → PlainConfiguration → Type 0) (lines : List Line) where
   pub run-from_known : (s n : Counted) (h : List Label) → Runs (GoesKnown Step lines) s h n → Runs Step s.state h n.state
   run-from_known s n [] r = ap (λ (z : Counted). z.state) r
   run-from_known s n (x ∷ h) r = (r.0.state, run-from_known s r.0 h r.1, r.2.step)
@@ -41,10 +42,10 @@ module _ (Step : Configuration → Label → Configuration → Type 0) (lines : 
 
 -- COMPLETE
 
-module _ (l : Bounds) (Step : Configuration → Label → Configuration → Type 0)
-    (advances : (s n : Configuration) (x : Label) → Step s x n → Advances l s x n) (lines : List Line) where
+module _ (l : Bounds) (Step : PlainConfiguration → Label → PlainConfiguration → Type 0)
+    (advances : (s n : PlainConfiguration) (x : Label) → Step s x n → PlainAdvances l s x n) (lines : List Line) where
   -- each run is one of the machine that is searched
-  pub advancing : (s n : Configuration) (h : List Label) → Runs Step s h n → Runs (Advances l) s h n
+  pub advancing : (s n : PlainConfiguration) (h : List Label) → Runs Step s h n → Runs (PlainAdvances l) s h n
   advancing s n [] r = r
   advancing s n (x ∷ h) r = (r.0, advancing s r.0 h r.1, advances r.0 n x r.2)
 
@@ -64,13 +65,13 @@ module _ (l : Bounds) (Step : Configuration → Label → Configuration → Type
       sym (behind_reversed (lines_in h) rest) ∙ ap (λ (zs : List Line). drop (length (lines_in h)) zs) e
 
   -- a run keeps to the known answers, from the start to a state behind which the lines still to come are kept to
-  known_run : (h : List Label) (n : Configuration) (rest : List Line) → Runs Step (start_of l) h n → NoneDies rest n.dying
+  known_run : (h : List Label) (n : PlainConfiguration) (rest : List Line) → Runs Step (plain_start_of l) h n → NoneDies rest n.dying
       → KeepsTo rest n.world → reverse (lines_in h) ++ rest ≡ lines
       → Runs (GoesKnown Step lines) (known_start_of l) h (record { state = n; count = length (lines_in h) })
-  known_run [] n rest r d k e = ap (λ (z : Configuration). record { state = z; count = 0 }) r
+  known_run [] n rest r d k e = ap (λ (z : PlainConfiguration). record { state = z; count = 0 }) r
   known_run (x ∷ h) n rest r d k e =
-      let step : Advances l r.0 x n = advances r.0 n x r.2 in
-      let reached = run_is_reached l h r.0 (advancing (start_of l) r.0 h r.1) in (
+      let step : PlainAdvances l r.0 x n = advances r.0 n x r.2 in
+      let reached = run_is_reached l h r.0 (advancing (plain_start_of l) r.0 h r.1) in (
         record { state = r.0; count = length (lines_in h) },
         known_run h r.0 (lines_after x rest) r.1 (dies_before l r.0 n x rest step d)
             (kept_before l r.0 n x rest reached.run step d k) (lines_split x h rest e),
@@ -85,7 +86,7 @@ module _ (l : Bounds) (Step : Configuration → Label → Configuration → Type
       )
 
   -- a run that shows all lines keeps to the known answers
-  pub known-from_shown : (n : Configuration) → CanShow Step hides (start_of l) (map (λ x. Shown x) (reverse lines)) n
+  pub known-from_shown : (n : PlainConfiguration) → CanShow Step hides (plain_start_of l) (map (λ x. Shown x) (reverse lines)) n
       → CanShow (GoesKnown Step lines) hides (known_start_of l) (map (λ x. Shown x) (reverse lines))
       (record { state = n; count = length lines })
   known-from_shown n x = record {

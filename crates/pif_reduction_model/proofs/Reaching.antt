@@ -16,8 +16,9 @@ use Rattle.pif_history_model.specs.declared.lines.Line.TheVariants as line
 use Rattle.pif_history_model.specs.declared.labels.Label.{Label}
 use Rattle.pif_history_model.specs.declared.labels.Label.TheVariants.{Shown}
 use Rattle.pif_history_model.specs.Lines.{is_among}
-use Rattle.pif_history_model.specs.Searched.{Configuration, Advances, hides}
-use Rattle.pif_history_model.specs.Searched.Advances.{moves, ends, enters, sees, has_ended}
+use Rattle.pif_history_model.specs.Plain.{PlainConfiguration, PlainAdvances}
+use Rattle.pif_history_model.specs.Searched.{hides}
+use Rattle.pif_history_model.specs.Plain.PlainAdvances.{moves, ends, enters, sees, has_ended}
 use Rattle.pif_history_model.specs.Notes.{Needs}
 use Rattle.pif_reduction_model.specs.Known.{KeepsTo, Counted, known_start_of, GoesKnown}
 use Rattle.pif_reduction_model.proofs.Leading.{AreWaiting, Leads}
@@ -58,30 +59,30 @@ idle_is_unqueued w t ok none =
 pub not_hidden : (x : Label) (k : Line) → hides x ≡ true → x ≡ Shown k → ⊥
 not_hidden x k hidden is = true≢false (sym hidden ∙ ap hides is)
 
-module _ (l : Bounds) (s n : Configuration) (x : Label) (hidden : hides x ≡ true) where
+module _ (l : Bounds) (s n : PlainConfiguration) (x : Label) (hidden : hides x ≡ true) where
   -- by a hidden step nobody begins or ends to be dying
-  pub same_dying : Advances l s x n → n.dying ≡ s.dying
-  same_dying (moves u w is y e) = ap (λ (z : Configuration). z.dying) e
-  same_dying (ends u w is among y e) = ap (λ (z : Configuration). z.dying) e
+  pub same_dying : PlainAdvances l s x n → n.dying ≡ s.dying
+  same_dying (moves u w is y e) = ap (λ (z : PlainConfiguration). z.dying) e
+  same_dying (ends u w is among y e) = ap (λ (z : PlainConfiguration). z.dying) e
   same_dying (enters k e w is of look y same) = absurd (not_hidden x k hidden is)
   same_dying (sees k is look y same) = absurd (not_hidden x k hidden is)
   same_dying (has_ended u is among dead same) = absurd (not_hidden x (line.End u) hidden is)
 
   -- behind it the call of a thread that isn't dying is still open
-  pub hidden_leads : (t : ℕ) → AreWaiting s.world → is_among s.dying t ≡ false → Advances l s x n
+  pub hidden_leads : (t : ℕ) → AreWaiting s.world → is_among s.dying t ≡ false → PlainAdvances l s x n
       → Leads t s.world n.world
   hidden_leads t ok spared (moves u w is y e) =
-      subst (λ (z : Configuration). Leads t s.world z.world) (sym e) (leads_move t u s.world w ok y)
+      subst (λ (z : PlainConfiguration). Leads t s.world z.world) (sym e) (leads_move t u s.world w ok y)
   hidden_leads t ok spared (ends u w is among y e) =
       let d : u ≢ t = (λ same. true≢false (sym among ∙ ap (is_among s.dying) same ∙ spared)) in
-      subst (λ (z : Configuration). Leads t s.world z.world) (sym e)
+      subst (λ (z : PlainConfiguration). Leads t s.world z.world) (sym e)
       (leads_entry t l s.world w (entry.Step (event.End u) seen.Ended) (line.End u) ok refl (ne_eqb u t d) y)
   hidden_leads t ok spared (enters k e w is of look y same) = absurd (not_hidden x k hidden is)
   hidden_leads t ok spared (sees k is look y same) = absurd (not_hidden x k hidden is)
   hidden_leads t ok spared (has_ended u is among dead same) = absurd (not_hidden x (line.End u) hidden is)
 
   -- who has no call open behind it had none before
-  pub idle_before : (t : ℕ) → AreWaiting s.world → is_among s.dying t ≡ false → Advances l s x n
+  pub idle_before : (t : ℕ) → AreWaiting s.world → is_among s.dying t ≡ false → PlainAdvances l s x n
       → call_of n.world t ≡ None → call_of s.world t ≡ None
   idle_before t ok spared step none = by_call (call_of s.world t) refl
     where

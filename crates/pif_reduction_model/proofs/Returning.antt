@@ -23,8 +23,8 @@ use Rattle.pif_history_model.specs.declared.labels.Label.{Label}
 use Rattle.pif_history_model.specs.declared.labels.Label.TheVariants.{Shown, Moves, Ends as LabelEnds}
 use Rattle.pif_history_model.specs.Shown.{IsShown, IsSeen}
 use Rattle.pif_history_model.specs.Shown.IsSeen.{rests as sees_rest, prio as sees_prio, dying as sees_dying}
-use Rattle.pif_history_model.specs.Searched.{Configuration, Advances, start_of}
-use Rattle.pif_history_model.specs.Searched.Advances.{moves, ends, enters, sees, has_ended}
+use Rattle.pif_history_model.specs.Plain.{PlainConfiguration, PlainAdvances, plain_start_of}
+use Rattle.pif_history_model.specs.Plain.PlainAdvances.{moves, ends, enters, sees, has_ended}
 use Rattle.pif_history_model.proofs.Completeness.{reached-from_shown}
 use Rattle.pif_history_model.proofs.Soundness.{lines_in, lines_after, shown-lines_in, same-from_shown, run_is_reached}
 use Rattle.pif_reduction_model.proofs.Answering.{no_look, waiting_at}
@@ -71,31 +71,31 @@ seen_concerns k w (sees_prio u p e lives same) t = ap (concerns t) e
 seen_concerns k w (sees_dying u e lives) t = ap (concerns t) e
 
 -- behind a step of the machine that is searched
-told_step : {lines : List Line} (l : Bounds) (s n : Configuration) (x : Label) → AreWaiting s.world
+told_step : {lines : List Line} (l : Bounds) (s n : PlainConfiguration) (x : Label) → AreWaiting s.world
     → AreTold lines s.world
-    → Advances l s x n → AreTold (lines_after x lines) n.world
+    → PlainAdvances l s x n → AreTold (lines_after x lines) n.world
 told_step {lines} l s n x ok told (moves t v is m e) =
     subst (λ (z : Label). AreTold (lines_after z lines) n.world) (sym is)
-    (subst (λ (z : Configuration). AreTold lines z.world) (sym e) (told_move t ok told m))
+    (subst (λ (z : PlainConfiguration). AreTold lines z.world) (sym e) (told_move t ok told m))
 told_step {lines} l s n x ok told (ends t v is among m e) =
     subst (λ (z : Label). AreTold (lines_after z lines) n.world) (sym is)
-    (subst (λ (z : Configuration). AreTold lines z.world) (sym e) (told_Ends ok told (ends-from_entry l t s.world v m)))
+    (subst (λ (z : PlainConfiguration). AreTold lines z.world) (sym e) (told_Ends ok told (ends-from_entry l t s.world v m)))
 told_step {lines} l s n x ok told (enters k e v is of apart m same) =
     subst (λ (z : Label). AreTold (lines_after z lines) n.world) (sym is)
-    (subst (λ (z : Configuration). AreTold (k ∷ lines) z.world) (sym same) (told_entry l s.world v e k ok told of m))
+    (subst (λ (z : PlainConfiguration). AreTold (k ∷ lines) z.world) (sym same) (told_entry l s.world v e k ok told of m))
 told_step {lines} l s n x ok told (sees k is apart look same) =
     subst (λ (z : Label). AreTold (lines_after z lines) n.world) (sym is)
-    (subst (λ (z : Configuration). AreTold (k ∷ lines) z.world) (sym same)
+    (subst (λ (z : PlainConfiguration). AreTold (k ∷ lines) z.world) (sym same)
     (told_by_others k (seen_concerns k s.world look) told))
 told_step {lines} l s n x ok told (has_ended t is among dead same) =
     subst (λ (z : Label). AreTold (lines_after z lines) n.world) (sym is)
-    (subst (λ (z : Configuration). AreTold (line.End t ∷ lines) z.world) (sym same)
+    (subst (λ (z : PlainConfiguration). AreTold (line.End t ∷ lines) z.world) (sym same)
     (told_by_others (line.End t) (λ _. refl) told))
 
 -- behind a run
-told_run : (l : Bounds) (h : List Label) (n : Configuration) → Runs (Advances l) (start_of l) h n
+told_run : (l : Bounds) (h : List Label) (n : PlainConfiguration) → Runs (PlainAdvances l) (plain_start_of l) h n
     → AreTold (lines_in h) n.world
-told_run l [] n r = subst (λ (z : Configuration). AreTold [] z.world) r (told_start l)
+told_run l [] n r = subst (λ (z : PlainConfiguration). AreTold [] z.world) r (told_start l)
 told_run l (x ∷ h) n r =
     told_step l r.0 n x (waiting_at l r.0.world (run_is_reached l h r.0 r.1).run) (told_run l h r.0 r.1) r.2
 
@@ -128,8 +128,8 @@ woken_at_answer lines w v t c q told a is_open names =
     c (sym (ap waited_variable plainly) ∙ waited_plain q ∙ names)
 
 -- the machine that is searched shows an answer by that answer
-answer-from_step : (l : Bounds) (s n : Configuration) (t a : ℕ) (k : Line) → k ≡ line.Answer t a
-    → Advances l s (Shown k) n
+answer-from_step : (l : Bounds) (s n : PlainConfiguration) (t a : ℕ) (k : Line) → k ≡ line.Answer t a
+    → PlainAdvances l s (Shown k) n
     → (v : World) × Answers t a s.world v
 answer-from_step l s n t a k it (moves u v is m e) = absurd (cc)
 answer-from_step l s n t a k it (ends u v is among m e) = absurd (cc)
@@ -142,8 +142,8 @@ answer-from_step l s n t a k it (sees j is apart look same) =
 answer-from_step l s n t a k it (has_ended u is among dead same) = absurd (cc)
 
 -- the last line of a run that shows lines is that answer, and hidden steps come behind it
-woken_in_run : (l : Bounds) (h : List Label) (n : Configuration) (before : List Line) (t c : ℕ) (q : Request)
-    → Runs (Advances l) (start_of l) h n → lines_in h ≡ line.Answer t 0 ∷ before → open_request t before ≡ Some q
+woken_in_run : (l : Bounds) (h : List Label) (n : PlainConfiguration) (before : List Line) (t c : ℕ) (q : Request)
+    → Runs (PlainAdvances l) (plain_start_of l) h n → lines_in h ≡ line.Answer t 0 ∷ before → open_request t before ≡ Some q
     → waited_variable q ≡ Some c → MayBeWoken t c before
 woken_in_run l [] n before t c q r e is_open names = absurd (cc)
 woken_in_run l (Moves u ∷ h) n before t c q r e is_open names = woken_in_run l h r.0 before t c q r.1 e is_open names

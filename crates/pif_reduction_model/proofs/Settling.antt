@@ -9,7 +9,8 @@ use Rattle.pif_search.specs.Enough.Matches.{goes}
 use Rattle.pif_history_model.specs.declared.lines.Line.{Line}
 use Rattle.pif_history_model.specs.declared.labels.Label.{Label}
 use Rattle.pif_history_model.specs.declared.labels.Label.TheVariants.{Moves}
-use Rattle.pif_history_model.specs.Searched.{start_of, hides}
+use Rattle.pif_history_model.specs.Plain.{plain_start_of}
+use Rattle.pif_history_model.specs.Searched.{hides}
 use Rattle.pif_history_model.specs.Notes.{Needs}
 use Rattle.pif_history_model.specs.Forgetting.{StandsFor}
 use Rattle.pif_history_model.proofs.Forgetting.{stands_for_back}
@@ -192,7 +193,7 @@ module _ (l : Bounds) (all : Bool) (lines : List Line) where
       (CoversKnown StandsFor) (known_start_of l)
   enough_at_once = record {
     order =
-        (enough_known (Needs l all) StandsFor (start_of l) lines keeps_too (enough_needed l all (start_of l))).order;
+        (enough_known (Needs l all) StandsFor (plain_start_of l) lines keeps_too (enough_needed l all (plain_start_of l))).order;
     matched = λ xs u t x v _ _ c y. matches_at_once u t v x c y;
     reduced = at_once_shows;
   }

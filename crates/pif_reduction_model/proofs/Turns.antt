@@ -15,7 +15,7 @@ use Rattle.pif_posix_model.proofs.AlikeMoves.{other}
 use Rattle.pif_posix_model.proofs.AlikeThreads.{alike_call, alike_living, alike_length}
 use Rattle.pif_history_model.specs.declared.lines.Line.{Line}
 use Rattle.pif_history_model.specs.Lines.{is_among}
-use Rattle.pif_history_model.specs.Searched.{Configuration}
+use Rattle.pif_history_model.specs.Plain.{PlainConfiguration}
 use Rattle.pif_history_model.specs.Forgetting.{StandsFor}
 use Rattle.pif_reduction_model.specs.Known.{known_answer}
 use Rattle.pif_reduction_model.specs.AtOnce.{meets_another, is_busy, fails_if_open, may_go, fails_now, failing_below, failing}
@@ -62,14 +62,14 @@ module _ (w : World) (t : ℕ) where
       (meets_at c.request c.progress is h.0, busy_is known h.1)
 
 -- t may fail at once, if these lines are still to come
-pub record MayFail (rest : List Line) (s : Configuration) (t : ℕ) : Type 0 where
+pub record MayFail (rest : List Line) (s : PlainConfiguration) (t : ℕ) : Type 0 where
   pub apart : is_among s.dying t ≡ false
   pub thread : is_thread s.world t ≡ true
   pub living : is_living s.world t ≡ true
   pub meets : MeetsAnother s.world t
   pub known : known_answer t rest ≡ Some EBUSY
 
-module _ (rest : List Line) (s : Configuration) (t : ℕ) where
+module _ (rest : List Line) (s : PlainConfiguration) (t : ℕ) where
   pub may_fail : fails_now rest s t ≡ true → MayFail rest s t
   may_fail e =
       let open_call : Bool = fails_if_open s.world t (thread_at s.world t).call (known_answer t rest) in
@@ -101,7 +101,7 @@ same_if_open w ys t None known = refl
 same_if_open w ys t (Some c) known = λ i. if same_meets w ys t c.request c.progress i then is_busy known else false
 
 -- a thread that lives as before, and has the same call open, may fail as before
-same_fails : (rest : List Line) (s : Configuration) (ys : List Thread) → length ys ≡ length s.world.threads → (t : ℕ)
+same_fails : (rest : List Line) (s : PlainConfiguration) (ys : List Thread) → length ys ≡ length s.world.threads → (t : ℕ)
     → (get_or ys t nobody).living ≡ is_living s.world t → (get_or ys t nobody).call ≡ (thread_at s.world t).call
     → fails_now rest (record s { world = other ys s.world }) t ≡ fails_now rest s t
 same_fails rest s ys long t living call =
@@ -114,7 +114,7 @@ same_fails rest s ys long t living call =
 
 -- STATES THAT STAND FOR OTHERS
 
-module _ (rest : List Line) (s n : Configuration) (a : StandsFor s n) where
+module _ (rest : List Line) (s n : PlainConfiguration) (a : StandsFor s n) where
   abbrev its : List Thread
   its = n.world.threads
 
@@ -122,7 +122,7 @@ module _ (rest : List Line) (s n : Configuration) (a : StandsFor s n) where
   fails_alike t =
       let is : record s { world = other its s.world } ≡ n =
       (λ i. record { world = sym a.world.others i; dying = a.dying i }) in
-      ap (λ (z : Configuration). fails_now rest z t) (sym is)
+      ap (λ (z : PlainConfiguration). fails_now rest z t) (sym is)
       ∙ same_fails rest s its (sym (alike_length s.world.threads its a.world.threads)) t
       (sym (alike_living s.world.threads its a.world.threads t))
       (sym (alike_call s.world.threads its a.world.threads t))
@@ -142,7 +142,7 @@ module _ (rest : List Line) (s n : Configuration) (a : StandsFor s n) where
 -- A TRYLOCK THAT HAS FAILED
 
 -- the state in which t has failed
-abbrev pub failed : ℕ → Configuration → Configuration
+abbrev pub failed : ℕ → PlainConfiguration → PlainConfiguration
 failed t s = record s { world = with_progress t (Has EBUSY) s.world }
 
 -- a call with its result isn't one without effects
@@ -151,7 +151,7 @@ has_result : (o : Option Call) (a : ℕ) (q : Request)
 has_result None a q e = absurd (cc)
 has_result (Some c) a q e = absurd (let wrong : Fresh ≡ Has a = same_progress e refl in cc)
 
-module _ (rest : List Line) (s : Configuration) (t : ℕ) where
+module _ (rest : List Line) (s : PlainConfiguration) (t : ℕ) where
   -- t fails no more
   pub fails_no_more : fails_now rest (failed t s) t ≡ false
   fails_no_more =
@@ -171,7 +171,7 @@ module _ (rest : List Line) (s : Configuration) (t : ℕ) where
 
 -- WHOSE TURN IT IS
 
-module _ (rest : List Line) (s : Configuration) where
+module _ (rest : List Line) (s : PlainConfiguration) where
   -- if no thread may fail at once, it is nobody's turn
   pub nobody_fails : ((t : ℕ) → fails_now rest s t ≡ false) → (n : ℕ) → failing_below rest s n ≡ None
   nobody_fails h zero = refl

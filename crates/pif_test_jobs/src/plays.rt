@@ -5,6 +5,7 @@ use crate::told::Told;
 use pif_history::{find_run, judge_lines};
 use pif_history_lines::Verdict;
 use pif_history_model::{HistoryLimits, Line};
+use pif_rules_model::no_rules;
 use pif_search::{Stop, push};
 use pif_types::{Answer, Kind, MutexId, Request};
 use std::alloc::Global;
@@ -206,7 +207,14 @@ fn lines_of(alloc: Global, parts: &[&[Sight]]) -> Result<Vec<Line>, Stop> {
 fn plays_until_found(alloc: Global, sights: &[Sight]) -> Result<Option<usize>, Stop> {
     let lines = lines_of(alloc, &[sights])?;
     let mut told = Told::new(usize::MAX);
-    let found = find_run(alloc, LIMITS, lines.as_slice(), 10_000, &mut told)?;
+    let found = find_run(
+        alloc,
+        &no_rules(),
+        LIMITS,
+        lines.as_slice(),
+        10_000,
+        &mut told,
+    )?;
     Ok(found.and(Some(told.plays)))
 }
 
@@ -236,7 +244,14 @@ fn lines_are_played_again_if_a_wake_up_must_be_chosen(rt: HostRuntime) -> Result
 fn most_states(alloc: Global, parts: &[&[Sight]]) -> Result<Option<usize>, Stop> {
     let lines = lines_of(alloc, parts)?;
     let mut told = Told::new(usize::MAX);
-    let verdict = judge_lines(alloc, LIMITS, lines.as_slice(), 10_000, &mut told)?;
+    let verdict = judge_lines(
+        alloc,
+        &no_rules(),
+        LIMITS,
+        lines.as_slice(),
+        10_000,
+        &mut told,
+    )?;
     Ok(match verdict {
         Verdict::Illegal(n) if n == lines.len() => Some(told.greatest),
         _ => None,

@@ -2,7 +2,7 @@ use Rattle.std.proofs.Common.{◌≡◌, ◌++◌, None, take}
 use Rattle.std.specs.List.{flat_map}
 use Rattle.pif_rules_model.specs.Rules.{no_rules}
 use Rattle.pif_rules.specs.Sets.{rules_in_order}
-use Rattle.pif_history_model.specs.AllowedListed.{behind}
+use Rattle.pif_history_model.specs.Listed.{behind}
 use Rattle.pif_history_told.specs.Steps.{added_by, led_by}
 use Rattle.pif_history_told.proofs.leading.listed.Given as goal
 

@@ -9,8 +9,8 @@ returns-in-Ok-clause-known g c =
     answers_known (heard_of c.args.history.now) c.args.before c.args.line.now c.in-Answer.thread c.in-Answer.field-1 _ _ c.in-Ok.answers
     c.in-Answer.is c.limits-limits.ensures (ap (λ (ls : List Line). take c.args.before ls) c.as_slice.ensures.value) c.requires.refused c.in-Ok.ensures
 
-pub returns-in-Ok-possible_priorities_allowing-clause-known : goal.returns-in-Ok-possible_priorities_allowing-clause-known
-returns-in-Ok-possible_priorities_allowing-clause-known g c =
-    priorities_known (heard_of c.args.history.now) c.args.before c.args.line.now c.in-Prio.thread c.in-Prio.field-1 _ _ c.in-Ok-possible_priorities_allowing.priorities
+pub returns-in-Ok-possible_priorities-clause-known : goal.returns-in-Ok-possible_priorities-clause-known
+returns-in-Ok-possible_priorities-clause-known g c =
+    priorities_known (heard_of c.args.history.now) c.args.before c.args.line.now c.in-Prio.thread c.in-Prio.field-1 _ _ c.in-Ok-possible_priorities.priorities
     c.in-Prio.is c.limits-limits.ensures (ap (λ (ls : List Line). take c.args.before ls) c.as_slice.ensures.value) c.requires.refused
-    c.in-Ok-possible_priorities_allowing.ensures
+    c.in-Ok-possible_priorities.ensures

@@ -1,7 +1,7 @@
 use Rattle.std.proofs.Common.{List, subst, sym, arith}
 use Rattle.pif_history_model.specs.declared.labels.Label.{Label}
 use Rattle.pif_history_lines.specs.declared.verdicts.Verdict.{Verdict}
-use Rattle.pif_allow.specs.Verdicts.{IsVerdictWith}
+use Rattle.pif_history_lines.specs.Verdicts.{IsVerdictOf}
 use Rattle.pif_history_told.specs.Ways.{IsRun}
 use Rattle.pif_history_text.specs.Histories.{limits_of}
 use Rattle.pif_history_text.specs.Reading.{heard_of}
@@ -23,7 +23,7 @@ returns-in-Ok-tell_illegal-clause-told g c =
     let form = c.args.asked.now.form in
     let h = heard_of c.args.history.now in
     told_illegal form h c.in-Illegal.count c.args.out.now.items c.tell_illegal.new.out.items c.in-Ok-tell_illegal.end
-    (subst (λ (v : Verdict). IsVerdictWith h.allowed (limits_of h) h.shown v) c.in-Illegal.is c.requires.verdict)
+    (subst (λ (v : Verdict). IsVerdictOf h.allowed (limits_of h) h.shown v) c.in-Illegal.is c.requires.verdict)
     c.in-Ok-tell_illegal.ensures.told
 
 pub returns-in-Ok-tell_undecided-clause-told : goal.returns-in-Ok-tell_undecided-clause-told
@@ -31,23 +31,23 @@ returns-in-Ok-tell_undecided-clause-told g c =
     let form = c.args.asked.now.form in
     let h = heard_of c.args.history.now in
     told_undecided form h c.in-Undecided.count c.args.out.now.items c.tell_undecided.new.out.items c.in-Ok-tell_undecided.end
-    (subst (λ (v : Verdict). IsVerdictWith h.allowed (limits_of h) h.shown v) c.in-Undecided.is c.requires.verdict)
+    (subst (λ (v : Verdict). IsVerdictOf h.allowed (limits_of h) h.shown v) c.in-Undecided.is c.requires.verdict)
     c.in-Ok-tell_undecided.ensures.told
 
 pub tell_illegal-requires-clause-within : goal.tell_illegal-requires-clause-within
 tell_illegal-requires-clause-within g c =
     let h = heard_of c.args.history.now in
-    let v = subst (λ (v : Verdict). IsVerdictWith h.allowed (limits_of h) h.shown v) c.in-Illegal.is c.requires.verdict in
+    let v = subst (λ (v : Verdict). IsVerdictOf h.allowed (limits_of h) h.shown v) c.in-Illegal.is c.requires.verdict in
     (v.0, omega (arith, v.1, c.args.history.now.shown.ok.0))
 
 pub tell_undecided-requires : goal.tell_undecided-requires
 tell_undecided-requires g c =
     let h = heard_of c.args.history.now in
-    let v = subst (λ (v : Verdict). IsVerdictWith h.allowed (limits_of h) h.shown v) c.in-Undecided.is c.requires.verdict in
+    let v = subst (λ (v : Verdict). IsVerdictOf h.allowed (limits_of h) h.shown v) c.in-Undecided.is c.requires.verdict in
     record { within = (v.0, omega (arith, v.1, c.args.history.now.shown.ok.0, c.args.history.now.numbers.ok.0, c.requires.paired)) }
 
 pub tell_verdict_legal-requires : goal.tell_verdict_legal-requires
 tell_verdict_legal-requires g c =
     let h = heard_of c.args.history.now in
-    let v = subst (λ (v : Verdict). IsVerdictWith h.allowed (limits_of h) h.shown v) c.in-Legal.is c.requires.verdict in
+    let v = subst (λ (v : Verdict). IsVerdictOf h.allowed (limits_of h) h.shown v) c.in-Legal.is c.requires.verdict in
     record { run = subst (λ (ls : List Label). IsRun h.allowed (limits_of h) ls) (sym c.as_slice.ensures.value) (v.last, v.run) }

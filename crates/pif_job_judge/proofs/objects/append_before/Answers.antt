@@ -3,7 +3,7 @@ use Rattle.pif_types.specs.Bounds.{Bounds}
 use Rattle.pif_history_model.specs.declared.labels.Label.{Label}
 use Rattle.pif_history_model.specs.declared.lines.Line.{Line}
 use Rattle.pif_history_lines.specs.declared.verdicts.Verdict.{Verdict}
-use Rattle.pif_allow.specs.Verdicts.{IsVerdictWith}
+use Rattle.pif_history_lines.specs.Verdicts.{IsVerdictOf}
 use Rattle.pif_history_told.specs.Ways.{IsRun}
 use Rattle.pif_history_text.specs.Histories.{limits_of}
 use Rattle.pif_history_text.specs.Reading.{heard_of}
@@ -16,13 +16,13 @@ returns-in-Ok-Legal-clause-told g c =
     (before_told (heard_of c.args.history.now) c.args.before c.args.left_out _ _ c.in-Ok-Legal.witness.items _
     c.args.out.now.items c.append_steps.new.out.items c.limits.ensures
     (ap (λ (ls : List Line). take c.args.before ls) c.as_slice.ensures.value) c.as_slice-in-Ok-Legal.ensures.value
-    (subst (λ (v : Verdict). IsVerdictWith c.args.history.now.allowed c.limits.result (take c.args.before c.as_slice.result.now) v)
+    (subst (λ (v : Verdict). IsVerdictOf c.args.history.now.allowed c.limits.result (take c.args.before c.as_slice.result.now) v)
     c.in-Ok-Legal.field-0-is c.in-Ok-Legal.ensures))
     c.append_steps.ensures.told
 
 pub append_steps-requires : goal.append_steps-requires
 append_steps-requires g c =
-    let v = subst (λ (v : Verdict). IsVerdictWith c.args.history.now.allowed c.limits.result (take c.args.before c.as_slice.result.now) v)
+    let v = subst (λ (v : Verdict). IsVerdictOf c.args.history.now.allowed c.limits.result (take c.args.before c.as_slice.result.now) v)
     c.in-Ok-Legal.field-0-is c.in-Ok-Legal.ensures in
     let run : IsRun c.args.history.now.allowed c.limits.result c.in-Ok-Legal.witness.items = (v.last, v.run) in
     record {

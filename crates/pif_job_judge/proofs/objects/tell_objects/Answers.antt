@@ -1,8 +1,8 @@
 use Rattle.std.proofs.Common.{List, subst, sym}
 use Rattle.pif_history_model.specs.declared.labels.Label.{Label}
-use Rattle.pif_history_model.specs.AllowedVerdicts.{IsLegalWith}
+use Rattle.pif_history_model.specs.Verdicts.{IsLegal}
 use Rattle.pif_history_lines.specs.declared.verdicts.Verdict.{Verdict}
-use Rattle.pif_allow.specs.Verdicts.{IsVerdictWith}
+use Rattle.pif_history_lines.specs.Verdicts.{IsVerdictOf}
 use Rattle.pif_history_text.specs.Histories.{limits_of}
 use Rattle.pif_history_text.specs.Reading.{heard_of}
 use Rattle.pif_job_judge.proofs.objects.tell_objects.Goals as goal
@@ -10,15 +10,15 @@ use Rattle.pif_job_judge.proofs.objects.tell_objects.Goals as goal
 pub append_legal_history-requires : goal.append_legal_history-requires
 append_legal_history-requires g c =
     let h = heard_of c.args.history.now in
-    subst (λ (ls : List Label). IsLegalWith h.allowed (limits_of h) h.shown ls) (sym c.as_slice.ensures.value)
-    (subst (λ (v : Verdict). IsVerdictWith h.allowed (limits_of h) h.shown v) c.in-Legal.is c.requires.verdict)
+    subst (λ (ls : List Label). IsLegal h.allowed (limits_of h) h.shown ls) (sym c.as_slice.ensures.value)
+    (subst (λ (v : Verdict). IsVerdictOf h.allowed (limits_of h) h.shown v) c.in-Legal.is c.requires.verdict)
 
 pub append_illegal_history-requires-clause-verdict : goal.append_illegal_history-requires-clause-verdict
 append_illegal_history-requires-clause-verdict g c =
     let h = heard_of c.args.history.now in
-    subst (λ (v : Verdict). IsVerdictWith h.allowed (limits_of h) h.shown v) c.in-Illegal.is c.requires.verdict
+    subst (λ (v : Verdict). IsVerdictOf h.allowed (limits_of h) h.shown v) c.in-Illegal.is c.requires.verdict
 
 pub append_undecided_history-requires-clause-verdict : goal.append_undecided_history-requires-clause-verdict
 append_undecided_history-requires-clause-verdict g c =
     let h = heard_of c.args.history.now in
-    subst (λ (v : Verdict). IsVerdictWith h.allowed (limits_of h) h.shown v) c.in-Undecided.is c.requires.verdict
+    subst (λ (v : Verdict). IsVerdictOf h.allowed (limits_of h) h.shown v) c.in-Undecided.is c.requires.verdict

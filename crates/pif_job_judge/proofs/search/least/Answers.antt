@@ -1,6 +1,6 @@
 use Rattle.std.proofs.Common.{arith, subst, sym}
 use Rattle.pif_history_lines.specs.declared.verdicts.Verdict.{Verdict}
-use Rattle.pif_allow.specs.Verdicts.{IsVerdictWith}
+use Rattle.pif_history_lines.specs.Verdicts.{IsVerdictOf}
 use Rattle.pif_rules_model.specs.declared.rules.Rules.{Rules}
 use Rattle.pif_job_judge.specs.LeastRules.{IsLegalSomehow}
 use Rattle.pif_job_judge.proofs.LeastRulesLemmas.{all_illegal, behind_illegal, illegal_more}
@@ -8,8 +8,8 @@ use Rattle.pif_job_judge.proofs.search.least.Goals as goal
 
 pub returns-in-Legal : goal.returns-in-Legal
 returns-in-Legal g c =
-    let legal = subst (λ (v : Verdict). IsVerdictWith c.index.result.now c.args.limits c.args.lines.now v) c.in-Legal.is
-    c.in_ok-judge_allowing.ensures in (
+    let legal = subst (λ (v : Verdict). IsVerdictOf c.index.result.now c.args.limits c.args.lines.now v) c.in-Legal.is
+    c.in_ok-judge_lines.ensures in (
       (c.in-Legal.field-0.items, legal),
       behind_illegal c.args.base.now c.args.asked.now c.args.limits c.args.lines.now c.in_ok-sets.sets.items c.loop-place.place
           c.index.result.now c.in_ok-sets.ensures
@@ -19,8 +19,8 @@ returns-in-Legal g c =
 
 pub returns-in-Undecided : goal.returns-in-Undecided
 returns-in-Undecided g c =
-    let within = subst (λ (v : Verdict). IsVerdictWith c.index.result.now c.args.limits c.args.lines.now v) c.in-Undecided.is
-    c.in_ok-judge_allowing.ensures in (
+    let within = subst (λ (v : Verdict). IsVerdictOf c.index.result.now c.args.limits c.args.lines.now v) c.in-Undecided.is
+    c.in_ok-judge_lines.ensures in (
       within.0,
       within.1,
       behind_illegal c.args.base.now c.args.asked.now c.args.limits c.args.lines.now c.in_ok-sets.sets.items c.loop-place.place
@@ -31,8 +31,8 @@ returns-in-Undecided g c =
 
 pub loop-place-preserved : goal.loop-place-preserved
 loop-place-preserved g c =
-    let illegal = subst (λ (v : Verdict). IsVerdictWith c.index.result.now c.args.limits c.args.lines.now v) c.in-Illegal.is
-    c.in_ok-judge_allowing.ensures in
+    let illegal = subst (λ (v : Verdict). IsVerdictOf c.index.result.now c.args.limits c.args.lines.now v) c.in-Illegal.is
+    c.in_ok-judge_lines.ensures in
     illegal_more c.args.limits c.args.lines.now c.in_ok-sets.sets.items c.loop-place.place c.index.result.now
     (omega (arith, c.loop-place-test.true, c.len-place-end.ensures, c.in_ok-sets.sets.ok.0)) c.index.ensures
     (c.in-Illegal.field-0, illegal.2) c.loop-place.invariant

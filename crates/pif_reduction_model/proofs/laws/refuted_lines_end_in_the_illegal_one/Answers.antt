@@ -1,3 +1,5 @@
+use Rattle.std.proofs.Common.{refl}
+use Rattle.pif_history_model.specs.Verdicts.IsShownBy.{plainly}
 use Rattle.pif_reduction_model.proofs.laws.refuted_lines_end_in_the_illegal_one.Goals as goal
 
 pub returns : goal.returns
@@ -5,5 +7,5 @@ returns c = λ l lines count place some within says shown. record {
   some = some;
   within = within;
   illegal = says.0;
-  legal = shown;
+  legal = plainly refl shown;
 }

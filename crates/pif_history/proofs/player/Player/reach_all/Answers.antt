@@ -8,10 +8,10 @@ use Rattle.pif_history.proofs.player.Player.reach_all.Goals as goal
 
 pub loop-place-preserved : goal.loop-place-preserved
 loop-place-preserved g c =
-    one_line_more c.args.machine.now.limits c.args.lines.now c.loop-place.place c.index-lines-place.result c.loop-place.self c.reach.new.self
+    one_line_more c.args.machine.now.rules c.args.machine.now.limits c.args.lines.now c.loop-place.place c.index-lines-place.result c.loop-place.self c.reach.new.self
     (omega (arith, c.loop-place-test.true)) (sym c.index-lines-place.is) (c.in_ok-reach.ensures c.if-not-branch.false) c.loop-place.invariant
 
 pub returns : goal.returns
 returns g c = λ _.
-    subst (λ (ls : List Line). IsPlayed c.args.machine.now.limits (labels_of (reverse ls)) c.loop-place.self)
+    subst (λ (ls : List Line). IsPlayed c.args.machine.now.rules c.args.machine.now.limits (labels_of (reverse ls)) c.loop-place.self)
     (take_all c.loop-place.place c.args.lines.now (omega (arith, c.loop-place-test.false))) c.loop-place.invariant

@@ -4,4 +4,4 @@ use Rattle.pif_history.specs.Played.{IsPlayed}
 use Rattle.pif_history.proofs.player.Player.reach_all.Given as goal
 
 abbrev pub invariant-loop-place : goal.invariant-loop-place
-invariant-loop-place g l = IsPlayed l.machine.limits (labels_of (reverse (take l.place l.lines))) l.self
+invariant-loop-place g l = IsPlayed l.machine.rules l.machine.limits (labels_of (reverse (take l.place l.lines))) l.self

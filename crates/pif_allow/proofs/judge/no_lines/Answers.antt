@@ -1,9 +1,0 @@
-use Rattle.std.proofs.Common.{[], List, sym, subst}
-use Rattle.pif_history_model.specs.declared.labels.Label.{Label}
-use Rattle.pif_history_model.specs.AllowedVerdicts.{IsLegalWith}
-use Rattle.pif_allow.proofs.Settling.{nothing_is_legal}
-use Rattle.pif_allow.proofs.judge.no_lines.Goals as goal
-
-pub returns : goal.returns
-returns c =
-    λ r l. subst (λ (xs : List Label). IsLegalWith r l [] xs) (sym c.new.ensures.items) (nothing_is_legal r l)

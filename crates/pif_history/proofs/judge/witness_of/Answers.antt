@@ -1,0 +1,8 @@
+use Rattle.pif_history_model.proofs.Judging.{legal_too}
+use Rattle.pif_history_model.proofs.ShownLines.{some_of}
+use Rattle.pif_history.proofs.judge.witness_of.Goals as goal
+
+pub returns-in-Some : goal.returns-in-Some
+returns-in-Some g c =
+    legal_too c.args.rules.now c.args.limits c.args.lines.now c.in-Some.witness.items
+    (some_of _ c.in_ok-witness.field-0 c.in-Some.witness c.in-Some.is c.in_ok-witness.ensures)
