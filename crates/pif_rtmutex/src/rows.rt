@@ -30,8 +30,6 @@ impl State {
         ensures state { result ≡ record { owner = owner; row = row } }
         ensures thread { 1 ≤ owner }
     {
-        // The number of a thread is at least 1.
-        let _number = owner.get();
         State { owner, row }
     }
 }
