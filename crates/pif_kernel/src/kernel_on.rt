@@ -145,10 +145,9 @@ impl<C: Chains + Drop> PiKernel for KernelOn<C> {
         expected: u32,
         m: MutexId,
     ) -> Result<(), Errno> {
-        // For the prover: what a kernel keeps is sound.
-        let _next = self.parts.next_ticket();
+        let parts = &mut self.parts;
         test_parking(words, c, expected, m)?;
-        self.parts.park(t, c, m);
+        parts.park(t, c, m);
         Ok(())
     }
 

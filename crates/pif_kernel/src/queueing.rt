@@ -26,8 +26,6 @@ impl<C: Chains + Drop> Parts<C> {
         ensures after { kernel_of self.new ≡ kernel_after_queueing t m owner (kernel_of self.old) }
         ensures sound { IsSoundInside self.new }
     {
-        // For the prover: a mutex has a number from 1.
-        let _number = m.get();
         let ticket = self.take_ticket();
         let key = self.state_of(m, owner, key);
         let prio = self.chains.local(t).unwrap();

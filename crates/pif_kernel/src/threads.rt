@@ -16,8 +16,6 @@ impl<C: Chains + Drop> Parts<C> {
         ensures after { kernel_of self.new ≡ kernel_after_add prio (kernel_of self.old) }
         ensures sound { IsSoundInside self.new }
     {
-        // For the prover: a priority is 1 to 99.
-        let _level = prio.get();
         let t = Tid::new(self.statuses.len() as u32).unwrap();
         push_within(&mut self.statuses, Status::Ready(Woken::Fresh));
         self.chains.admit(t, prio);
@@ -32,8 +30,6 @@ impl<C: Chains + Drop> Parts<C> {
         ensures after { kernel_of self.new ≡ kernel_after_set_prio t prio (Ok (record {})) (kernel_of self.old) }
         ensures sound { IsSoundInside self.new }
     {
-        // For the prover: a priority is 1 to 99.
-        let _level = prio.get();
         self.chains.set_base(t, prio);
         self.chains.walk(t);
     }

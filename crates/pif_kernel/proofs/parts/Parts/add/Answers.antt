@@ -1,4 +1,4 @@
-use Rattle.std.proofs.Common.{◌≡◌, ◌≤◌, ℕ, length, subst, sym, ◌∙◌, ap, arith}
+use Rattle.std.proofs.Common.{◌≡◌, ◌≤◌, ℕ, length, subst, sym, ◌∙◌, ap, arith, rules}
 use Rattle.pif_types.specs.Bounds.{Bounds}
 use Rattle.pif_nodes_model.specs.Levels.{IsQueued, IsLevel, level_of, level_after_add}
 use Rattle.pif_model.specs.PiKernel.{kernel_after_add}
@@ -73,8 +73,8 @@ returns g c =
     (sym c.self.view_is) c.requires.room) in
     let value : c.unwrap-t.result ≡ c.len.result = rw c.unwrap-t.ensures at c.new.ensures.value in
     let t : c.unwrap-t.result ≡ length p.statuses = omega (arith, value, c.len.ensures) in
-    let low : 1 ≤ c.args.prio = omega (arith, c.get-level.ensures.value, c.get-level.ensures.low) in
-    let high : c.args.prio ≤ 99 = omega (arith, c.get-level.ensures.value, c.get-level.ensures.high) in
+    let low : 1 ≤ c.args.prio = search rules in
+    let high : c.args.prio ≤ 99 = search rules in
     let x : Chained = g.C.Chains.seen c.add.new.self in
     let admitted = c.admit.ensures in
     let place : x.queue ≡ record p.queue { mask = x.queue.mask } =

@@ -1,4 +1,4 @@
-use Rattle.std.proofs.Common.{[], ◌∷◌, ◌++◌, set, is_some, subst, sym, ap, ◌∙◌, arith}
+use Rattle.std.proofs.Common.{[], ◌∷◌, ◌++◌, set, is_some, subst, sym, ap, ◌∙◌, arith, rules}
 use Rattle.pif_model.specs.declared.lines.Status.TheVariants.{Queued}
 use Rattle.pif_model.specs.PiKernel.{Kernel, has_seat, is_ready, kernel_after_queueing}
 use Rattle.pif_model.specs.PiKernel.{seat_at as kernel_seat_at}
@@ -50,7 +50,7 @@ entered g c =
     let p : Inside = c.take_ticket-ticket.new.self in
     folded c.args.self.now (record p { queue = x.queue; table = x.table }) x c.args.t c.args.m c.args.owner c.state_of-key.result c.take_ticket-ticket.result
     (entry c.args.self.now p x c.args.t c.args.m c.args.owner c.state_of-key.result c.take_ticket-ticket.result
-    (omega (arith, c.get-number.ensures.value, c.get-number.ensures.range))
+    (search rules)
     (record {
       added = c.requires.added;
       ready = c.requires.ready;

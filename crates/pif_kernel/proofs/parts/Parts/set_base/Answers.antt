@@ -1,4 +1,4 @@
-use Rattle.std.proofs.Common.{◌≡◌, ◌≤◌, true, Ok, subst, sym, ap, ◌∙◌, arith}
+use Rattle.std.proofs.Common.{◌≡◌, ◌≤◌, true, Ok, subst, sym, ap, ◌∙◌, rules}
 use Rattle.pif_model.specs.PiKernel.{is_living, kernel_after_set_prio}
 use Rattle.pif_kernel_model.specs.Chained.{Chained}
 use Rattle.pif_kernel_model.specs.Inside.{Inside, IsSoundInside, kernel_of}
@@ -22,8 +22,8 @@ before_walk g c =
     let h : IsSoundInside p = subst IsSoundInside (sym c.self.view_is) c.requires.sound in
     let lives : is_living (kernel_of p) c.args.t ≡ true
     = subst (λ (x : Inside). is_living (kernel_of x) c.args.t ≡ true) (sym c.self.view_is) c.requires.living in
-    let some : 1 ≤ c.args.prio = omega (arith, c.get-level.ensures.value, c.get-level.ensures.low) in
-    let few : c.args.prio ≤ 99 = omega (arith, c.get-level.ensures.value, c.get-level.ensures.high) in
+    let some : 1 ≤ c.args.prio = search rules in
+    let few : c.args.prio ≤ 99 = search rules in
     rw (c.set_base.ensures, ← c.self.view_is) (walkable p c.args.t c.args.prio h lives some few)
 
 pub walk-requires : goal.walk-requires
