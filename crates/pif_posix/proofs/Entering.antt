@@ -3,7 +3,7 @@ use Rattle.std.proofs.Common.{ℕ, ◌≡◌, ◌∙◌, ◌<◌, ◌==◌, Bool
 use Rattle.std.specs.Prelude.{nat_le}
 use Rattle.std.specs.List.{list_any}
 use Rattle.pif_types.specs.declared.requests.Request.{Request}
-use Rattle.pif_types.specs.declared.requests.Request.TheVariants.{Lock, TryLock, Unlock, Consistent, Wait, Signal, Broadcast, SetPrio, TimedLock, TimedWait}
+use Rattle.pif_types.specs.declared.requests.Request.TheVariants.{TimedWait}
 use Rattle.pif_model.specs.declared.events.Event.TheVariants.{Begin, Go, Tick}
 use Rattle.pif_model.specs.Deadlines.{plain, timer_of}
 use Rattle.pif_model.specs.World.Progress.{Fresh}
@@ -47,16 +47,8 @@ pub begun-refused : (t : ℕ) (q : Request) (w : World) → is_allowed w (Begin 
 begun-refused t q w e = choose_else (is_allowed w (Begin t q)) _ _ e
 
 pub begun_memory-plain : (w : World) (q : Request) (x : Memory) → begun_memory w (plain q) x ≡ begun_memory w q x
-begun_memory-plain w (Lock m) x = refl
-begun_memory-plain w (TryLock m) x = refl
-begun_memory-plain w (Unlock m) x = refl
-begun_memory-plain w (Consistent m) x = refl
-begun_memory-plain w (Wait c m) x = refl
-begun_memory-plain w (Signal c) x = refl
-begun_memory-plain w (Broadcast c) x = refl
-begun_memory-plain w (SetPrio u p) x = refl
-begun_memory-plain w (TimedLock m d) x = refl
 begun_memory-plain w (TimedWait c m d) x = refl
+begun_memory-plain w _ x = refl
 
 -- a thread that begins a call, once what is remembered of it was written
 pub opened : (t : ℕ) (q : Request) (w u : World) → t < length w.threads
