@@ -1,7 +1,7 @@
 use crate::growing_text::Page;
 use crate::looks::hue;
 use crate::plans::{Moment, Plan};
-use crate::rows::{Row, write_reply};
+use crate::rows::{DrawnRow, write_reply};
 use pif_types::{MutexId, Tid};
 
 /// Draws that a thread gave a mutex to another, from the bar of one at this height to that of the other.
@@ -40,7 +40,7 @@ pub fn draw_hand_over(
 
 /// Draws that the thread which acts by a command signalled this one, which wakes or moves to the waiters of its mutex;
 /// nothing if it is the same, as behind a deadline.
-pub fn draw_signal(row: &Row<'_>, parked: Tid, moment: Moment, plan: &Plan, out: &mut Page) {
+pub fn draw_signal(row: &DrawnRow<'_>, parked: Tid, moment: Moment, plan: &Plan, out: &mut Page) {
     let Some(actor) = row.actor() else {
         return;
     };
@@ -77,7 +77,7 @@ fn draw_shaft(class: &str, x: u32, start: u32, end: u32, out: &mut Page) {
 }
 
 /// Draws which thread acts by a command; nothing if none does, or one that is never added.
-pub fn draw_actor(row: &Row<'_>, moment: Moment, plan: &Plan, out: &mut Page) {
+pub fn draw_actor(row: &DrawnRow<'_>, moment: Moment, plan: &Plan, out: &mut Page) {
     let Some(actor) = row.actor() else {
         return;
     };
@@ -93,7 +93,7 @@ pub fn draw_actor(row: &Row<'_>, moment: Moment, plan: &Plan, out: &mut Page) {
 }
 
 /// Writes a command, its line and its answer, as they are shown on hover.
-pub fn write_line(row: &Row<'_>, out: &mut Page) {
+pub fn write_line(row: &DrawnRow<'_>, out: &mut Page) {
     out.fill("<title>line {}: ", &[row.line]);
     out.words(row.words);
     out.words(" = ");

@@ -3,7 +3,7 @@ use crate::growing_text::Page;
 use crate::levels::{Level, draw_change, draw_level, level_of};
 use crate::looks::{Look, hue, look_of};
 use crate::plans::{Moment, Plan};
-use crate::rows::Row;
+use crate::rows::DrawnRow;
 use crate::sheets::Sheet;
 use pif_core::Core;
 use pif_types::Tid;
@@ -34,7 +34,7 @@ impl Lane {
     /// else now.
     pub fn see(
         &mut self,
-        row: &Row<'_>,
+        row: &DrawnRow<'_>,
         core: &Core,
         moment: Moment,
         plan: &Plan,
@@ -108,7 +108,7 @@ impl Lane {
     fn draw_turn(
         &self,
         look: &Look,
-        row: &Row<'_>,
+        row: &DrawnRow<'_>,
         moment: Moment,
         plan: &Plan,
         sheet: &mut Sheet,

@@ -1,5 +1,5 @@
-use crate::plays::{Watch, play};
-use crate::rows::{Row, letters_of};
+use crate::plays::{Onlooker, play};
+use crate::rows::{DrawnRow, letters_of};
 use crate::spans::Span;
 use pif_core::Core;
 use pif_model::Event;
@@ -88,8 +88,8 @@ struct Planner {
     failed: bool,
 }
 
-impl Watch for Planner {
-    fn see(&mut self, row: &Row<'_>, core: &Core) {
+impl Onlooker for Planner {
+    fn see(&mut self, row: &DrawnRow<'_>, core: &Core) {
         if self.span.is_before(row.line) {
             return;
         }
@@ -164,7 +164,7 @@ impl Plan {
     }
 
     /// Makes room for a command.
-    fn take(&mut self, row: &Row<'_>) {
+    fn take(&mut self, row: &DrawnRow<'_>) {
         self.columns = self.columns.saturating_add(1);
         self.letters = self
             .letters
@@ -172,7 +172,7 @@ impl Plan {
     }
 
     /// Makes room for the priority that a command gives to a thread.
-    fn take_priority(&mut self, row: &Row<'_>) {
+    fn take_priority(&mut self, row: &DrawnRow<'_>) {
         if let Some(priority) = named_priority(row.command) {
             self.least = self.least.min(priority);
             self.greatest = self.greatest.max(priority);

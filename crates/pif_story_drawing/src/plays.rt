@@ -1,4 +1,4 @@
-use crate::rows::{Row, row_of};
+use crate::rows::{DrawnRow, row_of};
 use pif_core::Core;
 use pif_script_core::{first_limits, obey};
 use pif_story_model::AnsweredRow;
@@ -8,9 +8,9 @@ use pif_watch::WatchSteps;
 use std::alloc::Global;
 
 /// What looks on while the commands of a story are played.
-pub trait Watch {
+pub trait Onlooker {
     /// Looks at the core behind a command.
-    fn see(&mut self, row: &Row<'_>, core: &Core);
+    fn see(&mut self, row: &DrawnRow<'_>, core: &Core);
 }
 
 /// Plays the commands of a story, by a core to which nothing was added, under the limits that the story begins with, or
@@ -19,10 +19,10 @@ pub trait Watch {
 /// # Errors
 ///
 /// A growth of memory was refused, and nothing was played.
-pub fn play<W: Watch, V: WatchSteps>(
+pub fn play<W: Onlooker, V: WatchSteps>(
     alloc: Global,
     rows: &[AnsweredRow<'_>],
-    watch: &mut W,
+    onlooker: &mut W,
     told: &mut V,
 ) -> Result<(), NoMemory> {
     let Ok(mut core) = Core::new(alloc, limits_of(rows)) else {
@@ -32,7 +32,7 @@ pub fn play<W: Watch, V: WatchSteps>(
         told.step(place, rows.len());
         if let Some(row) = row_of(answered) {
             let _reply = obey(&mut core, row.command);
-            watch.see(&row, &core);
+            onlooker.see(&row, &core);
         }
     }
     Ok(())

@@ -7,7 +7,7 @@ use std::str::from_utf8;
 
 /// A command of a story, with its words.
 #[derive(Clone, Copy)]
-pub struct Row<'a> {
+pub struct DrawnRow<'a> {
     /// The number of its line in the story, from 1.
     pub line: u32,
     /// The command as it is written.
@@ -18,7 +18,7 @@ pub struct Row<'a> {
     pub reply: Reply,
 }
 
-impl Row<'_> {
+impl DrawnRow<'_> {
     /// The thread that acts; none if something is added or asked, or if the time goes on.
     pub fn actor(&self) -> Option<Tid> {
         match self.command {
@@ -35,9 +35,9 @@ impl Row<'_> {
 }
 
 /// A command of a story, with its words as text; none if they are none.
-pub fn row_of<'a>(answered: &AnsweredRow<'a>) -> Option<Row<'a>> {
+pub fn row_of<'a>(answered: &AnsweredRow<'a>) -> Option<DrawnRow<'a>> {
     let words = from_utf8(answered.words).ok()?;
-    Some(Row {
+    Some(DrawnRow {
         line: answered.line,
         words,
         command: answered.command,
@@ -59,7 +59,7 @@ pub fn write_reply(reply: Reply, out: &mut Page) {
 }
 
 /// How many bytes a command has, with what it is answered.
-pub fn letters_of(row: &Row<'_>) -> usize {
+pub fn letters_of(row: &DrawnRow<'_>) -> usize {
     let text = answer_text(row.reply);
     row.words.len().saturating_add(text.len())
 }

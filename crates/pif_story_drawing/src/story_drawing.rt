@@ -5,8 +5,8 @@ use crate::heads::write_drawing;
 use crate::lanes::Lane;
 use crate::looks::Look;
 use crate::plans::{Moment, Plan, TOP, plan_of};
-use crate::plays::{Watch, play};
-use crate::rows::{Row, write_reply};
+use crate::plays::{Onlooker, play};
+use crate::rows::{DrawnRow, write_reply};
 use crate::sheets::Sheet;
 use crate::spans::Span;
 use pif_core::Core;
@@ -99,9 +99,9 @@ impl Drawing {
     }
 }
 
-impl Watch for Drawing {
+impl Onlooker for Drawing {
     /// Draws what a command changed; of one before the lines that are drawn, only what it left is kept.
-    fn see(&mut self, row: &Row<'_>, core: &Core) {
+    fn see(&mut self, row: &DrawnRow<'_>, core: &Core) {
         if self.span.is_before(row.line) {
             return;
         }
@@ -122,7 +122,7 @@ impl Watch for Drawing {
 }
 
 /// Draws where a command stands, and writes it below.
-fn draw_column(row: &Row<'_>, now: Moment, plan: &Plan, out: &mut Page) {
+fn draw_column(row: &DrawnRow<'_>, now: Moment, plan: &Plan, out: &mut Page) {
     let x = plan.x(now.column);
     let axis = plan.axis();
     out.words("<g>");
