@@ -87,11 +87,11 @@ impl Course {
 
 /// Notes in a course that a thread waits.
 #[derive(Drop)]
-pub struct Watch<'a> {
+pub struct WaitCounter<'a> {
     pub course: &'a Course,
 }
 
-impl<'a> Pause for Watch<'a> {
+impl<'a> Pause for WaitCounter<'a> {
     fn after(&self, _t: Tid, seen: Seen) {
         if let Seen::Waits = seen {
             self.course.waited.fetch_add(1, Ordering::SeqCst);

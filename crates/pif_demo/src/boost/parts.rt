@@ -1,4 +1,4 @@
-use super::course::{Course, Watch};
+use super::course::{Course, WaitCounter};
 use super::{Failure, PRIORITIES, ROUNDS};
 use pif_desk::{Book, Client, Desk, DeskFault};
 use pif_types::{Kind, Limits, MutexId, Request};
@@ -16,7 +16,7 @@ const TRIES: u32 = 1_000;
 /// Makes a call.
 fn make<R: Wait>(
     rt: &R,
-    desk: &Desk<Watch<'_>>,
+    desk: &Desk<WaitCounter<'_>>,
     client: &mut Client,
     request: Request,
 ) -> Result<(), DeskFault> {
@@ -38,7 +38,7 @@ struct Part {
 fn make_pair<R: Wait>(
     rt: &R,
     course: &Course,
-    desk: &Desk<Watch<'_>>,
+    desk: &Desk<WaitCounter<'_>>,
     client: &mut Client,
     part: &Part,
     round: u32,
@@ -54,7 +54,7 @@ fn make_pair<R: Wait>(
 fn play_part<R: Wait>(
     rt: &R,
     course: &Course,
-    desk: &Desk<Watch<'_>>,
+    desk: &Desk<WaitCounter<'_>>,
     client: &mut Client,
     part: &Part,
 ) -> Result<(), DeskFault> {
@@ -73,7 +73,7 @@ fn play_part<R: Wait>(
 }
 
 /// A client ends, so that no other waits for its mutex.
-fn leave<R: Wait>(rt: &R, desk: &Desk<Watch<'_>>, client: &mut Client) {
+fn leave<R: Wait>(rt: &R, desk: &Desk<WaitCounter<'_>>, client: &mut Client) {
     for _try in 0..TRIES {
         match client.quit(rt, desk) {
             Err(DeskFault::NoMemory) => {}
@@ -106,7 +106,7 @@ fn part_of(thread: u32, mutexes: &Mutexes) -> Part {
 fn play<R: Wait>(
     rt: &R,
     course: &Course,
-    desk: &Desk<Watch<'_>>,
+    desk: &Desk<WaitCounter<'_>>,
     client: &mut Client,
     mutexes: &Mutexes,
 ) {
@@ -121,7 +121,7 @@ fn play<R: Wait>(
 fn play_all<R: Threads + Wait + Sync>(
     rt: &R,
     course: &Course,
-    desk: &Desk<Watch<'_>>,
+    desk: &Desk<WaitCounter<'_>>,
     clients: &mut [Client],
     mutexes: &Mutexes,
 ) {
@@ -141,7 +141,7 @@ fn play_all<R: Threads + Wait + Sync>(
 /// A client enters the desk with this priority, behind the others.
 fn enter_one<R: Wait>(
     rt: &R,
-    desk: &Desk<Watch<'_>>,
+    desk: &Desk<WaitCounter<'_>>,
     prio: u32,
     clients: &mut Vec<Client>,
 ) -> Result<(), DeskFault> {
@@ -157,7 +157,7 @@ fn enter_one<R: Wait>(
 /// Low, middle and high enter the desk, and it gets their mutexes.
 fn enter_all<R: Wait>(
     rt: &R,
-    desk: &Desk<Watch<'_>>,
+    desk: &Desk<WaitCounter<'_>>,
     clients: &mut Vec<Client>,
 ) -> Result<Mutexes, DeskFault> {
     for prio in PRIORITIES {
@@ -172,7 +172,7 @@ fn enter_all<R: Wait>(
 fn play_at<R: Threads + Wait + Sync>(
     rt: &R,
     course: &Course,
-    desk: &Desk<Watch<'_>>,
+    desk: &Desk<WaitCounter<'_>>,
     clients: &mut Vec<Client>,
 ) -> Result<(), Failure> {
     match enter_all(rt, desk, clients) {
@@ -185,7 +185,7 @@ fn play_at<R: Threads + Wait + Sync>(
 }
 
 /// A desk settles with its clients.
-fn settle(desk: Desk<Watch<'_>>, clients: Vec<Client>) -> Result<Book, Failure> {
+fn settle(desk: Desk<WaitCounter<'_>>, clients: Vec<Client>) -> Result<Book, Failure> {
     match desk.into_room().settle(clients) {
         Ok(book) => Ok(book),
         Err(_) => Err(Failure::Unsettled),
@@ -197,7 +197,7 @@ fn run_at<R: Threads + Wait + Sync>(
     rt: &R,
     alloc: Global,
     course: &Course,
-    desk: Desk<Watch<'_>>,
+    desk: Desk<WaitCounter<'_>>,
 ) -> Result<Book, Failure> {
     let mut clients = Vec::new(alloc);
     match play_at(rt, course, &desk, &mut clients) {
@@ -215,7 +215,7 @@ pub fn run_desk<R: Threads + Wait + Sync>(
     let Some(limits) = Limits::new(3, 2, 0, 1) else {
         return Err(Failure::Limits);
     };
-    match Desk::new(alloc, limits, Watch { course }) {
+    match Desk::new(alloc, limits, WaitCounter { course }) {
         Ok(desk) => run_at(rt, alloc, course, desk),
         Err(_) => Err(Failure::Desk(DeskFault::NoMemory)),
     }
