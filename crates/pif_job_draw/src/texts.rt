@@ -1,4 +1,4 @@
-ghost use Rattle.std.specs.Prelude.{◌≡◌, IfOk, OnOk, string_bytes};
+ghost use Rattle.std.specs.Prelude.{◌≡◌, IfOk, OnOk};
 ghost use Rattle.pif_script_model.specs.declared.pictures.Picture.{Picture};
 ghost use Rattle.pif_job_check.specs.Rows.{FillsRows};
 ghost use Rattle.pif_story_model.specs.Rows.{AreRowsOf};

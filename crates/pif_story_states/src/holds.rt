@@ -1,5 +1,5 @@
-ghost use Rattle.std.specs.Prelude.{◌≡◌, ◌++◌, filter, OnOk};
-ghost use Rattle.pif_text_json.specs.Json.{name_text, names_array, numbers};
+ghost use Rattle.std.specs.Prelude.{◌≡◌, ◌++◌, OnOk};
+ghost use Rattle.pif_text_json.specs.Json.{name_text};
 ghost use Rattle.pif_text_core.specs.Waiting.{has, mutexes_added};
 ghost use Rattle.pif_story_states.specs.Objects.{holds_member};
 
