@@ -123,15 +123,7 @@ module _ (t a : ℕ) (w : World) where
   result_to : (p : Progress) (q : Request) (expired : Bool) → has_answer p q expired a ≡ true
       → (r : ℕ) × (p ≡ Has r) × (a ≡ reported_result q expired r)
   result_to (Has r) q expired e = (r, refl, eqb-true a (reported_result q expired r) e)
-  result_to Fresh q expired e = absurd (both_ways false refl e)
-  result_to Waiting q expired e = absurd (both_ways false refl e)
-  result_to Stuck q expired e = absurd (both_ways false refl e)
-  result_to Leaving q expired e = absurd (both_ways false refl e)
-  result_to Checked q expired e = absurd (both_ways false refl e)
-  result_to (Enlisted still) q expired e = absurd (both_ways false refl e)
-  result_to (Blocked noted) q expired e = absurd (both_ways false refl e)
-  result_to Reacquiring q expired e = absurd (both_ways false refl e)
-  result_to Used q expired e = absurd (both_ways false refl e)
+  result_to _ q expired e = absurd (both_ways false refl e)
 
   pub answered_to : (v : World) → answered t a w ≡ Some v → IsAnswer t a w v
   answered_to v e =

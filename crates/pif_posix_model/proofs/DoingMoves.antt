@@ -67,16 +67,10 @@ module _ (t : ℕ) (w : World) where
   first_to _ v h k = absurd (not_in_none v k)
 
   wait_to : (c m : ℕ) (p : Progress) (v : World) → HasCome w t (Wait c m) p → Contains (wait_effects p t m w) v → Effect t w v
-  wait_to c m Fresh v h k = absurd (not_in_none v k)
-  wait_to c m Waiting v h k = absurd (not_in_none v k)
-  wait_to c m Stuck v h k = absurd (not_in_none v k)
-  wait_to c m Leaving v h k = absurd (not_in_none v k)
-  wait_to c m (Has a) v h k = absurd (not_in_none v k)
   wait_to c m Checked v h k = enlist c m h (sym (in_one (enlisted t w) v k))
   wait_to c m (Enlisted still) v h k = give_up c m still h (given_up_to t m w still v (in_option (given_up t m still w) v k))
-  wait_to c m (Blocked noted) v h k = absurd (not_in_none v k)
   wait_to c m Reacquiring v h k = lock_again c m h (locked_to t m w v (in_option (locked t m w) v k))
-  wait_to c m Used v h k = absurd (not_in_none v k)
+  wait_to c m _ v h k = absurd (not_in_none v k)
 
   later_to : (q : Request) (p : Progress) (v : World) → HasCome w t q p → Contains (later_effects q p t w) v → Effect t w v
   later_to (Wait c m) p v h k = wait_to c m p v h k
@@ -107,16 +101,7 @@ module _ (t : ℕ) (w : World) where
   noting_to : (c m : ℕ) (p : Progress) (v : World) → HasCome w t (Wait c m) p → may_be_noted (Wait c m) p ≡ true → v ≡ noted t w
       → Acts t w v
   noting_to c m (Blocked false) v h e x = notes c m h x
-  noting_to c m (Blocked true) v h e x = absurd (both_ways false refl e)
-  noting_to c m Fresh v h e x = absurd (both_ways false refl e)
-  noting_to c m Waiting v h e x = absurd (both_ways false refl e)
-  noting_to c m Stuck v h e x = absurd (both_ways false refl e)
-  noting_to c m Leaving v h e x = absurd (both_ways false refl e)
-  noting_to c m (Has a) v h e x = absurd (both_ways false refl e)
-  noting_to c m Checked v h e x = absurd (both_ways false refl e)
-  noting_to c m (Enlisted still) v h e x = absurd (both_ways false refl e)
-  noting_to c m Reacquiring v h e x = absurd (both_ways false refl e)
-  noting_to c m Used v h e x = absurd (both_ways false refl e)
+  noting_to c m _ v h e x = absurd (both_ways false refl e)
 
   unnoted_to : (q : Request) (p : Progress) (v : World) → HasCome w t q p → may_be_noted q p ≡ true → v ≡ noted t w → Acts t w v
   unnoted_to (Wait c m) p v h e x = noting_to c m p v h e x

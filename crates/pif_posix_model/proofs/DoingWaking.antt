@@ -9,15 +9,7 @@ use Rattle.pif_posix_model.specs.Doing.{after_waking, woken_from, woken_where}
 -- twice is once
 on_unblocking-twice : (p : Progress) → on_unblocking (on_unblocking p) ≡ on_unblocking p
 on_unblocking-twice Fresh = refl
-on_unblocking-twice Waiting = refl
-on_unblocking-twice Stuck = refl
-on_unblocking-twice Leaving = refl
-on_unblocking-twice (Has a) = refl
-on_unblocking-twice Checked = refl
-on_unblocking-twice (Enlisted b) = refl
-on_unblocking-twice (Blocked b) = refl
-on_unblocking-twice Reacquiring = refl
-on_unblocking-twice Used = refl
+on_unblocking-twice _ = refl
 
 after_unblocking-twice : (o : Option Call) → after_unblocking (after_unblocking o) ≡ after_unblocking o
 after_unblocking-twice None = refl

@@ -25,14 +25,7 @@ not_settled : (q : Request) (p : Progress) (x : Bool) (a : ℕ) → is_settled p
     → may_be_answered q p x a ≡ may_come_to q (is_awake p) x a
 not_settled q (Has r) x a e = absurd (true≢false e)
 not_settled q Leaving x a e = absurd (true≢false e)
-not_settled q Fresh x a e = refl
-not_settled q Waiting x a e = refl
-not_settled q Stuck x a e = refl
-not_settled q Checked x a e = refl
-not_settled q (Enlisted still) x a e = refl
-not_settled q (Blocked noted) x a e = refl
-not_settled q Reacquiring x a e = refl
-not_settled q Used x a e = refl
+not_settled q _ x a e = refl
 
 -- an answer that tells a result is one to which a call may come
 told_may_come : (q : Request) (r a : ℕ) (x : Bool) → (a == reported_result q x r) ≡ true
@@ -51,14 +44,7 @@ may_wake : (q : Request) (p : Progress) (x : Bool) (a : ℕ) → may_be_answered
     → may_come_to q (may_wake_to p) x a ≡ true
 may_wake q (Has r) x a e = told_may_come q r a x e
 may_wake q Leaving x a e = told_may_come q ENOTRECOVERABLE a x (ap (λ (n : ℕ). a == n) (unrecoverable q x) ∙ e)
-may_wake q Fresh x a e = e
-may_wake q Waiting x a e = e
-may_wake q Stuck x a e = e
-may_wake q Checked x a e = e
-may_wake q (Enlisted still) x a e = e
-may_wake q (Blocked noted) x a e = e
-may_wake q Reacquiring x a e = e
-may_wake q Used x a e = e
+may_wake q _ x a e = e
 
 -- who is not awake may come to no less
 less_awake : (q : Request) (b c x : Bool) (a : ℕ) → (b ≡ true → c ≡ true) → may_come_to q c x a ≡ true
@@ -84,11 +70,4 @@ pub answered_blocked : (q : Request) (p : Progress) (x : Bool) (a : ℕ) → may
     → may_be_answered q p x a ≡ true
 answered_blocked q (Enlisted still) x a e = answered_before q (Enlisted still) (Enlisted false) x a refl (λ _. refl) e
 answered_blocked q (Blocked noted) x a e = answered_before q (Blocked noted) Reacquiring x a refl (λ _. refl) e
-answered_blocked q (Has r) x a e = e
-answered_blocked q Fresh x a e = e
-answered_blocked q Waiting x a e = e
-answered_blocked q Stuck x a e = e
-answered_blocked q Leaving x a e = e
-answered_blocked q Checked x a e = e
-answered_blocked q Reacquiring x a e = e
-answered_blocked q Used x a e = e
+answered_blocked q _ x a e = e

@@ -35,15 +35,7 @@ over_answer u a (Answer t b) o e =
     let whose : t ≡ u = eqb-true t u o in
     let what : b ≡ a = cc in
     cc
-over_answer u a (Thread p) o e = absurd (cc)
-over_answer u a (Mutex i r) o e = absurd (cc)
-over_answer u a (Cond m) o e = absurd (cc)
-over_answer u a (Begin t q) o e = absurd (cc)
-over_answer u a (Dying t) o e = absurd (cc)
-over_answer u a (End t) o e = absurd (cc)
-over_answer u a (Tick n) o e = absurd (cc)
-over_answer u a (Rests t) o e = absurd (cc)
-over_answer u a (Prio t p) o e = absurd (cc)
+over_answer u a _ o e = absurd (cc)
 
 -- a known answer is told by the next line, or by the lines behind it
 pub known_cases : (u a : ℕ) (k : Line) (rest : List Line) → known_answer u (k ∷ rest) ≡ Some a
@@ -68,14 +60,7 @@ not_left (x ∷ us) t u d e = grind (arith, nat_tests, d, e, not_left us t u d)
 not_dying : (u : ℕ) (k : Line) (us : List ℕ) → is_over u k ≡ false → is_among (dying_after k us) u ≡ false → is_among us u ≡ false
 not_dying u (Dying t) us o e = (or_parts (t == u) (is_among us u) e).1
 not_dying u (End t) us o e = not_left us t u (λ i. true≢false (sym (eq-eqb t u i) ∙ o)) e
-not_dying u (Thread p) us o e = e
-not_dying u (Mutex i r) us o e = e
-not_dying u (Cond m) us o e = e
-not_dying u (Begin t q) us o e = e
-not_dying u (Answer t a) us o e = e
-not_dying u (Tick n) us o e = e
-not_dying u (Rests t) us o e = e
-not_dying u (Prio t p) us o e = e
+not_dying u _ us o e = e
 
 dies_before_line : (k : Line) (rest : List Line) (us : List ℕ) → ((u a : ℕ) → k ≡ Answer u a → is_among us u ≡ false)
     → NoneDies rest (dying_after k us) → NoneDies (k ∷ rest) us

@@ -186,30 +186,15 @@ follows_Effect {t} {w} ok (leave q c e) =
 
 -- a lock whose deadline counts may be answered anything
 lock_counts : (m : ℕ) (p : Progress) (x : Bool) (a : ℕ) → counts_now (Lock m) p ≡ true → may_be_answered (Lock m) p x a ≡ true
-lock_counts m Waiting x a e = refl
-lock_counts m Stuck x a e = refl
 lock_counts m (Has r) x a e = absurd (true≢false (sym e))
-lock_counts m Fresh x a e = refl
 lock_counts m Leaving x a e = absurd (true≢false (sym e))
-lock_counts m Checked x a e = refl
-lock_counts m (Enlisted still) x a e = refl
-lock_counts m (Blocked noted) x a e = refl
-lock_counts m Reacquiring x a e = refl
-lock_counts m Used x a e = refl
+lock_counts m _ x a e = refl
 
 -- a wait whose deadline counts is blocked
 wait_counts : (k m : ℕ) (p : Progress) → counts_now (Wait k m) p ≡ true → p ≡ Blocked true
 wait_counts k m (Blocked true) e = refl
 wait_counts k m (Blocked false) e = absurd (true≢false (sym e))
-wait_counts k m Waiting e = absurd (true≢false (sym e))
-wait_counts k m Stuck e = absurd (true≢false (sym e))
-wait_counts k m (Has r) e = absurd (true≢false (sym e))
-wait_counts k m Fresh e = absurd (true≢false (sym e))
-wait_counts k m Leaving e = absurd (true≢false (sym e))
-wait_counts k m Checked e = absurd (true≢false (sym e))
-wait_counts k m (Enlisted still) e = absurd (true≢false (sym e))
-wait_counts k m Reacquiring e = absurd (true≢false (sym e))
-wait_counts k m Used e = absurd (true≢false (sym e))
+wait_counts k m _ e = absurd (true≢false (sym e))
 
 -- a blocked wait runs out of time
 follows_timeout : (w : World) (t k m : ℕ) → AreWaiting w → (x : Mover t w) → HasCome w t (Wait k m) (Blocked true)

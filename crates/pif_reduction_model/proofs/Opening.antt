@@ -28,14 +28,7 @@ after_line t (Begin u k) r q e =
 after_line t (Answer u a) r q e =
     by_test (λ b. (if b then None else r) ≡ Some q → (Answer u a ≡ Begin t q) ⊎ ((false ≡ false) × (r ≡ Some q)))
     (u == t) (λ i f. absurd (cc)) (λ i f. inr (refl, f)) e
-after_line t (Thread p) r q e = inr (refl, e)
-after_line t (Mutex i b) r q e = inr (refl, e)
-after_line t (Cond m) r q e = inr (refl, e)
-after_line t (Dying u) r q e = inr (refl, e)
-after_line t (End u) r q e = inr (refl, e)
-after_line t (Tick n) r q e = inr (refl, e)
-after_line t (Rests u) r q e = inr (refl, e)
-after_line t (Prio u p) r q e = inr (refl, e)
+after_line t _ r q e = inr (refl, e)
 
 -- a use that is open behind a line was begun by it, or was open before
 use_after_line : (c : ℕ) (x : Line) (xs : List Line) → (i : HasOpenUse c (x ∷ xs))
