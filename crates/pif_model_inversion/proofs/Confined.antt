@@ -3,7 +3,7 @@
 use Rattle.std.proofs.Common.{◌≡◌, ◌≢◌, ◌⊎◌, ◌<◌, ◌≤◌, ◌+◌, ◌-◌, ℕ, Bool, true, false, ◌==◌, ◌||◌, List, [], ◌∷◌, ◌++◌, length, get_or, Option, Some, None, refl, sym, ap, ◌∙◌, subst, inl, inr, if◌then◌else◌, true≢false, eq-eqb}
 use Rattle.std.specs.List.{list_any}
 use Rattle.std.proofs.lemmas.Bool.{cases_eq, cases_lt, cases_Bool, ne_eqb}
-use Rattle.std.proofs.lemmas.List.{get_or-set_same, get_or-set_other, set_past}
+use Rattle.std.proofs.lemmas.List.{get_or_push, get_or-set_same, get_or-set_other, set_past}
 use Rattle.std.proofs.Math.ListN.{get_or-map}
 use Rattle.pif_types.specs.Bounds.{Bounds}
 use Rattle.pif_types.specs.declared.requests.Kind.{Kind}
@@ -35,7 +35,7 @@ use Rattle.pif_model.specs.Posix.Step.{thread_added, mutex_added, cond_added, re
 use Rattle.pif_model_lemmas.proofs.Among.{is_among, is_among_here, is_among_there, is_among-without, is_among_push, next_is_among}
 use Rattle.pif_model_lemmas.proofs.Places.{kept_at}
 use Rattle.pif_model_lemmas.proofs.Waiting.{by_test}
-use Rattle.pif_model_simulation.proofs.runs.Worlds.{call_of, owner_of, call-with_thread_other, written_at, push_same}
+use Rattle.pif_model_simulation.proofs.runs.Worlds.{call_of, owner_of, call-with_thread_other, written_at, push_other, push_same}
 use Rattle.pif_model_inversion.specs.Delays.{IsEngaged, IsEntryOf, IsBeside}
 use Rattle.pif_model_inversion.specs.Delays.IsEngaged.{owns, waits_for_mutex, waits_for_good, waits_on_variable}
 use Rattle.pif_model_inversion.specs.Delays.IsEntryOf.{begins, goes}
@@ -84,10 +84,17 @@ among-from_named (p ∷ ws) t h = go (cases_eq p.0 t) (among-from_named ws t)
     go (inl e) rest = (p.1, is_among_here p ws t p.1 e refl)
     go (inr d) rest = let k = rest (rw (ne_eqb p.0 t d) at h) in (k.0, is_among_there p ws t k.0 k.1)
 
-module _ (P : ℕ → Type 0) where
-  -- all that own a mutex, wait for one or are held in their calls are among some threads
+-- any mutex, whether it is robust or not; or a robust one
+abbrev pub Any : Bool → Type 0
+Any robust = Unit {0}
+
+abbrev pub Robust : Bool → Type 0
+Robust robust = robust ≡ true
+
+module _ (Which : Bool → Type 0) (P : ℕ → Type 0) where
+  -- all that own such a mutex, wait for one or are held in their calls are among some threads
   pub record Confined (w : World) : Type 0 where
-    pub owners : (m : ℕ) → owner_of w m ≢ 0 → P (owner_of w m)
+    pub owners : (m : ℕ) → Which (mutex_at w m).robust → owner_of w m ≢ 0 → P (owner_of w m)
     pub waiters : (t m : ℕ) → is_among w.waiters t m ≡ true → P t
     pub calls : (t : ℕ) → is_held (call_of w t) ≡ true → P t
 
@@ -122,14 +129,15 @@ module _ (P : ℕ → Type 0) where
   }
 
   -- the call of one of them changes
-  confined_call : {w : World} → Confined w → (t : ℕ) (f : Option Call → Option Call) → P t → Confined (with_call_by t f w)
+  pub confined_call : {w : World} → Confined w → (t : ℕ) (f : Option Call → Option Call) → P t → Confined (with_call_by t f w)
   confined_call {w} h t f mine = confined_thread h t (record (thread_at w t) { call = f (thread_at w t).call }) mine
 
   confined_progress : {w : World} → Confined w → (t : ℕ) (p : Progress) → P t → Confined (with_progress t p w)
   confined_progress h t p mine = confined_call h t (at_progress p) mine
 
   -- a mutex gets an owner among them, or none
-  confined_mutex : {w : World} → Confined w → (m : ℕ) (z : Mutex) → (z.owner ≢ 0 → P z.owner) → Confined (with_mutex m z w)
+  confined_mutex : {w : World} → Confined w → (m : ℕ) (z : Mutex) → (Which z.robust → z.owner ≢ 0 → P z.owner)
+      → Confined (with_mutex m z w)
   confined_mutex {w} h m z mine = record {
     owners = λ n. go n (cases_eq n m) (cases_lt m (length w.mutexes));
     waiters = h.waiters;
@@ -137,7 +145,7 @@ module _ (P : ℕ → Type 0) where
   }
     where
       Fine : Mutex → Type 0
-      Fine y = y.owner ≢ 0 → P y.owner
+      Fine y = Which y.robust → y.owner ≢ 0 → P y.owner
 
       go : (n : ℕ) → (n ≡ m) ⊎ (n ≡ m → ⊥) → (m < length w.mutexes) ⊎ (length w.mutexes ≤ m) → Fine (mutex_at (with_mutex m z w) n)
       go n (inl e) (inl l) =
@@ -146,8 +154,10 @@ module _ (P : ℕ → Type 0) where
       go n (inr d) l = subst Fine (sym (get_or-set_other w.mutexes m n z no_mutex d)) (h.owners n)
 
   -- a mutex keeps its owner
-  confined_kept : {w : World} → Confined w → (m : ℕ) (z : Mutex) → z.owner ≡ owner_of w m → Confined (with_mutex m z w)
-  confined_kept h m z same = confined_mutex h m z (subst (λ o. o ≢ 0 → P o) (sym same) (h.owners m))
+  confined_kept : {w : World} → Confined w → (m : ℕ) (z : Mutex) → z.owner ≡ owner_of w m → z.robust ≡ (mutex_at w m).robust
+      → Confined (with_mutex m z w)
+  confined_kept h m z same alike = confined_mutex h m z
+      (λ k. subst (λ o. o ≢ 0 → P o) (sym same) (h.owners m (subst Which alike k)))
 
   -- one of them joins the waiters
   confined_joined : {w : World} → Confined w → (t m : ℕ) → P t → Confined (record w { waiters = w.waiters ++ (t, m) ∷ [] })
@@ -172,17 +182,17 @@ module _ (P : ℕ → Type 0) where
   -- one of them takes a mutex
   confined_taken : {w : World} → Confined w → (t m : ℕ) → P t → Confined (taken t m w)
   confined_taken {w} h t m mine =
-      confined_progress (confined_mutex h m (record (mutex_at w m) { owner = t; count = 1 }) (λ n. mine)) t
+      confined_progress (confined_mutex h m (record (mutex_at w m) { owner = t; count = 1 }) (λ k n. mine)) t
       (on_taking (mutex_at w m).health) mine
 
   -- one of them comes to a result, behind a change of a mutex that keeps its owner
   confined_after : {w : World} → Confined w → (t : ℕ) (p : Progress) → P t → (m : ℕ) (z : Mutex) → z.owner ≡ owner_of w m
-      → Confined (with_progress t p (with_mutex m z w))
-  confined_after h t p mine m z same = confined_progress (confined_kept h m z same) t p mine
+      → z.robust ≡ (mutex_at w m).robust → Confined (with_progress t p (with_mutex m z w))
+  confined_after h t p mine m z same alike = confined_progress (confined_kept h m z same alike) t p mine
 
   -- a mutex passes on
   confined_Passes : {w : World} → Confined w → {m : ℕ} {v : World} → Passes m w v → Confined v
-  confined_Passes {w} h {m} (to_nobody none e) = rw e (confined_mutex h m (record (mutex_at w m) { owner = 0; count = 1 }) (λ n. absurd (n refl)))
+  confined_Passes {w} h {m} (to_nobody none e) = rw e (confined_mutex h m (record (mutex_at w m) { owner = 0; count = 1 }) (λ k n. absurd (n refl)))
   confined_Passes {w} h {m} (to_next u next some e) =
       rw e (confined_taken (confined_left h u) u m (h.waiters u m (next_is_among _ w.waiters m u next some)))
 
@@ -215,7 +225,7 @@ module _ (P : ℕ → Type 0) where
   module _ {w : World} (h : Confined w) {t : ℕ} (mine : P t) where
     confined_LocksAgain : {m : ℕ} {v : World} → LocksAgain t m w v → Confined v
     confined_LocksAgain {m} (rises few e) =
-        rw e (confined_after h t (Has 0) mine m (record (mutex_at w m) { count = (mutex_at w m).count + 1 }) refl)
+        rw e (confined_after h t (Has 0) mine m (record (mutex_at w m) { count = (mutex_at w m).count + 1 }) refl refl)
     confined_LocksAgain (at_limit full e) = rw e (confined_progress h t (Has 11) mine)
 
     confined_Locks : {m : ℕ} {v : World} → Locks t m w v → Confined v
@@ -235,9 +245,9 @@ module _ (P : ℕ → Type 0) where
     confined_Unlocks : {m : ℕ} {v : World} → Unlocks t m w v → Confined v
     confined_Unlocks (not_owner other e) = rw e (confined_progress h t (Has 1) mine)
     confined_Unlocks {m} (falls own more e) =
-        rw e (confined_after h t (Has 0) mine m (record (mutex_at w m) { count = (mutex_at w m).count - 1 }) refl)
+        rw e (confined_after h t (Has 0) mine m (record (mutex_at w m) { count = (mutex_at w m).count - 1 }) refl refl)
     confined_Unlocks {m} (becomes_unusable own once health e) =
-        rw e (confined_kept h m (record (mutex_at w m) { health = Health.Unusable }) refl)
+        rw e (confined_kept h m (record (mutex_at w m) { health = Health.Unusable }) refl refl)
     confined_Unlocks (released own once health passes) = confined_Passes (confined_progress h t (Has 0) mine) passes
 
     confined_MakesConsistent : {m : ℕ} {v : World} → MakesConsistent t m w v → Confined v
@@ -245,7 +255,7 @@ module _ (P : ℕ → Type 0) where
     confined_MakesConsistent (consistent_not_owner other e) = rw e (confined_progress h t (Has 1) mine)
     confined_MakesConsistent (not_inconsistent own health e) = rw e (confined_progress h t (Has 22) mine)
     confined_MakesConsistent {m} (made_fine own health e) =
-        rw e (confined_after h t (Has 0) mine m (record (mutex_at w m) { health = Health.Fine }) refl)
+        rw e (confined_after h t (Has 0) mine m (record (mutex_at w m) { health = Health.Fine }) refl refl)
 
     confined_SetsPriority : {u p : ℕ} {v : World} → SetsPriority t u p w v → Confined v
     confined_SetsPriority (no_priority bad e) = rw e (confined_progress h t (Has 22) mine)
@@ -261,7 +271,7 @@ module _ (P : ℕ → Type 0) where
 
     confined_GivesUp : {m : ℕ} {v : World} (still : Bool) → GivesUp t m still w v → Confined v
     confined_GivesUp {m} still (wait_unusable own health e) =
-        rw e (confined_kept h m (record (mutex_at w m) { health = Health.Unusable }) refl)
+        rw e (confined_kept h m (record (mutex_at w m) { health = Health.Unusable }) refl refl)
     confined_GivesUp still (wait_released own health passes) =
         confined_Passes (confined_progress h t (on_release still) mine) passes
 
@@ -303,20 +313,20 @@ module _ (P : ℕ → Type 0) where
   confined_Effects {first = first} f mine h (effect_owed b c m blocked before e more) =
       confined_Effects f mine (confined_Locks h (f.calls b (held-from_blocked c (call_of first b) blocked)) e) more
 
-  confined_Moves : {t : ℕ} {w v : World} → Confined w → P t → Moves t w v → Confined v
+  pub confined_Moves : {t : ℕ} {w v : World} → Confined w → P t → Moves t w v → Confined v
   confined_Moves h mine (call_expires due e) = confined_Expires h mine e
   confined_Moves h mine (acts due e) = confined_Effects h mine h e
 
   -- what passes on at the end of a thread
-  confined_Releases : {t : ℕ} {w v : World} → Confined w → Releases t w v → Confined v
+  pub confined_Releases : {t : ℕ} {w v : World} → Confined w → Releases t w v → Confined v
   confined_Releases h (none_left none e) = rw e h
   confined_Releases {w = w} h (one_more m own robust passes more) =
-      confined_Releases (confined_Passes (confined_kept h m (record (mutex_at w m) { health = _ }) refl) passes) more
+      confined_Releases (confined_Passes (confined_kept h m (record (mutex_at w m) { health = _ }) refl refl) passes) more
 
   -- ENTRIES
 
   -- who ends is held in no call
-  confined_dead : {w : World} → Confined w → (t : ℕ) → Confined (after_end t w)
+  pub confined_dead : {w : World} → Confined w → (t : ℕ) → Confined (after_end t w)
   confined_dead {w} h t = record {
     owners = h.owners;
     waiters = λ u m k. h.waiters u m (is_among-without w.waiters t u m k).0;
@@ -332,20 +342,32 @@ module _ (P : ℕ → Type 0) where
       go u (inr d) k = h.calls u (ap is_held (sym (call-with_thread_other w t x u d)) ∙ k)
 
   -- a thread or a mutex is added
-  confined_thread_added : {w : World} → Confined w → (p : ℕ) → Confined (record w { threads = w.threads ++ new_thread p ∷ [] })
+  pub confined_thread_added : {w : World} → Confined w → (p : ℕ) → Confined (record w { threads = w.threads ++ new_thread p ∷ [] })
   confined_thread_added {w} h p = record {
     owners = h.owners;
     waiters = h.waiters;
     calls = λ u k. h.calls u (ap is_held (sym (push_same (λ (y : Thread). y.call) w.threads (new_thread p) nobody u refl)) ∙ k);
   }
 
-  confined_mutex_added : {w : World} → Confined w → (k : Kind) (r : Bool)
+  pub confined_mutex_added : {w : World} → Confined w → (k : Kind) (r : Bool)
       → Confined (record w { mutexes = w.mutexes ++ new_mutex k r ∷ [] })
   confined_mutex_added {w} h k r = record {
-    owners = λ m. subst (λ o. o ≢ 0 → P o) (sym (push_same (λ (y : Mutex). y.owner) w.mutexes (new_mutex k r) no_mutex m refl)) (h.owners m);
+    owners = λ m which some. by_place m (cases_eq m (length w.mutexes)) which some;
     waiters = h.waiters;
     calls = h.calls;
   }
+    where
+      v : World
+      v = record w { mutexes = w.mutexes ++ new_mutex k r ∷ [] }
+
+      by_place : (m : ℕ) → (m ≡ length w.mutexes) ⊎ (m ≡ length w.mutexes → ⊥) → Which (mutex_at v m).robust → owner_of v m ≢ 0
+          → P (owner_of v m)
+      by_place m (inl e) which some =
+          absurd (some (ap (λ (y : Mutex). y.owner) (get_or_push w.mutexes (new_mutex k r) no_mutex m (sym e))))
+      by_place m (inr d) which some =
+          let same = push_other w.mutexes (new_mutex k r) no_mutex m d in
+          subst P (sym (ap (λ (y : Mutex). y.owner) same))
+          (h.owners m (subst Which (ap (λ (y : Mutex). y.robust) same) which) (λ e. some (ap (λ (y : Mutex). y.owner) same ∙ e)))
 
   -- an entry at which nobody but one of them begins a call or goes on
   pub confined_step : (l : Bounds) {w : World} (e : Entry) {v : World} → Confined w
@@ -407,9 +429,9 @@ module _ (P : ℕ → Type 0) where
       by_go (adds_cond c m k) t x j = absurd (let z = sym k ∙ j in cc)
 
 -- others confine a state if these do, and are among them
-pub confined_more : (P Q : ℕ → Type 0) {w : World} → ((t : ℕ) → P t → Q t) → Confined P w → Confined Q w
-confined_more P Q f h = record {
-  owners = λ m n. f _ (h.owners m n);
+pub confined_more : (Which : Bool → Type 0) (P Q : ℕ → Type 0) {w : World} → ((t : ℕ) → P t → Q t) → Confined Which P w → Confined Which Q w
+confined_more Which P Q f h = record {
+  owners = λ m k n. f _ (h.owners m k n);
   waiters = λ t m k. f t (h.waiters t m k);
   calls = λ t k. f t (h.calls t k);
 }
@@ -437,9 +459,9 @@ engaged-from_held w t = by_call (call_of w t) refl
     by_call (Some x) e h = by_progress x e x.progress refl h
 
 -- those that are engaged confine a state
-pub engaged_confine : (w : World) → Confined (IsEngaged w) w
+pub engaged_confine : (w : World) → Confined Any (IsEngaged w) w
 engaged_confine w = record {
-  owners = λ m n. owns m n refl;
+  owners = λ m k n. owns m n refl;
   waiters = λ t m. waits_for_mutex m;
   calls = λ t. engaged-from_held w t;
 }

@@ -17,7 +17,7 @@ use Rattle.pif_model_inversion.specs.Inversion.{RunsNoLower}
 use Rattle.pif_model_inversion.specs.Delays.{has_run, owns_any, times_owning, is_high, ran_high, lower_turns, AreAllLowerEngaged, IsEngaged, IsHeldUp, IsAlwaysHighestAwake, AreOnItsChain, IsDelay}
 use Rattle.pif_model_inversion.specs.Delays.IsDelayBy.{starts, runs, beside}
 use Rattle.pif_model_inversion.proofs.Chains.{end_runs, own_priority, reaching_is_thread, runs_no_lower, awake_sleeps_not}
-use Rattle.pif_model_inversion.proofs.Confined.{Confined, confined_entry, confined_beside, confined_more, engaged_confine}
+use Rattle.pif_model_inversion.proofs.Confined.{Any, Confined, confined_entry, confined_beside, confined_more, engaged_confine}
 use Rattle.pif_model_inversion.proofs.Counting.{is_low, counted_below, all_lower}
 
 -- the end of a chain is its beginning, or somebody waits for it
@@ -99,25 +99,25 @@ module _ (l : Bounds) (h : List Entry) (r : List World) (w : World) (run : IsRun
       ))
 
   -- so who runs was engaged or runs with that base priority, if all that are engaged then were engaged or ran so
-  runner_is_known : {turns : List (ℕ × World)} {v : World} → IsDelay l high w turns v → Confined (EngagedOrHigh w high turns) v
+  runner_is_known : {turns : List (ℕ × World)} {v : World} → IsDelay l high w turns v → Confined Any (EngagedOrHigh w high turns) v
       → IsHeldUp v high → (p : ℕ) → IsPick v p → EngagedOrHigh w high ((p, v) ∷ turns) p
   runner_is_known {turns = turns} {v = v} d c held p picked = go (cases_Bool (is_low high (p, v)))
     where
       go : (is_low high (p, v) ≡ true) ⊎ (is_low high (p, v) ≡ false) → EngagedOrHigh w high ((p, v) ∷ turns) p
       go (inl low) =
           let k = runner_owns d held p picked low in
-          more_high w high turns (p, v) p (subst (EngagedOrHigh w high turns) k.1 (c.owners k.0 (λ z. k.2 (sym k.1 ∙ z))))
+          more_high w high turns (p, v) p (subst (EngagedOrHigh w high turns) k.1 (c.owners k.0 tt (λ z. k.2 (sym k.1 ∙ z))))
       go (inr n) = inr (high_now high turns (p, v) n)
 
   -- all that own a mutex, wait for one or are held in their calls then were engaged or ran so
-  delay_confines : {turns : List (ℕ × World)} {v : World} → IsDelay l high w turns v → Confined (EngagedOrHigh w high turns) v
-  delay_confines (starts e) = rw e (confined_more (IsEngaged w) (EngagedOrHigh w high []) (λ t. inl) (engaged_confine w))
+  delay_confines : {turns : List (ℕ × World)} {v : World} → IsDelay l high w turns v → Confined Any (EngagedOrHigh w high turns) v
+  delay_confines (starts e) = rw e (confined_more Any (IsEngaged w) (EngagedOrHigh w high []) (λ t. inl) (engaged_confine w))
   delay_confines (runs {turns = turns} {v = v} p e d held picked entry may step) =
       let c = delay_confines d in
-      confined_entry (EngagedOrHigh w high ((p, v) ∷ turns)) l e
-      (confined_more (EngagedOrHigh w high turns) (EngagedOrHigh w high ((p, v) ∷ turns)) (more_high w high turns (p, v)) c) p
+      confined_entry Any (EngagedOrHigh w high ((p, v) ∷ turns)) l e
+      (confined_more Any (EngagedOrHigh w high turns) (EngagedOrHigh w high ((p, v) ∷ turns)) (more_high w high turns (p, v)) c) p
       (runner_is_known d c held p picked) entry step
-  delay_confines (beside {turns = turns} e d o may step) = confined_beside (EngagedOrHigh w high turns) l e (delay_confines d) o step
+  delay_confines (beside {turns = turns} e d o may step) = confined_beside Any (EngagedOrHigh w high turns) l e (delay_confines d) o step
 
   -- and so was who ran
   ran_known : {turns : List (ℕ × World)} {v : World} → IsDelay l high w turns v → (p : ℕ) → has_run turns p ≡ true → EngagedOrHigh w high turns p

@@ -44,6 +44,7 @@ use Rattle.pif_model_inversion.specs.Recovery.{GoesOnAlone, CallsAlone, Repaired
 use Rattle.pif_model_inversion.specs.Recovery.GoesOnAlone.{starts, steps}
 use Rattle.pif_model_inversion.proofs.Alone.{Guides, alone_step}
 use Rattle.pif_model_inversion.proofs.Confined.{among-from_named}
+use Rattle.pif_model_inversion.proofs.RobustOwners.{robust_owners_live}
 use Rattle.pif_model_inversion.proofs.OwnCalls.{Stays, LockAt, LockDone, RepairAt, UnlockAt, lock_guided, repair_guided, unlock_guided}
 
 -- OVER THE POSIX MACHINE
@@ -144,12 +145,16 @@ module _ {t : ℕ} {q : Request} {a : ℕ} {At Done : World → Type 0} (g : Gui
       by_step (inr (inr k)) = let z = k.0 in (cc, k.1)
 
 module _ (l : Bounds) (h : List Entry) (r : List World) (w : World) (run : IsRun l h r w) where
-  pub free_lock_answered : (t m : ℕ) → IsFree w m → (a : ℕ) (v : World) → CallsAlone l t (Lock m) w (Answered a) v
-      → a ≡ answer_of_free (mutex_at w m).health
-  free_lock_answered t m free a v c =
-      let b = begins_on l h r w run t m (Lock m) c.first (λ f g. refl) c.begins in
-      (answered_alone (lock_guided t m (mutex_at w m) w.waiters b.unnamed free b.some) l a v
-      (LockAt.fresh b.come b.stays) c.goes c.ends).0
+  pub lock_answered : (t m : ℕ) → (mutex_at w m).robust ≡ true → lives w (mutex_at w m).owner ≡ false → (a : ℕ) (v : World)
+      → CallsAlone l t (Lock m) w (Answered a) v → a ≡ answer_of_free (mutex_at w m).health
+  lock_answered t m robust dead a v c = by_owner (cases_eq (mutex_at w m).owner 0)
+    where
+      by_owner : (IsFree w m) ⊎ (IsFree w m → ⊥) → a ≡ answer_of_free (mutex_at w m).health
+      by_owner (inl free) =
+          let b = begins_on l h r w run t m (Lock m) c.first (λ f g. refl) c.begins in
+          (answered_alone (lock_guided t m (mutex_at w m) w.waiters b.unnamed free b.some) l a v
+          (LockAt.fresh b.come b.stays) c.goes c.ends).0
+      by_owner (inr some) = absurd (true≢false (sym (robust_owners_live l h r w run m robust some) ∙ dead))
 
   pub repair_answered : (t m : ℕ) → (mutex_at w m).owner ≡ t → (mutex_at w m).robust ≡ true → (mutex_at w m).health ≡ Inconsistent
       → (a : ℕ) (v : World) → CallsAlone l t (Consistent m) w (Answered a) v
