@@ -116,8 +116,6 @@ impl Sleepers {
         requires { t ≤ 1024 }
         ensures { self.new ≡ with_sleeper t self.old }
     {
-        // This reads the number, so that the proof has its range.
-        let _number = t.get();
         if !is_among(self.threads.as_slice(), t) {
             push_within(&mut self.threads, t);
         }
