@@ -153,8 +153,6 @@ impl Chains for PlainChains {
     }
 
     fn add(&mut self, t: Tid, prio: Prio) {
-        // For the prover: a thread has a number from 1.
-        let _number = t.get();
         self.queue.add(&mut self.table, t, prio);
     }
 

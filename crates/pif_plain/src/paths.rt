@@ -18,8 +18,6 @@ pub fn path(owners: &RtMutexes, start: Tid) -> ArrayVec<Tid, 1024>
     let mut passed = ArrayVec::new();
     let mut next = Some(start);
     while let Some(at) = next {
-        // For the prover: a thread has a number from 1.
-        let _number = at.get();
         passed.push(at);
         next = awaited(owners, at);
     }

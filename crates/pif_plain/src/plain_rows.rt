@@ -111,8 +111,6 @@ impl Rows {
         ensures keys { self.new.keys ≡ self.old.keys }
         ensures parked { self.new.parked ≡ self.old.parked ++ record { thread = t; cond = c; target = m } ∷ [] }
     {
-        // For the prover: a thread has a number from 1.
-        let _number = t.get();
         push_within(
             &mut self.parked,
             Parking {

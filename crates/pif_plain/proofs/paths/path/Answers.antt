@@ -1,5 +1,5 @@
 -- Each hop goes on to whom the thread waits for, and the last one leads to nobody.
-use Rattle.std.proofs.Common.{sym, ap, subst, arith}
+use Rattle.std.proofs.Common.{sym, ap, subst, arith, rules}
 use Rattle.std.specs.Prelude.{unwrap_or}
 use Rattle.pif_kernel_model.proofs.Ways.{IsPathing, pathing-start, pathing-few, pathing-hop, pathing-end}
 use Rattle.pif_plain.proofs.paths.path.Goals.{In-Some}
@@ -19,7 +19,7 @@ pub push-requires : goal.push-requires
 push-requires c = (
   omega arith,
   pathing-few c.args.owners.now c.threads-threads.ensures.sound c.args.start
-      c.loop-next.passed.items c.in-Some.at (here (goal.at.push-requires c).In-Some) (omega (arith, c.get-number.ensures.range)),
+      c.loop-next.passed.items c.in-Some.at (here (goal.at.push-requires c).In-Some) (search rules),
 )
 
 pub loop-next-smaller : goal.loop-next-smaller
@@ -29,7 +29,7 @@ loop-next-smaller c =
       c.push.ensures.len,
       pathing-few c.args.owners.now c.threads-threads.ensures.sound c.args.start
           c.loop-next.passed.items c.in-Some.at (here (goal.at.loop-next-smaller c).In-Some)
-          (omega (arith, c.get-number.ensures.range)),
+          (search rules),
     )
 
 pub loop-next-preserved : goal.loop-next-preserved
@@ -38,7 +38,7 @@ loop-next-preserved c =
     (sym c.push.ensures.items)
     (pathing-hop c.args.owners.now c.threads-threads.ensures.sound c.args.start
     c.loop-next.passed.items c.in-Some.at (here (goal.at.loop-next-preserved c).In-Some)
-    (omega (arith, c.get-number.ensures.range)) (unwrap_or c.awaited-next.result 0) c.awaited-next.ensures
+    (search rules) (unwrap_or c.awaited-next.result 0) c.awaited-next.ensures
     (omega (arith, c.awaited-next.ensures, c.requires c.in-Some.at)))
 
 pub returns : goal.returns

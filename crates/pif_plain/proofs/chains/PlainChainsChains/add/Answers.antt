@@ -1,4 +1,4 @@
-use Rattle.std.proofs.Common.{◌≤◌, subst, sym, ap, ◌∙◌, arith}
+use Rattle.std.proofs.Common.{◌≤◌, subst, sym, ap, ◌∙◌, rules}
 use Rattle.pif_nodes_model.specs.Levels.{IsQueued, level_of, level_after_add}
 use Rattle.pif_kernel_model.specs.Chained.{Chained}
 use Rattle.pif_nodes_model.proofs.FreeNodes.{off_free}
@@ -10,7 +10,7 @@ add-requires-clause-thread c = subst (λ (x : Chained). c.args.t ≤ x.queue.thr
 pub add-requires-clause-free : goal.add-requires-clause-free
 add-requires-clause-free c =
     let few : c.args.t ≤ c.self.inside.queue.threads = subst (λ (x : Chained). c.args.t ≤ x.queue.threads) (sym c.self.view_is) c.requires.thread in
-    off_free c.self.inside.queue c.self.inside.table c.args.t c.self.invariant.holds (omega (arith, c.get-number.ensures.value, c.get-number.ensures.range)) few
+    off_free c.self.inside.queue c.self.inside.table c.args.t c.self.invariant.holds (search rules) few
     (λ on. c.requires.off (subst (λ (x : Chained). IsQueued x.queue x.table c.args.t) c.self.view_is on))
 
 pub returns : goal.returns

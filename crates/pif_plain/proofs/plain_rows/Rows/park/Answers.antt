@@ -1,4 +1,4 @@
-use Rattle.std.proofs.Common.{◌≡◌, ◌≤◌, false, subst, sym, arith}
+use Rattle.std.proofs.Common.{◌≡◌, ◌≤◌, false, subst, sym, arith, rules}
 use Rattle.pif_model.specs.PiKernel.{parked_pairs}
 use Rattle.pif_plain.specs.Rows.{PlainRows}
 use Rattle.pif_kernel_model.specs.Tickets.{is_named}
@@ -9,7 +9,7 @@ pub push_within-requires : goal.push_within-requires
 push_within-requires c =
     omega (
       arith,
-      room_behind _ _ c.self.invariant c.args.t (omega (arith, c.get-number.ensures.value, c.get-number.ensures.range))
+      room_behind _ _ c.self.invariant c.args.t (search rules)
           (subst (λ (x : PlainRows). c.args.t ≤ x.room) (sym c.self.view_is) c.requires.room)
           (subst (λ (x : PlainRows). is_named c.args.t (parked_pairs x.parked) ≡ false) (sym c.self.view_is) c.requires.unparked),
     )
@@ -17,6 +17,6 @@ push_within-requires c =
 pub invariant_of-self : goal.invariant_of-self
 invariant_of-self c =
     rw c.push_within.ensures.items
-    (parked_behind _ _ c.self.invariant _ _ (omega (arith, c.get-number.ensures.value, c.get-number.ensures.range))
+    (parked_behind _ _ c.self.invariant _ _ (search rules)
     (subst (λ (x : PlainRows). c.args.t ≤ x.room) (sym c.self.view_is) c.requires.room) (omega (arith, c.push_within.ensures.room))
     (subst (λ (x : PlainRows). is_named c.args.t (parked_pairs x.parked) ≡ false) (sym c.self.view_is) c.requires.unparked))
