@@ -1,8 +1,8 @@
 -- A call that one thread makes with no other entry between: what holds of the state at each of its steps, and what it
 -- is answered.
-use Rattle.std.proofs.Common.{◌≡◌, ◌≢◌, ◌⊎◌, ℕ, Bool, true, false, ◌==◌, List, Option, Some, None, refl, sym, ap, ◌∙◌, subst, inl, inr, true≢false, if◌then◌else◌}
+use Rattle.std.proofs.Common.{◌≡◌, ◌≢◌, ◌⊎◌, ℕ, Bool, true, false, ◌==◌, Some, None, refl, sym, ap, ◌∙◌, subst, inl, inr, true≢false, if◌then◌else◌}
 use Rattle.std.specs.List.{list_any}
-use Rattle.std.proofs.lemmas.Bool.{cases_eq, cases_Bool}
+use Rattle.std.proofs.lemmas.Bool.{cases_eq}
 use Rattle.pif_types.specs.Bounds.{Bounds}
 use Rattle.pif_types.specs.declared.errors.Refusal.{Refusal}
 use Rattle.pif_types.specs.declared.requests.Request.{Request}
@@ -10,18 +10,17 @@ use Rattle.pif_types.specs.declared.requests.Request.TheVariants.{Lock, Unlock, 
 use Rattle.pif_model.specs.declared.events.Event.TheVariants.{Go}
 use Rattle.pif_model.specs.declared.events.Seen.{Seen}
 use Rattle.pif_model.specs.declared.events.Seen.TheVariants.{Went, Waits, Answered, Refused}
-use Rattle.pif_model.specs.declared.events.Entry.{Entry}
 use Rattle.pif_model.specs.declared.events.Entry.TheVariants.{Step as Happened}
 use Rattle.pif_model.specs.Deadlines.{reported_result}
-use Rattle.pif_model.specs.Posix.{Progress, Call, World, Step, HasCome, IsBlocked, thread_at, rests, sleeps, is_due, is_use, named_by, is_call_blocked, with_call_by, with_progress, after_waits, without_call, counts_now, Locks, Passes, Unlocks, MakesConsistent, Chooses, Effect, Effects, Moves, Goes}
-use Rattle.pif_model.specs.World.Progress.{Fresh, Leaving, Has, Used, Reacquiring}
+use Rattle.pif_model.specs.Posix.{Progress, World, Step, HasCome, thread_at, rests, sleeps, is_use, named_by, is_call_blocked, with_call_by, with_progress, after_waits, without_call, counts_now, Locks, Passes, Unlocks, MakesConsistent, Chooses, Effect, Effects, Moves, Goes}
+use Rattle.pif_model.specs.World.Progress.{Fresh, Leaving, Has, Reacquiring}
 use Rattle.pif_model.specs.Posix.Chooses.{one, no_one, all}
 use Rattle.pif_model.specs.Posix.Effect.{lock, try_lock, unlock, consistent, set_prio, check_wait, enlist, give_up, lock_again, use_variable, choose, leave}
 use Rattle.pif_model.specs.Posix.Effects.{none as no_effect, then as effect_then, owed as effect_owed}
 use Rattle.pif_model.specs.Posix.Moves.{expires as call_expires, acts}
 use Rattle.pif_model.specs.Posix.Step.{thread_added, mutex_added, cond_added, refused, begun, went, waits, answered, ended, ticked}
 use Rattle.pif_model_simulation.proofs.runs.Holders.{due_counts}
-use Rattle.pif_model_simulation.proofs.runs.Holding.{same_call, same_request, same_progress}
+use Rattle.pif_model_simulation.proofs.runs.Holding.{same_request, same_progress}
 use Rattle.pif_model_simulation.proofs.runs.Timing.{call-recalled}
 use Rattle.pif_model_simulation.proofs.runs.Worlds.{call_of}
 

@@ -1,5 +1,5 @@
--- What entries leave of who lives and of base priorities: who lives stays but at an end, and base priorities stay but at
--- a step of a setprio. So who is above all others stays so, if no thread as high is added.
+-- What entries leave of who lives and of base priorities: who lives stays but at an end, and base priorities stay but
+-- at a step of a setprio. So who is above all others stays so, if no thread as high is added.
 use Rattle.std.proofs.Common.{◌≡◌, ◌≢◌, ◌⊎◌, ◌<◌, ℕ, Bool, true, false, List, [], ◌∷◌, ◌++◌, length, get_or, Option, Some, None, refl, sym, ap, ◌∙◌, inl, inr, arith, if◌then◌else◌, true≢false}
 use Rattle.std.proofs.lemmas.Bool.{cases_eq}
 use Rattle.std.proofs.lemmas.List.{get_or_past, get_or_push, get_or-set_other}

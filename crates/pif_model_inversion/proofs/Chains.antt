@@ -1,8 +1,7 @@
 -- Who runs while a thread waits, in one state.
-use Rattle.std.proofs.Common.{◌≡◌, ◌≢◌, ◌⊎◌, ◌≤◌, ℕ, Bool, true, false, ◌==◌, List, [], ◌∷◌, refl, sym, ap, ◌∙◌, subst, inl, inr, arith, if◌then◌else◌}
+use Rattle.std.proofs.Common.{◌≡◌, ◌≢◌, ◌⊎◌, ◌≤◌, ℕ, Bool, true, false, ◌==◌, List, refl, sym, ap, ◌∙◌, subst, inl, inr, arith, if◌then◌else◌}
 use Rattle.std.specs.List.{list_any}
 use Rattle.std.proofs.lemmas.Bool.{true≢false, cases_eq}
-use Rattle.std.proofs.lemmas.Bool.Decides.{nat_tests}
 use Rattle.pif_types.specs.Bounds.{Bounds}
 use Rattle.pif_model.specs.declared.events.Entry.{Entry}
 use Rattle.pif_model.specs.Graph.{Reaches}
@@ -10,18 +9,13 @@ use Rattle.pif_model.specs.Graph.Reaches.{here, hop}
 use Rattle.pif_model.specs.Posix.{World, WaitsFor, IsRun, thread_at, mutex_at, is_thread, is_living, rests, sleeps, effective_of}
 use Rattle.pif_model.specs.Soundness.{waited_in}
 use Rattle.pif_model.specs.Standing.{IsPick}
-use Rattle.pif_model_lemmas.proofs.Among.{is_among}
 use Rattle.pif_model_lemmas.proofs.Cycles.{Reaches-trans, reaches-alone}
+use Rattle.pif_model_lemmas.proofs.Waiting.{named-from_pair}
 use Rattle.pif_model_simulation.proofs.runs.Holding.{same_request}
 use Rattle.pif_model_simulation.proofs.runs.AllHolding.{caller_lives, living_is_thread}
 use Rattle.pif_model_simulation.proofs.runs.Holders.{IsHeld-IsRun}
 use Rattle.pif_model_simulation.proofs.runs.Priority.{effective_is_greatest}
 use Rattle.pif_model_inversion.specs.Inversion.{IsReady, IsHighestAwake, RunsNoLower}
-
--- who is among the waiters of a mutex is among all waiters
-named-from_among : (ws : List (ℕ × ℕ)) (t m : ℕ) → is_among ws t m ≡ true → list_any (λ p. p.0 == t) ws ≡ true
-named-from_among [] t m h = h
-named-from_among (p ∷ ws) t m h = grind (arith, nat_tests, h, named-from_among ws t m)
 
 -- of two chains from the same thread, if each thread waits for one at most, one is a part of the other
 pub chains_meet : {W : ℕ → ℕ → Type 0} → ((u a b : ℕ) → W u a → W u b → a ≡ b) → {x y z : ℕ} → Reaches W x y → Reaches W x z
@@ -51,7 +45,7 @@ module _ (l : Bounds) (h : List Entry) (r : List World) (w : World) (run : IsRun
     where
       go : (b : Bool) → (if b then true else list_any (λ p. p.0 == t) w.waiters) ≡ true
       go true = refl
-      go false = named-from_among w.waiters t a.mutex a.among
+      go false = named-from_pair w.waiters t a.mutex a.among
 
   living_added : (t : ℕ) → is_living w t ≡ true → is_thread w t ≡ true
   living_added t e = living_is_thread w t (IsHeld-IsRun l run).orderly e

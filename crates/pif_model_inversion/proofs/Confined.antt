@@ -2,7 +2,7 @@
 -- some, and all that do so were among them before, they are so afterwards.
 use Rattle.std.proofs.Common.{◌≡◌, ◌≢◌, ◌⊎◌, ◌<◌, ◌≤◌, ◌+◌, ◌-◌, ℕ, Bool, true, false, ◌==◌, ◌||◌, List, [], ◌∷◌, ◌++◌, length, get_or, Option, Some, None, refl, sym, ap, ◌∙◌, subst, inl, inr, if◌then◌else◌, true≢false, eq-eqb}
 use Rattle.std.specs.List.{list_any}
-use Rattle.std.proofs.lemmas.Bool.{cases_eq, cases_lt, cases_Bool, ne_eqb}
+use Rattle.std.proofs.lemmas.Bool.{cases_eq, cases_lt, cases_Bool}
 use Rattle.std.proofs.lemmas.List.{get_or_push, get_or-set_same, get_or-set_other, set_past}
 use Rattle.std.proofs.Math.ListN.{get_or-map}
 use Rattle.pif_types.specs.Bounds.{Bounds}
@@ -32,9 +32,9 @@ use Rattle.pif_model.specs.Posix.Expires.{lock as lock_expires, wait as wait_exp
 use Rattle.pif_model.specs.Posix.Moves.{expires as call_expires, acts}
 use Rattle.pif_model.specs.Posix.Releases.{none_left, one_more}
 use Rattle.pif_model.specs.Posix.Step.{thread_added, mutex_added, cond_added, refused, begun, went, waits, answered, ended, ticked}
-use Rattle.pif_model_lemmas.proofs.Among.{is_among, is_among_here, is_among_there, is_among-without, is_among_push, next_is_among}
+use Rattle.pif_model_lemmas.proofs.Among.{is_among, is_among-without, is_among_push, next_is_among}
 use Rattle.pif_model_lemmas.proofs.Places.{kept_at}
-use Rattle.pif_model_lemmas.proofs.Waiting.{by_test}
+use Rattle.pif_model_lemmas.proofs.Waiting.{by_test, pair-from_named}
 use Rattle.pif_model_simulation.proofs.runs.Worlds.{call_of, owner_of, call-with_thread_other, written_at, push_other, push_same}
 use Rattle.pif_model_inversion.specs.Delays.{IsEngaged, IsEntryOf, IsBeside}
 use Rattle.pif_model_inversion.specs.Delays.IsEngaged.{owns, waits_for_mutex, waits_for_good, waits_on_variable}
@@ -73,16 +73,6 @@ held-from_unblocked (Some x) h = by_progress x.progress h
 held-from_sleeps : (o : Option Call) → sleeps o ≡ true → is_held o ≡ true
 held-from_sleeps None h = h
 held-from_sleeps (Some c) h = rw h refl
-
--- who is among all waiters is among those of a mutex
-pub among-from_named : (ws : List (ℕ × ℕ)) (t : ℕ) → list_any (λ p. p.0 == t) ws ≡ true → (m : ℕ) × (is_among ws t m ≡ true)
-among-from_named [] t h = absurd (true≢false (sym h))
-among-from_named (p ∷ ws) t h = go (cases_eq p.0 t) (among-from_named ws t)
-  where
-    go : (p.0 ≡ t) ⊎ (p.0 ≡ t → ⊥) → (list_any (λ p. p.0 == t) ws ≡ true → (m : ℕ) × (is_among ws t m ≡ true))
-        → (m : ℕ) × (is_among (p ∷ ws) t m ≡ true)
-    go (inl e) rest = (p.1, is_among_here p ws t p.1 e refl)
-    go (inr d) rest = let k = rest (rw (ne_eqb p.0 t d) at h) in (k.0, is_among_there p ws t k.0 k.1)
 
 -- any mutex, whether it is robust or not; or a robust one
 abbrev pub Any : Bool → Type 0
@@ -405,7 +395,7 @@ module _ (Which : Bool → Type 0) (P : ℕ → Type 0) where
     where
       go : (sleeps (call_of w t) ≡ true) ⊎ (sleeps (call_of w t) ≡ false) → P t
       go (inl y) = h.calls t (held-from_sleeps (call_of w t) y)
-      go (inr n) = let k = among-from_named w.waiters t (rw n at resting) in h.waiters t k.0 k.1
+      go (inr n) = let k = pair-from_named w.waiters t (rw n at resting) in h.waiters t k.0 k.1
 
   -- an entry beside
   pub confined_beside : (l : Bounds) {w : World} (e : Entry) {v : World} → Confined w → IsBeside w e → Step l w e v → Confined v

@@ -1,4 +1,4 @@
--- How often threads ran: there are no more steps of threads than the sum, over threads among which all of them are, of
+-- How often threads ran: there are no more turns of threads than the sum, over threads among which all of them are, of
 -- how often each one ran.
 use Rattle.std.proofs.Common.{◌≡◌, ◌⊎◌, ◌≤◌, ◌+◌, ℕ, Bool, true, false, ◌==◌, ◌||◌, nat_lt, cond, if◌then◌else◌, List, [], ◌∷◌, length, refl, sym, ap, ◌∙◌, subst, inl, inr, arith, eq-eqb}
 use Rattle.std.specs.List.{list_any, count_by, sum_by, AllByRecursion}
@@ -7,11 +7,11 @@ use Rattle.std.proofs.lemmas.List.Sums.{sum_by-cons}
 use Rattle.pif_model.specs.Posix.{World, thread_at}
 use Rattle.pif_model_inversion.specs.Delays.{has_run, owns_any, times_owning, is_high, ran_high, lower_turns}
 
--- whether this was a step of t that owned a mutex
+-- whether this was a turn of t that owned a mutex
 abbrev is_owning : ℕ → ℕ × World → Bool
 is_owning t x = if x.0 == t then owns_any x.1 t else false
 
--- one more step, of t itself that owned a mutex, or any
+-- one more turn, of t itself that owned a mutex, or any
 times-own : (turns : List (ℕ × World)) (x : ℕ × World) (t : ℕ) → x.0 ≡ t → owns_any x.1 x.0 ≡ true
     → times_owning (x ∷ turns) t ≡ 1 + times_owning turns t
 times-own turns x t e owns =
@@ -41,7 +41,7 @@ sums_more x turns (t ∷ ts) owns h = go (cases_eq t x.0) (sums_more x turns ts 
     go (inr d) more =
         omega (arith, more (rw (ne_eqb t x.0 d) at h), times_grow turns x t, sum_by-cons (times_owning turns) t ts, sum_by-cons (times_owning (x ∷ turns)) t ts)
 
--- whether this was a step of t with less than the base priority of h
+-- whether this was a turn of t with less than the base priority of h
 abbrev pub is_low : ℕ → ℕ × World → Bool
 is_low h x = nat_lt (thread_at x.1 x.0).base (thread_at x.1 h).base
 
@@ -53,7 +53,7 @@ low-from_none h x e = go (is_low h x) (rw (eq-eqb x.0 x.0 refl) at e)
     go true k = refl
     go false k = absurd (true≢false k)
 
--- the steps of others than the high ones are no more than those that they did as owners
+-- the turns of others than the high ones are no more than those that they had as owners
 counted : (h : ℕ) (high : ℕ → Bool) (turns : List (ℕ × World)) (ts : List ℕ)
     → AllByRecursion (λ x. is_low h x ≡ true → owns_any x.1 x.0 ≡ true) turns
     → ((p : ℕ) → ran_high h turns p ≡ true → high p ≡ true)
@@ -104,7 +104,7 @@ pub counted_below : (h : ℕ) (turns : List (ℕ × World)) (ts : List ℕ)
     → lower_turns h turns ≤ sum_by (times_owning turns) ts
 counted_below h turns ts own all = counted h (ran_high h turns) turns ts own (λ p k. k) all
 
--- if nobody ran with the base priority of h or more, all steps are such
+-- if nobody ran with the base priority of h or more, all turns are such
 pub all_lower : (h : ℕ) (turns : List (ℕ × World)) → ((t : ℕ) → ran_high h turns t ≡ false) → lower_turns h turns ≡ length turns
 all_lower h turns none = go turns
   where

@@ -1,4 +1,4 @@
--- Who runs while a thread is delayed: at each step the owner at the end of its chain, and nobody but those that were
+-- Who runs while a thread is delayed: at each turn the owner at the end of its chain, and nobody but those that were
 -- engaged when the delay began.
 use Rattle.std.proofs.Common.{◌≡◌, ◌≢◌, ◌⊎◌, ◌<◌, ◌≤◌, ℕ, Bool, true, false, ◌==◌, ◌||◌, List, [], ◌∷◌, length, refl, sym, ap, ◌∙◌, subst, inl, inr, arith, eq-eqb}
 use Rattle.std.specs.List.{sum_by, AllByRecursion}
@@ -49,7 +49,7 @@ end_owns {w} {u} {t} r other = go (last_hop r)
 abbrev EngagedOrHigh : World → ℕ → List (ℕ × World) → ℕ → Type 0
 EngagedOrHigh w h turns t = IsEngaged w t ⊎ (ran_high h turns t ≡ true)
 
--- whether a step was one of t with that base priority or more
+-- whether a turn was one of t with that base priority or more
 is_high_now : (h : ℕ) (x : ℕ × World) → is_low h x ≡ false → is_high h x.0 x ≡ true
 is_high_now h x e = rw (eq-eqb x.0 x.0 refl, e) refl
 
@@ -59,7 +59,7 @@ is_low_now h t x e low = subst (λ u. is_high h u x ≡ false) e (rw (eq-eqb x.0
 is_no_step_of : (h t : ℕ) (x : ℕ × World) → x.0 ≢ t → is_high h t x ≡ false
 is_no_step_of h t x d = rw (ne_eqb x.0 t d) refl
 
--- one more step, with this base priority or more
+-- one more turn, with this base priority or more
 high_now : (h : ℕ) (turns : List (ℕ × World)) (x : ℕ × World) → is_low h x ≡ false → ran_high h (x ∷ turns) x.0 ≡ true
 high_now h turns x e = ap (λ b. b || ran_high h turns x.0) (is_high_now h x e)
 

@@ -1,5 +1,5 @@
--- Each chain of waiting has an end; and if that may not run it has ended, waits for good or is blocked on a variable. So
--- much holds wherever a core stands.
+-- Each chain of waiting has an end; and if that may not run it has ended, waits for good or is blocked on a variable.
+-- So much holds wherever a core stands.
 use Rattle.std.proofs.Common.{◌≡◌, ◌⊎◌, ◌<◌, ◌≤◌, ◌+◌, ℕ, zero, suc, Bool, true, false, eqb, List, [], ◌∷◌, length, Option, Some, None, refl, sym, ap, ◌∙◌, subst, inl, inr, arith, if◌then◌else◌, true≢false}
 use Rattle.std.specs.List.{list_any, IsDistinct}
 use Rattle.std.proofs.lemmas.Bool.{cases_Bool, cases_eq, eqb-true, false_from_ne_true, or_cases}

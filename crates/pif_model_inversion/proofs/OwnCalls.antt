@@ -1,13 +1,12 @@
--- A lock of a mutex that nobody owns, a consistent of an inconsistent one, and an unlock for which nobody waits, each by
--- one thread alone: what holds at each step of it, and what it is answered.
-use Rattle.std.proofs.Common.{◌≡◌, ◌≢◌, ◌⊎◌, ◌<◌, ℕ, Bool, true, false, ◌==◌, List, length, Option, Some, None, refl, sym, ap, ◌∙◌, subst, inl, inr, arith, true≢false}
-use Rattle.std.specs.List.{list_any}
+-- A lock of a mutex that nobody owns, a consistent of an inconsistent one, and an unlock for which nobody waits, each
+-- by one thread alone: what holds at each step of it, and what it is answered.
+use Rattle.std.proofs.Common.{◌≡◌, ◌≢◌, ◌⊎◌, ◌<◌, ℕ, true, false, List, length, Option, Some, None, refl, sym, ap, ◌∙◌, subst, inl, inr, arith, true≢false}
 use Rattle.std.proofs.lemmas.Bool.{cases_eq}
 use Rattle.std.proofs.lemmas.List.{length-set}
 use Rattle.pif_types.specs.declared.requests.Request.{Request}
 use Rattle.pif_types.specs.declared.requests.Request.TheVariants.{Lock, Unlock, Consistent, Wait}
 use Rattle.pif_model.specs.Graph.{without, has_waiter}
-use Rattle.pif_model.specs.Posix.{Health, Progress, Call, Thread, Mutex, World, HasCome, thread_at, mutex_at, is_living, counts_now, sleeps, after_waits, without_call, with_call_by, with_mutex, with_progress, at_progress, on_taking, taken, Locks, Passes, Unlocks, MakesConsistent, Effect}
+use Rattle.pif_model.specs.Posix.{Health, Progress, Call, Mutex, World, HasCome, thread_at, mutex_at, is_living, counts_now, sleeps, after_waits, without_call, with_call_by, with_mutex, with_progress, at_progress, on_taking, taken, Locks, Passes, Unlocks, MakesConsistent, Effect}
 use Rattle.pif_model.specs.World.Health.{Fine, Inconsistent, Unusable}
 use Rattle.pif_model.specs.World.Progress.{Fresh, Leaving, Has, Reacquiring}
 use Rattle.pif_model.specs.Posix.Locks.{own_normal, own_errorcheck, own_recursive, free, orphaned, cycle, joins}
@@ -16,10 +15,10 @@ use Rattle.pif_model.specs.Posix.Unlocks.{not_owner, falls, becomes_unusable, re
 use Rattle.pif_model.specs.Posix.MakesConsistent.{not_robust, not_owner as consistent_not_owner, not_inconsistent, made_fine}
 use Rattle.pif_model_lemmas.proofs.Among.{is_among, next_is_among}
 use Rattle.pif_model_lemmas.proofs.Waiting.{names, has_waiter-from_pair, named-from_pair, named-without_other}
-use Rattle.pif_model_simulation.proofs.runs.Holding.{same_call, same_progress}
+use Rattle.pif_model_simulation.proofs.runs.Holding.{same_progress}
 use Rattle.pif_model_simulation.proofs.runs.Worlds.{call_of, call-with_progress, call-with_thread_other, living-with_thread, mutex-with_mutex}
 use Rattle.pif_model_inversion.specs.Recovery.{answer_of_free}
-use Rattle.pif_model_inversion.proofs.Alone.{FirstEffect, NobodyWoken, MayGo, Guides, effect_of}
+use Rattle.pif_model_inversion.proofs.Alone.{NobodyWoken, MayGo, Guides, effect_of}
 
 -- t's call, once it has come further
 come_further : (w : World) (t : ℕ) (q : Request) (a b : Progress) → HasCome w t q a → HasCome (with_progress t b w) t q b

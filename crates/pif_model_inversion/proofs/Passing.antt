@@ -1,8 +1,8 @@
--- What becomes of the robust mutexes of a thread that ends. They pass on one after another, and none of that changes who
--- is the next waiter of another of them.
+-- What becomes of the robust mutexes of a thread that ends. They pass on one after another, and none of that changes
+-- who is the next waiter of another of them.
 use Rattle.std.proofs.Common.{◌≡◌, ◌≢◌, ◌⊎◌, ◌<◌, ◌≤◌, ℕ, zero, suc, Bool, true, false, ◌==◌, List, [], ◌∷◌, length, map, refl, sym, ap, ◌∙◌, subst, inl, inr, true≢false, if◌then◌else◌, eq-eqb, eqb-true}
-use Rattle.std.specs.List.{filter, list_any}
-use Rattle.std.proofs.lemmas.Bool.{cases_eq, cases_lt, cases_Bool, ne_eqb}
+use Rattle.std.specs.List.{filter}
+use Rattle.std.proofs.lemmas.Bool.{cases_eq, cases_lt, ne_eqb}
 use Rattle.std.proofs.lemmas.List.{get_or_past, length-set}
 use Rattle.pif_types.specs.Bounds.{Bounds}
 use Rattle.pif_model.specs.declared.events.Event.TheVariants.{End}
@@ -10,7 +10,7 @@ use Rattle.pif_model.specs.declared.events.Seen.TheVariants.{Ended}
 use Rattle.pif_model.specs.declared.events.Entry.{Entry}
 use Rattle.pif_model.specs.declared.events.Entry.TheVariants.{Step as Happened}
 use Rattle.pif_model.specs.Graph.{without, waited_by, waiters_with, first_greatest, next_waiter, reaches_within, greatest_where, effective_among}
-use Rattle.pif_model.specs.Posix.{Thread, Mutex, World, IsRun, Step, Ends, Passes, Releases, nobody, no_mutex, thread_at, mutex_at, with_mutex, with_no_owner, waits_for, effective_of, next_of, on_death, after_end, after_owner_death}
+use Rattle.pif_model.specs.Posix.{Thread, Mutex, World, IsRun, Step, Ends, Passes, Releases, nobody, no_mutex, thread_at, mutex_at, with_mutex, waits_for, effective_of, next_of, on_death, after_end, after_owner_death}
 use Rattle.pif_model.specs.Posix.Passes.{to_nobody, to_next}
 use Rattle.pif_model.specs.Posix.Releases.{none_left, one_more}
 use Rattle.pif_model.specs.Posix.Step.{thread_added, mutex_added, cond_added, refused, begun, went, waits, answered, ended, ticked}

@@ -1,15 +1,13 @@
--- A lock of a mutex that nobody owns, made by one thread alone, and what follows until the mutex is free again: over the
--- POSIX machine, and wherever a core stands.
-use Rattle.std.proofs.Common.{◌≡◌, ◌≢◌, ◌⊎◌, ◌<◌, ◌≤◌, ℕ, zero, suc, Bool, true, false, ◌==◌, List, [], ◌∷◌, length, Option, Some, None, is_some, refl, sym, ap, ◌∙◌, subst, inl, inr, true≢false}
-use Rattle.std.specs.List.{list_any}
+-- A lock of a mutex that nobody owns, made by one thread alone, and what follows until the mutex is free again: over
+-- the POSIX machine, and wherever a core stands.
+use Rattle.std.proofs.Common.{◌≡◌, ◌≢◌, ◌⊎◌, ◌<◌, ◌≤◌, ℕ, zero, suc, Bool, true, false, List, ◌∷◌, length, None, is_some, refl, sym, ap, ◌∙◌, subst, inl, inr, true≢false}
 use Rattle.std.proofs.lemmas.Bool.{cases_Bool, cases_eq, cases_lt}
 use Rattle.pif_types.specs.Bounds.{Bounds}
 use Rattle.pif_types.specs.declared.errors.Refusal.{Refusal}
 use Rattle.pif_types.specs.declared.requests.Request.{Request}
 use Rattle.pif_types.specs.declared.requests.Request.TheVariants.{Lock, Unlock, Consistent}
 use Rattle.pif_model.specs.declared.events.Event.TheVariants.{Begin, Go}
-use Rattle.pif_model.specs.declared.events.Seen.{Seen}
-use Rattle.pif_model.specs.declared.events.Seen.TheVariants.{Begun, Went, Waits, Answered, Refused}
+use Rattle.pif_model.specs.declared.events.Seen.TheVariants.{Begun, Went, Answered, Refused}
 use Rattle.pif_model.specs.declared.events.Entry.{Entry}
 use Rattle.pif_model.specs.declared.events.Entry.TheVariants.{Step as Happened}
 use Rattle.pif_model.specs.Deadlines.{plain}
@@ -17,11 +15,10 @@ use Rattle.pif_model.specs.Graph.{has_waiter}
 use Rattle.pif_model.specs.Lines.{Outcome, ClosesOrWaits, event_outcome, accepted_outcome, by_refusal, goes_on, is_open, table_refusal}
 use Rattle.pif_model.specs.PiKernel.{is_living}
 use Rattle.pif_model.specs.Table.{Table, has_mutex, has_cond, has_thread, line_at, library_at, cell_at}
-use Rattle.pif_model.specs.Posix.{Health, Mutex, World, IsRun, Step, HasCome, IsFree, IsAllowed, thread_at, mutex_at, is_thread, is_mutex, is_variable, names_known, with_thread, begun_thread}
+use Rattle.pif_model.specs.Posix.{Mutex, World, IsRun, Step, HasCome, IsFree, IsAllowed, thread_at, mutex_at, is_thread, is_mutex, is_variable, names_known, with_thread, begun_thread}
 use Rattle.pif_model.specs.Posix.{is_living as lives}
-use Rattle.pif_model.specs.World.Health.{Fine, Inconsistent, Unusable}
+use Rattle.pif_model.specs.World.Health.{Fine, Inconsistent}
 use Rattle.pif_model.specs.World.Progress.{Fresh}
-use Rattle.pif_model.specs.Posix.IsRun.{next}
 use Rattle.pif_model.specs.Posix.Step.{thread_added, mutex_added, cond_added, refused, begun, went, waits, answered, ended, ticked}
 use Rattle.pif_model.specs.Projection.{mutex_shown, health_of}
 use Rattle.pif_model.specs.Soundness.{IsShaped, CellIsSound}
@@ -29,21 +26,19 @@ use Rattle.pif_model.specs.Word.{Word, free_word, word_at, health_word_at}
 use Rattle.pif_model.specs.Refusals.{begin_refused}
 use Rattle.pif_model.specs.Standing.{Stands}
 use Rattle.pif_model_lemmas.proofs.Numbers.{within, from_within}
-use Rattle.pif_model_lemmas.proofs.Waiting.{names}
+use Rattle.pif_model_lemmas.proofs.Waiting.{names, pair-from_named}
 use Rattle.pif_model_lemmas.proofs.kernel.Facts.{living-added}
 use Rattle.pif_model_simulation.specs.Calls.{call_outcome}
 use Rattle.pif_model_simulation.proofs.Bound.{open_ends_within_24}
 use Rattle.pif_model_simulation.proofs.CallLemmas.{call_other, goes_on-other, goes_on-went, goes_on-zero, is_went}
 use Rattle.pif_model_simulation.proofs.Shown.{busy_seen, is_mutex_seen, lives_seen, mutex_seen, thread_changed}
 use Rattle.pif_model_simulation.proofs.StandingLaws.{event_stands}
-use Rattle.pif_model_simulation.proofs.runs.AllHolding.{caller_lives}
 use Rattle.pif_model_simulation.proofs.runs.Fated.{last_step}
 use Rattle.pif_model_simulation.proofs.runs.Holders.{IsHeld-IsRun}
 use Rattle.pif_model_simulation.proofs.runs.Worlds.{call_of, begin_allowed}
 use Rattle.pif_model_inversion.specs.Recovery.{GoesOnAlone, CallsAlone, RepairedBy, answer_of_free}
 use Rattle.pif_model_inversion.specs.Recovery.GoesOnAlone.{starts, steps}
 use Rattle.pif_model_inversion.proofs.Alone.{Guides, alone_step}
-use Rattle.pif_model_inversion.proofs.Confined.{among-from_named}
 use Rattle.pif_model_inversion.proofs.RobustOwners.{robust_owners_live}
 use Rattle.pif_model_inversion.proofs.OwnCalls.{Stays, LockAt, LockDone, RepairAt, UnlockAt, lock_guided, repair_guided, unlock_guided}
 
@@ -76,7 +71,7 @@ idle_unnamed l h r w run t none = go (cases_Bool (names t w.waiters))
   where
     go : (names t w.waiters ≡ true) ⊎ (names t w.waiters ≡ false) → names t w.waiters ≡ false
     go (inl y) =
-        let k = among-from_named w.waiters t y in
+        let k = pair-from_named w.waiters t y in
         let e = (((IsHeld-IsRun l run).each t).waiting k.0 k.1).call in absurd (let z = sym e ∙ none in cc)
     go (inr n) = n
 

@@ -1,11 +1,10 @@
 -- Who owns a robust mutex lives, in each state that a run of the POSIX machine reaches.
-use Rattle.std.proofs.Common.{◌≡◌, ◌≢◌, ◌⊎◌, ◌<◌, ℕ, zero, suc, Bool, true, false, List, [], ◌∷◌, ◌++◌, length, Option, Some, None, is_some, refl, sym, ap, ◌∙◌, subst, inl, inr, arith, true≢false}
+use Rattle.std.proofs.Common.{◌≡◌, ◌≢◌, ◌⊎◌, ℕ, zero, suc, true, false, List, [], ◌∷◌, ◌++◌, length, Option, Some, None, is_some, refl, sym, ap, ◌∙◌, inl, inr, arith, true≢false}
 use Rattle.std.proofs.lemmas.Bool.{cases_eq}
 use Rattle.std.proofs.lemmas.List.{get_or_past, get_or-set_other}
 use Rattle.pif_types.specs.Bounds.{Bounds}
 use Rattle.pif_model.specs.declared.events.Entry.{Entry}
-use Rattle.pif_model.specs.Graph.{without}
-use Rattle.pif_model.specs.Posix.{Call, Thread, World, IsRun, Step, Goes, Releases, OwnsNoneRobust, nobody, no_mutex, empty_world, thread_at, mutex_at, is_thread, is_living, begun_thread, after_end, after_waits, without_call, new_thread}
+use Rattle.pif_model.specs.Posix.{Call, Thread, World, IsRun, Step, Goes, Releases, OwnsNoneRobust, nobody, empty_world, thread_at, mutex_at, is_thread, is_living, begun_thread, after_end, after_waits, without_call, new_thread}
 use Rattle.pif_model.specs.Posix.Releases.{none_left, one_more}
 use Rattle.pif_model.specs.Posix.IsRun.{start, next}
 use Rattle.pif_model.specs.Posix.Step.{thread_added, mutex_added, cond_added, refused, begun, went, waits, answered, ended, ticked}
@@ -13,7 +12,7 @@ use Rattle.pif_model_lemmas.proofs.Among.{is_among, is_among-without}
 use Rattle.pif_model_simulation.proofs.Shown.{go_allowed}
 use Rattle.pif_model_simulation.proofs.runs.AllHolding.{caller_lives}
 use Rattle.pif_model_simulation.proofs.runs.Holders.{IsHeld-IsRun}
-use Rattle.pif_model_simulation.proofs.runs.Worlds.{call_of, owner_of, call-with_thread_other, written_at, push_other}
+use Rattle.pif_model_simulation.proofs.runs.Worlds.{call_of, owner_of, call-with_thread_other, push_other}
 use Rattle.pif_model_inversion.proofs.Bases.{keeps_thread, keeps_call, keeps_Moves, keeps_Releases}
 use Rattle.pif_model_inversion.proofs.Confined.{Robust, Confined, is_held, confined_call, confined_Moves, confined_Releases, confined_mutex_added}
 

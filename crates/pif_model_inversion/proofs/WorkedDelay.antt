@@ -1,7 +1,7 @@
--- A worked delay: t1 of priority 10 owns m1, for which t2 of priority 20 waits, and t3 of priority 15 is ready. t1 has two
--- turns, and unlocks m1; t3 never runs. On two processors it runs beside t1. And a lost chain: t1 waits for good, and t3
--- runs. So what the laws ask can be met.
-use Rattle.std.proofs.Common.{◌≡◌, ◌≤◌, ℕ, zero, suc, true, false, List, [], ◌∷◌, Option, Some, None, if◌then◌else◌, ◌<◌, ◌⊎◌, ◌==◌, ◌||◌, Bool, eqb, refl, sym, ap, ◌∙◌, subst, inl, inr, arith}
+-- A worked delay: t1 of priority 10 owns m1, for which t2 of priority 20 waits, and t3 of priority 15 is ready. t1 has
+-- two turns, and unlocks m1; t3 never runs. On two processors it runs beside t1. And a lost chain: t1 waits for good,
+-- and t3 runs. So what the laws ask can be met.
+use Rattle.std.proofs.Common.{◌≡◌, ◌≤◌, ℕ, zero, suc, true, false, List, [], ◌∷◌, Option, Some, None, if◌then◌else◌, ◌<◌, ◌⊎◌, ◌==◌, ◌||◌, eqb, refl, sym, ap, ◌∙◌, subst, inl, inr, arith}
 use Rattle.std.specs.List.{sum_by, IsDistinct}
 use Rattle.std.proofs.lemmas.Bool.{true≢false, cases_eq, ne_eqb}
 use Rattle.std.proofs.lemmas.Map.Keys.{IsDistinct-cons}

@@ -1,6 +1,6 @@
 -- A worked recovery: t1 owns m1, which is robust, and ends. t2 locks m1 alone, and is answered EOWNERDEAD; it makes m1
 -- consistent, unlocks it and locks it again, each time answered 0. So what the law asks can be met.
-use Rattle.std.proofs.Common.{◌≡◌, ℕ, zero, suc, Bool, true, false, List, [], ◌∷◌, Option, Some, None, refl, arith}
+use Rattle.std.proofs.Common.{◌≡◌, ℕ, zero, suc, Bool, true, false, [], ◌∷◌, Option, Some, None, refl, arith}
 use Rattle.pif_types.specs.Bounds.{Bounds}
 use Rattle.pif_types.specs.declared.requests.Kind.TheVariants.{Normal}
 use Rattle.pif_types.specs.declared.requests.Request.{Request}
@@ -29,7 +29,8 @@ use Rattle.pif_model_inversion.specs.Recovery.GoesOnAlone.{starts}
 abbrev small : Bounds
 small = record { threads = 9; mutexes = 9; conds = 0; signals = 1 }
 
--- t1 of priority 10, which lives or not, and t2 of priority 20, with these calls; and m1 with this owner and this health
+-- t1 of priority 10, which lives or not, and t2 of priority 20, with these calls; and m1 with this owner and this
+-- health
 abbrev world : Bool → Option Call → Option Call → ℕ → Health → World
 world living one two owner health = record {
   threads =

@@ -41,8 +41,8 @@ pub data IsOut (w : World) (t : ℕ) : Type 0 where
   -- it is blocked on a variable, and was told to wait
   waits_on_variable : (c : ℕ) → IsBlocked w c t → IsResting w t → IsOut w t
 
--- the chain of h is lost: it ends at a thread that can't run, or h itself can't. As long as that is so, no priority that
--- is lent to that one helps h
+-- the chain of h is lost: it ends at a thread that can't run, or h itself can't. As long as that is so, no priority
+-- that is lent to that one helps h
 pub record IsLost (w : World) (h : ℕ) : Type 0 where
   pub end : ℕ
   pub chain : Reaches (WaitsFor w) h end

@@ -44,8 +44,8 @@ pub record CallsAlone (l : Bounds) (t : ℕ) (q : Request) (w : World) (x : Seen
   pub ends : Step l last (Happened (Go t) x) v
 
 -- t, which has just locked m, goes on alone: its consistent is answered 0, and then its unlock is. Whichever living
--- thread with no call open then locks m is answered 0, if it goes on alone as well. Each is a whole call of a core, of 24
--- steps at most
+-- thread with no call open then locks m is answered 0, if it goes on alone as well. Each is a whole call of a core, of
+-- 24 steps at most
 pub record RepairedBy (t m : ℕ) (s : Table) : Type 0 where
   pub made_fine : (call_outcome t (Consistent m) s).seen ≡ Answered 0
   pub given_up : (call_outcome t (Unlock m) (call_outcome t (Consistent m) s).after).seen ≡ Answered 0

@@ -19,8 +19,8 @@ ghost use Rattle.pif_model_inversion.specs.Recovery.{HasPassedOn, CallsAlone, Re
 ghost use Rattle.pif_model_simulation.specs.Calls.{call_outcome};
 
 /// A law: in each state that a run of the POSIX machine reaches, let a thread wait, through any chain, for one that is
-/// ready. Then somebody runs next, with at least the effective priority of the first. And a living thread lends it that:
-/// itself, or one that waits for it through a chain, whose own base priority is as great.
+/// ready. Then somebody runs next, with at least the effective priority of the first. And a living thread lends it
+/// that: itself, or one that waits for it through a chain, whose own base priority is as great.
 pub fn who_runs_is_no_lower()
     ensures { (limits : Bounds) (history : List Entry) (states : List World) (last : World) → IsRun limits history states last → (high end pick : ℕ) → Reaches (WaitsFor last) high end → IsReady last end → IsPick last pick → RunsNoLower last high pick }
 {}
@@ -32,8 +32,8 @@ pub fn who_runs_is_no_lower_or_the_chain_is_lost()
     ensures { (table : Table) (history : List Entry) (states : List World) (last : World) → Stands table history states last → (high pick : ℕ) → is_living last high ≡ true → IsPick last pick → RunsNoLower last high pick ⊎ IsLost last high }
 {}
 
-/// A law: if a thread waits, through any chain, for one that is ready, and its base priority is above that of all others
-/// that are ready or wait for mutexes, then that end of its chain runs next.
+/// A law: if a thread waits, through any chain, for one that is ready, and its base priority is above that of all
+/// others that are ready or wait for mutexes, then that end of its chain runs next.
 pub fn who_runs_is_on_the_chain()
     ensures { (limits : Bounds) (history : List Entry) (states : List World) (last : World) → IsRun limits history states last → (high end pick : ℕ) → Reaches (WaitsFor last) high end → IsReady last end → IsHighestAwake last high → IsPick last pick → pick ≡ end }
 {}
@@ -60,15 +60,15 @@ pub fn only_the_chain_runs()
     ensures bounded { (limits : Bounds) (history : List Entry) (states : List World) (first : World) → IsRun limits history states first → (high : ℕ) (turns : List (ℕ × World)) (last : World) → IsDelay limits high first turns last → IsAlwaysHighestAwake high turns → (engaged : List ℕ) → AreAllLowerEngaged first high turns engaged → length turns ≤ sum_by (times_owning turns) engaged }
 {}
 
-/// A law: the highest of all living threads is so whenever somebody runs, if the delay is calm: nobody takes a step of a
-/// setprio, and no thread of its base priority or more is added.
+/// A law: the highest of all living threads is so whenever somebody runs, if the delay is calm: nobody takes a step of
+/// a setprio, and no thread of its base priority or more is added.
 pub fn highest_stays_above()
     ensures { (limits : Bounds) (first : World) (high : ℕ) (turns : List (ℕ × World)) (last : World) → IsHighest first high → IsCalmDelay limits high first turns last → IsDelay limits high first turns last × IsAlwaysHighestAwake high turns }
 {}
 
 /// A law on several processors: in each state that a run of the POSIX machine reaches, let a thread wait, through any
-/// chain, for one that is ready. Then that end of its chain is among the threads that run, or each of these has at least
-/// the effective priority of the first. On one processor it is who runs next that has.
+/// chain, for one that is ready. Then that end of its chain is among the threads that run, or each of these has at
+/// least the effective priority of the first. On one processor just the thread runs that runs next, and has that.
 pub fn processors_run_the_end_or_no_lower()
     ensures several { (limits : Bounds) (history : List Entry) (states : List World) (last : World) → IsRun limits history states last → (high end : ℕ) → Reaches (WaitsFor last) high end → IsReady last end → (processors : ℕ) (running : List ℕ) → RunOn last processors running → (is_one_of running end ≡ true) ⊎ ((thread : ℕ) → is_one_of running thread ≡ true → effective_of last high ≤ effective_of last thread) }
     ensures one { (limits : Bounds) (history : List Entry) (states : List World) (last : World) → IsRun limits history states last → (high end pick : ℕ) → Reaches (WaitsFor last) high end → IsReady last end → IsPick last pick → RunOn last 1 (pick ∷ []) × (effective_of last high ≤ effective_of last pick) }
@@ -78,12 +78,12 @@ pub fn processors_run_the_end_or_no_lower()
 /// - `ended`: once the owner of a robust mutex has ended, its next waiter owns it, or nobody if it has none. It is
 ///   inconsistent, or unusable if it was.
 /// - `told`: wherever a core stands, let a mutex be inconsistent or unusable, and no living thread own it. Let a living
-///   thread with no call open lock it, and go on alone. Within 24 steps it is answered EOWNERDEAD, or ENOTRECOVERABLE if
-///   the mutex is unusable.
+///   thread with no call open lock it, and go on alone. Within 24 steps it is answered EOWNERDEAD, or ENOTRECOVERABLE
+///   if the mutex is unusable.
 /// - `repaired`: if it is inconsistent, then a `consistent` and an unlock of that thread are answered 0, and so is the
 ///   next lock.
-/// - `answered`, `made_fine`, `given_up`: the same over the POSIX machine, which need not answer a call: if it answers one
-///   that a thread makes alone, it is so.
+/// - `answered`, `made_fine`, `given_up`: the same over the POSIX machine, which need not answer a call. If it answers
+///   one that a thread makes alone, it does so.
 pub fn lock_whose_holder_died_can_be_taken_again()
     ensures ended { (limits : Bounds) (history : List Entry) (states : List World) (before last : World) (owner : ℕ) → IsRun limits (Happened (End owner) Ended ∷ history) (before ∷ states) last → (mutex : ℕ) → (mutex_at before mutex).robust ≡ true → (mutex_at before mutex).owner ≡ owner → HasPassedOn before last owner mutex }
     ensures told { (table : Table) (history : List Entry) (states : List World) (last : World) → Stands table history states last → (thread mutex : ℕ) → (mutex_at last mutex).health ≢ Fine → is_living last (mutex_at last mutex).owner ≡ false → lives_in table.kernel thread ≡ true → is_open (line_at table thread) ≡ false → (call_outcome thread (Lock mutex) table).seen ≡ Answered (answer_of_free (mutex_at last mutex).health) }
