@@ -19,7 +19,7 @@ use Rattle.pif_c_numbers.specs.declared.numbers.PifOwned.{PifOwned}
 use Rattle.pif_c_numbers.specs.declared.numbers.PifDoing.{PifDoing}
 use Rattle.pif_c_numbers.specs.declared.numbers.PifRequest.{PifRequest}
 use Rattle.pif_c_numbers.specs.Codes as pif
-use Rattle.pif_c_numbers.specs.Numbers.{no_number, no_owner, no_state, where_named, request_of, kind_of, seen_reported, nothing_seen, unnamed_seen, number_told, owner_told, status_told, added_told}
+use Rattle.pif_c_numbers.specs.Numbers.{no_number, no_owner, no_state, request_of, kind_of, seen_reported, nothing_seen, unnamed_seen, number_told, owner_told, status_told, added_told}
 
 -- TURNS
 
@@ -45,10 +45,10 @@ abbrev pub begin_of : ℕ → PifRequest → Option Turn
 begin_of t r = if t == 0 then None else option_map (λ q. OneEvent (Begin t q)) (request_of r)
 
 abbrev pub go_of : ℕ → Option Turn
-go_of t = where_named t (OneEvent (Go t))
+go_of t = if t == 0 then None else Some (OneEvent (Go t))
 
 abbrev pub end_of : ℕ → Option Turn
-end_of t = where_named t (OneEvent (End t))
+end_of t = if t == 0 then None else Some (OneEvent (End t))
 
 abbrev pub tick_of : ℕ → Option Turn
 tick_of n = Some (OneEvent (Tick n))
@@ -57,7 +57,7 @@ abbrev pub call_of : ℕ → PifRequest → Option Turn
 call_of t r = if t == 0 then None else option_map (λ q. Call t q) (request_of r)
 
 abbrev pub finish_of : ℕ → Option Turn
-finish_of t = where_named t (Finish t)
+finish_of t = if t == 0 then None else Some (Finish t)
 
 -- LOOKS
 

@@ -117,38 +117,6 @@ recursive = 1
 abbrev pub errorcheck : ℕ
 errorcheck = 2
 
--- `enum pif_kind_of_call`: which call it is
-
-abbrev pub lock : ℕ
-lock = 1
-
-abbrev pub trylock : ℕ
-trylock = 2
-
-abbrev pub unlock : ℕ
-unlock = 3
-
-abbrev pub consistent : ℕ
-consistent = 4
-
-abbrev pub timedlock : ℕ
-timedlock = 5
-
-abbrev pub wait : ℕ
-wait = 6
-
-abbrev pub timedwait : ℕ
-timedwait = 7
-
-abbrev pub signal : ℕ
-signal = 8
-
-abbrev pub broadcast : ℕ
-broadcast = 9
-
-abbrev pub setprio : ℕ
-setprio = 10
-
 -- `enum pif_ended_by`: how a job over texts ended
 
 -- the text was read to its end; a history is legal

@@ -1,5 +1,5 @@
 -- What the numbers that cross to C and back stand for.
-use Rattle.std.specs.Prelude.{ℕ, ◌==◌, Option, Some, None, Result, Ok, Err, if◌then◌else◌}
+use Rattle.std.specs.Prelude.{ℕ, ◌==◌, Option, Some, None, option_and_then, Result, Ok, Err, if◌then◌else◌}
 use Rattle.pif_types.specs.declared.errors.AddFault.{AddFault}
 use Rattle.pif_types.specs.declared.errors.AddFault.TheVariants.{TooMany, BadPrio, NoSuch as NoSuchMutex}
 use Rattle.pif_types.specs.declared.errors.Refusal.{Refusal}
@@ -7,7 +7,6 @@ use Rattle.pif_types.specs.declared.errors.Refusal.TheVariants.{NoSuch, Dead, Bu
 use Rattle.pif_types.specs.declared.requests.Kind.{Kind}
 use Rattle.pif_types.specs.declared.requests.Kind.TheVariants.{Normal, ErrorCheck, Recursive}
 use Rattle.pif_types.specs.declared.requests.Request.{Request}
-use Rattle.pif_types.specs.declared.requests.Request.TheVariants.{Lock, TryLock, Unlock, Consistent, TimedLock, Wait, TimedWait, Signal, Broadcast, SetPrio}
 use Rattle.pif_model.specs.declared.events.Seen.{Seen}
 use Rattle.pif_model.specs.declared.events.Seen.TheVariants.{Begun, Went, Waits, Answered, Ended, Ticked, Refused}
 use Rattle.pif_model.specs.declared.lines.Status.{Status}
@@ -17,6 +16,8 @@ use Rattle.pif_c_numbers.specs.declared.numbers.PifNumber.{PifNumber}
 use Rattle.pif_c_numbers.specs.declared.numbers.PifOwned.{PifOwned}
 use Rattle.pif_c_numbers.specs.declared.numbers.PifDoing.{PifDoing}
 use Rattle.pif_c_numbers.specs.declared.numbers.PifRequest.{PifRequest}
+use Rattle.pif_text_model.specs.declared.calls.Arguments.{Arguments}
+use Rattle.pif_text_model.specs.Calls.{call_numbered, request_with}
 use Rattle.pif_c_numbers.specs.Codes as pif
 
 -- NUMBERS
@@ -99,20 +100,20 @@ unnamed_seen = record { what = pif.unnamed; detail = 0 }
 
 -- CALLS
 
--- this, if the number names something: numbers of threads, mutexes and condition variables begin at 1
-abbrev pub where_named : {A : Type 0} → ℕ → A → Option A
-where_named n x = if n == 0 then None else Some x
+-- a number that names something: numbers of threads, mutexes and condition variables begin at 1
+abbrev pub if_named : ℕ → Option ℕ
+if_named n = if n == 0 then None else Some n
 
--- the call that these numbers name
+-- the arguments that these numbers are. What a call doesn't take is not looked at
+abbrev pub arguments_in : PifRequest → Arguments
+arguments_in r = record {
+  thread = if_named r.thread;
+  mutex = if_named r.mutex;
+  cond = if_named r.cond;
+  priority = Some r.prio;
+  deadline = Some r.deadline;
+}
+
+-- the call that these numbers name, if each number that it needs names something
 abbrev pub request_of : PifRequest → Option Request
-request_of r =
-    if r.call == pif.lock then where_named r.mutex (Lock r.mutex) else
-    if r.call == pif.trylock then where_named r.mutex (TryLock r.mutex) else
-    if r.call == pif.unlock then where_named r.mutex (Unlock r.mutex) else
-    if r.call == pif.consistent then where_named r.mutex (Consistent r.mutex) else
-    if r.call == pif.timedlock then where_named r.mutex (TimedLock r.mutex r.deadline) else
-    if r.call == pif.wait then (if r.cond == 0 then None else where_named r.mutex (Wait r.cond r.mutex)) else
-    if r.call == pif.timedwait then (if r.cond == 0 then None else where_named r.mutex (TimedWait r.cond r.mutex r.deadline)) else
-    if r.call == pif.signal then where_named r.cond (Signal r.cond) else
-    if r.call == pif.broadcast then where_named r.cond (Broadcast r.cond) else
-    if r.call == pif.setprio then where_named r.thread (SetPrio r.thread r.prio) else None
+request_of r = option_and_then (λ k. request_with k (arguments_in r)) (call_numbered r.call)

@@ -84,29 +84,6 @@ pub const INCONSISTENT: u32 = 1;
 /// It was left inconsistent, and nobody can lock it again.
 pub const UNUSABLE: u32 = 2;
 
-// `enum pif_kind_of_call`: which call it is.
-
-/// pthread_mutex_lock.
-pub const LOCK: u32 = 1;
-/// pthread_mutex_trylock.
-pub const TRYLOCK: u32 = 2;
-/// pthread_mutex_unlock.
-pub const UNLOCK: u32 = 3;
-/// pthread_mutex_consistent.
-pub const CONSISTENT: u32 = 4;
-/// pthread_mutex_timedlock.
-pub const TIMEDLOCK: u32 = 5;
-/// pthread_cond_wait.
-pub const WAIT: u32 = 6;
-/// pthread_cond_timedwait.
-pub const TIMEDWAIT: u32 = 7;
-/// pthread_cond_signal.
-pub const SIGNAL: u32 = 8;
-/// pthread_cond_broadcast.
-pub const BROADCAST: u32 = 9;
-/// pthread_setschedprio.
-pub const SETPRIO: u32 = 10;
-
 // `enum pif_ended_by`: how a job over texts ended.
 
 /// The text was read to its end; a history is legal.

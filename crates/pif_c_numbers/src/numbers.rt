@@ -1,14 +1,14 @@
 ghost use Rattle.std.specs.Prelude.{◌≡◌, ℕ, Option, Result};
 ghost use Rattle.pif_model.specs.Word.{health_word};
-ghost use Rattle.pif_c_numbers.specs.Numbers.{no_number, no_owner, no_state, refusal_number, add_number, added_told, number_told, seen_reported, kind_of, request_of, doing_told};
+ghost use Rattle.pif_c_numbers.specs.Numbers.{if_named, no_number, no_owner, no_state, refusal_number, add_number, added_told, number_told, seen_reported, kind_of, request_of, doing_told};
 
 use crate::codes::{
-    ANSWERED, BAD_PRIO, BEGUN, BROADCAST, BUSY, CONSISTENT, DEAD, ENDED, ERRORCHECK, FINE, GONE,
-    IDLE, INCONSISTENT, LOCK, NO_MUTEX, NO_SUCH, NONE, NORMAL, NOTHING, OK, PARKED, PAST, QUEUED,
-    READY, RECURSIVE, REFUSED, SETPRIO, SIGNAL, STOPPED, TICKED, TIMEDLOCK, TIMEDWAIT, TOO_MANY,
-    TRYLOCK, UNLOCK, UNNAMED, UNUSABLE, WAIT, WAITS, WENT,
+    ANSWERED, BAD_PRIO, BEGUN, BUSY, DEAD, ENDED, ERRORCHECK, FINE, GONE, IDLE, INCONSISTENT,
+    NO_MUTEX, NO_SUCH, NONE, NORMAL, NOTHING, OK, PARKED, PAST, QUEUED, READY, RECURSIVE, REFUSED,
+    STOPPED, TICKED, TOO_MANY, UNNAMED, UNUSABLE, WAITS, WENT,
 };
 use pif_model::{Seen, Status};
+use pif_text_model::{Arguments, CallKind};
 use pif_types::{AddFault, CondId, Health, Kind, MutexId, Refusal, Request, Tid};
 
 /// What is answered to an event: what became of it, and beside it the answer of a call or the number of a refusal.
@@ -110,7 +110,7 @@ impl PifDoing {
 #[repr(C)]
 #[derive(Clone, Copy, Drop)]
 pub struct PifRequest {
-    /// Which call it is (`enum pif_kind_of_call`).
+    /// Which call it is (`enum pif_kind_of_call`): `CallRow::number` of `pif_text_model`.
     pub call: u32,
     /// The mutex.
     pub mutex: u32,
@@ -227,32 +227,38 @@ pub fn doing_told(status: Status) -> PifDoing
     }
 }
 
+/// The thread of this number, if it names one.
+fn thread_of(number: u32) -> Option<Tid>
+    ensures { result ≡ if_named number }
+{
+    Tid::new(number)
+}
+
+/// The mutex of this number, if it names one.
+fn mutex_of(number: u32) -> Option<MutexId>
+    ensures { result ≡ if_named number }
+{
+    MutexId::new(number)
+}
+
+/// The condition variable of this number, if it names one.
+fn cond_of(number: u32) -> Option<CondId>
+    ensures { result ≡ if_named number }
+{
+    CondId::new(number)
+}
+
 /// The call that these numbers name, if each number that it needs names something.
 #[inline(always)]
 pub fn request_of(asked: PifRequest) -> Option<Request>
     ensures { result ≡ request_of asked }
 {
-    match asked.call {
-        LOCK => Some(Request::Lock(MutexId::new(asked.mutex)?)),
-        TRYLOCK => Some(Request::TryLock(MutexId::new(asked.mutex)?)),
-        UNLOCK => Some(Request::Unlock(MutexId::new(asked.mutex)?)),
-        CONSISTENT => Some(Request::Consistent(MutexId::new(asked.mutex)?)),
-        TIMEDLOCK => {
-            let mutex = MutexId::new(asked.mutex)?;
-            Some(Request::TimedLock(mutex, asked.deadline))
-        }
-        WAIT => {
-            let cond = CondId::new(asked.cond)?;
-            Some(Request::Wait(cond, MutexId::new(asked.mutex)?))
-        }
-        TIMEDWAIT => {
-            let cond = CondId::new(asked.cond)?;
-            let mutex = MutexId::new(asked.mutex)?;
-            Some(Request::TimedWait(cond, mutex, asked.deadline))
-        }
-        SIGNAL => Some(Request::Signal(CondId::new(asked.cond)?)),
-        BROADCAST => Some(Request::Broadcast(CondId::new(asked.cond)?)),
-        SETPRIO => Some(Request::SetPrio(Tid::new(asked.thread)?, asked.prio)),
-        _ => None,
-    }
+    let arguments = Arguments {
+        thread: thread_of(asked.thread),
+        mutex: mutex_of(asked.mutex),
+        cond: cond_of(asked.cond),
+        priority: Some(asked.prio),
+        deadline: Some(asked.deadline),
+    };
+    CallKind::numbered(asked.call)?.request(&arguments)
 }

@@ -10,7 +10,7 @@ use Rattle.pif_text_model.specs.declared.commands.Command.{Command}
 use Rattle.pif_text_model.specs.declared.commands.Command.TheVariants as command
 use Rattle.pif_text_model.specs.declared.commands.Addition.{Addition}
 use Rattle.pif_text_model.specs.declared.commands.Addition.TheVariants as addition
-use Rattle.pif_text_model.specs.Commands.{command_in, command_of_two, command_of_three, command_of_words}
+use Rattle.pif_text_model.specs.Commands.{command_in, command_of_two, command_of_more, command_of_words}
 use Rattle.pif_text_model.specs.CommandTexts.{IsWritten, addition_text, command_text, event_text}
 use Rattle.pif_text_model.specs.Errors.{error_named}
 use Rattle.pif_text_model.specs.Numbers.{IsName, IsNumber, number_in, thread_in}
@@ -78,7 +78,7 @@ answer_back a small =
     (number_decimal a small)
 
 pub line_back : (l : Line) → IsLineWritten l → said_in (line_text l) ≡ Some (Shown l)
-unfolding line_text command_of_words command_of_two command_of_three question_in_two line_of_words line_of_two line_of_three
+unfolding line_text command_of_words command_of_two command_of_more question_in_two line_of_words line_of_two line_of_three
 line_back (line.Thread p) r = said_back (command.Add (addition.Thread p)) _ (addition-no_comment _) r refl
 line_back (line.Mutex k robust) r = said_back (command.Add (addition.Mutex k robust)) _ (addition-no_comment _) r refl
 line_back (line.Cond m) r = said_back (command.Add (addition.Cond m)) _ (addition-no_comment _) r refl

@@ -8,7 +8,8 @@ use Rattle.pif_text_model.specs.declared.commands.Command.{Command}
 use Rattle.pif_text_model.specs.declared.commands.Command.TheVariants as command
 use Rattle.pif_text_model.specs.declared.commands.Addition.{Addition}
 use Rattle.pif_text_model.specs.declared.commands.Addition.TheVariants as addition
-use Rattle.pif_text_model.specs.Commands.{◌>>=◌, command_in}
+use Rattle.pif_text_model.specs.Calls.{◌>>=◌}
+use Rattle.pif_text_model.specs.Commands.{command_in}
 use Rattle.pif_text_model.specs.Errors.{error_named}
 use Rattle.pif_text_model.specs.Numbers.{number_in, thread_in}
 use Rattle.pif_text_model.specs.Words.{words}

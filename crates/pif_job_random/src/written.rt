@@ -1,9 +1,12 @@
-ghost use Rattle.pif_text_model.specs.CommandTexts.{IsAdditionWritten, IsEventWritten, IsRequestWritten, IsRunWritten, IsWritten};
+ghost use Rattle.std.specs.Prelude.{IfSome};
+ghost use Rattle.pif_text_model.specs.CommandTexts.{AreArgumentsWritten, IsAdditionWritten, IsEventWritten, IsRequestWritten, IsRunWritten, IsWritten};
+ghost use Rattle.pif_text_model.specs.Numbers.{IsName, IsNumber};
 ghost use Rattle.pif_text_model.specs.Questions.{IsQuestionWritten};
 
 use pif_core::Event;
 use pif_text::{Addition, Command, Question};
-use pif_types::{Request, Tid};
+use pif_text_model::Arguments;
+use pif_types::{CondId, MutexId, Request, Tid};
 
 /// A line can write the numbers of a command. The types have them in range, and each case is proved by itself.
 pub fn see_written(command: Command)
@@ -63,12 +66,47 @@ fn see_question(question: Question)
 fn see_request(request: Request)
     ensures { IsRequestWritten request }
 {
-    match request {
-        Request::Lock(_) | Request::TryLock(_) | Request::Unlock(_) | Request::Consistent(_) => {}
-        Request::Signal(_) | Request::Broadcast(_) => {}
-        Request::Wait(..) => {}
-        Request::SetPrio(..) => {}
-        Request::TimedLock(..) => {}
-        Request::TimedWait(..) => {}
+    see_arguments(&Arguments::of(&request));
+}
+
+fn see_arguments(arguments: &Arguments)
+    ensures { AreArgumentsWritten arguments.now }
+{
+    see_thread(arguments.thread);
+    see_mutex(arguments.mutex);
+    see_cond(arguments.cond);
+    see_number(arguments.priority);
+    see_number(arguments.deadline);
+}
+
+fn see_thread(thread: Option<Tid>)
+    ensures { IfSome thread IsName }
+{
+    match thread {
+        Some(_) | None => {}
+    }
+}
+
+fn see_mutex(mutex: Option<MutexId>)
+    ensures { IfSome mutex IsName }
+{
+    match mutex {
+        Some(_) | None => {}
+    }
+}
+
+fn see_cond(cond: Option<CondId>)
+    ensures { IfSome cond IsName }
+{
+    match cond {
+        Some(_) | None => {}
+    }
+}
+
+fn see_number(number: Option<u32>)
+    ensures { IfSome number IsNumber }
+{
+    match number {
+        Some(_) | None => {}
     }
 }

@@ -1,9 +1,9 @@
 -- Notes on a story: names in its commands that nobody has, and priorities that are out of range.
-use Rattle.std.specs.Prelude.{ℕ, ◌≡◌, ◌≤◌, ◌<◌, ◌+◌, ◌-◌, ◌==◌, ◌&&◌, not, nat_le, nat_lt, nat_eq, Bool, true, false, List, [], ◌∷◌, ◌++◌, length, drop, flat_map, slice_get, Option, Some, None, Result, Ok, Err, option_map, if◌then◌else◌, bytes_eq, codes, decimal}
+use Rattle.std.specs.Prelude.{ℕ, ◌≡◌, ◌≤◌, ◌<◌, ◌+◌, ◌-◌, ◌==◌, ◌&&◌, not, nat_le, nat_lt, nat_eq, Bool, true, false, List, [], ◌∷◌, ◌++◌, length, drop, flat_map, slice_get, Option, Some, None, Result, Ok, Err, option_and_then, option_map, if◌then◌else◌, bytes_eq, codes, decimal}
 use Rattle.std.specs.Io.KnownBytes.{Consumes}
 use Rattle.std.specs.List.{cons_option, starts_with, zip}
 use Rattle.pif_types.specs.declared.requests.Request.{Request}
-use Rattle.pif_types.specs.declared.requests.Request.TheVariants.{Lock, TryLock, Unlock, Consistent, Wait, Signal, Broadcast, SetPrio, TimedLock, TimedWait}
+use Rattle.pif_types.specs.Shapes.{names_of}
 use Rattle.pif_model.specs.declared.events.Event.{Event}
 use Rattle.pif_model.specs.declared.events.Event.TheVariants.{Begin, Go, End, Tick}
 use Rattle.pif_text_model.specs.declared.commands.Command.{Command}
@@ -70,18 +70,12 @@ abbrev pub first_of : (one other : Option Missing) → Option Missing
 first_of None other = other
 first_of (Some m) other = Some m
 
--- the first name in a request that nobody has
+-- the first name in a request that nobody has: of a condition variable, a mutex and a thread, in this order
 unfoldable pub missing_in_request : Known → Request → Option Missing
-missing_in_request known (Lock m) = missing_mutex known m
-missing_in_request known (TryLock m) = missing_mutex known m
-missing_in_request known (Unlock m) = missing_mutex known m
-missing_in_request known (Consistent m) = missing_mutex known m
-missing_in_request known (Wait c m) = first_of (missing_cond known c) (missing_mutex known m)
-missing_in_request known (Signal c) = missing_cond known c
-missing_in_request known (Broadcast c) = missing_cond known c
-missing_in_request known (SetPrio t p) = missing_thread known t
-missing_in_request known (TimedLock m d) = missing_mutex known m
-missing_in_request known (TimedWait c m d) = first_of (missing_cond known c) (missing_mutex known m)
+missing_in_request known q =
+    let named = names_of q in
+    first_of (option_and_then (missing_cond known) named.cond)
+    (first_of (option_and_then (missing_mutex known) named.mutex) (option_and_then (missing_thread known) named.thread))
 
 -- the same of a request, if there is one
 abbrev pub missing_in_run : Known → Option Request → Option Missing

@@ -1,4 +1,4 @@
-ghost use Rattle.std.specs.Prelude.{◌≡◌};
+ghost use Rattle.std.specs.Prelude.{◌≡◌, option_and_then};
 ghost use Rattle.pif_story.specs.Notes.{asked_priority, first_of, known_behind, known_with, missing_cond, missing_in, missing_in_addition, missing_in_event, missing_in_question, missing_in_request, missing_in_run, missing_mutex, missing_thread, nothing_known, noted, one_more};
 
 use crate::comparing::is_refusal;
@@ -140,23 +140,38 @@ impl Known {
         }
     }
 
-    /// The first name in a request that nobody has.
+    /// The name of a thread, if there is one and nobody has it.
+    fn thread_if_any(&self, thread: Option<Tid>) -> Option<Missing>
+        ensures { result ≡ option_and_then (missing_thread self.now) thread }
+    {
+        self.thread(thread?)
+    }
+
+    /// The name of a mutex, if there is one and nobody has it.
+    fn mutex_if_any(&self, mutex: Option<MutexId>) -> Option<Missing>
+        ensures { result ≡ option_and_then (missing_mutex self.now) mutex }
+    {
+        self.mutex(mutex?)
+    }
+
+    /// The name of a condition variable, if there is one and nobody has it.
+    fn cond_if_any(&self, cond: Option<CondId>) -> Option<Missing>
+        ensures { result ≡ option_and_then (missing_cond self.now) cond }
+    {
+        self.cond(cond?)
+    }
+
+    /// The first name in a request that nobody has: of a condition variable, a mutex and a thread, in this order.
     #[tactic(auto, unfolding(crate::specs::Notes::missing_in_request))]
     fn in_request(&self, request: Request) -> Option<Missing>
         ensures { result ≡ missing_in_request self.now request }
     {
-        match request {
-            Request::Lock(mutex)
-            | Request::TryLock(mutex)
-            | Request::Unlock(mutex)
-            | Request::Consistent(mutex)
-            | Request::TimedLock(mutex, _) => self.mutex(mutex),
-            Request::Wait(cond, mutex) | Request::TimedWait(cond, mutex, _) => {
-                first_of(self.cond(cond), self.mutex(mutex))
-            }
-            Request::Signal(cond) | Request::Broadcast(cond) => self.cond(cond),
-            Request::SetPrio(thread, _) => self.thread(thread),
-        }
+        let named = request.names();
+        let others = first_of(
+            self.mutex_if_any(named.mutex),
+            self.thread_if_any(named.thread),
+        );
+        first_of(self.cond_if_any(named.cond), others)
     }
 
     /// The first name in a request that nobody has, if there is a request.

@@ -2,15 +2,19 @@ ghost use Rattle.std.specs.Prelude.{◌≡◌, ℕ, List, Some, ◌+◌, ◌≤�
 ghost use Rattle.arrayvec.specs.ArrayVec.{array_vec_len};
 ghost use Rattle.pif_text_model.specs.declared.commands.Command.{Command};
 ghost use Rattle.pif_text_model.specs.Commands.{command_in};
-ghost use Rattle.pif_text_model.specs.CommandTexts.{IsWritten, addition_text, command_text, event_text, mutex_text, request_text, run_text};
-ghost use Rattle.pif_text_model.specs.Replies.{cond_name, mutex_name, thread_name};
+ghost use Rattle.pif_text_model.specs.CommandTexts.{IsWritten, addition_text, argument_text, arguments_text, command_text, event_text, mutex_text, request_text, room_of, room_of_one, run_text, text_if_any};
+ghost use Rattle.pif_text_model.specs.Replies.{thread_name};
 
 use crate::kinds::kind_word;
 use crate::questions::append_question;
-use crate::writing::{append, append_number, append_on_cond, append_on_mutex, append_on_thread};
+use crate::writing::{
+    append, append_cond, append_mutex, append_number, append_on_mutex, append_on_thread,
+    append_thread,
+};
 use crate::{Addition, Command, TEXT_ROOM, Text};
 use pif_model::Event;
-use pif_types::{CondId, Kind, MutexId, Request, Tid};
+use pif_text_model::{Arguments, CallKind, Parameter};
+use pif_types::{Kind, Request, Tid};
 
 /// How many bytes of room `command_text` asks for. The longest is `begin tN timedwait cN mN D`, each number of 10
 /// digits.
@@ -33,16 +37,6 @@ pub fn mutex_text(kind: Kind, robust: bool, out: &mut Text)
     }
 }
 
-/// Appends a wait of this name, with its space, on a condition variable with its mutex.
-fn append_wait(out: &mut Text, name: &[u8], cond: CondId, mutex: MutexId)
-    requires { array_vec_len out.old + length name.now + 23 ≤ TEXT_ROOM }
-    ensures items { out.new.items ≡ out.old.items ++ (name.now ++ cond_name cond ++ codes " " ++ mutex_name mutex) }
-    ensures len { array_vec_len out.new ≤ array_vec_len out.old + length name.now + 23 }
-{
-    append_on_cond(out, name, cond);
-    append_on_mutex(out, b" ", mutex);
-}
-
 /// Appends a number behind a space.
 fn append_next(out: &mut Text, number: u32)
     requires { array_vec_len out.old + 11 ≤ TEXT_ROOM }
@@ -53,6 +47,60 @@ fn append_next(out: &mut Text, number: u32)
     append_number(out, number);
 }
 
+/// Appends the argument for a parameter, behind a space.
+fn append_argument(out: &mut Text, parameter: Parameter, arguments: &Arguments)
+    requires { array_vec_len out.old + room_of_one parameter ≤ TEXT_ROOM }
+    ensures items { out.new.items ≡ out.old.items ++ (codes " " ++ argument_text parameter arguments.now) }
+    ensures len { array_vec_len out.new ≤ array_vec_len out.old + room_of_one parameter }
+{
+    append(out, b" ");
+    match parameter {
+        Parameter::Thread => {
+            if let Some(thread) = arguments.thread {
+                append_thread(out, thread);
+            }
+        }
+        Parameter::Mutex => {
+            if let Some(mutex) = arguments.mutex {
+                append_mutex(out, mutex);
+            }
+        }
+        Parameter::Cond => {
+            if let Some(cond) = arguments.cond {
+                append_cond(out, cond);
+            }
+        }
+        Parameter::Priority => append_number_if_any(out, arguments.priority),
+        Parameter::Deadline => append_number_if_any(out, arguments.deadline),
+    }
+}
+
+/// Appends a number, if there is one.
+fn append_number_if_any(out: &mut Text, number: Option<u32>)
+    requires { array_vec_len out.old + 10 ≤ TEXT_ROOM }
+    ensures items { out.new.items ≡ out.old.items ++ text_if_any decimal number }
+    ensures len { array_vec_len out.new ≤ array_vec_len out.old + 10 }
+{
+    if let Some(number) = number {
+        append_number(out, number);
+    }
+}
+
+/// Appends the arguments for these parameters, each behind a space.
+fn append_arguments(out: &mut Text, parameters: &[Parameter], arguments: &Arguments)
+    requires { array_vec_len out.old + room_of parameters.now ≤ TEXT_ROOM }
+    ensures items { out.new.items ≡ out.old.items ++ arguments_text parameters.now arguments.now }
+    ensures len { array_vec_len out.new ≤ array_vec_len out.old + room_of parameters.now }
+{
+    match parameters {
+        [] => {}
+        [parameter, more @ ..] => {
+            append_argument(out, *parameter, arguments);
+            append_arguments(out, more, arguments);
+        }
+    }
+}
+
 /// Appends a request as it stands in a script, at most `REQUEST_ROOM` bytes. What stands in `out` stays.
 #[tactic(auto, unfolding(pif_text_model::specs::CommandTexts::request_text))]
 pub fn append_request(out: &mut Text, request: Request)
@@ -60,27 +108,10 @@ pub fn append_request(out: &mut Text, request: Request)
     ensures items { out.new.items ≡ out.old.items ++ request_text request }
     ensures len { array_vec_len out.new ≤ array_vec_len out.old + REQUEST_ROOM }
 {
-    match request {
-        Request::Lock(mutex) => append_on_mutex(out, b"lock ", mutex),
-        Request::TryLock(mutex) => append_on_mutex(out, b"trylock ", mutex),
-        Request::Unlock(mutex) => append_on_mutex(out, b"unlock ", mutex),
-        Request::Consistent(mutex) => append_on_mutex(out, b"consistent ", mutex),
-        Request::Wait(cond, mutex) => append_wait(out, b"wait ", cond, mutex),
-        Request::Signal(cond) => append_on_cond(out, b"signal ", cond),
-        Request::Broadcast(cond) => append_on_cond(out, b"broadcast ", cond),
-        Request::SetPrio(thread, priority) => {
-            append_on_thread(out, b"setprio ", thread);
-            append_next(out, priority);
-        }
-        Request::TimedLock(mutex, deadline) => {
-            append_on_mutex(out, b"timedlock ", mutex);
-            append_next(out, deadline);
-        }
-        Request::TimedWait(cond, mutex, deadline) => {
-            append_wait(out, b"timedwait ", cond, mutex);
-            append_next(out, deadline);
-        }
-    }
+    let row = CallKind::of(&request).row();
+    let arguments = Arguments::of(&request);
+    append(out, row.name.as_bytes());
+    append_arguments(out, row.parameters, &arguments);
 }
 
 /// Appends these words, and behind them a thread and its request.

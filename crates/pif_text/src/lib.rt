@@ -25,7 +25,7 @@ pub use limits::default_limits;
 pub use lines::{before_feed, is_mark, without_return};
 pub use numbers::{number_behind, number_of, number_reads_back, thread_of};
 pub use pif_text_model::{Added, Addition, Cause, Command, Fact, Question, Reply, Version};
-pub use reading::command_of;
+pub use reading::{command_of, request_of};
 pub use text::{TEXT_ROOM, Text};
 pub use traces::{
     HEADER_ROOM, RECORDED_ROOM, VERDICT_ROOM, differs_text, header_text, if_traced, recorded_text,

@@ -1,7 +1,6 @@
-ghost use Rattle.std.specs.Prelude.{◌≡◌, ◌∷◌, []};
-ghost use Rattle.pif_text_model.specs.Words.{words};
-ghost use Rattle.pif_text_model.specs.Commands.{request_in, request_in_three, request_in_four, command_of_one, command_of_two, command_of_three, command_of_four, command_of_five, command_of_six, command_of_words, command_in};
-ghost use Rattle.pif_text.specs.Calls.{call_in};
+ghost use Rattle.std.specs.Prelude.{◌≡◌, ◌∷◌, [], option_copied};
+ghost use Rattle.pif_text_model.specs.Words.{words, words_behind};
+ghost use Rattle.pif_text_model.specs.Commands.{with_argument, with_arguments, request_in, robust_in, limits_in, command_of_one, command_of_two, command_of_more, command_of_words, command_in};
 
 use crate::kinds::kind_of;
 use crate::numbers::{cond_of, mutex_of, number_of, thread_of};
@@ -9,56 +8,58 @@ use crate::questions::{question_of_one, question_of_two};
 use crate::words::{is_word, split_first};
 use crate::{Addition, Command};
 use pif_model::Event;
-use pif_types::Request;
+use pif_text_model::{Arguments, CallKind, Parameter};
+use pif_types::{CondId, MutexId, Request, Tid};
 
-/// The request that two words write.
+/// Arguments with what a word writes for a parameter.
+#[tactic(auto, unfolding(pif_text_model::specs::Commands::with_argument))]
+fn with_argument(parameter: Parameter, word: &[u8], arguments: &Arguments) -> Option<Arguments>
+    ensures { result ≡ with_argument parameter word.now arguments.now }
+{
+    let mut arguments = *arguments;
+    match parameter {
+        Parameter::Thread => arguments.thread = Some(thread_of(word)?),
+        Parameter::Mutex => arguments.mutex = Some(mutex_of(word)?),
+        Parameter::Cond => arguments.cond = Some(cond_of(word)?),
+        Parameter::Priority => arguments.priority = Some(number_of(word)?),
+        Parameter::Deadline => arguments.deadline = Some(number_of(word)?),
+    }
+    Some(arguments)
+}
+
+/// Arguments with those that words write, one word for each parameter.
+#[tactic(auto, using(pif_text_model::proofs::Splits::no_more_arguments), unfolding(pif_text_model::specs::Commands::with_arguments))]
+fn with_arguments(
+    parameters: &[Parameter],
+    rest: Option<&[u8]>,
+    arguments: &Arguments,
+) -> Option<Arguments>
+    ensures { result ≡ with_arguments parameters.now (words_behind (option_copied rest.entry)) arguments.now }
+{
+    match parameters {
+        [] => match rest {
+            None => Some(*arguments),
+            Some(_) => None,
+        },
+        [parameter, more @ ..] => {
+            let (word, behind) = split_first(rest?);
+            with_arguments(more, behind, &with_argument(*parameter, word, arguments)?)
+        }
+    }
+}
+
+/// The request that a text writes, as `lock m1`: the word of a call, and then a word for each of its parameters, with
+/// one space between them. `None` if it is none. Any bytes and any length may be given.
 #[tactic(auto, unfolding(pif_text_model::specs::Commands::request_in))]
-fn request_of(call: &[u8], word: &[u8]) -> Option<Request>
-    ensures { result ≡ request_in call.now word.now }
+pub fn request_of(text: &[u8]) -> Option<Request>
+    ensures { result ≡ request_in (words text.now) }
 {
-    if is_word(call, b"lock") {
-        mutex_of(word).map(Request::Lock)
-    } else if is_word(call, b"trylock") {
-        mutex_of(word).map(Request::TryLock)
-    } else if is_word(call, b"unlock") {
-        mutex_of(word).map(Request::Unlock)
-    } else if is_word(call, b"consistent") {
-        mutex_of(word).map(Request::Consistent)
-    } else if is_word(call, b"signal") {
-        cond_of(word).map(Request::Signal)
-    } else if is_word(call, b"broadcast") {
-        cond_of(word).map(Request::Broadcast)
-    } else {
-        None
-    }
-}
-
-/// The request that three words write.
-#[tactic(auto, unfolding(pif_text_model::specs::Commands::request_in_three))]
-fn request_of_three(call: &[u8], first: &[u8], second: &[u8]) -> Option<Request>
-    ensures { result ≡ request_in_three call.now first.now second.now }
-{
-    if is_word(call, b"setprio") {
-        Some(Request::SetPrio(thread_of(first)?, number_of(second)?))
-    } else if is_word(call, b"wait") {
-        Some(Request::Wait(cond_of(first)?, mutex_of(second)?))
-    } else if is_word(call, b"timedlock") {
-        Some(Request::TimedLock(mutex_of(first)?, number_of(second)?))
-    } else {
-        None
-    }
-}
-
-/// The request that four words write.
-#[tactic(auto, unfolding(pif_text_model::specs::Commands::request_in_four))]
-fn request_of_four(call: &[u8], first: &[u8], second: &[u8], third: &[u8]) -> Option<Request>
-    ensures { result ≡ request_in_four call.now first.now second.now third.now }
-{
-    if is_word(call, b"timedwait") {
-        Some(Request::TimedWait(cond_of(first)?, mutex_of(second)?, number_of(third)?))
-    } else {
-        None
-    }
+    // The check has to be told of the types that arguments hold.
+    let _none: (Option<Tid>, Option<MutexId>, Option<CondId>) = (None, None, None);
+    let (name, rest) = split_first(text);
+    let call = CallKind::named(name)?;
+    let arguments = with_arguments(call.row().parameters, rest, &Arguments::none())?;
+    call.request(&arguments)
 }
 
 /// The command of one word.
@@ -93,89 +94,55 @@ fn of_two(name: &[u8], word: &[u8]) -> Option<Command>
     }
 }
 
-/// The command of three words.
-#[tactic(auto, unfolding(pif_text_model::specs::Commands::command_of_three))]
-fn of_three(name: &[u8], kind: &[u8], last: &[u8]) -> Option<Command>
-    ensures { result ≡ command_of_three name.now kind.now last.now }
+/// The command `mutex K robust`, given what stands behind its kind.
+#[tactic(auto, using(pif_text_model::proofs::Splits::no_more_robust), unfolding(pif_text_model::specs::Commands::robust_in))]
+fn robust_of(kind: &[u8], rest: &[u8]) -> Option<Command>
+    ensures { result ≡ robust_in kind.now (words rest.now) }
 {
-    if is_word(name, b"mutex") && is_word(last, b"robust") {
-        Some(Command::Add(Addition::Mutex(kind_of(kind)?, true)))
-    } else {
-        None
-    }
-}
-
-/// The command by which a thread makes a call, if the words that name both do: `call`, or `begin`.
-fn of_call(name: &[u8], thread: &[u8], request: Option<Request>) -> Option<Command>
-    ensures { result ≡ call_in name.now thread.now request }
-{
-    let thread = thread_of(thread)?;
-    let request = request?;
-    if is_word(name, b"call") {
-        Some(Command::Run(thread, Some(request)))
-    } else if is_word(name, b"begin") {
-        Some(Command::Event(Event::Begin(thread, request)))
-    } else {
-        None
-    }
-}
-
-/// The command of four words.
-#[tactic(auto, unfolding(pif_text_model::specs::Commands::command_of_four))]
-fn of_four(name: &[u8], thread: &[u8], call: &[u8], word: &[u8]) -> Option<Command>
-    ensures { result ≡ command_of_four name.now thread.now call.now word.now }
-{
-    of_call(name, thread, request_of(call, word))
-}
-
-/// The command of five words.
-#[tactic(auto, unfolding(pif_text_model::specs::Commands::command_of_five))]
-fn of_five(name: &[u8], first: &[u8], second: &[u8], third: &[u8], fourth: &[u8]) -> Option<Command>
-    ensures { result ≡ command_of_five name.now first.now second.now third.now fourth.now }
-{
-    if is_word(name, b"limits") {
-        Some(Command::Limits(
-            number_of(first)?,
-            number_of(second)?,
-            number_of(third)?,
-            number_of(fourth)?,
-        ))
-    } else {
-        of_call(name, first, request_of_three(second, third, fourth))
-    }
-}
-
-/// The command of six words.
-#[tactic(auto, unfolding(pif_text_model::specs::Commands::command_of_six))]
-fn of_six(
-    name: &[u8],
-    thread: &[u8],
-    call: &[u8],
-    first: &[u8],
-    second: &[u8],
-    third: &[u8],
-) -> Option<Command>
-    ensures { result ≡ command_of_six name.now thread.now call.now first.now second.now third.now }
-{
-    of_call(name, thread, request_of_four(call, first, second, third))
-}
-
-/// The command that begins with these three words, before `rest`.
-fn of_more(name: &[u8], first: &[u8], second: &[u8], rest: &[u8]) -> Option<Command>
-    ensures { result ≡ command_of_words (name.now ∷ first.now ∷ second.now ∷ words rest.now) }
-{
-    let (third, rest) = split_first(rest);
-    let Some(rest) = rest else {
-        return of_four(name, first, second, third);
-    };
-    let (fourth, rest) = split_first(rest);
-    let Some(rest) = rest else {
-        return of_five(name, first, second, third, fourth);
-    };
-    let (fifth, rest) = split_first(rest);
-    match rest {
-        None => of_six(name, first, second, third, fourth, fifth),
+    let (last, behind) = split_first(rest);
+    match behind {
+        None if is_word(last, b"robust") => {
+            Some(Command::Add(Addition::Mutex(kind_of(kind)?, true)))
+        }
+        None => None,
         Some(_) => None,
+    }
+}
+
+/// The command `limits T M C S`, given what stands behind its first number.
+#[tactic(auto, using(pif_text_model::proofs::Splits::no_more_limits), unfolding(pif_text_model::specs::Commands::limits_in))]
+fn limits_of(threads: &[u8], rest: &[u8]) -> Option<Command>
+    ensures { result ≡ limits_in threads.now (words rest.now) }
+{
+    let (mutexes, rest) = split_first(rest);
+    let (conds, rest) = split_first(rest?);
+    let (signals, behind) = split_first(rest?);
+    match behind {
+        None => Some(Command::Limits(
+            number_of(threads)?,
+            number_of(mutexes)?,
+            number_of(conds)?,
+            number_of(signals)?,
+        )),
+        Some(_) => None,
+    }
+}
+
+/// The command that begins with a name and a word, before `rest`.
+#[tactic(auto, unfolding(pif_text_model::specs::Commands::command_of_more))]
+fn of_more(name: &[u8], word: &[u8], rest: &[u8]) -> Option<Command>
+    ensures { result ≡ command_of_more name.now word.now (words rest.now) }
+{
+    if is_word(name, b"call") {
+        Some(Command::Run(thread_of(word)?, Some(request_of(rest)?)))
+    } else if is_word(name, b"begin") {
+        Some(Command::Event(Event::Begin(thread_of(word)?, request_of(rest)?)))
+    } else if is_word(name, b"limits") {
+        limits_of(word, rest)
+    } else if is_word(name, b"mutex") {
+        robust_of(word, rest)
+    } else {
+        None
     }
 }
 
@@ -183,14 +150,10 @@ fn of_more(name: &[u8], first: &[u8], second: &[u8], rest: &[u8]) -> Option<Comm
 fn of_named(name: &[u8], rest: &[u8]) -> Option<Command>
     ensures { result ≡ command_of_words (name.now ∷ words rest.now) }
 {
-    let (first, rest) = split_first(rest);
-    let Some(rest) = rest else {
-        return of_two(name, first);
-    };
-    let (second, rest) = split_first(rest);
+    let (word, rest) = split_first(rest);
     match rest {
-        None => of_three(name, first, second),
-        Some(rest) => of_more(name, first, second, rest),
+        None => of_two(name, word),
+        Some(rest) => of_more(name, word, rest),
     }
 }
 

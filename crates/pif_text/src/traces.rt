@@ -1,12 +1,12 @@
 ghost use Rattle.std.specs.Prelude.{◌≡◌, ℕ, ◌+◌, ◌≤◌, ◌<◌, ◌++◌, drop, get_or, length, option_map, None, Some, true, false};
 ghost use Rattle.arrayvec.specs.ArrayVec.{array_vec_len};
 ghost use Rattle.pif_text_model.specs.declared.traces.Version.TheVariants as version;
-ghost use Rattle.pif_text_model.specs.Traces.{if_traced, is_of_two, is_timed, knows, version_in, parts_of, is_marked, header_text, answer_text, same_of, differs_of};
+ghost use Rattle.pif_text_model.specs.Traces.{if_traced, is_of_two, knows, version_in, parts_of, is_marked, header_text, answer_text, same_of, differs_of};
 
 use crate::writing::{REPLY_ROOM, append, append_decimal, reply_text};
 use crate::{Command, Reply, TEXT_ROOM, Text, Version};
 use pif_model::Event;
-use pif_types::Request;
+use pif_text_model::Arguments;
 
 /// How many bytes the first line of a trace has before its line feed.
 pub const HEADER_ROOM: usize = 11;
@@ -46,23 +46,12 @@ pub fn version_of(line: &[u8]) -> Option<Version>
     }
 }
 
-/// Whether a request has a deadline.
-fn is_timed(request: Request) -> bool
-    ensures { result ≡ is_timed request }
-{
-    match request {
-        Request::TimedLock(..) => true,
-        Request::TimedWait(..) => true,
-        _ => false,
-    }
-}
-
-/// Whether an event stands in traces of version 2 alone: a tick, and the begin of a timed request.
+/// Whether an event stands in traces of version 2 alone: a tick, and the begin of a request with a deadline.
 fn is_of_two(event: Event) -> bool
     ensures { result ≡ is_of_two event }
 {
     match event {
-        Event::Begin(_, request) => is_timed(request),
+        Event::Begin(_, request) => Arguments::of(&request).deadline.is_some(),
         Event::Tick(_) => true,
         _ => false,
     }

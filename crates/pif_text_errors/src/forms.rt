@@ -1,3 +1,5 @@
+use pif_text_model::Parameter;
+
 /// What stands at a place of a form, between blanks.
 #[derive(Clone, Copy)]
 pub enum Part {
@@ -95,6 +97,46 @@ pub enum Rest {
     Ticks,
 }
 
+/// Parts that stand one behind the other.
+#[derive(Clone, Copy)]
+pub enum Parts {
+    /// These parts.
+    Of(&'static [Part]),
+    /// The parameters of a call.
+    OfCall(&'static [Parameter]),
+}
+
+/// What is wanted at the place of a parameter.
+fn part_of(parameter: Parameter) -> Part {
+    match parameter {
+        Parameter::Thread => Part::Thread,
+        Parameter::Mutex => Part::Mutex,
+        Parameter::Cond => Part::Cond,
+        Parameter::Priority | Parameter::Deadline => Part::Number,
+    }
+}
+
+impl Parts {
+    /// How many there are.
+    pub fn count(self) -> usize {
+        match self {
+            Parts::Of(parts) => parts.len(),
+            Parts::OfCall(parameters) => parameters.len(),
+        }
+    }
+
+    /// The first part, and those behind it. `None` if there is none.
+    pub fn split(self) -> Option<(Part, Parts)> {
+        match self {
+            Parts::Of([part, more @ ..]) => Some((*part, Parts::Of(more))),
+            Parts::OfCall([parameter, more @ ..]) => {
+                Some((part_of(*parameter), Parts::OfCall(more)))
+            }
+            _ => None,
+        }
+    }
+}
+
 /// The form of a command from one of its words on.
 #[derive(Clone, Copy)]
 pub struct Form {
@@ -103,7 +145,7 @@ pub struct Form {
     /// The form from that word on, for people; of a word behind the first that is no call it is that of the whole line.
     pub text: &'static str,
     /// What stands behind the word.
-    pub parts: &'static [Part],
+    pub parts: Parts,
     /// What follows behind that.
     pub rest: Rest,
 }

@@ -2,10 +2,10 @@ ghost use Rattle.std.specs.Prelude.{◌≤◌, length, IfSome};
 ghost use Rattle.pif_text_errors.specs.SyntaxErrors.{IsIn};
 
 use crate::bytes::syntax_error_of_bytes;
+use crate::calls::Table;
 use crate::forms::{Form, form_of};
 use crate::lines::{Added, LineSoFar};
 use crate::marks::word_from;
-use crate::near::nearest_name;
 use crate::parts::wrong_with_word;
 use crate::syntax_errors::syntax_error_at;
 use crate::tables::HISTORY;
@@ -21,8 +21,9 @@ pub fn syntax_error_of_front<'a>(
 {
     let spot = word_from(line, 0);
     let word = &line[spot.start..spot.end];
-    let wrong = wrong_with_word(word, forms, other);
-    syntax_error_at(line, spot.start, wrong, None, nearest_name(word, forms))
+    let table = Table::of(forms);
+    let wrong = wrong_with_word(word, table, other);
+    syntax_error_at(line, spot.start, wrong, None, table.nearest(word))
 }
 
 /// The first syntax error of the words of a line of this form, from this place on, or none. They may name what was

@@ -1,7 +1,6 @@
 use crate::Wrong;
-use crate::calls::{BEHIND_BEGIN, STATEMENTS, calls};
-use crate::forms::{Form, Part, Rest, Shape, form_of};
-use crate::near::nearest_name;
+use crate::calls::{BEHIND_BEGIN, Table, calls, statements};
+use crate::forms::{Form, Part, Parts, Rest, Shape};
 use crate::parts::{is_answer, is_cell, near_part, number_named, wrong_with_part, wrong_with_word};
 use crate::tables::{KINDS, OF_CELL, OF_MUTEXES, OF_THREADS, RULE_COUNT, RULES};
 use arrayvec::ArrayVec;
@@ -105,7 +104,7 @@ pub struct LineSoFar {
     /// What the next word may be.
     next: Next,
     /// The parts of the form that are still to come.
-    parts: &'static [Part],
+    parts: Parts,
     /// What may follow them.
     behind: Next,
     /// The form of the line.
@@ -144,7 +143,7 @@ impl LineSoFar {
         let mut line = LineSoFar {
             added,
             next: Next::End,
-            parts: &[],
+            parts: Parts::Of(&[]),
             behind: Next::End,
             line: form.shape(),
             form: form.shape(),
@@ -159,13 +158,13 @@ impl LineSoFar {
     }
 
     /// Behind a word whose parts follow, and then this. `robust` may be left out.
-    fn begin(&mut self, parts: &'static [Part], behind: Next) {
+    fn begin(&mut self, parts: Parts, behind: Next) {
         self.parts = parts;
         self.behind = behind;
-        self.next = match parts {
-            [] => behind,
-            [Part::Robust] => Next::Robust,
-            _ => Next::Part,
+        self.next = match parts.split() {
+            None => behind,
+            Some((Part::Robust, _)) => Next::Robust,
+            Some(_) => Next::Part,
         };
     }
 
@@ -185,13 +184,13 @@ impl LineSoFar {
 
     /// Takes the next part of the form.
     fn take_part(&mut self, word: &[u8]) -> Result<(), Slip> {
-        let [part, more @ ..] = self.parts else {
+        let Some((part, more)) = self.parts.split() else {
             return Err(self.slip(Wrong::TooMany, None));
         };
-        if let Some(wrong) = wrong_with_part(word, *part) {
-            return Err(self.slip(wrong, near_part(word, *part)));
+        if let Some(wrong) = wrong_with_part(word, part) {
+            return Err(self.slip(wrong, near_part(word, part)));
         }
-        if self.added.lacks(word, *part) {
+        if self.added.lacks(word, part) {
             return Err(self.slip(Wrong::NotAdded, None));
         }
         self.begin(more, self.behind);
@@ -202,13 +201,13 @@ impl LineSoFar {
     fn take_form(
         &mut self,
         word: &[u8],
-        forms: &'static [Form],
+        table: Table,
         other: Wrong,
         behind: Next,
     ) -> Result<Form, Slip> {
-        let Some(form) = form_of(word, forms) else {
-            let wrong = wrong_with_word(word, forms, other);
-            return Err(self.slip(wrong, nearest_name(word, forms)));
+        let Some(form) = table.find(word) else {
+            let wrong = wrong_with_word(word, table, other);
+            return Err(self.slip(wrong, table.nearest(word)));
         };
         self.form = form.shape();
         self.begin(form.parts, behind);
@@ -217,7 +216,7 @@ impl LineSoFar {
 
     /// Takes a word that says something of a subject, behind which a connective may stand.
     fn take_said(&mut self, word: &[u8], forms: &'static [Form], part: Part) -> Result<(), Slip> {
-        self.take_form(word, forms, Wrong::Not(part), Next::Connective)?;
+        self.take_form(word, Table::of(forms), Wrong::Not(part), Next::Connective)?;
         Ok(())
     }
 
@@ -227,7 +226,7 @@ impl LineSoFar {
         if self.rules.iter().any(|name| word == name.as_bytes()) {
             return Err(self.slip(Wrong::RuleTwice, None));
         }
-        let rule = self.take_form(word, &RULES, Wrong::NoRule, Next::Rules)?;
+        let rule = self.take_form(word, Table::of(&RULES), Wrong::NoRule, Next::Rules)?;
         let _ = self.rules.try_push(rule.name);
         Ok(())
     }
@@ -249,7 +248,7 @@ impl LineSoFar {
         if is_end(word) {
             return self.take_end(word, None);
         }
-        let front = self.take_form(word, &STATEMENTS, Wrong::NoStatement, Next::Semicolon);
+        let front = self.take_form(word, statements(), Wrong::NoStatement, Next::Semicolon);
         let form = front.map_err(|slip| Slip { form: None, ..slip })?;
         self.is_if = form.name == "if";
         if let Rest::Test = form.rest {
@@ -365,7 +364,7 @@ impl LineSoFar {
                 Ok(())
             }
             Next::Kind => self
-                .take_form(word, &KINDS, Wrong::NoKind, Next::End)
+                .take_form(word, Table::of(&KINDS), Wrong::NoKind, Next::End)
                 .map(|_| ()),
             Next::Rule | Next::Rules => self.take_rule(word),
             Next::Tick => self.take_tick(word),

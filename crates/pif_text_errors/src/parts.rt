@@ -1,6 +1,7 @@
 use crate::Wrong;
-use crate::forms::{Form, Part};
-use crate::near::{first_within, nearest_name};
+use crate::calls::Table;
+use crate::forms::Part;
+use crate::near::nearest_name;
 use crate::tables::ROBUST;
 use pif_text::{ERRORS, errno_named, number_behind, number_of};
 
@@ -23,8 +24,8 @@ fn wrong_with_name(word: &[u8], letter: u8, part: Part) -> Option<Wrong> {
 }
 
 /// What is wrong with a word that is no name of this table; `other` if it would be none in small letters either.
-pub fn wrong_with_word(word: &[u8], forms: &'static [Form], other: Wrong) -> Wrong {
-    match first_within(word, forms, 0) {
+pub fn wrong_with_word(word: &[u8], table: Table, other: Wrong) -> Wrong {
+    match table.first_within(word, 0) {
         Some(_) => Wrong::Capitals,
         None => other,
     }
@@ -69,7 +70,7 @@ pub fn wrong_with_part(word: &[u8], part: Part) -> Option<Wrong> {
         Part::Mutex => wrong_with_name(word, b'm', part),
         Part::Cond => wrong_with_name(word, b'c', part),
         _ if is_plain(word, part) => None,
-        Part::Robust => Some(wrong_with_word(word, &ROBUST, Wrong::Not(part))),
+        Part::Robust => Some(wrong_with_word(word, Table::of(&ROBUST), Wrong::Not(part))),
         _ => Some(Wrong::Not(part)),
     }
 }

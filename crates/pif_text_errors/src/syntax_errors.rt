@@ -2,8 +2,10 @@ ghost use Rattle.std.specs.Prelude.{◌≤◌, length};
 ghost use Rattle.pif_text_errors.specs.SyntaxErrors.{IsIn};
 
 use crate::Wrong;
-use crate::calls::calls;
-use crate::forms::{Form, Shape, form_of};
+use crate::calls::Table;
+use crate::forms::Shape;
+use crate::near::Named;
+use pif_text_model::CallKind;
 use std::fmt;
 
 /// The first syntax error of a line that is no command. As a text it is what is wrong, the nearest word, or else what
@@ -67,14 +69,25 @@ fn write_all<W: fmt::Write>(texts: &[&str], f: &mut fmt::Formatter<W>) -> fmt::R
     Ok(())
 }
 
-/// Writes the words with which these forms begin, in brackets, if there are any.
-fn write_names<W: fmt::Write>(forms: &[Form], f: &mut fmt::Formatter<W>) -> fmt::Result {
-    let mut before = " (";
-    for form in forms {
-        write_all(&[before, form.name], f)?;
+/// Writes these names, the first behind `before`, and the others behind a comma. Answers what stands before one more.
+fn write_each<N: Named, W: fmt::Write>(
+    names: &[N],
+    before: &'static str,
+    f: &mut fmt::Formatter<W>,
+) -> Result<&'static str, fmt::Error> {
+    let mut before = before;
+    for named in names {
+        write_all(&[before, named.name()], f)?;
         before = ", ";
     }
-    if forms.is_empty() {
+    Ok(before)
+}
+
+/// Writes the words of a table, in brackets, if it has any.
+fn write_names<W: fmt::Write>(table: Table, f: &mut fmt::Formatter<W>) -> fmt::Result {
+    let before = write_each(table.calls, " (", f)?;
+    write_each(table.forms, before, f)?;
+    if table.calls.is_empty() && table.forms.is_empty() {
         Ok(())
     } else {
         f.write_str(")")
@@ -87,8 +100,8 @@ fn write_call<W: fmt::Write>(
     before: &'static str,
     f: &mut fmt::Formatter<W>,
 ) -> fmt::Result {
-    match form_of(word, calls()) {
-        Some(form) => write_all(&["; calls are written '", before, form.text, "'"], f),
+    match CallKind::named(word) {
+        Some(call) => write_all(&["; calls are written '", before, call.row().form, "'"], f),
         None => Ok(()),
     }
 }

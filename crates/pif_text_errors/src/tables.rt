@@ -1,59 +1,59 @@
-use crate::forms::{Form, Part, Rest};
+use crate::forms::{Form, Part, Parts, Rest};
 use pif_text::{DEFAULT_WORD, ERROR_CHECK_WORD, NORMAL_WORD, RECURSIVE_WORD};
 
 const LIMITS: Form = Form {
     name: "limits",
     text: "limits THREADS MUTEXES VARIABLES SIGNALS",
-    parts: &[Part::Number, Part::Number, Part::Number, Part::Number],
+    parts: Parts::Of(&[Part::Number, Part::Number, Part::Number, Part::Number]),
     rest: Rest::End,
 };
 
 const THREAD: Form = Form {
     name: "thread",
     text: "thread P",
-    parts: &[Part::Number],
+    parts: Parts::Of(&[Part::Number]),
     rest: Rest::End,
 };
 
 const MUTEX: Form = Form {
     name: "mutex",
     text: "mutex KIND [robust]",
-    parts: &[],
+    parts: Parts::Of(&[]),
     rest: Rest::Kind,
 };
 
 const COND: Form = Form {
     name: "cond",
     text: "cond mN",
-    parts: &[Part::Mutex],
+    parts: Parts::Of(&[Part::Mutex]),
     rest: Rest::End,
 };
 
 const BEGIN: Form = Form {
     name: "begin",
     text: "begin tN CALL",
-    parts: &[Part::Thread],
+    parts: Parts::Of(&[Part::Thread]),
     rest: Rest::Begin,
 };
 
 const END: Form = Form {
     name: "end",
     text: "end tN",
-    parts: &[Part::Thread],
+    parts: Parts::Of(&[Part::Thread]),
     rest: Rest::End,
 };
 
 const TICK: Form = Form {
     name: "tick",
     text: "tick N",
-    parts: &[Part::Number],
+    parts: Parts::Of(&[Part::Number]),
     rest: Rest::End,
 };
 
 const ALLOW: Form = Form {
     name: "allow",
     text: "allow RULE ..",
-    parts: &[],
+    parts: Parts::Of(&[]),
     rest: Rest::Rules,
 };
 
@@ -67,7 +67,7 @@ pub static COMMANDS: [Form; 15] = [
     Form {
         name: "go",
         text: "go tN",
-        parts: &[Part::Thread],
+        parts: Parts::Of(&[Part::Thread]),
         rest: Rest::End,
     },
     END,
@@ -75,43 +75,43 @@ pub static COMMANDS: [Form; 15] = [
     Form {
         name: "call",
         text: "call tN CALL",
-        parts: &[Part::Thread],
+        parts: Parts::Of(&[Part::Thread]),
         rest: Rest::Call,
     },
     Form {
         name: "finish",
         text: "finish tN",
-        parts: &[Part::Thread],
+        parts: Parts::Of(&[Part::Thread]),
         rest: Rest::End,
     },
     Form {
         name: "word",
         text: "word mN",
-        parts: &[Part::Mutex],
+        parts: Parts::Of(&[Part::Mutex]),
         rest: Rest::End,
     },
     Form {
         name: "health",
         text: "health mN",
-        parts: &[Part::Mutex],
+        parts: Parts::Of(&[Part::Mutex]),
         rest: Rest::End,
     },
     Form {
         name: "condword",
         text: "condword cN",
-        parts: &[Part::Cond],
+        parts: Parts::Of(&[Part::Cond]),
         rest: Rest::End,
     },
     Form {
         name: "prio",
         text: "prio tN",
-        parts: &[Part::Thread],
+        parts: Parts::Of(&[Part::Thread]),
         rest: Rest::End,
     },
     Form {
         name: "pick",
         text: "pick",
-        parts: &[],
+        parts: Parts::Of(&[]),
         rest: Rest::End,
     },
 ];
@@ -127,13 +127,13 @@ pub static HISTORY: [Form; 12] = [
     Form {
         name: "answer",
         text: "answer tN A",
-        parts: &[Part::Thread, Part::Answer],
+        parts: Parts::Of(&[Part::Thread, Part::Answer]),
         rest: Rest::End,
     },
     Form {
         name: "dying",
         text: "dying tN",
-        parts: &[Part::Thread],
+        parts: Parts::Of(&[Part::Thread]),
         rest: Rest::End,
     },
     END,
@@ -141,13 +141,13 @@ pub static HISTORY: [Form; 12] = [
     Form {
         name: "rests",
         text: "rests tN",
-        parts: &[Part::Thread],
+        parts: Parts::Of(&[Part::Thread]),
         rest: Rest::End,
     },
     Form {
         name: "prio",
         text: "prio tN P",
-        parts: &[Part::Thread, Part::Number],
+        parts: Parts::Of(&[Part::Thread, Part::Number]),
         rest: Rest::End,
     },
 ];
@@ -159,7 +159,7 @@ pub static PROGRAM: [Form; 11] = [
     Form {
         name: "thread",
         text: "thread P",
-        parts: &[Part::Priority],
+        parts: Parts::Of(&[Part::Priority]),
         rest: Rest::End,
     },
     MUTEX,
@@ -167,37 +167,37 @@ pub static PROGRAM: [Form; 11] = [
     Form {
         name: "do",
         text: "do tN: S; S; ..",
-        parts: &[Part::Thread, Part::Colon],
+        parts: Parts::Of(&[Part::Thread, Part::Colon]),
         rest: Rest::Statements,
     },
     Form {
         name: "ends",
         text: "ends N",
-        parts: &[Part::Value],
+        parts: Parts::Of(&[Part::Value]),
         rest: Rest::End,
     },
     Form {
         name: "ticks",
         text: "ticks N N ..",
-        parts: &[],
+        parts: Parts::Of(&[]),
         rest: Rest::Ticks,
     },
     Form {
         name: "never",
         text: "never: C",
-        parts: &[Part::Colon],
+        parts: Parts::Of(&[Part::Colon]),
         rest: Rest::Condition,
     },
     Form {
         name: "always",
         text: "always: C",
-        parts: &[Part::Colon],
+        parts: Parts::Of(&[Part::Colon]),
         rest: Rest::Condition,
     },
     Form {
         name: "finally",
         text: "finally: C",
-        parts: &[Part::Colon],
+        parts: Parts::Of(&[Part::Colon]),
         rest: Rest::Condition,
     },
 ];
@@ -207,25 +207,25 @@ pub static KINDS: [Form; 4] = [
     Form {
         name: NORMAL_WORD,
         text: "mutex KIND [robust]",
-        parts: &[Part::Robust],
+        parts: Parts::Of(&[Part::Robust]),
         rest: Rest::End,
     },
     Form {
         name: DEFAULT_WORD,
         text: "mutex KIND [robust]",
-        parts: &[Part::Robust],
+        parts: Parts::Of(&[Part::Robust]),
         rest: Rest::End,
     },
     Form {
         name: ERROR_CHECK_WORD,
         text: "mutex KIND [robust]",
-        parts: &[Part::Robust],
+        parts: Parts::Of(&[Part::Robust]),
         rest: Rest::End,
     },
     Form {
         name: RECURSIVE_WORD,
         text: "mutex KIND [robust]",
-        parts: &[Part::Robust],
+        parts: Parts::Of(&[Part::Robust]),
         rest: Rest::End,
     },
 ];
@@ -234,7 +234,7 @@ pub static KINDS: [Form; 4] = [
 pub static ROBUST: [Form; 1] = [Form {
     name: "robust",
     text: "mutex KIND [robust]",
-    parts: &[],
+    parts: Parts::Of(&[]),
     rest: Rest::End,
 }];
 
@@ -246,55 +246,55 @@ pub static RULES: [Form; RULE_COUNT] = [
     Form {
         name: "steal",
         text: "allow RULE ..",
-        parts: &[],
+        parts: Parts::Of(&[]),
         rest: Rest::End,
     },
     Form {
         name: "any_waiter",
         text: "allow RULE ..",
-        parts: &[],
+        parts: Parts::Of(&[]),
         rest: Rest::End,
     },
     Form {
         name: "spurious",
         text: "allow RULE ..",
-        parts: &[],
+        parts: Parts::Of(&[]),
         rest: Rest::End,
     },
     Form {
         name: "recursion",
         text: "allow recursion N",
-        parts: &[Part::Recursion],
+        parts: Parts::Of(&[Part::Recursion]),
         rest: Rest::End,
     },
     Form {
         name: "own_errorcheck",
         text: "allow RULE ..",
-        parts: &[],
+        parts: Parts::Of(&[]),
         rest: Rest::End,
     },
     Form {
         name: "any_consistent",
         text: "allow RULE ..",
-        parts: &[],
+        parts: Parts::Of(&[]),
         rest: Rest::End,
     },
     Form {
         name: "held_wait",
         text: "allow RULE ..",
-        parts: &[],
+        parts: Parts::Of(&[]),
         rest: Rest::End,
     },
     Form {
         name: "lost_signal",
         text: "allow RULE ..",
-        parts: &[],
+        parts: Parts::Of(&[]),
         rest: Rest::End,
     },
     Form {
         name: "revives",
         text: "allow RULE ..",
-        parts: &[],
+        parts: Parts::Of(&[]),
         rest: Rest::End,
     },
 ];
@@ -304,19 +304,19 @@ pub static OF_THREADS: [Form; 3] = [
     Form {
         name: "stuck",
         text: "tN stuck",
-        parts: &[],
+        parts: Parts::Of(&[]),
         rest: Rest::End,
     },
     Form {
         name: "ended",
         text: "tN ended",
-        parts: &[],
+        parts: Parts::Of(&[]),
         rest: Rest::End,
     },
     Form {
         name: "answered",
         text: "tN answered A",
-        parts: &[Part::Answer],
+        parts: Parts::Of(&[Part::Answer]),
         rest: Rest::End,
     },
 ];
@@ -326,25 +326,25 @@ pub static OF_MUTEXES: [Form; 4] = [
     Form {
         name: "free",
         text: "mN free",
-        parts: &[],
+        parts: Parts::Of(&[]),
         rest: Rest::End,
     },
     Form {
         name: "inconsistent",
         text: "mN inconsistent",
-        parts: &[],
+        parts: Parts::Of(&[]),
         rest: Rest::End,
     },
     Form {
         name: "unusable",
         text: "mN unusable",
-        parts: &[],
+        parts: Parts::Of(&[]),
         rest: Rest::End,
     },
     Form {
         name: "held",
         text: "mN held by tN",
-        parts: &[Part::By, Part::Thread],
+        parts: Parts::Of(&[Part::By, Part::Thread]),
         rest: Rest::End,
     },
 ];
@@ -353,6 +353,6 @@ pub static OF_MUTEXES: [Form; 4] = [
 pub static OF_CELL: Form = Form {
     name: "",
     text: "xN = V",
-    parts: &[Part::Equals, Part::Value],
+    parts: Parts::Of(&[Part::Equals, Part::Value]),
     rest: Rest::End,
 };

@@ -4,9 +4,8 @@ ghost use Rattle.pif_text_model.specs.Commands.{command_in};
 ghost use Rattle.pif_text_errors.specs.SyntaxErrors.{IsIn};
 
 use crate::bytes::{place_of, syntax_error_of_bytes};
-use crate::calls::{BEHIND_BEGIN, BEHIND_CALL, calls};
-use crate::forms::{Form, Part, Rest, Shape, form_of};
-use crate::near::nearest_name;
+use crate::calls::{BEHIND_BEGIN, BEHIND_CALL, Table, calls};
+use crate::forms::{Parts, Rest, Shape, form_of};
 use crate::parts::{near_part, wrong_with_part, wrong_with_word};
 use crate::syntax_errors::{end_of_word, syntax_error_at};
 use crate::tables::{COMMANDS, KINDS};
@@ -18,15 +17,15 @@ fn syntax_error_of_name<'a>(
     line: &'a [u8],
     place: usize,
     form: Option<Shape>,
-    forms: &'static [Form],
+    table: Table,
     other: Wrong,
 ) -> SyntaxError<'a>
     requires { place ≤ length line.now }
     ensures { IsIn line.now result }
 {
     let word = &line[place..end_of_word(line, place)];
-    let wrong = wrong_with_word(word, forms, other);
-    syntax_error_at(line, place, wrong, form, nearest_name(word, forms))
+    let wrong = wrong_with_word(word, table, other);
+    syntax_error_at(line, place, wrong, form, table.nearest(word))
 }
 
 /// The end of the parts that stand behind the word that ends at `end`, in a command of this form, or their first syntax
@@ -34,26 +33,31 @@ fn syntax_error_of_name<'a>(
 fn end_of_parts<'a>(
     line: &'a [u8],
     end: usize,
-    parts: &'static [Part],
+    parts: Parts,
     form: Shape,
 ) -> Result<usize, SyntaxError<'a>>
     requires { end ≤ length line.now }
     ensures end { IfOk result (λ place. place ≤ length line.now) }
     ensures syntax_error { IfErr result (IsIn line.now) }
 {
-    let mut end = end;
-    for part in parts {
-        if end == line.len() {
-            return Err(syntax_error_at(line, end, Wrong::Missing, Some(form), None));
+    let mut at = end;
+    let mut parts = parts;
+    for _ in 0..parts.count() {
+        let Some((part, more)) = parts.split() else {
+            return Ok(at);
+        };
+        if at == line.len() {
+            return Err(syntax_error_at(line, at, Wrong::Missing, Some(form), None));
         }
-        let place = end + 1;
-        end = end_of_word(line, place);
-        let word = &line[place..end];
-        if let Some(wrong) = wrong_with_part(word, *part) {
-            return Err(syntax_error_at(line, place, wrong, Some(form), near_part(word, *part)));
+        let place = at + 1;
+        at = end_of_word(line, place);
+        let word = &line[place..at];
+        if let Some(wrong) = wrong_with_part(word, part) {
+            return Err(syntax_error_at(line, place, wrong, Some(form), near_part(word, part)));
         }
+        parts = more;
     }
-    Ok(end)
+    Ok(at)
 }
 
 /// The syntax error of a line whose words are right up to `end`, where the form ends: what stands behind that.
@@ -71,7 +75,7 @@ fn syntax_error_of_rest<'a>(
     line: &'a [u8],
     end: usize,
     form: Shape,
-    forms: &'static [Form],
+    table: Table,
     before: &'static str,
     other: Wrong,
 ) -> SyntaxError<'a>
@@ -83,8 +87,8 @@ fn syntax_error_of_rest<'a>(
     }
     let place = end + 1;
     let end = end_of_word(line, place);
-    let Some(found) = form_of(&line[place..end], forms) else {
-        return syntax_error_of_name(line, place, Some(form), forms, other);
+    let Some(found) = table.find(&line[place..end]) else {
+        return syntax_error_of_name(line, place, Some(form), table, other);
     };
     let form = found.behind(before);
     match end_of_parts(line, end, found.parts, form) {
@@ -99,7 +103,7 @@ fn syntax_error_of_words(line: &[u8]) -> SyntaxError
 {
     let end = end_of_word(line, 0);
     let Some(found) = form_of(&line[..end], &COMMANDS) else {
-        return syntax_error_of_name(line, 0, None, &COMMANDS, Wrong::NoCommand);
+        return syntax_error_of_name(line, 0, None, Table::of(&COMMANDS), Wrong::NoCommand);
     };
     let form = found.shape();
     let end = match end_of_parts(line, end, found.parts, form) {
@@ -111,7 +115,9 @@ fn syntax_error_of_words(line: &[u8]) -> SyntaxError
         Rest::Begin => {
             syntax_error_of_rest(line, end, form, calls(), BEHIND_BEGIN, Wrong::NoCall)
         }
-        Rest::Kind => syntax_error_of_rest(line, end, form, &KINDS, "", Wrong::NoKind),
+        Rest::Kind => {
+            syntax_error_of_rest(line, end, form, Table::of(&KINDS), "", Wrong::NoKind)
+        }
         _ => syntax_error_behind(line, end, form),
     }
 }

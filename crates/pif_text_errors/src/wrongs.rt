@@ -1,5 +1,5 @@
-use crate::calls::{BEHIND_BEGIN, BEHIND_CALL, BEHIND_DO, STATEMENTS, calls};
-use crate::forms::{Form, Part};
+use crate::calls::{BEHIND_BEGIN, BEHIND_CALL, BEHIND_DO, Table, calls, statements};
+use crate::forms::Part;
 use crate::tables::{HISTORY, KINDS, OF_MUTEXES, OF_THREADS, PROGRAM, RULES};
 use pif_text::Cause;
 
@@ -99,18 +99,18 @@ pub enum Wrong {
 }
 
 impl Wrong {
-    /// The forms of which one is allowed in the place of the wrong word. There are none if another word is wrong.
-    pub(crate) fn allowed(self) -> &'static [Form] {
+    /// The words of which one is allowed in the place of the wrong word. There are none if another word is wrong.
+    pub(crate) fn allowed(self) -> Table {
         match self {
             Wrong::NoCall => calls(),
-            Wrong::NoStatement => &STATEMENTS,
-            Wrong::NoKind => &KINDS,
-            Wrong::NoRule => &RULES,
-            Wrong::NoHistory => &HISTORY,
-            Wrong::NoProgram => &PROGRAM,
-            Wrong::Not(Part::OfThread) => &OF_THREADS,
-            Wrong::Not(Part::OfMutex) => &OF_MUTEXES,
-            _ => &[],
+            Wrong::NoStatement => statements(),
+            Wrong::NoKind => Table::of(&KINDS),
+            Wrong::NoRule => Table::of(&RULES),
+            Wrong::NoHistory => Table::of(&HISTORY),
+            Wrong::NoProgram => Table::of(&PROGRAM),
+            Wrong::Not(Part::OfThread) => Table::of(&OF_THREADS),
+            Wrong::Not(Part::OfMutex) => Table::of(&OF_MUTEXES),
+            _ => Table::of(&[]),
         }
     }
 

@@ -7,6 +7,8 @@ pub mod Finding
 pub mod Yields
 pub mod Plain
 pub mod QuestionLemmas
+pub mod CallLemmas
+mod WorkedCalls
 pub mod Written
 pub mod ReadBack
 pub mod PlainTexts

@@ -67,21 +67,6 @@ middle_word word rest e = ap words (append_assoc word (32 ∷ []) rest) ∙ firs
 pub two-words : (name word : List ℕ) → has_no_space name ≡ true → has_no_space word ≡ true → words (name ++ 32 ∷ word) ≡ name ∷ word ∷ []
 two-words name word e f = first_word name word e ∙ ap (λ l. name ∷ l) (last_word word f)
 
--- a name and two more words
-pub three-words : (name first second : List ℕ) → has_no_space name ≡ true → has_no_space first ≡ true → has_no_space second ≡ true
-    → words (name ++ 32 ∷ ((first ++ 32 ∷ []) ++ second)) ≡ name ∷ first ∷ second ∷ []
-three-words name first second e f g =
-    first_word name ((first ++ 32 ∷ []) ++ second) e ∙ ap (λ l. name ∷ l) (middle_word first second f ∙ ap (λ l. first ∷ l) (last_word second g))
-
--- a name and three more words
-pub four-words : (name first second third : List ℕ) → has_no_space name ≡ true → has_no_space first ≡ true
-    → has_no_space second ≡ true → has_no_space third ≡ true
-    → words (name ++ 32 ∷ ((((first ++ 32 ∷ []) ++ second) ++ 32 ∷ []) ++ third)) ≡ name ∷ first ∷ second ∷ third ∷ []
-four-words name first second third e f g h =
-    ap (λ l. words (name ++ 32 ∷ l)) (append_assoc ((first ++ 32 ∷ []) ++ second) (32 ∷ []) third ∙ append_assoc (first ++ 32 ∷ []) second (32 ∷ third))
-    ∙ first_word name ((first ++ 32 ∷ []) ++ (second ++ 32 ∷ third)) e
-    ∙ ap (λ l. name ∷ l) (middle_word first (second ++ 32 ∷ third) f ∙ ap (λ l. first ∷ l) (two-words second third g h))
-
 -- ---- names
 
 -- a letter with a number behind it is read as that number

@@ -6,7 +6,6 @@ use Rattle.pif_types.specs.declared.errors.AddFault.TheVariants as add_fault
 use Rattle.pif_types.specs.declared.errors.Refusal.TheVariants as refusal
 use Rattle.pif_types.specs.declared.requests.Kind.TheVariants.{Normal, ErrorCheck, Recursive}
 use Rattle.pif_types.specs.declared.requests.Request.{Request}
-use Rattle.pif_types.specs.declared.requests.Request.TheVariants.{Lock, TryLock, Unlock, Consistent, Wait, Signal, Broadcast, SetPrio, TimedLock, TimedWait}
 use Rattle.pif_model.specs.declared.events.Event.{Event}
 use Rattle.pif_model.specs.declared.events.Event.TheVariants.{Begin, Go, End, Tick}
 use Rattle.pif_model.specs.declared.events.Seen.{Seen}
@@ -20,41 +19,13 @@ use Rattle.pif_text_model.specs.declared.replies.Added.{Added}
 use Rattle.pif_text_model.specs.declared.replies.Added.TheVariants as added
 use Rattle.pif_text_model.specs.declared.replies.Reply.{Reply}
 use Rattle.pif_text_model.specs.declared.replies.Reply.TheVariants as reply
-use Rattle.pif_text_model.specs.CommandTexts.{command_text, addition_text, event_text, request_text, IsWritten, IsAdditionWritten, IsEventWritten, IsRequestWritten, IsRunWritten, run_text}
-use Rattle.pif_text_model.specs.Replies.{text_of, added_text, seen_text, thread_name, mutex_name, cond_name}
+use Rattle.pif_text_model.specs.CommandTexts.{command_text, addition_text, event_text, request_text, IsWritten, IsAdditionWritten, IsEventWritten, IsRunWritten, run_text}
+use Rattle.pif_text_model.specs.Replies.{text_of, added_text, seen_text, thread_name}
 use Rattle.pif_text_model.specs.Traces.{IsTraced, IsAddedTraced, IsSeenTraced, if_traced, parts_of, answer_text}
 use Rattle.pif_text_model.proofs.Marks.{marked_here, unmarked_here, onto}
 use Rattle.pif_text_model.proofs.Plain.{IsPlain, behind, lacks, lacks-append, plain-cond, plain-more, plain-mutex, plain-number, plain-thread, spaced}
+use Rattle.pif_text_model.proofs.CallLemmas.{request-plain}
 use Rattle.pif_text_model.proofs.QuestionLemmas.{question-plain}
-
-request-plain : (q : Request) → IsRequestWritten q → IsPlain 44 (request_text q)
-unfolding request_text
-request-plain (Lock m) r =
-    plain-more 16 44 _ (omega arith) (behind 5 11 (codes "lock ") _ refl refl (omega arith) (plain-mutex m r.1))
-request-plain (TryLock m) r =
-    plain-more 19 44 _ (omega arith) (behind 8 11 (codes "trylock ") _ refl refl (omega arith) (plain-mutex m r.1))
-request-plain (Unlock m) r =
-    plain-more 18 44 _ (omega arith) (behind 7 11 (codes "unlock ") _ refl refl (omega arith) (plain-mutex m r.1))
-request-plain (Consistent m) r =
-    plain-more 22 44 _ (omega arith) (behind 11 11 (codes "consistent ") _ refl refl (omega arith) (plain-mutex m r.1))
-request-plain (Wait c m) r =
-    plain-more 28 44 _ (omega arith) (spaced 16 11 (codes "wait " ++ cond_name c) (mutex_name m)
-    (behind 5 11 (codes "wait ") _ refl refl (omega arith) (plain-cond c r.0.1)) (plain-mutex m r.1.1))
-request-plain (Signal c) r =
-    plain-more 18 44 _ (omega arith) (behind 7 11 (codes "signal ") _ refl refl (omega arith) (plain-cond c r.1))
-request-plain (Broadcast c) r =
-    plain-more 21 44 _ (omega arith) (behind 10 11 (codes "broadcast ") _ refl refl (omega arith) (plain-cond c r.1))
-request-plain (SetPrio t p) r =
-    plain-more 30 44 _ (omega arith) (spaced 19 10 (codes "setprio " ++ thread_name t) (decimal p)
-    (behind 8 11 (codes "setprio ") _ refl refl (omega arith) (plain-thread t r.0.1)) (plain-number p r.1))
-request-plain (TimedLock m d) r =
-    plain-more 32 44 _ (omega arith) (spaced 21 10 (codes "timedlock " ++ mutex_name m) (decimal d)
-    (behind 10 11 (codes "timedlock ") _ refl refl (omega arith) (plain-mutex m r.0.1)) (plain-number d r.1))
-request-plain (TimedWait c m d) r =
-    spaced 33 10 (codes "timedwait " ++ cond_name c ++ codes " " ++ mutex_name m) (decimal d)
-    (spaced 21 11 (codes "timedwait " ++ cond_name c) (mutex_name m)
-    (behind 10 11 (codes "timedwait ") _ refl refl (omega arith) (plain-cond c r.0.1)) (plain-mutex m r.1.1))
-    (plain-number d r.2)
 
 limits-plain : (t m c s : ℕ) → IsWritten (command.Limits t m c s) → IsPlain 62 (command_text (command.Limits t m c s))
 unfolding command_text

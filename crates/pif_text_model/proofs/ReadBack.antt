@@ -3,62 +3,21 @@ use Rattle.std.proofs.Common.{◌≡◌, ℕ, ◌<◌, ◌≤◌, Bool, true, fa
 use Rattle.pif_types.specs.declared.requests.Kind.{Kind}
 use Rattle.pif_types.specs.declared.requests.Kind.TheVariants.{Normal, ErrorCheck, Recursive}
 use Rattle.pif_types.specs.declared.requests.Request.{Request}
-use Rattle.pif_types.specs.declared.requests.Request.TheVariants.{Lock, TryLock, Unlock, Consistent, Wait, Signal, Broadcast, SetPrio, TimedLock, TimedWait}
 use Rattle.pif_model.specs.declared.events.Event.{Event}
 use Rattle.pif_model.specs.declared.events.Event.TheVariants.{Begin, Go, End, Tick}
 use Rattle.pif_text_model.specs.declared.commands.Addition.{Addition}
 use Rattle.pif_text_model.specs.declared.commands.Addition.TheVariants.{Thread, Mutex, Cond}
 use Rattle.pif_text_model.specs.declared.commands.Command.{Command}
 use Rattle.pif_text_model.specs.declared.commands.Command.TheVariants as command
-use Rattle.pif_text_model.specs.Commands.{kind_in, request_in, request_in_three, request_in_four, command_of_two, command_of_three, command_of_four, command_of_five, command_of_six, command_of_words, command_in}
+use Rattle.pif_text_model.specs.Commands.{kind_in, request_in, robust_in, limits_in, command_of_two, command_of_more, command_of_words, command_in}
 use Rattle.pif_text_model.specs.CommandTexts.{command_text, addition_text, event_text, run_text, request_text, IsWritten, IsAdditionWritten, IsEventWritten, IsRunWritten, IsRequestWritten}
 use Rattle.pif_text_model.specs.Numbers.{thread_in}
-use Rattle.pif_text_model.specs.Replies.{thread_name, mutex_name, cond_name}
+use Rattle.pif_text_model.specs.Replies.{thread_name, mutex_name}
 use Rattle.pif_text_model.specs.Words.{words}
 use Rattle.pif_text_model.proofs.Numerals.{number_decimal}
-use Rattle.pif_text_model.proofs.Names.{has_no_space, first_word, middle_word, two-words, three-words, four-words, number-no_space, thread-no_space, mutex-no_space, cond-no_space, thread_back, mutex_back, cond_back}
+use Rattle.pif_text_model.proofs.Names.{has_no_space, first_word, middle_word, two-words, number-no_space, thread-no_space, mutex-no_space, thread_back, mutex_back}
+use Rattle.pif_text_model.proofs.CallLemmas.{request_back}
 use Rattle.pif_text_model.proofs.QuestionLemmas.{question_back}
-
--- ---- requests
-
--- the request that words make
-abbrev request_of_words : List (List ℕ) → Option Request
-request_of_words [] = None
-request_of_words (a ∷ []) = None
-request_of_words (a ∷ b ∷ []) = request_in a b
-request_of_words (a ∷ b ∷ c ∷ []) = request_in_three a b c
-request_of_words (a ∷ b ∷ c ∷ d ∷ []) = request_in_four a b c d
-request_of_words (a ∷ b ∷ c ∷ d ∷ e ∷ more) = None
-
--- the words of a request make that request
-request_back : (q : Request) → IsRequestWritten q → request_of_words (words (request_text q)) ≡ Some q
-unfolding request_text request_in request_in_three request_in_four
-request_back (Lock m) r = rw (two-words (codes "lock") (mutex_name m) refl (mutex-no_space m r.1), mutex_back m r.0 r.1) refl
-request_back (TryLock m) r = rw (two-words (codes "trylock") (mutex_name m) refl (mutex-no_space m r.1), mutex_back m r.0 r.1) refl
-request_back (Unlock m) r = rw (two-words (codes "unlock") (mutex_name m) refl (mutex-no_space m r.1), mutex_back m r.0 r.1) refl
-request_back (Consistent m) r = rw (two-words (codes "consistent") (mutex_name m) refl (mutex-no_space m r.1), mutex_back m r.0 r.1) refl
-request_back (Wait c m) r =
-    rw (three-words (codes "wait") (cond_name c) (mutex_name m) refl (cond-no_space c r.0.1) (mutex-no_space m r.1.1), cond_back c r.0.0 r.0.1, mutex_back m r.1.0 r.1.1)
-    refl
-request_back (Signal c) r = rw (two-words (codes "signal") (cond_name c) refl (cond-no_space c r.1), cond_back c r.0 r.1) refl
-request_back (Broadcast c) r = rw (two-words (codes "broadcast") (cond_name c) refl (cond-no_space c r.1), cond_back c r.0 r.1) refl
-request_back (SetPrio t p) r =
-    rw (three-words (codes "setprio") (thread_name t) (decimal p) refl (thread-no_space t r.0.1) (number-no_space p r.1), thread_back t r.0.0 r.0.1, number_decimal p r.1)
-    refl
-request_back (TimedLock m d) r =
-    rw (
-      three-words (codes "timedlock") (mutex_name m) (decimal d) refl (mutex-no_space m r.0.1) (number-no_space d r.1),
-      mutex_back m r.0.0 r.0.1,
-      number_decimal d r.1,
-    ) refl
-request_back (TimedWait c m d) r =
-    rw (
-      four-words (codes "timedwait") (cond_name c) (mutex_name m) (decimal d) refl (cond-no_space c r.0.1)
-          (mutex-no_space m r.1.1) (number-no_space d r.2),
-      cond_back c r.0.0 r.0.1,
-      mutex_back m r.1.0 r.1.1,
-      number_decimal d r.2,
-    ) refl
 
 -- the words of a command that begins with a name and a thread
 called-words : (name : List ℕ) (t : ℕ) (request : List ℕ) → has_no_space name ≡ true → t < 4294967296
@@ -67,26 +26,18 @@ called-words name t request e small =
     first_word name ((thread_name t ++ 32 ∷ []) ++ request) e ∙ ap (λ l. name ∷ l) (middle_word (thread_name t) request (thread-no_space t small))
 
 -- words that make a request, behind `begin` and a thread
-begun : (t : ℕ) (q : Request) (ws : List (List ℕ)) → thread_in (thread_name t) ≡ Some t → request_of_words ws ≡ Some q
+begun : (t : ℕ) (q : Request) (ws : List (List ℕ)) → thread_in (thread_name t) ≡ Some t → request_in ws ≡ Some q
     → command_of_words (codes "begin" ∷ thread_name t ∷ ws) ≡ Some (command.Event (Begin t q))
-unfolding command_of_words command_of_four command_of_five command_of_six
+unfolding command_of_words command_of_more request_in
 begun t q [] e f = absurd (grind (arith, f))
-begun t q (a ∷ []) e f = absurd (grind (arith, f))
-begun t q (a ∷ b ∷ []) e f = rw (e, f) refl
-begun t q (a ∷ b ∷ c ∷ []) e f = rw (e, f) refl
-begun t q (a ∷ b ∷ c ∷ d ∷ []) e f = rw (e, f) refl
-begun t q (a ∷ b ∷ c ∷ d ∷ z ∷ more) e f = absurd (grind (arith, f))
+begun t q (a ∷ more) e f = rw (e, f) refl
 
 -- words that make a request, behind `call` and a thread
-called : (t : ℕ) (q : Request) (ws : List (List ℕ)) → thread_in (thread_name t) ≡ Some t → request_of_words ws ≡ Some q
+called : (t : ℕ) (q : Request) (ws : List (List ℕ)) → thread_in (thread_name t) ≡ Some t → request_in ws ≡ Some q
     → command_of_words (codes "call" ∷ thread_name t ∷ ws) ≡ Some (command.Run t (Some q))
-unfolding command_of_words command_of_four command_of_five command_of_six
+unfolding command_of_words command_of_more request_in
 called t q [] e f = absurd (grind (arith, f))
-called t q (a ∷ []) e f = absurd (grind (arith, f))
-called t q (a ∷ b ∷ []) e f = rw (e, f) refl
-called t q (a ∷ b ∷ c ∷ []) e f = rw (e, f) refl
-called t q (a ∷ b ∷ c ∷ d ∷ []) e f = rw (e, f) refl
-called t q (a ∷ b ∷ c ∷ d ∷ z ∷ more) e f = absurd (grind (arith, f))
+called t q (a ∷ more) e f = rw (e, f) refl
 
 -- ---- events
 
@@ -117,7 +68,7 @@ run_back t None r =
 -- ---- additions
 
 kind_back : (k : Kind) (robust : Bool) → command_in (addition_text (Mutex k robust)) ≡ Some (command.Add (Mutex k robust))
-unfolding command_in command_of_words command_of_two command_of_three addition_text kind_in words
+unfolding command_in command_of_words command_of_two command_of_more robust_in addition_text kind_in words
 kind_back Normal false = refl
 kind_back Normal true = refl
 kind_back ErrorCheck false = refl
@@ -148,7 +99,7 @@ spaced a b c d = simp append_assoc
 
 limits-back : (t m c s : ℕ) → t < 4294967296 → m < 4294967296 → c < 4294967296 → s < 4294967296
     → command_in (command_text (command.Limits t m c s)) ≡ Some (command.Limits t m c s)
-unfolding command_in command_of_words command_of_five command_text
+unfolding command_in command_of_words command_of_more limits_in command_text
 limits-back t m c s e f g h =
     ap (λ line. command_of_words (words (codes "limits " ++ line))) (spaced (decimal t) (decimal m) (decimal c) (decimal s))
     ∙ rw (

@@ -3,8 +3,9 @@ use Rattle.std.proofs.Common.{◌≡◌, ℕ, ◌+◌, ◌<◌, zero, suc, ◌�
 use Rattle.std.specs.List.{slice_split, onto_first}
 use Rattle.std.proofs.lemmas.Bool.Decides.{nat_tests}
 use Rattle.std.proofs.lemmas.List.Splits.{slice_split-cons_yes, slice_split-cons_no}
+use Rattle.pif_text_model.specs.declared.calls.Arguments.{Arguments}
+use Rattle.pif_text_model.specs.Commands.{command_of_more, command_of_words, limits_in, robust_in, with_arguments}
 use Rattle.pif_text_model.specs.Words.{words}
-use Rattle.pif_text_model.specs.Commands.{command_of_words}
 
 splits : List ℕ → List (List ℕ)
 splits line = slice_split (λ byte. byte == 32) line
@@ -45,9 +46,32 @@ unfolding words
 some_word [] = ([], [], refl)
 some_word (x ∷ xs) = first_part x (x == 32) (slice_split (λ byte. byte == 32) xs)
 
--- more than six words are no command
-pub too_many : (a b c d e f line : List ℕ) → command_of_words (a ∷ b ∷ c ∷ d ∷ e ∷ f ∷ words line) ≡ None
+-- ---- words that go on
+
+-- two words and more
+pub more_words : (a b line : List ℕ) → command_of_words (a ∷ b ∷ words line) ≡ command_of_more a b (words line)
 unfolding command_of_words
-too_many a b c d e f line =
+more_words a b line =
+    let some = some_word line in
+    rw some.2 refl
+
+-- more behind the last parameter
+pub no_more_arguments : (a : Arguments) (line : List ℕ) → with_arguments [] (words line) a ≡ None
+unfolding with_arguments
+no_more_arguments a line =
+    let some = some_word line in
+    rw some.2 refl
+
+-- more behind `mutex K robust`
+pub no_more_robust : (kind last line : List ℕ) → robust_in kind (last ∷ words line) ≡ None
+unfolding robust_in
+no_more_robust kind last line =
+    let some = some_word line in
+    rw some.2 refl
+
+-- more behind `limits T M C S`
+pub no_more_limits : (a b c d line : List ℕ) → limits_in a (b ∷ c ∷ d ∷ words line) ≡ None
+unfolding limits_in
+no_more_limits a b c d line =
     let some = some_word line in
     rw some.2 refl

@@ -1,56 +1,113 @@
 -- The commands that lines ask for have numbers that a line can write.
-use Rattle.std.proofs.Common.{◌≡◌, ℕ, ◌&&◌, true, false, List, [], ◌∷◌, Some, None, codes, subst, bytes_eq}
-use Rattle.pif_types.specs.declared.requests.Request.TheVariants.{Lock, TryLock, Unlock, Consistent, Signal, Broadcast}
+use Rattle.std.proofs.Common.{◌≡◌, ℕ, true, false, List, [], ◌∷◌, Option, Some, None, option_map, codes, subst, bytes_eq}
+use Rattle.std.specs.Prelude.{IfSome}
+use Rattle.pif_types.specs.declared.requests.Request.{Request}
+use Rattle.pif_types.specs.declared.requests.Request.TheVariants as request
 use Rattle.pif_model.specs.declared.events.Event.TheVariants.{Go, End, Tick}
+use Rattle.pif_text_model.specs.declared.calls.Arguments.{Arguments}
+use Rattle.pif_text_model.specs.declared.calls.CallKind.{CallKind}
+use Rattle.pif_text_model.specs.declared.calls.CallKind.TheVariants.{Lock, TryLock, Unlock, Consistent, Wait, Signal, Broadcast, SetPrio, TimedLock, TimedWait}
+use Rattle.pif_text_model.specs.declared.calls.Parameter.{Parameter}
+use Rattle.pif_text_model.specs.declared.calls.Parameter.TheVariants as parameter
 use Rattle.pif_text_model.specs.declared.commands.Addition.TheVariants.{Thread, Mutex, Cond}
 use Rattle.pif_text_model.specs.declared.commands.Command.{Command}
 use Rattle.pif_text_model.specs.declared.commands.Command.TheVariants as command
-use Rattle.pif_text_model.specs.Commands.{kind_in, request_in, request_in_three, request_in_four, command_of_one, command_of_two, command_of_three, command_of_four, command_of_five, command_of_six, command_of_words, command_in}
-use Rattle.pif_text_model.specs.CommandTexts.{IsRequestWritten, IsWritten}
+use Rattle.pif_text_model.specs.Calls.{call_named, no_arguments, request_with, row_of}
+use Rattle.pif_text_model.specs.Commands.{kind_in, with_argument, with_arguments, request_in, robust_in, limits_in, command_of_one, command_of_two, command_of_more, command_of_words, command_in}
+use Rattle.pif_text_model.specs.CommandTexts.{AreArgumentsWritten, IsRequestWritten, IsWritten}
 use Rattle.pif_text_model.specs.Numbers.{IsName, IsNumber, cond_in, mutex_in, number_in, thread_in}
 use Rattle.pif_text_model.specs.Questions.{question_in_one, question_in_two}
 use Rattle.pif_text_model.specs.Words.{words}
 use Rattle.pif_text_model.proofs.QuestionLemmas.{question_of_one-written, question_of_two-written}
-use Rattle.pif_text_model.proofs.Yields.{Yields, if_yields, map_yields, bind_yields, anything, number-small, thread-small, mutex-small, cond-small}
+use Rattle.pif_text_model.proofs.Yields.{Yields, yields_more, if_yields, map_yields, bind_yields, anything, number-small, thread-small, mutex-small, cond-small}
 
 -- ---- requests
 
--- of two words
-request-small : (call word : List ℕ) → Yields IsRequestWritten (request_in call word)
+-- arguments of which each is such
+written : (a : Arguments) → IfSome a.thread IsName → IfSome a.mutex IsName → IfSome a.cond IsName
+    → IfSome a.priority IsNumber → IfSome a.deadline IsNumber → AreArgumentsWritten a
+written a t m c p d = record { thread = t; mutex = m; cond = c; priority = p; deadline = d }
+
+-- arguments with one more
+argument-small : (p : Parameter) (word : List ℕ) (a : Arguments) → AreArgumentsWritten a
+    → Yields AreArgumentsWritten (with_argument p word a)
+unfolding with_argument
+argument-small parameter.Thread word a r =
+    let Q = AreArgumentsWritten in
+    map_yields Q (λ t. record a { thread = Some t }) (thread_in word)
+    (yields_more IsName _ (thread_in word) (thread-small word) (λ t n. written _ n r.mutex r.cond r.priority r.deadline))
+argument-small parameter.Mutex word a r =
+    let Q = AreArgumentsWritten in
+    map_yields Q (λ m. record a { mutex = Some m }) (mutex_in word)
+    (yields_more IsName _ (mutex_in word) (mutex-small word) (λ m n. written _ r.thread n r.cond r.priority r.deadline))
+argument-small parameter.Cond word a r =
+    let Q = AreArgumentsWritten in
+    map_yields Q (λ c. record a { cond = Some c }) (cond_in word)
+    (yields_more IsName _ (cond_in word) (cond-small word) (λ c n. written _ r.thread r.mutex n r.priority r.deadline))
+argument-small parameter.Priority word a r =
+    let Q = AreArgumentsWritten in
+    map_yields Q (λ p. record a { priority = Some p }) (number_in word)
+    (yields_more IsNumber _ (number_in word) (number-small word) (λ p n. written _ r.thread r.mutex r.cond n r.deadline))
+argument-small parameter.Deadline word a r =
+    let Q = AreArgumentsWritten in
+    map_yields Q (λ d. record a { deadline = Some d }) (number_in word)
+    (yields_more IsNumber _ (number_in word) (number-small word) (λ d n. written _ r.thread r.mutex r.cond r.priority n))
+
+-- with one for each parameter
+arguments-small : (ps : List Parameter) (ws : List (List ℕ)) (a : Arguments) → AreArgumentsWritten a
+    → Yields AreArgumentsWritten (with_arguments ps ws a)
+unfolding with_arguments
+arguments-small [] [] a r = r
+arguments-small [] (word ∷ more) a r = tt
+arguments-small (p ∷ ps) [] a r = tt
+arguments-small (p ∷ ps) (word ∷ more) a r =
+    bind_yields AreArgumentsWritten AreArgumentsWritten (with_argument p word a) _ (argument-small p word a r)
+    (λ b h. arguments-small ps more b h)
+
+none-small : AreArgumentsWritten no_arguments
+none-small = written _ tt tt tt tt tt
+
+-- of one name alone
+of_name : (make : ℕ → Request) (o : Option ℕ) → ((m : ℕ) → IsName m → IsRequestWritten (make m)) → IfSome o IsName
+    → Yields IsRequestWritten (option_map make o)
+of_name make o f h = map_yields IsRequestWritten make o (yields_more IsName _ o h f)
+
+-- what arguments make of a call
+made-small : (k : CallKind) (a : Arguments) → AreArgumentsWritten a → Yields IsRequestWritten (request_with k a)
+unfolding request_with
+made-small Lock a r = of_name request.Lock a.mutex (λ m n. written _ tt n tt tt tt) r.mutex
+made-small TryLock a r = of_name request.TryLock a.mutex (λ m n. written _ tt n tt tt tt) r.mutex
+made-small Unlock a r = of_name request.Unlock a.mutex (λ m n. written _ tt n tt tt tt) r.mutex
+made-small Consistent a r = of_name request.Consistent a.mutex (λ m n. written _ tt n tt tt tt) r.mutex
+made-small Signal a r = of_name request.Signal a.cond (λ c n. written _ tt tt n tt tt) r.cond
+made-small Broadcast a r = of_name request.Broadcast a.cond (λ c n. written _ tt tt n tt tt) r.cond
+made-small Wait a r =
+    bind_yields IsName IsRequestWritten a.cond _ r.cond
+    (λ c n. bind_yields IsName IsRequestWritten a.mutex _ r.mutex
+    (λ m k. written _ tt k n tt tt))
+made-small SetPrio a r =
+    bind_yields IsName IsRequestWritten a.thread _ r.thread
+    (λ t n. bind_yields IsNumber IsRequestWritten a.priority _ r.priority
+    (λ p k. written _ n tt tt k tt))
+made-small TimedLock a r =
+    bind_yields IsName IsRequestWritten a.mutex _ r.mutex
+    (λ m n. bind_yields IsNumber IsRequestWritten a.deadline _ r.deadline
+    (λ d k. written _ tt n tt tt k))
+made-small TimedWait a r =
+    bind_yields IsName IsRequestWritten a.cond _ r.cond
+    (λ c n. bind_yields IsName IsRequestWritten a.mutex _ r.mutex
+    (λ m k. bind_yields IsNumber IsRequestWritten a.deadline _ r.deadline
+    (λ d l. written _ tt k n tt l)))
+
+-- what words make
+request-small : (ws : List (List ℕ)) → Yields IsRequestWritten (request_in ws)
 unfolding request_in
-request-small call word =
-    let P = IsRequestWritten in
-    if_yields P (bytes_eq call (codes "lock")) _ _ (map_yields P Lock (mutex_in word) (mutex-small word))
-    (if_yields P (bytes_eq call (codes "trylock")) _ _ (map_yields P TryLock (mutex_in word) (mutex-small word))
-    (if_yields P (bytes_eq call (codes "unlock")) _ _ (map_yields P Unlock (mutex_in word) (mutex-small word))
-    (if_yields P (bytes_eq call (codes "consistent")) _ _ (map_yields P Consistent (mutex_in word) (mutex-small word))
-    (if_yields P (bytes_eq call (codes "signal")) _ _ (map_yields P Signal (cond_in word) (cond-small word))
-    (if_yields P (bytes_eq call (codes "broadcast")) _ _ (map_yields P Broadcast (cond_in word) (cond-small word)) tt)))))
-
--- of three words
-request_of_three-small : (call first second : List ℕ) → Yields IsRequestWritten (request_in_three call first second)
-unfolding request_in_three
-request_of_three-small call first second =
-    let P = IsRequestWritten in
-    if_yields P (bytes_eq call (codes "setprio")) _ _
-    (bind_yields IsName P (thread_in first) _ (thread-small first)
-    (λ t n. bind_yields IsNumber P (number_in second) _ (number-small second) (λ p k. (n, k))))
-    (if_yields P (bytes_eq call (codes "wait")) _ _
-    (bind_yields IsName P (cond_in first) _ (cond-small first)
-    (λ c n. bind_yields IsName P (mutex_in second) _ (mutex-small second) (λ m k. (n, k))))
-    (if_yields P (bytes_eq call (codes "timedlock")) _ _
-    (bind_yields IsName P (mutex_in first) _ (mutex-small first)
-    (λ m n. bind_yields IsNumber P (number_in second) _ (number-small second) (λ d k. (n, k)))) tt))
-
--- of four words
-request_of_four-small : (call first second third : List ℕ) → Yields IsRequestWritten (request_in_four call first second third)
-unfolding request_in_four
-request_of_four-small call first second third =
-    let P = IsRequestWritten in
-    if_yields P (bytes_eq call (codes "timedwait")) _ _
-    (bind_yields IsName P (cond_in first) _ (cond-small first)
-    (λ c n. bind_yields IsName P (mutex_in second) _ (mutex-small second)
-    (λ m k. bind_yields IsNumber P (number_in third) _ (number-small third) (λ d l. (n, k, l))))) tt
+request-small [] = tt
+request-small (name ∷ more) =
+    bind_yields (λ k. Unit {0}) IsRequestWritten (call_named name) _ (anything (call_named name))
+    (λ k u. bind_yields AreArgumentsWritten IsRequestWritten (with_arguments (row_of k).parameters more no_arguments) _
+    (arguments-small (row_of k).parameters more no_arguments none-small)
+    (λ a h. made-small k a h))
 
 -- ---- commands
 
@@ -74,57 +131,42 @@ two-small name word =
     (if_yields P (bytes_eq name (codes "cond")) _ _ (map_yields P (λ m. command.Add (Cond m)) (mutex_in word) (mutex-small word))
     (map_yields P command.Ask (question_in_two name word) (question_of_two-written name word))))))))
 
--- of three words
-three-small : (name word last : List ℕ) → Yields IsWritten (command_of_three name word last)
-unfolding command_of_three
-three-small name word last =
-    if_yields IsWritten (bytes_eq name (codes "mutex") && bytes_eq last (codes "robust")) _ _
-    (map_yields IsWritten (λ kind. command.Add (Mutex kind true)) (kind_in word) (anything (kind_in word))) tt
+-- that add a robust mutex
+robust-small : (kind : List ℕ) (more : List (List ℕ)) → Yields IsWritten (robust_in kind more)
+unfolding robust_in
+robust-small kind [] = tt
+robust-small kind (last ∷ []) =
+    if_yields IsWritten (bytes_eq last (codes "robust")) _ _
+    (map_yields IsWritten (λ k. command.Add (Mutex k true)) (kind_in kind) (anything (kind_in kind))) tt
+robust-small kind (last ∷ other ∷ more) = tt
 
--- of four words
-four-small : (name thread call word : List ℕ) → Yields IsWritten (command_of_four name thread call word)
-unfolding command_of_four
-four-small name thread call word =
+-- that set limits
+limits-small : (first : List ℕ) (more : List (List ℕ)) → Yields IsWritten (limits_in first more)
+unfolding limits_in
+limits-small first [] = tt
+limits-small first (second ∷ []) = tt
+limits-small first (second ∷ third ∷ []) = tt
+limits-small first (second ∷ third ∷ fourth ∷ []) =
     let P = IsWritten in
-    if_yields P (bytes_eq name (codes "call")) _ _
-    (bind_yields IsName P (thread_in thread) _ (thread-small thread)
-    (λ t n. bind_yields IsRequestWritten P (request_in call word) _ (request-small call word) (λ q k. (n, k))))
-    (if_yields P (bytes_eq name (codes "begin")) _ _
-    (bind_yields IsName P (thread_in thread) _ (thread-small thread)
-    (λ t n. bind_yields IsRequestWritten P (request_in call word) _ (request-small call word) (λ q k. (n, k)))) tt)
-
--- of five words
-five-small : (name first second third fourth : List ℕ)
-    → Yields IsWritten (command_of_five name first second third fourth)
-unfolding command_of_five
-five-small name first second third fourth =
-    let P = IsWritten in
-    let small = request_of_three-small second third fourth in
-    if_yields P (bytes_eq name (codes "call")) _ _
-    (bind_yields IsName P (thread_in first) _ (thread-small first)
-    (λ t n. bind_yields IsRequestWritten P (request_in_three second third fourth) _ small (λ q k. (n, k))))
-    (if_yields P (bytes_eq name (codes "begin")) _ _
-    (bind_yields IsName P (thread_in first) _ (thread-small first)
-    (λ t n. bind_yields IsRequestWritten P (request_in_three second third fourth) _ small (λ q k. (n, k))))
-    (if_yields P (bytes_eq name (codes "limits")) _ _
-    (bind_yields IsNumber P (number_in first) _ (number-small first)
+    bind_yields IsNumber P (number_in first) _ (number-small first)
     (λ t a. bind_yields IsNumber P (number_in second) _ (number-small second)
     (λ m b. bind_yields IsNumber P (number_in third) _ (number-small third)
-    (λ c d. bind_yields IsNumber P (number_in fourth) _ (number-small fourth) (λ s e. (a, b, d, e)))))) tt))
+    (λ c d. bind_yields IsNumber P (number_in fourth) _ (number-small fourth) (λ s e. (a, b, d, e)))))
+limits-small first (second ∷ third ∷ fourth ∷ other ∷ more) = tt
 
--- of six words
-six-small : (name thread call first second third : List ℕ)
-    → Yields IsWritten (command_of_six name thread call first second third)
-unfolding command_of_six
-six-small name thread call first second third =
+-- of three words or more
+more-small : (name word : List ℕ) (more : List (List ℕ)) → Yields IsWritten (command_of_more name word more)
+unfolding command_of_more
+more-small name word more =
     let P = IsWritten in
-    let small = request_of_four-small call first second third in
     if_yields P (bytes_eq name (codes "call")) _ _
-    (bind_yields IsName P (thread_in thread) _ (thread-small thread)
-    (λ t n. bind_yields IsRequestWritten P (request_in_four call first second third) _ small (λ q k. (n, k))))
+    (bind_yields IsName P (thread_in word) _ (thread-small word)
+    (λ t n. bind_yields IsRequestWritten P (request_in more) _ (request-small more) (λ q k. (n, k))))
     (if_yields P (bytes_eq name (codes "begin")) _ _
-    (bind_yields IsName P (thread_in thread) _ (thread-small thread)
-    (λ t n. bind_yields IsRequestWritten P (request_in_four call first second third) _ small (λ q k. (n, k)))) tt)
+    (bind_yields IsName P (thread_in word) _ (thread-small word)
+    (λ t n. bind_yields IsRequestWritten P (request_in more) _ (request-small more) (λ q k. (n, k))))
+    (if_yields P (bytes_eq name (codes "limits")) _ _ (limits-small word more)
+    (if_yields P (bytes_eq name (codes "mutex")) _ _ (robust-small word more) tt)))
 
 -- of any words
 words-small : (ws : List (List ℕ)) → Yields IsWritten (command_of_words ws)
@@ -132,11 +174,7 @@ unfolding command_of_words
 words-small [] = tt
 words-small (a ∷ []) = one-small a
 words-small (a ∷ b ∷ []) = two-small a b
-words-small (a ∷ b ∷ c ∷ []) = three-small a b c
-words-small (a ∷ b ∷ c ∷ d ∷ []) = four-small a b c d
-words-small (a ∷ b ∷ c ∷ d ∷ e ∷ []) = five-small a b c d e
-words-small (a ∷ b ∷ c ∷ d ∷ e ∷ f ∷ []) = six-small a b c d e f
-words-small (a ∷ b ∷ c ∷ d ∷ e ∷ f ∷ g ∷ more) = tt
+words-small (a ∷ b ∷ c ∷ more) = more-small a b (c ∷ more)
 
 -- the command that a line asks for
 pub command_in-written : (line : List ℕ) (c : Command) → command_in line ≡ Some c → IsWritten c

@@ -1,6 +1,6 @@
 -- What words write is a number that a line can write.
 use Rattle.std.proofs.Common.{◌≡◌, ℕ, ◌<◌, ◌≤◌, ◌==◌, ◌&&◌, Bool, true, false, nat_lt, List, [], ◌∷◌, Option, Some, None, refl, arith, if◌then◌else◌}
-use Rattle.std.specs.Prelude.{option_map, option_and_then}
+use Rattle.std.specs.Prelude.{IfSome, option_map, option_and_then}
 use Rattle.std.specs.Str.Parse.{digits_value}
 use Rattle.std.proofs.lemmas.Bool.{and_parts}
 use Rattle.std.proofs.lemmas.Bool.Decides.{nat_tests}
@@ -8,8 +8,7 @@ use Rattle.pif_text_model.specs.Numbers.{IsName, IsNumber, at_least_one, cond_in
 
 -- what is found has this property, if anything is
 abbrev pub Yields : {A : Type 0} → (A → Type 0) → Option A → Type 0
-Yields P None = Unit {0}
-Yields P (Some x) = P x
+Yields P o = IfSome o P
 
 -- by a test
 pub if_yields : {A : Type 0} (P : A → Type 0) (b : Bool) (x y : Option A) → Yields P x → Yields P y
@@ -33,6 +32,11 @@ pub bind_yields : {A B : Type 0} (Q : A → Type 0) (P : B → Type 0) (o : Opti
     → ((x : A) → Q x → Yields P (f x)) → Yields P (option_and_then f o)
 bind_yields Q P (Some x) f h g = g x h
 bind_yields Q P None f h g = tt
+
+-- and so what follows from it
+pub yields_more : {A : Type 0} (P Q : A → Type 0) (o : Option A) → Yields P o → ((x : A) → P x → Q x) → Yields Q o
+yields_more P Q (Some x) h g = g x h
+yields_more P Q None h g = tt
 
 -- nothing is asked
 pub anything : {A : Type 0} (o : Option A) → Yields (λ x. Unit {0}) o

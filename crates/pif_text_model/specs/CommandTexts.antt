@@ -1,15 +1,18 @@
 -- The texts of commands.
-use Rattle.std.specs.Prelude.{ℕ, Bool, List, [], ◌++◌, Option, Some, None, codes, decimal, if◌then◌else◌}
+use Rattle.std.specs.Prelude.{ℕ, ◌+◌, Bool, List, [], ◌∷◌, ◌++◌, Option, Some, None, IfSome, codes, decimal, if◌then◌else◌}
 use Rattle.pif_types.specs.declared.requests.Kind.{Kind}
 use Rattle.pif_types.specs.declared.requests.Kind.TheVariants.{Normal, ErrorCheck, Recursive}
 use Rattle.pif_types.specs.declared.requests.Request.{Request}
-use Rattle.pif_types.specs.declared.requests.Request.TheVariants.{Lock, TryLock, Unlock, Consistent, Wait, Signal, Broadcast, SetPrio, TimedLock, TimedWait}
+use Rattle.pif_text_model.specs.declared.calls.Arguments.{Arguments}
+use Rattle.pif_text_model.specs.declared.calls.Parameter.{Parameter}
+use Rattle.pif_text_model.specs.declared.calls.Parameter.TheVariants as parameter
 use Rattle.pif_text_model.specs.declared.commands.Command.{Command}
 use Rattle.pif_text_model.specs.declared.commands.Command.TheVariants as command
 use Rattle.pif_text_model.specs.declared.commands.Addition.{Addition}
 use Rattle.pif_text_model.specs.declared.commands.Addition.TheVariants.{Thread, Mutex, Cond}
 use Rattle.pif_model.specs.declared.events.Event.{Event}
 use Rattle.pif_model.specs.declared.events.Event.TheVariants.{Begin, Go, End, Tick}
+use Rattle.pif_text_model.specs.Calls.{arguments_of, kind_of, row_of}
 use Rattle.pif_text_model.specs.Numbers.{IsName, IsNumber}
 use Rattle.pif_text_model.specs.Questions.{question_text, IsQuestionWritten}
 use Rattle.pif_text_model.specs.Replies.{thread_name, mutex_name, cond_name}
@@ -24,18 +27,42 @@ kind_word Recursive = codes "recursive"
 abbrev pub mutex_text : Kind → Bool → List ℕ
 mutex_text k robust = codes "mutex " ++ kind_word k ++ (if robust then codes " robust" else [])
 
--- The text of a request.
+-- The text of a name or a number, if there is one.
+abbrev pub text_if_any : (ℕ → List ℕ) → Option ℕ → List ℕ
+text_if_any text None = []
+text_if_any text (Some n) = text n
+
+-- The text of the argument for a parameter.
+abbrev pub argument_text : Parameter → Arguments → List ℕ
+argument_text parameter.Thread a = text_if_any thread_name a.thread
+argument_text parameter.Mutex a = text_if_any mutex_name a.mutex
+argument_text parameter.Cond a = text_if_any cond_name a.cond
+argument_text parameter.Priority a = text_if_any decimal a.priority
+argument_text parameter.Deadline a = text_if_any decimal a.deadline
+
+-- The texts of the arguments for these parameters, each behind a space.
+abbrev pub arguments_text : List Parameter → Arguments → List ℕ
+arguments_text [] a = []
+arguments_text (p ∷ ps) a = codes " " ++ argument_text p a ++ arguments_text ps a
+
+-- The text of a request: the word of its call, and its arguments behind it.
 unfoldable pub request_text : Request → List ℕ
-request_text (Lock m) = codes "lock " ++ mutex_name m
-request_text (TryLock m) = codes "trylock " ++ mutex_name m
-request_text (Unlock m) = codes "unlock " ++ mutex_name m
-request_text (Consistent m) = codes "consistent " ++ mutex_name m
-request_text (Wait c m) = codes "wait " ++ cond_name c ++ codes " " ++ mutex_name m
-request_text (Signal c) = codes "signal " ++ cond_name c
-request_text (Broadcast c) = codes "broadcast " ++ cond_name c
-request_text (SetPrio t p) = codes "setprio " ++ thread_name t ++ codes " " ++ decimal p
-request_text (TimedLock m d) = codes "timedlock " ++ mutex_name m ++ codes " " ++ decimal d
-request_text (TimedWait c m d) = codes "timedwait " ++ cond_name c ++ codes " " ++ mutex_name m ++ codes " " ++ decimal d
+request_text q =
+    let row = row_of (kind_of q) in
+    row.name ++ arguments_text row.parameters (arguments_of q)
+
+-- How many bytes the argument for a parameter has at most, with the space before it.
+abbrev pub room_of_one : Parameter → ℕ
+room_of_one parameter.Thread = 12
+room_of_one parameter.Mutex = 12
+room_of_one parameter.Cond = 12
+room_of_one parameter.Priority = 11
+room_of_one parameter.Deadline = 11
+
+-- How many bytes the arguments for these parameters have at most, with the spaces before them.
+abbrev pub room_of : List Parameter → ℕ
+room_of [] = 0
+room_of (p ∷ ps) = room_of_one p + room_of ps
 
 -- The text of an addition.
 unfoldable pub addition_text : Addition → List ℕ
@@ -64,18 +91,17 @@ command_text (command.Event e) = event_text e
 command_text (command.Run t q) = run_text t q
 command_text (command.Ask q) = question_text q
 
+-- Arguments that a line can write.
+pub record AreArgumentsWritten (a : Arguments) : Type 0 where
+  pub thread : IfSome a.thread IsName
+  pub mutex : IfSome a.mutex IsName
+  pub cond : IfSome a.cond IsName
+  pub priority : IfSome a.priority IsNumber
+  pub deadline : IfSome a.deadline IsNumber
+
 -- A request whose numbers a line can write.
 abbrev pub IsRequestWritten : Request → Type 0
-IsRequestWritten (Lock m) = IsName m
-IsRequestWritten (TryLock m) = IsName m
-IsRequestWritten (Unlock m) = IsName m
-IsRequestWritten (Consistent m) = IsName m
-IsRequestWritten (Wait c m) = IsName c × IsName m
-IsRequestWritten (Signal c) = IsName c
-IsRequestWritten (Broadcast c) = IsName c
-IsRequestWritten (SetPrio t p) = IsName t × IsNumber p
-IsRequestWritten (TimedLock m d) = IsName m × IsNumber d
-IsRequestWritten (TimedWait c m d) = IsName c × IsName m × IsNumber d
+IsRequestWritten q = AreArgumentsWritten (arguments_of q)
 
 -- An addition whose numbers a line can write.
 abbrev pub IsAdditionWritten : Addition → Type 0

@@ -1,21 +1,19 @@
 -- The command of a line.
-use Rattle.std.specs.Prelude.{ℕ, true, false, ◌&&◌, List, [], ◌∷◌, Option, Some, None, option_map, option_and_then, if◌then◌else◌, bytes_eq, codes}
+use Rattle.std.specs.Prelude.{ℕ, true, false, List, [], ◌∷◌, Option, Some, None, option_map, if◌then◌else◌, bytes_eq, codes}
 use Rattle.pif_types.specs.declared.requests.Kind.{Kind}
 use Rattle.pif_types.specs.declared.requests.Kind.TheVariants.{Normal, ErrorCheck, Recursive}
 use Rattle.pif_types.specs.declared.requests.Request.{Request}
-use Rattle.pif_types.specs.declared.requests.Request.TheVariants.{Lock, TryLock, Unlock, Consistent, Wait, Signal, Broadcast, SetPrio, TimedLock, TimedWait}
+use Rattle.pif_text_model.specs.declared.calls.Arguments.{Arguments}
+use Rattle.pif_text_model.specs.declared.calls.Parameter.{Parameter}
+use Rattle.pif_text_model.specs.declared.calls.Parameter.TheVariants as parameter
 use Rattle.pif_text_model.specs.declared.commands.Command.{Command}
 use Rattle.pif_text_model.specs.declared.commands.Command.TheVariants.{Limits, Add, Event, Run, Ask}
 use Rattle.pif_text_model.specs.declared.commands.Addition.TheVariants.{Thread, Mutex, Cond}
 use Rattle.pif_model.specs.declared.events.Event.TheVariants.{Begin, Go, End, Tick}
+use Rattle.pif_text_model.specs.Calls.{◌>>=◌, call_named, no_arguments, request_with, row_of}
 use Rattle.pif_text_model.specs.Numbers.{number_in, thread_in, mutex_in, cond_in}
 use Rattle.pif_text_model.specs.Questions.{question_in_one, question_in_two}
 use Rattle.pif_text_model.specs.Words.{words}
-
-infixl 10 ◌>>=◌
--- Goes on with a value, if there is one.
-abbrev pub ◌>>=◌ : {A B : Type 0} → Option A → (A → Option B) → Option B
-o >>= f = option_and_then f o
 
 -- The type of a mutex: `normal`, `default`, which is the same, `errorcheck` or `recursive`.
 unfoldable pub kind_in : List ℕ → Option Kind
@@ -26,43 +24,28 @@ kind_in word =
     else if bytes_eq word (codes "recursive") then Some Recursive
     else None
 
--- A request of two words: `lock mN`, `trylock mN`, `unlock mN`, `consistent mN`, `signal cN` or `broadcast cN`.
-unfoldable pub request_in : List ℕ → List ℕ → Option Request
-request_in call word =
-    if bytes_eq call (codes "lock") then option_map Lock (mutex_in word)
-    else if bytes_eq call (codes "trylock") then option_map TryLock (mutex_in word)
-    else if bytes_eq call (codes "unlock") then option_map Unlock (mutex_in word)
-    else if bytes_eq call (codes "consistent") then option_map Consistent (mutex_in word)
-    else if bytes_eq call (codes "signal") then option_map Signal (cond_in word)
-    else if bytes_eq call (codes "broadcast") then option_map Broadcast (cond_in word)
-    else None
+-- Arguments with what a word writes for a parameter: `tN`, `mN`, `cN` or a number.
+unfoldable pub with_argument : Parameter → List ℕ → Arguments → Option Arguments
+with_argument parameter.Thread word a = option_map (λ t. record a { thread = Some t }) (thread_in word)
+with_argument parameter.Mutex word a = option_map (λ m. record a { mutex = Some m }) (mutex_in word)
+with_argument parameter.Cond word a = option_map (λ c. record a { cond = Some c }) (cond_in word)
+with_argument parameter.Priority word a = option_map (λ p. record a { priority = Some p }) (number_in word)
+with_argument parameter.Deadline word a = option_map (λ d. record a { deadline = Some d }) (number_in word)
 
--- A request of three words: `setprio tN P`, `wait cN mN` or `timedlock mN D`.
-unfoldable pub request_in_three : List ℕ → List ℕ → List ℕ → Option Request
-request_in_three call first second =
-    if bytes_eq call (codes "setprio") then (do
-      t ← thread_in first
-      p ← number_in second
-      Some (SetPrio t p))
-    else if bytes_eq call (codes "wait") then (do
-      c ← cond_in first
-      m ← mutex_in second
-      Some (Wait c m))
-    else if bytes_eq call (codes "timedlock") then (do
-      m ← mutex_in first
-      d ← number_in second
-      Some (TimedLock m d))
-    else None
+-- Arguments with those that words write, one word for each parameter.
+unfoldable pub with_arguments : List Parameter → List (List ℕ) → Arguments → Option Arguments
+with_arguments [] [] a = Some a
+with_arguments [] (word ∷ more) a = None
+with_arguments (p ∷ ps) [] a = None
+with_arguments (p ∷ ps) (word ∷ more) a = with_argument p word a >>= (λ b. with_arguments ps more b)
 
--- A request of four words: `timedwait cN mN D`.
-unfoldable pub request_in_four : List ℕ → List ℕ → List ℕ → List ℕ → Option Request
-request_in_four call first second third =
-    if bytes_eq call (codes "timedwait") then (do
-      c ← cond_in first
-      m ← mutex_in second
-      d ← number_in third
-      Some (TimedWait c m d))
-    else None
+-- The request that words write: the word of a call, and then a word for each of its parameters.
+unfoldable pub request_in : List (List ℕ) → Option Request
+request_in [] = None
+request_in (name ∷ more) = do
+  kind ← call_named name
+  a ← with_arguments (row_of kind).parameters more no_arguments
+  request_with kind a
 
 -- A command of one word: a question.
 unfoldable pub command_of_one : List ℕ → Option Command
@@ -80,56 +63,35 @@ command_of_two name word =
     else if bytes_eq name (codes "cond") then option_map (λ m. Add (Cond m)) (mutex_in word)
     else option_map Ask (question_in_two name word)
 
--- A command of three words: `mutex K robust`.
-unfoldable pub command_of_three : List ℕ → List ℕ → List ℕ → Option Command
-command_of_three name word last =
-    if bytes_eq name (codes "mutex") && bytes_eq last (codes "robust") then option_map (λ kind. Add (Mutex kind true)) (kind_in word)
-    else None
+-- The command `mutex K robust`, behind its first word.
+unfoldable pub robust_in : List ℕ → List (List ℕ) → Option Command
+robust_in kind (last ∷ []) =
+    if bytes_eq last (codes "robust") then option_map (λ k. Add (Mutex k true)) (kind_in kind) else None
+robust_in kind _ = None
 
--- A command of four words: `call tN Q` or `begin tN Q`, for a request Q of two words.
-unfoldable pub command_of_four : List ℕ → List ℕ → List ℕ → List ℕ → Option Command
-command_of_four name thread call word =
+-- The command `limits T M C S`, for four numbers, behind its first word.
+unfoldable pub limits_in : List ℕ → List (List ℕ) → Option Command
+limits_in first (second ∷ third ∷ fourth ∷ []) = do
+  t ← number_in first
+  m ← number_in second
+  c ← number_in third
+  s ← number_in fourth
+  Some (Limits t m c s)
+limits_in first _ = None
+
+-- A command of three words or more: `call tN Q` or `begin tN Q`, for a request Q, `limits T M C S` or `mutex K robust`.
+unfoldable pub command_of_more : List ℕ → List ℕ → List (List ℕ) → Option Command
+command_of_more name word more =
     if bytes_eq name (codes "call") then (do
-      t ← thread_in thread
-      q ← request_in call word
+      t ← thread_in word
+      q ← request_in more
       Some (Run t (Some q)))
     else if bytes_eq name (codes "begin") then (do
-      t ← thread_in thread
-      q ← request_in call word
+      t ← thread_in word
+      q ← request_in more
       Some (Event (Begin t q)))
-    else None
-
--- A command of five words: `call tN Q` or `begin tN Q`, for a request Q of three words, or `limits T M C S`, for four
--- numbers.
-unfoldable pub command_of_five : List ℕ → List ℕ → List ℕ → List ℕ → List ℕ → Option Command
-command_of_five name first second third fourth =
-    if bytes_eq name (codes "call") then (do
-      t ← thread_in first
-      q ← request_in_three second third fourth
-      Some (Run t (Some q)))
-    else if bytes_eq name (codes "begin") then (do
-      t ← thread_in first
-      q ← request_in_three second third fourth
-      Some (Event (Begin t q)))
-    else if bytes_eq name (codes "limits") then (do
-      t ← number_in first
-      m ← number_in second
-      c ← number_in third
-      s ← number_in fourth
-      Some (Limits t m c s))
-    else None
-
--- A command of six words: `call tN Q` or `begin tN Q`, for a request Q of four words.
-unfoldable pub command_of_six : List ℕ → List ℕ → List ℕ → List ℕ → List ℕ → List ℕ → Option Command
-command_of_six name thread call first second third =
-    if bytes_eq name (codes "call") then (do
-      t ← thread_in thread
-      q ← request_in_four call first second third
-      Some (Run t (Some q)))
-    else if bytes_eq name (codes "begin") then (do
-      t ← thread_in thread
-      q ← request_in_four call first second third
-      Some (Event (Begin t q)))
+    else if bytes_eq name (codes "limits") then limits_in word more
+    else if bytes_eq name (codes "mutex") then robust_in word more
     else None
 
 -- The command that words make, if they make one: by how many they are.
@@ -137,11 +99,7 @@ unfoldable pub command_of_words : List (List ℕ) → Option Command
 command_of_words [] = None
 command_of_words (a ∷ []) = command_of_one a
 command_of_words (a ∷ b ∷ []) = command_of_two a b
-command_of_words (a ∷ b ∷ c ∷ []) = command_of_three a b c
-command_of_words (a ∷ b ∷ c ∷ d ∷ []) = command_of_four a b c d
-command_of_words (a ∷ b ∷ c ∷ d ∷ e ∷ []) = command_of_five a b c d e
-command_of_words (a ∷ b ∷ c ∷ d ∷ e ∷ f ∷ []) = command_of_six a b c d e f
-command_of_words (a ∷ b ∷ c ∷ d ∷ e ∷ f ∷ g ∷ more) = None
+command_of_words (a ∷ b ∷ c ∷ more) = command_of_more a b (c ∷ more)
 
 -- The command of a line, given as its bytes without the line feed.
 unfoldable pub command_in : List ℕ → Option Command

@@ -1,3 +1,4 @@
+pub mod Calls
 pub mod CommandTexts
 pub mod Commands
 pub mod Errors

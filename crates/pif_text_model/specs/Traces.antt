@@ -1,13 +1,12 @@
 -- The lines of traces.
-use Rattle.std.specs.Prelude.{ℕ, ◌==◌, ◌&&◌, Bool, true, false, not, List, [], ◌∷◌, ◌++◌, drop, take, Option, Some, None, option_map, if◌then◌else◌, bytes_eq, codes, decimal}
+use Rattle.std.specs.Prelude.{ℕ, ◌==◌, ◌&&◌, Bool, true, false, not, List, [], ◌∷◌, ◌++◌, drop, take, Option, Some, None, is_some, option_map, if◌then◌else◌, bytes_eq, codes, decimal}
 use Rattle.pif_text_model.specs.declared.commands.Command.{Command}
 use Rattle.pif_text_model.specs.declared.commands.Command.TheVariants as command
 use Rattle.pif_text_model.specs.declared.replies.Reply.{Reply}
 use Rattle.pif_text_model.specs.declared.replies.Reply.TheVariants as reply
 use Rattle.pif_text_model.specs.declared.replies.Added.{Added}
 use Rattle.pif_text_model.specs.declared.replies.Added.TheVariants as added
-use Rattle.pif_types.specs.declared.requests.Request.{Request}
-use Rattle.pif_types.specs.declared.requests.Request.TheVariants.{TimedLock, TimedWait}
+use Rattle.pif_model.specs.Deadlines.{deadline_of}
 use Rattle.pif_model.specs.declared.events.Event.{Event}
 use Rattle.pif_model.specs.declared.events.Event.TheVariants.{Begin, Tick}
 use Rattle.pif_model.specs.declared.events.Seen.{Seen}
@@ -44,15 +43,9 @@ parts_of (byte ∷ more) =
     if is_marked byte more then Some ([], drop 2 more)
     else option_map (λ parts. (byte ∷ parts.0, parts.1)) (parts_of more)
 
--- Whether a request has a deadline.
-abbrev pub is_timed : Request → Bool
-is_timed (TimedLock m d) = true
-is_timed (TimedWait c m d) = true
-is_timed q = false
-
--- Whether an event stands in traces of version 2 alone: a tick, and the begin of a timed request.
+-- Whether an event stands in traces of version 2 alone: a tick, and the begin of a request with a deadline.
 abbrev pub is_of_two : Event → Bool
-is_of_two (Begin t q) = is_timed q
+is_of_two (Begin t q) = is_some (deadline_of q)
 is_of_two (Tick n) = true
 is_of_two e = false
 

@@ -3,11 +3,13 @@
 //! the lemmas on them, which `pif_text` and the crates above cite.
 #![tactic(auto)]
 
+mod calls;
 mod commands;
 mod questions;
 mod replies;
 mod traces;
 
+pub use calls::{Arguments, CALLS, CallKind, CallRow, Parameter};
 pub use commands::{Addition, Command};
 pub use questions::Question;
 pub use replies::{Added, Cause, Fact, Reply};

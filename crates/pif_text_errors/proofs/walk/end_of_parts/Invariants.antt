@@ -2,5 +2,5 @@
 use Rattle.std.proofs.Common.{◌≤◌, length}
 use Rattle.pif_text_errors.proofs.walk.end_of_parts.Given as goal
 
-abbrev pub invariant-loop-part : goal.invariant-loop-part
-invariant-loop-part l = l.end ≤ length l.line
+abbrev pub invariant-loop : goal.invariant-loop
+invariant-loop l = l.at ≤ length l.line
