@@ -25,6 +25,6 @@ pub use listener::{
 pub use notices::Notice;
 pub use pif_script_model::{CliFault, End, Ending, OpenFault, Stop};
 pub use scanner::{MOST_BYTES, MOST_LINE, Scanner};
-pub use script::{close, feed, read_script, stop};
+pub use script::{close, feed, read_on, read_script, stop};
 pub use whole::read_all;
 pub use writing::write_whole;

@@ -62,6 +62,14 @@ impl<L: Listener + Drop> Scanner<L> {
         }
     }
 
+    /// Who answers the lines, if a line has made one, once no more are read.
+    pub fn into_listener(self) -> Option<L>
+        ensures { result ≡ (scan_of self).listener }
+    {
+        let Scanner { listener, .. } = self;
+        listener
+    }
+
     /// Appends to `output` what is said if the script ends here.
     ///
     /// # Errors

@@ -1,7 +1,8 @@
 ghost use Rattle.std.specs.Prelude.{◌+◌, ◌≤◌, ◌<◌, ◌≡◌, Ok, true, [], length, OnOk};
 ghost use Rattle.arrayvec.specs.ArrayVec.{array_vec_len};
 ghost use Rattle.pif_script_model.specs.Scripts.{start, closed_at};
-ghost use Rattle.pif_script_model.specs.Runs.{RunsFrom, RunsPart, Feeds, Flushes, WritesEnd, Stops};
+ghost use Rattle.pif_script_model.specs.Leaving.{GoesOn, RunsOn};
+ghost use Rattle.pif_script_model.specs.Runs.{RunsFrom, Feeds, Flushes, WritesEnd, Stops};
 ghost use Rattle.pif_script.specs.Scanners.{scan_of};
 
 use crate::listener::{ANSWER_ROOM, CHUNK, END_ROOM, FULL, Listener, OUTPUT_ROOM, Output};
@@ -29,10 +30,27 @@ pub fn read_script<L: Listener + Drop, R: Read, W: Write>(
 ) -> Result<(), CliFault>
     ensures { RunsFrom L.hearing start (R.remaining reader.old) (R.remaining reader.new) (W.contents writer.old) (W.contents writer.new) result }
 {
-    let mut scanner = Scanner::<L>::new();
+    read_on(alloc, &mut Scanner::<L>::new(), reader, writer, notice)
+}
+
+/// Reads a script or a trace on from where a scanner stands, as `read_script` does. The scanner is left behind the last
+/// byte, with the listener that the script has made.
+///
+/// # Errors
+///
+/// Those of `read_script`.
+pub fn read_on<L: Listener + Drop, R: Read, W: Write>(
+    alloc: Global,
+    scanner: &mut Scanner<L>,
+    reader: &mut R,
+    writer: &mut W,
+    notice: &mut Notice,
+) -> Result<(), CliFault>
+    ensures { RunsOn L.hearing (scan_of scanner.old) (scan_of scanner.new) (R.remaining reader.old) (R.remaining reader.new) (W.contents writer.old) (W.contents writer.new) result }
+{
     let mut output = Output::new();
     loop {
-        if !turn(alloc, &mut scanner, &mut output, reader, writer, notice)? {
+        if !turn(alloc, scanner, &mut output, reader, writer, notice)? {
             return Ok(());
         }
     }
@@ -47,7 +65,7 @@ fn turn<L: Listener + Drop, R: Read, W: Write>(
     writer: &mut W,
     notice: &mut Notice,
 ) -> Result<bool, CliFault>
-    ensures answer { RunsPart L.hearing (scan_of scanner.old) (scan_of scanner.new) (R.remaining reader.old) (R.remaining reader.new) (W.contents writer.old) (W.contents writer.new) result }
+    ensures answer { GoesOn L.hearing (scan_of scanner.old) (scan_of scanner.new) (R.remaining reader.old) (R.remaining reader.new) (W.contents writer.old) (W.contents writer.new) result }
     ensures taken { result ≡ Ok true → scanner.old.taken < scanner.new.taken }
 {
     let mut chunk = [0u8; CHUNK];

@@ -5,12 +5,14 @@ pub mod DifferenceLemmas
 pub mod AgainLemmas
 pub mod EntryLemmas
 pub mod FeedLemmas
+pub mod LeavingLemmas
 pub mod RunLemmas
 pub mod LineLemmas
 pub mod ScriptLemmas
 pub mod SilenceLemmas
 pub mod TracingLemmas
 pub mod TranscriptLemmas
+pub mod UnderLemmas
 pub mod WrittenLemmas
 pub mod ShowingLemmas
 pub mod MigrateLemmas

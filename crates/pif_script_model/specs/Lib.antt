@@ -1,4 +1,5 @@
 pub mod CommandLines
+pub mod Leaving
 pub mod Migrating
 pub mod Running
 pub mod Runs

@@ -1,7 +1,8 @@
 use Rattle.std.proofs.Common.{take, arith}
 use Rattle.std.proofs.lemmas.Result.{err_from_is_err_and}
 use Rattle.pif_script.specs.Scanners.{scan_of}
-use Rattle.pif_script_model.proofs.RunLemmas.{RunsFrom-read_failed, RunsPart-closed}
+use Rattle.pif_script_model.proofs.LeavingLemmas.{GoesOn-closed}
+use Rattle.pif_script_model.proofs.RunLemmas.{RunsFrom-read_failed}
 use Rattle.pif_script_model.proofs.FeedLemmas.{RunsFrom-fed}
 use Rattle.pif_script.proofs.script.turn.Goals as goal
 
@@ -12,7 +13,7 @@ returns-in-Err-clause-answer g c =
 pub returns-then-count-eq0-clause-answer : goal.returns-then-count-eq0-clause-answer
 returns-then-count-eq0-clause-answer g c =
     let read = rw c.if-count-eq0.true at c.in-Ok.ensures.bytes in
-    RunsPart-closed g.L.Listener.hearing (scan_of c.args.scanner.now) _ _ _ _ c.close.result read.0
+    GoesOn-closed g.L.Listener.hearing (scan_of c.args.scanner.now) _ _ _ _ c.close.result read.0
     (c.in-Ok.ensures.bytes.1 c.if-count-eq0.true (omega arith))
     c.close.ensures
 
