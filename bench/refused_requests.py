@@ -3,9 +3,8 @@
 a run, a run that is shown, a replay, a migration, a trace, checks, pictures, a random script, help, a wrong word and two
 clients in real threads. Each time it must end for that: with status 4, nothing on standard output and `pif: out of
 memory` on standard error, or with status 6 and `fault threads` if a thread could not be started. Or all must be as with
-no refusal, since the standard library asks again for some. A run may say besides that it is out of memory for notes. A
-shell may go on, and say that a line has changed nothing. With the words of a job behind the program it is that job
-alone, over an example.
+no refusal, since the standard library asks again for some. A shell may go on, and say that a line has changed nothing.
+With the words of a job behind the program it is that job alone, over an example.
 
 Two rows more are asked if they are built. The test `desk_keeps_receipts` of pif_test_core (by `rt test` there) asks
 again for what was refused, by `resume` if a call is open: no answer, book or replayed trace may change. The
@@ -35,9 +34,6 @@ SCRIPT = TOP / "examples/holder_is_boosted_until_it_unlocks.pif"
 
 # How the program ends for a refused request: its status, what it prints, and what it prints of the error.
 REFUSALS = ((4, b"", b"pif: out of memory\n"), (6, b"fault threads\n", b"pif: a thread cannot be started\n"))
-
-# What a run prints of the error if only its notes are refused memory.
-NO_NOTES = b"pif: out of memory for notes\n"
 
 # The jobs of the program, each with its status. A replay and a migration read the trace of the script, a shell its own
 # lines, and the others may read the script.
@@ -156,8 +152,7 @@ def sweep(room, row):
 
 def is_refused(ended, whole):
     """Whether a job of the program ended so for a refused request; without one it ends as whole."""
-    return ended in REFUSALS or ended == (0, whole[1], NO_NOTES) or (
-        ended[::2] == (0, b"") and NOTHING_CHANGED in ended[1])
+    return ended in REFUSALS or (ended[::2] == (0, b"") and NOTHING_CHANGED in ended[1])
 
 
 def rows_of(program, words):

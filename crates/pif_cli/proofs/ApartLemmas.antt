@@ -19,6 +19,7 @@ use Rattle.pif_job_judge.specs.Least.{JudgesLeast, JudgesLeastTo}
 use Rattle.pif_cli_words.specs.declared.jobs.Job.{Job}
 use Rattle.pif_cli_words.specs.declared.jobs.Job.TheVariants.{Judge}
 use Rattle.pif_cli_words.specs.declared.jobs.Judging.{Judging}
+use Rattle.pif_story.specs.declared.missing.Note.{Note}
 use Rattle.pif_cli.specs.declared.apart.Apart.{Apart}
 use Rattle.pif_cli.specs.declared.apart.Apart.TheVariants as apart
 use Rattle.pif_cli.specs.declared.apart.Judged.{Judged}
@@ -171,7 +172,7 @@ apart-ahead job names begin place found name one past is are item =
     (apart-at job (drop begin names) found (place - begin) name one are item)
 
 -- a job that was done has no notes
-no-notes : (notes : List ℕ) (done : Result (Unit {0}) JobFault) → notes ≡ [] → OnOk done (notes ≡ [])
+no-notes : (notes : List Note) (done : Result (Unit {0}) JobFault) → notes ≡ [] → OnOk done (notes ≡ [])
 no-notes notes (Ok x) e = e
 no-notes notes (Err fault) e = tt
 

@@ -13,7 +13,8 @@ use Rattle.pif_script_model.specs.Traces.{ReplaysTo}
 use Rattle.pif_script_model.specs.Runs.{WritesPart}
 use Rattle.pif_story_model.specs.Showing.{ShowsStoryTo, TracesStoryTo}
 use Rattle.pif_story_model.specs.Checks.{TellsTo, check_telling, fill_telling, strict_telling, titled_telling}
-use Rattle.pif_story.specs.Notes.{ShowsNoting, TellsNoting}
+use Rattle.pif_story.specs.declared.missing.Note.{Note}
+use Rattle.pif_story.specs.Notes.{ShowsNoting, TellsNoting, notes_text}
 use Rattle.pif_job_draw.specs.Pictures.{DrawsTo, PicturesTo}
 use Rattle.pif_job_explore.specs.declared.faults.ExploreFault.{ExploreFault}
 use Rattle.pif_job_explore.specs.declared.faults.ExploreFault.TheVariants as explore_fault
@@ -33,7 +34,7 @@ use Rattle.pif_cli_words.specs.declared.jobs.Job.TheVariants.{Run, Replay, Trace
 use Rattle.pif_cli_words.specs.Words.{files_of, inputs_of, job_of, refusals_of, rewrites, standard_name}
 use Rattle.pif_cli_messages.specs.declared.statuses.JobFault.{JobFault}
 use Rattle.pif_cli_messages.specs.declared.statuses.JobFault.TheVariants.{Cli, Undecided}
-use Rattle.pif_cli_messages.specs.Messages.{TellsLine, TellsOf, notes_text}
+use Rattle.pif_cli_messages.specs.Messages.{TellsLine, TellsOf}
 use Rattle.pif_cli.specs.Names.{shown_name}
 use Rattle.pif_cli.specs.Random.{WritesRandom}
 use Rattle.pif_cli_messages.specs.Statuses.{job_status}
@@ -113,27 +114,22 @@ Does (Random recipe) name before after held holds result =
     Keeps before after × WritesRandom recipe.lines held holds result
 Does (Drive clients) name before after held holds result = Keeps before after × Drives clients held holds result
 
--- a script was run, and these are told as the notes on it, under this name
-abbrev pub RunsTold : (name : Text) → (before after held holds : Option (List ℕ)) → (notes : List ℕ) → Type 0
-RunsTold name before after held holds notes =
-    (found : Option (List ℕ)) × RunsNoting name before after held holds found × (notes ≡ notes_text found)
-
 -- the notes of a job that was done over an input that is told under this name: those on the script that was run, or the
 -- story that was checked, or shown; other jobs have none. A strict check that is done has none either, since each
 -- refusal has its answer
-abbrev pub HasNotes : Job → (name : Text) → (before after held holds : Option (List ℕ)) → (notes : List ℕ) → Type 0
-HasNotes Run name before after held holds notes = RunsTold name before after held holds notes
+abbrev pub HasNotes : Job → (name : Text) → (before after held holds : Option (List ℕ)) → List Note → Type 0
+HasNotes Run name before after held holds notes = RunsNoting before after held holds notes
 HasNotes Check name before after held holds notes =
-    TellsNoting name (check_telling name) before after held holds (Ok notes)
-HasNotes (Show detail) name before after held holds notes = ShowsNoting name before after held holds (Ok notes)
+    TellsNoting (check_telling name) before after held holds (Ok notes)
+HasNotes (Show detail) name before after held holds notes = ShowsNoting before after held holds (Ok notes)
 HasNotes job name before after held holds notes = notes ≡ []
 
 -- the job was done over an input of this name, and the errors were told how it ended
 abbrev pub Did : Job → (name : Text) → (before after held holds errors_held errors_hold : Option (List ℕ)) → ℕ → Type 0
 Did job name before after held holds errors_held errors_hold status =
-    (result : Result (Unit {0}) JobFault) × (notes : List ℕ) × Does job (shown_name name) before after held holds result
+    (result : Result (Unit {0}) JobFault) × (notes : List Note) × Does job (shown_name name) before after held holds result
     × OnOk result (HasNotes job (shown_name name) before after held holds notes) × (status ≡ job_status result)
-    × TellsOf notes result errors_held errors_hold
+    × TellsOf (notes_text (shown_name name) notes) result errors_held errors_hold
 
 -- the standard input is no file into which something can be written, which is said
 abbrev pub no_file_text : List ℕ

@@ -48,7 +48,7 @@ fn end_judged<P, S, W: Write, E: Write, V>(
         kept: judged.kept(),
         why: None,
     };
-    tell_end(done, &given, &Told::new(host.alloc), host)
+    tell_end(done, name, &given, &Told::new(host.alloc), host)
 }
 
 /// Does what is asked for over the file of this name, with which this was done apart, or over `input` if it is that of

@@ -4,15 +4,17 @@ ghost use Rattle.pif_script_model.specs.Running.{RunsTo};
 ghost use Rattle.pif_story_model.specs.Checks.{TellsTo, check_telling};
 ghost use Rattle.pif_story_model.specs.Showing.{ShowsStoryTo};
 ghost use Rattle.pif_story.specs.Notes.{ShowsNoting, TellsNoting};
+ghost use Rattle.pif_job_run.specs.Noting.{RunsNoting};
 ghost use Rattle.pif_cli.specs.Names.{shown_name};
-ghost use Rattle.pif_cli.specs.Words.{EndsAsCli, RunsTold};
+ghost use Rattle.pif_cli.specs.Words.{EndsAsCli};
 
 use crate::names::Name;
-use pif_cli_messages::{JobFault, Notes};
+use pif_cli_messages::JobFault;
 use pif_job_check::check_noting;
 use pif_job_run::{run_noted, show_noting};
 use pif_script::Notice;
 use pif_script_model::Detail;
+use pif_story::Notes;
 use std::alloc::Global;
 use std::io::{Read, Write};
 
@@ -30,28 +32,23 @@ pub struct Told {
 impl Told {
     /// Of a job that has not begun: no line, and no notes.
     pub fn new(alloc: Global) -> Told
-        ensures { result.notes ≡ [] }
+        ensures { result.notes.items ≡ [] }
     {
         Told {
             alloc,
             notice: Notice::new(),
-            notes: Notes::none(alloc),
+            notes: Notes::new(),
         }
     }
 
-    /// Runs the script of this name, and keeps the notes on it.
-    pub fn run<R: Read, W: Write>(
-        &mut self,
-        name: &Name<'_>,
-        input: &mut R,
-        output: &mut W,
-    ) -> Result<(), JobFault>
+    /// Runs a script, and keeps the notes on it.
+    pub fn run<R: Read, W: Write>(&mut self, input: &mut R, output: &mut W) -> Result<(), JobFault>
         ensures did { EndsAsCli (RunsTo (R.remaining input.old) (R.remaining input.new) (W.contents output.old) (W.contents output.new)) result }
-        ensures noted { OnOk result (RunsTold (shown_name name.now) (R.remaining input.old) (R.remaining input.new) (W.contents output.old) (W.contents output.new) self.new.notes) }
+        ensures noted { OnOk result (RunsNoting (R.remaining input.old) (R.remaining input.new) (W.contents output.old) (W.contents output.new) self.new.notes.items) }
     {
-        match run_noted(self.alloc, name.shown(), input, output, &mut self.notice) {
+        match run_noted(self.alloc, input, output, &mut self.notice) {
             Ok(found) => {
-                self.notes = Notes::if_any(found);
+                self.notes = found;
                 Ok(())
             }
             Err(fault) => Err(JobFault::Cli(fault)),
@@ -66,32 +63,31 @@ impl Told {
         output: &mut W,
     ) -> Result<(), JobFault>
         ensures did { EndsAsCli (TellsTo (check_telling (shown_name name.now)) (R.remaining input.old) (R.remaining input.new) (W.contents output.old) (W.contents output.new)) result }
-        ensures noted { OnOk result (TellsNoting (shown_name name.now) (check_telling (shown_name name.now)) (R.remaining input.old) (R.remaining input.new) (W.contents output.old) (W.contents output.new) (Ok self.new.notes)) }
+        ensures noted { OnOk result (TellsNoting (check_telling (shown_name name.now)) (R.remaining input.old) (R.remaining input.new) (W.contents output.old) (W.contents output.new) (Ok self.new.notes.items)) }
     {
         match check_noting(self.alloc, name.shown(), input, output, &mut self.notice) {
-            Ok(text) => {
-                self.notes = Notes::of(text);
+            Ok(found) => {
+                self.notes = found;
                 Ok(())
             }
             Err(fault) => Err(JobFault::Cli(fault)),
         }
     }
 
-    /// Shows the story of this name, and keeps the notes on it.
+    /// Shows a story, and keeps the notes on it.
     pub fn show<R: Read, W: Write>(
         &mut self,
         detail: Detail,
-        name: &Name<'_>,
         input: &mut R,
         output: &mut W,
     ) -> Result<(), JobFault>
         ensures did { EndsAsCli (ShowsStoryTo (R.remaining input.old) (R.remaining input.new) (W.contents output.old) (W.contents output.new)) result }
-        ensures noted { OnOk result (ShowsNoting (shown_name name.now) (R.remaining input.old) (R.remaining input.new) (W.contents output.old) (W.contents output.new) (Ok self.new.notes)) }
+        ensures noted { OnOk result (ShowsNoting (R.remaining input.old) (R.remaining input.new) (W.contents output.old) (W.contents output.new) (Ok self.new.notes.items)) }
     {
         let notice = &mut self.notice;
-        match show_noting(detail, self.alloc, name.shown(), input, output, notice) {
-            Ok(text) => {
-                self.notes = Notes::of(text);
+        match show_noting(detail, self.alloc, input, output, notice) {
+            Ok(found) => {
+                self.notes = found;
                 Ok(())
             }
             Err(fault) => Err(JobFault::Cli(fault)),

@@ -4,6 +4,7 @@ ghost use Rattle.pif_cli_words.specs.Words.{refusals_of, rewrites, job_of, name_
 ghost use Rattle.pif_job_draw.specs.Pictures.{DrawsTo};
 ghost use Rattle.pif_cli_messages.specs.Messages.{TellsAt, TellsFault, TellsLine, TellsNotes, TellsOf};
 ghost use Rattle.pif_cli_messages.specs.Statuses.{fault_status, job_status};
+ghost use Rattle.pif_story.specs.Notes.{notes_text};
 ghost use Rattle.pif_cli.specs.Names.{shown_name};
 ghost use Rattle.pif_cli.specs.Words.{Did, Does, EndsAsCli, HasNotes, as_job, EndsBy, HadNoMemory, RefusedFor, RefusesInput, Shows, ShowsHelp, ExploresAsked, as_explored};
 
@@ -26,6 +27,7 @@ use pif_job_replay::{migrate_noting, replay_noting};
 use pif_job_run::trace_story;
 use pif_job_shell::{NoShelf, Shelf, shell};
 use pif_script::{CliFault, write_whole};
+use pif_story::{Note, write_notes};
 use pif_watch::WatchSteps;
 use std::alloc::{AllocError, Global};
 use std::convert::AsStr;
@@ -97,23 +99,23 @@ fn do_job<P: Runtime + Sync, S: Shelf, R: Read, W: Write, E, V: WatchJob>(
     host: &mut Host<P, S, W, E, V>,
     told: &mut Told,
 ) -> Result<(), JobFault>
-    requires { told.old.notes ≡ [] }
+    requires { told.old.notes.items ≡ [] }
     ensures same_output { host.new.output.ghost_name ≡ host.old.output.ghost_name }
     ensures same_errors { host.new.errors.ghost_name ≡ host.old.errors.ghost_name }
     ensures untold { host.new.errors.now ≡ host.old.errors.now }
     ensures did { Does job (shown_name name.now) (R.remaining input.old) (R.remaining input.new) (W.contents host.old.output.now)
         (W.contents host.new.output.now) result }
     ensures noted { OnOk result (HasNotes job (shown_name name.now) (R.remaining input.old) (R.remaining input.new)
-        (W.contents host.old.output.now) (W.contents host.new.output.now) told.new.notes) }
+        (W.contents host.old.output.now) (W.contents host.new.output.now) told.new.notes.items) }
 {
     let (alloc, called, output) = (host.alloc, name.shown(), &mut *host.output);
     let notice = &mut told.notice;
     match job {
-        Job::Run => told.run(name, input, output),
+        Job::Run => told.run(input, output),
         Job::Replay => as_job(replay_noting(alloc, input, output, notice)),
         Job::Trace => as_job(trace_story(alloc, input, output, notice)),
         Job::Migrate => as_job(migrate_noting(alloc, input, output, notice)),
-        Job::Show(detail) => told.show(detail, name, input, output),
+        Job::Show(detail) => told.show(detail, input, output),
         Job::Picture(picture) => {
             as_job(write_picture(picture, alloc, input, output, notice, host.watch))
         }
@@ -144,11 +146,12 @@ fn kept_of(job: Job) -> Keeps {
     }
 }
 
-/// Tells the errors the notes of a job that was done. A failed write is passed over, since there is nobody left to tell.
-fn tell_notes<E: Write>(notes: &[u8], errors: &mut E)
-    ensures { TellsNotes notes.now (E.contents errors.old) (E.contents errors.new) }
+/// Tells the errors the notes of a job that was done over an input that is told under this name. A failed write is
+/// passed over, since there is nobody left to tell.
+fn tell_notes<E: Write>(name: &[u8], notes: &[Note], errors: &mut E)
+    ensures { TellsNotes (notes_text name.now notes.now) (E.contents errors.old) (E.contents errors.new) }
 {
-    let _ = write_whole(errors, notes);
+    let _ = write_notes(name, notes, errors);
 }
 
 /// Tells the errors of a fault by this message; if `is_quiet`, not of an output that cannot be written.
@@ -164,10 +167,12 @@ fn tell_fault<E: Write>(fault: JobFault, is_quiet: bool, message: Message, error
     }
 }
 
-/// Tells the errors how a job has ended: its notes, or its fault, by what was given to it and what is told of it. That
-/// the output cannot be written is told once, and not if nobody reads it any more. Answers the status of the job.
+/// Tells the errors how a job over an input of this name has ended: its notes, or its fault, by what was given to it
+/// and what is told of it. That the output cannot be written is told once, and not if nobody reads it any more. Answers
+/// the status of the job.
 pub fn tell_end<P, S, W: Write, E: Write, V>(
     done: Result<(), JobFault>,
+    name: &Name<'_>,
     given: &Given<'_, '_>,
     told: &Told,
     host: &mut Host<P, S, W, E, V>,
@@ -176,11 +181,11 @@ pub fn tell_end<P, S, W: Write, E: Write, V>(
     ensures same_errors { host.new.errors.ghost_name ≡ host.old.errors.ghost_name }
     ensures unwritten { W.contents host.new.output.now ≡ W.contents host.old.output.now }
     ensures status { result ≡ job_status done }
-    ensures tells { TellsOf told.now.notes done (E.contents host.old.errors.now) (E.contents host.new.errors.now) }
+    ensures tells { TellsOf (notes_text (shown_name name.now) told.now.notes.items) done (E.contents host.old.errors.now) (E.contents host.new.errors.now) }
 {
     match done {
         Ok(()) => {
-            tell_notes(told.notes.text(), host.errors);
+            tell_notes(name.shown(), told.notes.as_slice(), host.errors);
             0
         }
         Err(fault) => {
@@ -216,7 +221,7 @@ pub fn do_and_tell<P: Runtime + Sync, S: Shelf, R: Read, W: Write, E: Write, V: 
         kept: input.kept(),
         why: input.why(),
     };
-    tell_end(done, &given, &told, host)
+    tell_end(done, name, &given, &told, host)
 }
 
 /// Tells `errors` of a fault by its own text. Answers the status of the fault, also if `errors` fails.
@@ -335,12 +340,11 @@ pub fn refuse<W: Write, E: Write>(
 /// - 6 if a thread can't be started, or the desk of the clients doesn't settle;
 /// - 7 if a history stayed undecided.
 ///
-/// At status 0 the notes of `run`, `check` and `show` go to `errors`, as `story_notes` has them, and at 2 to 7 one line
-/// of printable ASCII, which says what went wrong. If these cannot be written, the status stays. At 3 it is a part of
-/// the reason why the words are refused, if that could not be written. It is nothing if nobody reads `output` any more.
-/// No memory is taken for the line, but a story, a program or the last lines of a history are kept in memory for the
-/// place of a fault. A script that is run is kept for its notes. If memory is refused for these, one line says so in
-/// their place.
+/// At status 0 the notes of `run`, `check` and `show` go to `errors`, once the job is done, a line for each, and at 2
+/// to 7 one line of printable ASCII, which says what went wrong. If these cannot be written, the status stays. At 3 it
+/// is a part of the reason why the words are refused, if that could not be written. It is nothing if nobody reads
+/// `output` any more. No memory is taken for the line or the notes, but a story, a program or the last lines of a
+/// history are kept in memory for the place of a fault.
 pub fn command<T: Runtime + Sync, S: AsStr, R: Read, W: Write, E: Write>(
     alloc: Global,
     rt: &T,

@@ -24,15 +24,6 @@ TellsLine held holds =
 abbrev pub TellsFault : JobFault → (held holds : Option (List ℕ)) → Type 0
 TellsFault fault held holds = MatchBool (is_output fault) (TellsLine held holds ⊎ Keeps held holds) (TellsLine held holds)
 
--- what is said in place of notes for which memory was refused
-abbrev pub no_notes_text : List ℕ
-no_notes_text = codes "pif: out of memory for notes\n"
-
--- notes, or what is said if memory was refused for them
-abbrev pub notes_text : Option (List ℕ) → List ℕ
-notes_text None = no_notes_text
-notes_text (Some notes) = notes
-
 -- notes were told, all of them and nothing else; or a proper part of them, if a write failed
 abbrev pub TellsNotes : (notes : List ℕ) → (held holds : Option (List ℕ)) → Type 0
 TellsNotes notes held holds = Appends held holds notes ⊎ WritesPart held holds notes

@@ -1,5 +1,5 @@
-//! What is told of a job: its faults and where they stand, its notes, how far it has come; and the status with which
-//! the program ends then. What a job reads and writes keeps what of that is asked for.
+//! What is told of a job: its faults and where they stand, and how far it has come; and the status with which the
+//! program ends then. What a job reads and writes keeps what of that is asked for.
 //!
 //! | Module | What it has |
 //! |---|---|
@@ -7,14 +7,12 @@
 //! | `places` | where in an input a fault stands |
 //! | `causes` | what a person is told of a fault |
 //! | `statuses` | faults of jobs, and their statuses |
-//! | `notes` | what is told of a job that was done |
 //! | `streams` | what jobs read and write, and why that has failed |
 //! | `progress` | how far a job has come |
 #![tactic(auto)]
 
 mod causes;
 mod messages;
-mod notes;
 mod places;
 mod progress;
 mod statuses;
@@ -22,7 +20,6 @@ mod streams;
 
 pub use causes::{Given, Unwritten, plain_message, unread_message, unwritten_message};
 pub use messages::Message;
-pub use notes::Notes;
 pub use progress::{Progress, Unwatched, WatchFiles, WatchJob};
 pub use statuses::{JobFault, fault_status, is_output, job_fault_status};
 pub use streams::{Input, Keeps, Kept, Output, words_of};

@@ -9,8 +9,8 @@ ghost use Rattle.pif_text_model.specs.declared.replies.Cause.TheVariants.{Size};
 use pif_script::{CliFault, Notice, read_all, write_whole};
 use pif_script_core::run_story;
 use pif_story::{
-    MOST, compare, count_commands, filled_text, line_at_end, notes_text, plain_story, script_of,
-    titled_story, verdict_text,
+    MOST, Notes, compare, count_commands, filled_text, line_at_end, notes_beside, plain_story,
+    script_of, titled_story, verdict_text,
 };
 use pif_story_model::Flaw;
 use pif_text::Cause;
@@ -21,7 +21,7 @@ use std::io::{Read, Write};
 type Telling = (Vec<u8>, Result<(), CliFault>);
 
 /// What a check tells of a story, and the notes on it.
-type Noted = (Telling, Vec<u8>);
+type Noted = (Telling, Notes);
 
 /// A story with nothing but its words.
 ///
@@ -131,7 +131,7 @@ fn check_text(
     notice: &mut Notice,
 ) -> Result<Noted, CliFault>
     ensures told { IfOk result (λ noted. (noted.0.0.items, noted.0.1) ≡ checked_telling strict name.now story.now) }
-    ensures notes { IfOk result (λ noted. noted.1.items ≡ story_notes name.now story.now) }
+    ensures notes { IfOk result (λ noted. noted.1.items ≡ story_notes story.now) }
     ensures failed { IfErr result IsUntold }
 {
     let plain = words_of(alloc, story)?;
@@ -140,9 +140,7 @@ fn check_text(
     let Ok(flaws) = judge(alloc, strict, story, words, Some(output.as_slice()), fault) else {
         return Err(CliFault::NoMemory);
     };
-    let Ok(notes) = notes_text(alloc, name, story, words, output.as_slice()) else {
-        return Err(CliFault::NoMemory);
-    };
+    let notes = notes_beside(story, words, output.as_slice());
     let telling = tell(alloc, name, count_commands(words), flaws.as_slice(), notice)?;
     Ok((telling, notes))
 }
@@ -208,8 +206,8 @@ pub fn check<R: Read, W: Write>(
     Ok(())
 }
 
-/// Checks a story as `check` does, and answers the notes on it, a line for each, as `story_notes` does. `notice` keeps
-/// the command of the first flaw if that is a fault; else it is left as it is.
+/// Checks a story as `check` does, and answers the notes on it, as `story_notes` does. `notice` keeps the command of
+/// the first flaw if that is a fault; else it is left as it is.
 ///
 /// # Errors
 ///
@@ -220,10 +218,10 @@ pub fn check_noting<R: Read, W: Write>(
     reader: &mut R,
     writer: &mut W,
     notice: &mut Notice,
-) -> Result<Vec<u8>, CliFault>
-    ensures noted { IfOk result (λ notes. TellsNoting name.now (check_telling name.now) (R.remaining reader.old) (R.remaining reader.new)
+) -> Result<Notes, CliFault>
+    ensures noted { IfOk result (λ notes. TellsNoting (check_telling name.now) (R.remaining reader.old) (R.remaining reader.new)
         (W.contents writer.old) (W.contents writer.new) (Ok notes.items)) }
-    ensures failed { IfErr result (λ fault. TellsNoting name.now (check_telling name.now) (R.remaining reader.old) (R.remaining reader.new)
+    ensures failed { IfErr result (λ fault. TellsNoting (check_telling name.now) (R.remaining reader.old) (R.remaining reader.new)
         (W.contents writer.old) (W.contents writer.new) (Err fault)) }
 {
     let story = read_all(alloc, reader)?;

@@ -1,4 +1,4 @@
-mod KeepingLemmas
+mod NotingLemmas
 pub mod HearingLemmas
 pub mod NameLemmas
 pub mod ShowLemmas

@@ -7,6 +7,7 @@ use Rattle.pif_script_model.specs.declared.faults.CliFault.TheVariants.{Read, Wr
 use Rattle.pif_script_model.specs.Migrating.{FailsToRead, IsAllRead, ReadsTo}
 use Rattle.pif_story_model.specs.Checks.{IsUntold}
 use Rattle.pif_story_model.specs.Showing.{LeavesScript, LeavesScriptTo, ShowsStoryTo}
+use Rattle.pif_story.specs.declared.missing.Note.{Note}
 use Rattle.pif_story.specs.Notes.{Shows, ShowsNoting, story_notes}
 
 -- nothing is left
@@ -53,36 +54,36 @@ shows_read before after left held holds story result from here =
     (here.0, leaves_of before after left story here.0 from here.1, here.2)
 
 -- and these are its notes
-pub noted : (name notes : List ℕ) (before after left held holds : Option (List ℕ)) (story : List ℕ)
-    → ReadsTo before after story → ShowsStoryTo (Some story) left held holds (Ok tt) → notes ≡ story_notes name story
-    → ShowsNoting name before after held holds (Ok notes)
-noted name notes before after left held holds story from here same =
+pub noted : (notes : List Note) (before after left held holds : Option (List ℕ)) (story : List ℕ)
+    → ReadsTo before after story → ShowsStoryTo (Some story) left held holds (Ok tt) → notes ≡ story_notes story
+    → ShowsNoting before after held holds (Ok notes)
+noted notes before after left held holds story from here same =
     (story, from.0, from.1, shows_read before after left held holds story (Ok tt) from here, same)
 
 -- it ended before its end
-pub not_noted : (name : List ℕ) (before after left held holds : Option (List ℕ)) (story : List ℕ) (fault : CliFault)
+pub not_noted : (before after left held holds : Option (List ℕ)) (story : List ℕ) (fault : CliFault)
     → ReadsTo before after story → ShowsStoryTo (Some story) left held holds (Err fault)
-    → ShowsNoting name before after held holds (Err fault)
-not_noted name before after left held holds story fault from here =
+    → ShowsNoting before after held holds (Err fault)
+not_noted before after left held holds story fault from here =
     (story, from.0, from.1, shows_read before after left held holds story (Err fault) from here, tt)
 
 -- not all was read
-pub not_read : (name : List ℕ) (before after held : Option (List ℕ)) (fault : CliFault) → FailsToRead before after fault
-    → ShowsNoting name before after held held (Err fault)
-not_read name before after held Read from = (from.0, from.1, from.2, (Err Read, tt, (refl, Keeps-refl held)), tt)
-not_read name before after held NoMemory from =
+pub not_read : (before after held : Option (List ℕ)) (fault : CliFault) → FailsToRead before after fault
+    → ShowsNoting before after held held (Err fault)
+not_read before after held Read from = (from.0, from.1, from.2, (Err Read, tt, (refl, Keeps-refl held)), tt)
+not_read before after held NoMemory from =
     (from.0, from.1, from.2, (Err NoMemory, tt, (refl, Keeps-refl held)), tt)
-not_read name before after held Write from = absurd from
-not_read name before after held (Script line cause) from = absurd from
-not_read name before after held (Differs line) from = absurd from
+not_read before after held Write from = absurd from
+not_read before after held (Script line cause) from = absurd from
+not_read before after held (Differs line) from = absurd from
 
 -- all was read, and then memory ran out
-pub not_kept : (name : List ℕ) (before after held : Option (List ℕ)) (story : List ℕ) (fault : CliFault)
-    → ReadsTo before after story → IsUntold fault → ShowsNoting name before after held held (Err fault)
-not_kept name before after held story Read from is =
+pub not_kept : (before after held : Option (List ℕ)) (story : List ℕ) (fault : CliFault)
+    → ReadsTo before after story → IsUntold fault → ShowsNoting before after held held (Err fault)
+not_kept before after held story Read from is =
     (story, from.0, from.1, (Err Read, tt, (refl, Keeps-refl held)), tt)
-not_kept name before after held story NoMemory from is =
+not_kept before after held story NoMemory from is =
     (story, from.0, from.1, (Err NoMemory, tt, (refl, Keeps-refl held)), tt)
-not_kept name before after held story Write from is = absurd is
-not_kept name before after held story (Script line cause) from is = absurd is
-not_kept name before after held story (Differs line) from is = absurd is
+not_kept before after held story Write from is = absurd is
+not_kept before after held story (Script line cause) from is = absurd is
+not_kept before after held story (Differs line) from is = absurd is

@@ -1,56 +1,106 @@
 -- A run of a script, and the notes on it.
-use Rattle.std.specs.Prelude.{ℕ, ◌≡◌, ◌<◌, ◌≤◌, nat_lt, Bool, true, false, List, [], ◌++◌, length, Option, Some, None, Result, Ok, Err, if◌then◌else◌}
-use Rattle.std.specs.Io.KnownBytes.{Appends, Consumes, IsAtEnd}
+use Rattle.std.specs.Prelude.{ℕ, ◌≡◌, ◌+◌, List, [], ◌∷◌, ◌++◌, Option, Some, None, Result, Ok, Err, option_map}
+use Rattle.std.specs.Io.KnownBytes.{Consumes}
+use Rattle.std.specs.List.{cons_option}
 use Rattle.pif_model.specs.Table.{Table}
-use Rattle.pif_script_model.specs.declared.faults.CliFault.{CliFault}
-use Rattle.pif_script_model.specs.Running.{RunsTo, script}
-use Rattle.pif_script_model.specs.Runs.{EndsAfter, RunsFrom}
-use Rattle.pif_script_model.specs.Scripts.{Scan, closed_at, reading_of, start}
-use Rattle.pif_story.specs.Notes.{story_notes}
-use Rattle.pif_job_run.specs.declared.kept.Kept.{Kept}
-use Rattle.pif_job_run.specs.declared.kept.Kept.TheVariants.{All, Long, Refused}
+use Rattle.pif_text_model.specs.declared.commands.Command.{Command}
+use Rattle.pif_text_model.specs.declared.replies.Cause.{Cause}
+use Rattle.pif_text_model.specs.declared.replies.Cause.TheVariants as cause
+use Rattle.pif_text_model.specs.Commands.{command_in}
+use Rattle.pif_text_model.specs.Replies.{text_of}
+use Rattle.pif_script_model.specs.declared.ending.Ending.TheVariants.{Fault}
+use Rattle.pif_script_model.specs.Running.{Answer, answer_or_fault, command_answer, first_answer, made_by, script}
+use Rattle.pif_script_model.specs.Runs.{EndsAfter, end_line}
+use Rattle.pif_script_model.specs.Scripts.{FirstMeaning, Hearing, Meaning, start}
+use Rattle.pif_story_model.specs.Lines.{lines}
+use Rattle.pif_story_model.specs.Rows.{words_outcome}
+use Rattle.pif_story.specs.declared.missing.Known.{Known}
+use Rattle.pif_story.specs.declared.missing.Note.{Note}
+use Rattle.pif_story.specs.Notes.{known_behind, note_at, noted, nothing_known, one_more, row_known, with_found, with_notes, words_noted}
 
--- what was read is kept; or nothing of it, since it is too long, or memory was refused for it
-abbrev pub AreKept : (read : List ℕ) → Kept → Type 0
-AreKept read (All bytes) = (bytes.items ≡ read) × (length read ≤ 1048576)
-AreKept read Long = 1048576 < length read
-AreKept read Refused = Unit {0}
+-- ---- the notes on a script
 
--- bytes that were read behind others are kept as those are
-abbrev pub KeepsMore : (read : List ℕ) → (old new : Kept) → Type 0
-KeepsMore read old new = (before : List ℕ) → AreKept before old → AreKept (before ++ read) new
+-- a line of a script, and what it is answered
+abbrev pub Heard : Type 0
+Heard = List ℕ × List ℕ
 
--- a part of a run, which leaves the script at t and goes on if the answer is true; what it read is kept. If it does not
--- go on, the script ends at s, and nothing more was read
-abbrev pub KeepsPart : (s t : Scan Table) → (before after held holds : Option (List ℕ)) → (old new : Kept)
-    → Result Bool CliFault → Type 0
-KeepsPart s t before after held holds old new (Ok true) =
-    (read : List ℕ) × Consumes before after read × ((reading_of script s read).stands ≡ Ok t)
-    × Appends held holds (reading_of script s read).text × KeepsMore read old new
-KeepsPart s t before after held holds old new (Ok false) =
-    (said : List ℕ) × (closed_at script s ≡ Ok said) × Consumes before after [] × IsAtEnd after
-    × Appends held holds said × (new ≡ old)
-KeepsPart s t before after held holds old new (Err e) = RunsFrom script s before after held holds (Err e)
+-- lines of a script with what each is answered, behind a core or as the first ones; a line that is a fault has no
+-- answer, and none behind it has one
+unfoldable pub answered : Option Table → List (List ℕ) → List Heard
+answered before [] = []
+answered before (line ∷ more) =
+    elim (words_outcome before line) [ Ok a ↦ (line, text_of a.0) ∷ answered (Some a.1) more | Err cause ↦ [] ]
 
--- a run of a script, by what the reader had and has left, and what the writer held and holds. If it was done, all that
--- it read is kept
-abbrev pub RunsKeeping : (before after held holds : Option (List ℕ)) → Kept → Result (Unit {0}) CliFault → Type 0
-RunsKeeping before after held holds kept (Ok x) =
-    (read : List ℕ) × Consumes before after read × EndsAfter script start read after held holds (Ok x)
-    × AreKept read kept
-RunsKeeping before after held holds kept (Err e) = RunsTo before after held holds (Err e)
+-- the notes on such lines in their order; the first of them has this number
+unfoldable pub notes_on : Known → ℕ → List Heard → List Note
+notes_on known number [] = []
+notes_on known number (heard ∷ more) =
+    cons_option (option_map (note_at number heard.0) (words_noted known heard.0 heard.1))
+    (notes_on (row_known known heard.0 heard.1) (number + 1) more)
 
--- the notes on a script of this name that was run: those on it as a story; none on a long one
-unfoldable pub run_notes : (name script : List ℕ) → List ℕ
-run_notes name script = if nat_lt 1048576 (length script) then [] else story_notes name script
+-- the notes on a script: each name and priority is told once, at the first command that names it, and there are 20 at
+-- most
+unfoldable pub run_notes : (script : List ℕ) → List Note
+run_notes script = with_notes [] (notes_on nothing_known 1 (answered None (lines script)))
 
--- these are the notes on a script of this name that was run; or memory was refused for them
-abbrev pub AreNotesOn : (name read : List ℕ) → (notes : Option (List ℕ)) → Type 0
-AreNotesOn name read None = Unit {0}
-AreNotesOn name read (Some notes) = notes ≡ run_notes name read
-
--- a run of a script of this name was done, and these are the notes on what was read; or memory was refused for them
-abbrev pub RunsNoting : (name : List ℕ) → (before after held holds notes : Option (List ℕ)) → Type 0
-RunsNoting name before after held holds notes =
+-- a run of a script was done, and these are the notes on what was read
+abbrev pub RunsNoting : (before after held holds : Option (List ℕ)) → (notes : List Note) → Type 0
+RunsNoting before after held holds notes =
     (read : List ℕ) × Consumes before after read × EndsAfter script start read after held holds (Ok tt)
-    × AreNotesOn name read notes
+    × (notes ≡ run_notes read)
+
+-- ---- while it runs
+
+-- what is kept for the notes: what was added, the number of the next line, and the notes so far
+pub record Tally : Type 0 where
+  pub known : Known
+  pub number : ℕ
+  pub notes : List Note
+
+-- before the first line
+abbrev pub nothing_tallied : Tally
+nothing_tallied = record { known = nothing_known; number = 1; notes = [] }
+
+-- behind a line with this command, which is answered so
+abbrev pub tally_behind : Tally → (line : List ℕ) → Command → (given : List ℕ) → Tally
+tally_behind t line c given = record {
+  known = known_behind t.known c given;
+  number = one_more t.number;
+  notes = with_found t.notes (option_map (note_at t.number line) (noted t.known c given));
+}
+
+-- a core, and what is kept for the notes
+pub record Noting : Type 0 where
+  pub core : Table
+  pub tally : Tally
+
+-- an answer as a line, and what it leaves
+abbrev pub noted_line : Tally → (line : List ℕ) → Command → Result Answer Cause → Meaning Noting
+noted_line t line c (Ok a) =
+    Ok (text_of a.0 ++ 10 ∷ [], record { core = a.1; tally = tally_behind t line c (text_of a.0) })
+noted_line t line c (Err e) = Err (Fault e)
+
+-- what the first line of a script means
+unfoldable pub first_noted : List ℕ → FirstMeaning Noting
+first_noted line =
+    elim (command_in line) [
+      | None ↦ Err (Fault cause.Command)
+      | Some c ↦ made_by (noted_line nothing_tallied line c (first_answer c))
+    ]
+
+-- what a later line means
+unfoldable pub later_noted : Noting → List ℕ → Meaning Noting
+later_noted n line =
+    elim (command_in line) [
+      | None ↦ Err (Fault cause.Command)
+      | Some c ↦ noted_line n.tally line c (answer_or_fault (command_answer c n.core))
+    ]
+
+-- how a script is heard that is noted
+abbrev pub noting : Hearing Noting
+noting = record {
+  first_meaning = λ version line. first_noted line;
+  meaning = later_noted;
+  end_text = λ number. Ok [];
+  said_of = end_line;
+}

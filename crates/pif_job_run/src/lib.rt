@@ -1,7 +1,7 @@
 //! The jobs that run a script or a story: run, trace and show.
 //!
-//! `pif run` has a core run a script as its lines are read, and tells the notes on it. What was read is kept for the
-//! notes, as far as memory allows.
+//! `pif run` has a core run a script as its lines are read, and tells the notes on it. They are made as the lines are
+//! answered, in room that is there before the first.
 //!
 //! `pif trace` writes what a script or a story asks of its core, and what a core did, as the lines of a trace. A script
 //! may have every command. A line of a trace has `limits`, `thread`, `mutex`, `cond`, `begin`, `go` or `end`, and the
@@ -12,7 +12,7 @@
 //!
 //! | Module | What it has |
 //! |---|---|
-//! | `kept` | what was read of a script, as far as it is kept for notes |
+//! | `noting` | a core as a listener that keeps the notes on its lines |
 //! | `runs` | a script run as its lines are read, and the notes on it |
 //! | `tracing` | entries as lines; the trace of a history |
 //! | `transcribing` | a core as a listener whose trace is written while it does what a script asks |
@@ -23,7 +23,7 @@
 //! | `story_shows` | the script that is left of a story, shown |
 #![tactic(auto)]
 
-mod kept;
+mod noting;
 mod runs;
 mod script_traces;
 mod showing;

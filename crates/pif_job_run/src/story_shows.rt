@@ -9,7 +9,7 @@ use crate::showing::{Look, show_script};
 use pif_script::{CliFault, Notice, read_all};
 use pif_script_core::story_notes;
 use pif_script_model::Detail;
-use pif_story::{name_of, names_in, read_script_of_story};
+use pif_story::{Notes, name_of, names_in, read_script_of_story};
 use pif_types::Tid;
 use std::alloc::{AllocError, Global};
 use std::io::{Read, Write};
@@ -92,7 +92,7 @@ fn show_named<W: Write>(
 /// line of a fault is told so, too, and nothing of the core behind it; `notice` keeps it, and is left as it is if there
 /// is none. Lines are counted in the script that is left, from 1. Answers that are written in the story are not
 /// compared. This text is for reading, and may change. It stands behind what the writer held. Answers the notes on the
-/// story of this name, a line for each, as `story_notes` does.
+/// story, as `story_notes` does.
 ///
 /// # Errors
 ///
@@ -102,21 +102,20 @@ fn show_named<W: Write>(
 pub fn show_noting<R: Read, W: Write>(
     detail: Detail,
     alloc: Global,
-    name: &[u8],
     reader: &mut R,
     writer: &mut W,
     notice: &mut Notice,
-) -> Result<Vec<u8>, CliFault>
-    ensures noted { IfOk result (λ notes. ShowsNoting name.now (R.remaining reader.old) (R.remaining reader.new)
+) -> Result<Notes, CliFault>
+    ensures noted { IfOk result (λ notes. ShowsNoting (R.remaining reader.old) (R.remaining reader.new)
         (W.contents writer.old) (W.contents writer.new) (Ok notes.items)) }
-    ensures failed { IfErr result (λ fault. ShowsNoting name.now (R.remaining reader.old) (R.remaining reader.new)
+    ensures failed { IfErr result (λ fault. ShowsNoting (R.remaining reader.old) (R.remaining reader.new)
         (W.contents writer.old) (W.contents writer.new) (Err fault)) }
     ensures told { OnOk result (WritesStory detail (R.remaining reader.old) (R.remaining reader.new)
         (W.contents writer.old) (W.contents writer.new)) }
 {
     let story = read_all(alloc, reader)?;
     let text = story.as_slice();
-    let notes = story_notes(alloc, name, text)?;
+    let notes = story_notes(alloc, text)?;
     match names_in(alloc, text) {
         Ok(names) => {
             show_named(detail, alloc, names.as_slice(), text, writer, notice)?;

@@ -82,17 +82,12 @@ fn undo(alloc: Global, session: &mut Session, count: &[u8]) -> (Remark, Done) {
 }
 
 /// Writes what the last command of a session is answered, and what it names that isn't there.
-fn tell_reply<W: Write>(
-    alloc: Global,
-    session: &Session,
-    reply: Reply,
-    writer: &mut W,
-) -> Result<(), Unwritten>
+fn tell_reply<W: Write>(session: &Session, reply: Reply, writer: &mut W) -> Result<(), Unwritten>
     ensures { Stays (W.contents writer.old) (W.contents writer.new) }
 {
     let answered = reply;
     write_text(reply_line(reply).as_slice(), writer)?;
-    tell_if(note_on(alloc, session, answered), writer)
+    tell_if(note_on(session, answered), writer)
 }
 
 /// Gives the command again that was taken back last, and writes it and its answer.
@@ -105,7 +100,7 @@ fn redo<W: Write>(alloc: Global, session: &mut Session, writer: &mut W) -> Resul
             remark.say("again: ");
             say_command(command, &mut remark);
             tell(remark, writer)?;
-            tell_reply(alloc, session, reply, writer).and(Ok(Done::Changed))
+            tell_reply(session, reply, writer).and(Ok(Done::Changed))
         }
         Err(why) => tell_words(not_redone_words(why), writer).and(Ok(Done::Nothing)),
     }
@@ -224,7 +219,7 @@ fn play<W: Write>(
     ensures { Stays (W.contents writer.old) (W.contents writer.new) }
 {
     match session.take(alloc, line) {
-        Ok(reply) => tell_reply(alloc, session, reply, writer).and(Ok(Done::Changed)),
+        Ok(reply) => tell_reply(session, reply, writer).and(Ok(Done::Changed)),
         Err(refusal) => {
             let mut remark = Remark::new();
             say_refusal(&refusal, &mut remark);

@@ -4,7 +4,6 @@ use crate::remarks::Remark;
 use crate::sessions::Session;
 use pif_story::{Known, append_missing, noted};
 use pif_text::{Reply, Text, reply_text};
-use std::alloc::Global;
 
 /// How many threads, mutexes and condition variables a session has.
 fn known_to(session: &Session) -> Known {
@@ -18,18 +17,15 @@ fn known_to(session: &Session) -> Known {
     }
 }
 
-/// What is said of the last command of a session, which was answered so, if it names what nobody has, or a priority that
-/// is out of range. Such a command has changed nothing, so the session has what it had before. Nothing is said if memory
-/// is refused.
-pub fn note_on(alloc: Global, session: &Session, reply: Reply) -> Option<Remark> {
+/// What is said of the last command of a session, which was answered so, if it names what nobody has, or a priority
+/// that is out of range. Such a command has changed nothing, so the session has what it had before.
+pub fn note_on(session: &Session, reply: Reply) -> Option<Remark> {
     let command = *session.last()?;
     let mut given = Text::new();
     reply_text(reply, &mut given);
     let missing = noted(&known_to(session), command, given.as_slice())?;
-    let mut text = Vec::new(alloc);
-    if append_missing(&mut text, &missing).is_err() {
-        return None;
-    }
+    let mut text = Text::new();
+    append_missing(&mut text, &missing);
     let mut remark = Remark::new();
     remark.show(text.as_slice());
     Some(remark)

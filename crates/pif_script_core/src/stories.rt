@@ -6,7 +6,7 @@ ghost use Rattle.pif_story.specs.Notes.{story_notes};
 
 use crate::runs::run;
 use pif_script::CliFault;
-use pif_story::{notes_text, plain_story, script_of};
+use pif_story::{Notes, notes_beside, plain_story, script_of};
 use pif_text::Cause;
 use std::alloc::Global;
 
@@ -36,14 +36,14 @@ pub fn run_story(alloc: Global, plain: &[u8]) -> Result<Ran, CliFault>
     }
 }
 
-/// The notes on a story of this name, a line for each.
+/// The notes on a story.
 ///
 /// # Errors
 ///
 /// `NoMemory`.
 #[tactic(auto, unfolding(pif_story::specs::Notes::story_notes, pif_story_model::specs::Stories::script_of))]
-pub fn story_notes(alloc: Global, name: &[u8], story: &[u8]) -> Result<Vec<u8>, CliFault>
-    ensures notes { IfOk result (λ notes. notes.items ≡ story_notes name.now story.now) }
+pub fn story_notes(alloc: Global, story: &[u8]) -> Result<Notes, CliFault>
+    ensures notes { IfOk result (λ notes. notes.items ≡ story_notes story.now) }
     ensures failed { IfErr result IsUntold }
 {
     let Ok(plain) = plain_story(alloc, story) else {
@@ -51,8 +51,5 @@ pub fn story_notes(alloc: Global, name: &[u8], story: &[u8]) -> Result<Vec<u8>, 
     };
     let words = plain.as_slice();
     let (output, _) = run_story(alloc, words)?;
-    match notes_text(alloc, name, story, words, output.as_slice()) {
-        Ok(text) => Ok(text),
-        Err(_) => Err(CliFault::NoMemory),
-    }
+    Ok(notes_beside(story, words, output.as_slice()))
 }

@@ -2,3 +2,4 @@ mod FlawLemmas
 pub mod NameLemmas
 pub mod NoteLemmas
 mod PartLemmas
+mod WritingLemmas

@@ -13,59 +13,62 @@ use Rattle.pif_story.specs.declared.missing.Note.{Note}
 use Rattle.pif_story.specs.Notes.{begins_with, column_from, is_same, is_told, line_or_empty, nothing_known, notes_of_rows, row_known, row_note, rows_notes, with_found, with_note, with_notes}
 use Rattle.pif_story.specs.Rows.{next_known, next_note}
 
--- the notes that are told once the commands of these lines have theirs, behind those that are told
-unfoldable pub notes_left : List Note → Known → ℕ → (lines answers : List (List ℕ)) → List Note
-notes_left told known number lines answers = with_notes told (rows_notes known (zip (rows_from number lines) answers))
+module _ (story : List ℕ) where
+  -- the notes that are told once the commands of these lines have theirs, behind those that are told
+  unfoldable pub notes_left : List Note → Known → ℕ → (lines answers : List (List ℕ)) → List Note
+  notes_left told known number lines answers =
+      with_notes told (rows_notes story known (zip (rows_from number lines) answers))
 
-pub notes_start : (lines answers : List (List ℕ))
-    → notes_of_rows (rows_from 1 lines) answers ≡ notes_left [] nothing_known 1 lines answers
-unfolding notes_of_rows notes_left
-notes_start lines answers = refl
+  pub notes_start : (lines answers : List (List ℕ))
+      → notes_of_rows story (rows_from 1 lines) answers ≡ notes_left [] nothing_known 1 lines answers
+  unfolding notes_of_rows notes_left
+  notes_start lines answers = refl
 
--- a line without a command
-pub notes_passed : (told : List Note) (known : Known) (number : ℕ) (line : List ℕ) (lines answers : List (List ℕ))
-    → row_in line ≡ None
-    → notes_left told known number (line ∷ lines) answers ≡ notes_left told known (number + 1) lines answers
-unfolding notes_left
-notes_passed told known number line lines answers e = rw (rows_from_passed number line lines e) refl
+  -- a line without a command
+  pub notes_passed : (told : List Note) (known : Known) (number : ℕ) (line : List ℕ) (lines answers : List (List ℕ))
+      → row_in line ≡ None
+      → notes_left told known number (line ∷ lines) answers ≡ notes_left told known (number + 1) lines answers
+  unfolding notes_left
+  notes_passed told known number line lines answers e = rw (rows_from_passed number line lines e) refl
 
-found : (told : List Note) (o : Option Note) (more : List Note)
-    → with_notes told (cons_option o more) ≡ with_notes (with_found told o) more
-unfolding with_notes
-found told None more = refl
-found told (Some note) more = refl
+  found : (told : List Note) (o : Option Note) (more : List Note)
+      → with_notes told (cons_option o more) ≡ with_notes (with_found told o) more
+  unfolding with_notes
+  found told None more = refl
+  found told (Some note) more = refl
 
-zip-none : {A B : Type 0} (xs : List A) → zip {X = B} xs [] ≡ []
-zip-none [] = refl
-zip-none (x ∷ xs) = refl
+  zip-none : {A B : Type 0} (xs : List A) → zip {X = B} xs [] ≡ []
+  zip-none [] = refl
+  zip-none (x ∷ xs) = refl
 
-row-left : (told : List Note) (known : Known) (row : NumberedRow) (rows : List NumberedRow) (answers : List (List ℕ))
-    → with_notes told (rows_notes known (zip (row ∷ rows) answers))
-    ≡ with_notes (with_found told (next_note known row.0 row.1 answers))
-    (rows_notes (next_known known row.1 answers) (zip rows (more_answers answers)))
-unfolding rows_notes
-row-left told known row rows [] = rw (zip-none {B = List ℕ} rows) refl
-row-left told known row rows (given ∷ more) =
-    found told (row_note known row.0 row.1 given) (rows_notes (row_known known row.1.0 given) (zip rows more))
+  row-left : (told : List Note) (known : Known) (row : NumberedRow) (rows : List NumberedRow) (answers : List (List ℕ))
+      → with_notes told (rows_notes story known (zip (row ∷ rows) answers))
+      ≡ with_notes (with_found told (next_note story known row.0 row.1 answers))
+      (rows_notes story (next_known known row.1 answers) (zip rows (more_answers answers)))
+  unfolding rows_notes
+  row-left told known row rows [] = rw (zip-none {B = List ℕ} rows) refl
+  row-left told known row rows (given ∷ more) =
+      found told (row_note story known row.0 row.1 given)
+      (rows_notes story (row_known known row.1.0 given) (zip rows more))
 
--- a line with a command
-pub notes_row : (whole told new : List Note) (known after : Known) (number : ℕ) (row : StoryRow) (line : List ℕ)
-    (lines answers left : List (List ℕ))
-    → row_in line ≡ Some row → new ≡ with_found told (next_note known number row answers)
-    → after ≡ next_known known row answers → left ≡ more_answers answers
-    → whole ≡ notes_left told known number (line ∷ lines) answers
-    → whole ≡ notes_left new after (number + 1) lines left
-unfolding notes_left
-notes_row whole told new known after number row line lines answers left r n k l e =
-    e ∙ ap (λ rows. with_notes told (rows_notes known (zip rows answers))) (rows_from_row number line lines row r)
-    ∙ row-left told known (number, row) (rows_from (number + 1) lines) answers
-    ∙ sym (rw (n, k, l) refl)
+  -- a line with a command
+  pub notes_row : (whole told new : List Note) (known after : Known) (number : ℕ) (row : StoryRow) (line : List ℕ)
+      (lines answers left : List (List ℕ))
+      → row_in line ≡ Some row → new ≡ with_found told (next_note story known number row answers)
+      → after ≡ next_known known row answers → left ≡ more_answers answers
+      → whole ≡ notes_left told known number (line ∷ lines) answers
+      → whole ≡ notes_left new after (number + 1) lines left
+  unfolding notes_left
+  notes_row whole told new known after number row line lines answers left r n k l e =
+      e ∙ ap (λ rows. with_notes told (rows_notes story known (zip rows answers))) (rows_from_row number line lines row r)
+      ∙ row-left told known (number, row) (rows_from (number + 1) lines) answers
+      ∙ sym (rw (n, k, l) refl)
 
--- no line is left
-pub notes_end : (told : List Note) (known : Known) (number : ℕ) (answers : List (List ℕ))
-    → notes_left told known number [] answers ≡ told
-unfolding notes_left with_notes rows_notes
-notes_end told known number answers = rw (rows_from_nothing number) refl
+  -- no line is left
+  pub notes_end : (told : List Note) (known : Known) (number : ℕ) (answers : List (List ℕ))
+      → notes_left told known number [] answers ≡ told
+  unfolding notes_left with_notes rows_notes
+  notes_end told known number answers = rw (rows_from_nothing number) refl
 
 -- ---- whether something was told
 

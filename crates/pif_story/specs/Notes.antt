@@ -128,68 +128,7 @@ noted known c given =
     if bytes_eq given (codes "refused nosuch") then missing_in known c
     else if bytes_eq given (codes "refused badprio") then asked_priority c else None
 
--- ---- the notes on a story
-
--- an answer that is written behind a command wants what is noted, so that nothing is told
-abbrev pub if_unanswered : Option (List ℕ) → Option Missing → Option Missing
-if_unanswered None missing = missing
-if_unanswered (Some written) missing = None
-
--- the note in the line of this number on what is missing
-abbrev pub note_in : ℕ → Missing → Note
-note_in line m = record { line = line; missing = m }
-
--- what is noted of the command that these words are
-unfoldable pub words_noted : Known → (words given : List ℕ) → Option Missing
-words_noted known words given = elim (command_in words) [ None ↦ None | Some c ↦ noted known c given ]
-
--- the note on a command in the line of this number, beside what `run` prints for it, if there is one
-unfoldable pub row_note : Known → ℕ → StoryRow → (given : List ℕ) → Option Note
-row_note known line row given = option_map (note_in line) (if_unanswered row.1 (words_noted known row.0 given))
-
--- what is there behind it
-unfoldable pub row_known : Known → (words given : List ℕ) → Known
-row_known known words given = elim (command_in words) [ None ↦ known | Some c ↦ known_behind known c given ]
-
--- the notes on commands, each beside what `run` prints for it, in their order
-unfoldable pub rows_notes : Known → List (NumberedRow × List ℕ) → List Note
-rows_notes known [] = []
-rows_notes known (pair ∷ more) =
-    cons_option (row_note known pair.0.0 pair.0.1 pair.1) (rows_notes (row_known known pair.0.1.0 pair.1) more)
-
--- whether two are the same
-abbrev pub is_same : Missing → Missing → Bool
-is_same (Thread m) (Thread n) = m == n
-is_same (Mutex m) (Mutex n) = m == n
-is_same (Cond m) (Cond n) = m == n
-is_same (Priority m) (Priority n) = m == n
-is_same one other = false
-
--- whether a note is on this
-unfoldable pub is_told : Missing → List Note → Bool
-is_told missing [] = false
-is_told missing (note ∷ more) = if is_same note.missing missing then true else is_told missing more
-
--- a note behind those that are told: each name is told once, and there are 20 notes at most
-unfoldable pub with_note : (told : List Note) → Note → List Note
-with_note told note =
-    if nat_lt (length told) 20 && not (is_told note.missing told) then told ++ note ∷ [] else told
-
--- a note behind those that are told, if there is one
-abbrev pub with_found : (told : List Note) → Option Note → List Note
-with_found told None = told
-with_found told (Some note) = with_note told note
-
--- notes behind those that are told, one after the other
-unfoldable pub with_notes : (told notes : List Note) → List Note
-with_notes told [] = told
-with_notes told (note ∷ more) = with_notes (with_note told note) more
-
--- the notes on these commands beside the lines that `run` prints for them
-unfoldable pub notes_of_rows : List NumberedRow → (answers : List (List ℕ)) → List Note
-notes_of_rows rows answers = with_notes [] (rows_notes nothing_known (zip rows answers))
-
--- ---- how they are told
+-- ---- where it stands
 
 -- the word in a command that is missing
 unfoldable pub missing_word : Missing → List ℕ
@@ -197,24 +136,6 @@ missing_word (Thread t) = thread_name t
 missing_word (Mutex m) = mutex_name m
 missing_word (Cond c) = cond_name c
 missing_word (Priority p) = decimal p
-
--- what is said before it
-unfoldable pub words_before : Missing → List ℕ
-words_before (Thread t) = codes "there is no thread "
-words_before (Mutex m) = codes "there is no mutex "
-words_before (Cond c) = codes "there is no condition variable "
-words_before (Priority p) = codes "priority "
-
--- and behind it
-unfoldable pub words_behind : Missing → List ℕ
-words_behind (Thread t) = []
-words_behind (Mutex m) = []
-words_behind (Cond c) = []
-words_behind (Priority p) = codes " is out of range (1 to 99)"
-
--- what is said of what is missing
-abbrev pub missing_text : Missing → List ℕ
-missing_text m = words_before m ++ missing_word m ++ words_behind m
 
 -- whether a text is at an end of a word
 abbrev pub ends_word : List ℕ → Bool
@@ -246,51 +167,142 @@ line_or_empty (Some line) = line
 abbrev pub line_in : (text : List ℕ) → ℕ → List ℕ
 line_in text number = line_or_empty (slice_get (lines text) (number - 1))
 
--- a place in a file of this name, by line and column
-abbrev pub place_text : (name : List ℕ) → (line column : ℕ) → List ℕ
-place_text name line column =
-    name ++ codes ":" ++ decimal line ++ codes ":" ++ decimal column ++ codes ": "
+-- ---- the notes on a story
 
--- the column of a note in a story
-abbrev pub note_column : (story : List ℕ) → Note → ℕ
-note_column story note = column_of (missing_word note.missing) (line_in (without_mark story) note.line)
+-- an answer that is written behind a command wants what is noted, so that nothing is told
+abbrev pub if_unanswered : Option (List ℕ) → Option Missing → Option Missing
+if_unanswered None missing = missing
+if_unanswered (Some written) missing = None
 
--- the line of a note on a story of this name
-unfoldable pub note_line : (name story : List ℕ) → Note → List ℕ
-note_line name story note =
-    place_text name note.line (note_column story note) ++ missing_text note.missing ++ codes "\n"
+-- the note in a line of this number and text on what is missing
+abbrev pub note_at : ℕ → (text : List ℕ) → Missing → Note
+note_at line text m = record { line = line; column = column_of (missing_word m) text; missing = m }
 
--- the notes on a story of this name whose commands stand beside these lines; there are none on one that is too large
-unfoldable pub notes_beside : (name story : List ℕ) → (answers : List (List ℕ)) → List ℕ
-notes_beside name story answers =
-    if nat_lt 16777216 (length story) then []
-    else flat_map (note_line name story) (notes_of_rows (rows_of story) answers)
+-- the same in the line of this number of a story, as it is written
+abbrev pub note_in : (story : List ℕ) → ℕ → Missing → Note
+note_in story line m = note_at line (line_in (without_mark story) line) m
 
--- the notes on a story of this name: its commands beside the lines that `run` prints for its script
-unfoldable pub story_notes : (name story : List ℕ) → List ℕ
-story_notes name story = notes_beside name story (lines (text_of_run (script_of story)))
+-- what is noted of the command that these words are
+unfoldable pub words_noted : Known → (words given : List ℕ) → Option Missing
+words_noted known words given = elim (command_in words) [ None ↦ None | Some c ↦ noted known c given ]
+
+-- what is noted of a command, beside what `run` prints for it
+abbrev pub row_missing : Known → StoryRow → (given : List ℕ) → Option Missing
+row_missing known row given = if_unanswered row.1 (words_noted known row.0 given)
+
+-- the note on a command in the line of this number of a story, likewise, if there is one
+unfoldable pub row_note : (story : List ℕ) → Known → ℕ → StoryRow → (given : List ℕ) → Option Note
+row_note story known line row given = option_map (note_in story line) (row_missing known row given)
+
+-- what is there behind it
+unfoldable pub row_known : Known → (words given : List ℕ) → Known
+row_known known words given = elim (command_in words) [ None ↦ known | Some c ↦ known_behind known c given ]
+
+-- the notes on commands of a story, each beside what `run` prints for it, in their order
+unfoldable pub rows_notes : (story : List ℕ) → Known → List (NumberedRow × List ℕ) → List Note
+rows_notes story known [] = []
+rows_notes story known (pair ∷ more) =
+    cons_option (row_note story known pair.0.0 pair.0.1 pair.1)
+    (rows_notes story (row_known known pair.0.1.0 pair.1) more)
+
+-- whether two are the same
+abbrev pub is_same : Missing → Missing → Bool
+is_same (Thread m) (Thread n) = m == n
+is_same (Mutex m) (Mutex n) = m == n
+is_same (Cond m) (Cond n) = m == n
+is_same (Priority m) (Priority n) = m == n
+is_same one other = false
+
+-- whether a note is on this
+unfoldable pub is_told : Missing → List Note → Bool
+is_told missing [] = false
+is_told missing (note ∷ more) = if is_same note.missing missing then true else is_told missing more
+
+-- a note behind those that are told: each name is told once, and there are 20 notes at most
+unfoldable pub with_note : (told : List Note) → Note → List Note
+with_note told note =
+    if nat_lt (length told) 20 && not (is_told note.missing told) then told ++ note ∷ [] else told
+
+-- a note behind those that are told, if there is one
+abbrev pub with_found : (told : List Note) → Option Note → List Note
+with_found told None = told
+with_found told (Some note) = with_note told note
+
+-- notes behind those that are told, one after the other
+unfoldable pub with_notes : (told notes : List Note) → List Note
+with_notes told [] = told
+with_notes told (note ∷ more) = with_notes (with_note told note) more
+
+-- the notes on these commands of a story beside the lines that `run` prints for them
+unfoldable pub notes_of_rows : (story : List ℕ) → List NumberedRow → (answers : List (List ℕ)) → List Note
+notes_of_rows story rows answers = with_notes [] (rows_notes story nothing_known (zip rows answers))
+
+-- the notes on a story whose commands stand beside these lines; there are none on one that is too large
+unfoldable pub notes_beside : (story : List ℕ) → (answers : List (List ℕ)) → List Note
+notes_beside story answers =
+    if nat_lt 16777216 (length story) then [] else notes_of_rows story (rows_of story) answers
+
+-- the notes on a story: its commands beside the lines that `run` prints for its script
+unfoldable pub story_notes : (story : List ℕ) → List Note
+story_notes story = notes_beside story (lines (text_of_run (script_of story)))
+
+-- ---- how they are told
+
+-- what is said before the word that is missing
+unfoldable pub words_before : Missing → List ℕ
+words_before (Thread t) = codes "there is no thread "
+words_before (Mutex m) = codes "there is no mutex "
+words_before (Cond c) = codes "there is no condition variable "
+words_before (Priority p) = codes "priority "
+
+-- and behind it
+unfoldable pub words_behind : Missing → List ℕ
+words_behind (Thread t) = []
+words_behind (Mutex m) = []
+words_behind (Cond c) = []
+words_behind (Priority p) = codes " is out of range (1 to 99)"
+
+-- what is said of what is missing
+abbrev pub missing_text : Missing → List ℕ
+missing_text m = words_before m ++ missing_word m ++ words_behind m
+
+-- the place of a note behind the name of its file, by line and column
+abbrev pub place_text : (line column : ℕ) → List ℕ
+place_text line column = codes ":" ++ decimal line ++ codes ":" ++ decimal column ++ codes ": "
+
+-- what is told of a note behind that name
+unfoldable pub note_text : Note → List ℕ
+note_text note = place_text note.line note.column ++ missing_text note.missing ++ codes "\n"
+
+-- the line of a note on a file of this name
+abbrev pub note_line : (name : List ℕ) → Note → List ℕ
+note_line name note = name ++ note_text note
+
+-- the lines of notes on a file of this name
+abbrev pub notes_text : (name : List ℕ) → List Note → List ℕ
+notes_text name notes = flat_map (note_line name) notes
 
 -- ---- jobs with notes
 
 -- these are the notes on a story that was read, if the job was done
-abbrev pub AreNotes : (name story : List ℕ) → Result (List ℕ) CliFault → Type 0
-AreNotes name story (Ok notes) = notes ≡ story_notes name story
-AreNotes name story (Err fault) = Unit {0}
+abbrev pub AreNotes : (story : List ℕ) → Result (List Note) CliFault → Type 0
+AreNotes story (Ok notes) = notes ≡ story_notes story
+AreNotes story (Err fault) = Unit {0}
 
--- what is to be told of a story of this name was, and these are the notes on it
-abbrev pub TellsNoting : (name : List ℕ) → (List ℕ → Telling) → (before after held holds : Option (List ℕ))
-    → Result (List ℕ) CliFault → Type 0
-TellsNoting name telling before after held holds result =
+-- what is to be told of a story was, and these are the notes on it
+abbrev pub TellsNoting : (List ℕ → Telling) → (before after held holds : Option (List ℕ))
+    → Result (List Note) CliFault → Type 0
+TellsNoting telling before after held holds result =
     (read : List ℕ) × Consumes before after read × (length read ≤ 16777217)
-    × TellsOfStory telling read after held holds (as_done result) × AreNotes name read result
+    × TellsOfStory telling read after held holds (as_done result) × AreNotes read result
 
 -- the script that is left of these bytes of a story was shown
 abbrev pub Shows : List ℕ → (after held holds : Option (List ℕ)) → Result (Unit {0}) CliFault → Type 0
 Shows read after held holds result =
     (script : Result (List ℕ) CliFault) × LeavesScript read after script × EndsWith ShowsTo script held holds result
 
--- the script that is left of a story of this name was shown, and these are the notes on it
-abbrev pub ShowsNoting : (name : List ℕ) → (before after held holds : Option (List ℕ)) → Result (List ℕ) CliFault → Type 0
-ShowsNoting name before after held holds result =
+-- the script that is left of a story was shown, and these are the notes on it
+abbrev pub ShowsNoting : (before after held holds : Option (List ℕ)) → Result (List Note) CliFault → Type 0
+ShowsNoting before after held holds result =
     (read : List ℕ) × Consumes before after read × (length read ≤ 16777217)
-    × Shows read after held holds (as_done result) × AreNotes name read result
+    × Shows read after held holds (as_done result) × AreNotes read result

@@ -21,6 +21,7 @@
 //! | `names`, `namings` | the names that a story gives its threads: a comment `# t1: low` gives t1 the name `low` |
 //! | `missing` | what was added, and the first name in a command that nobody has |
 //! | `notes` | the notes on the commands of a story, each name once |
+//! | `places` | where in a line a name stands |
 //! | `texts` | the lines in which notes are told |
 //!
 //! Commands name threads as ever; a name is for those who look on. A note says what a command names that nobody has, or
@@ -37,6 +38,7 @@ mod names;
 mod namings;
 mod notes;
 mod parts;
+mod places;
 mod plain;
 mod reading;
 mod scripts;
@@ -47,12 +49,13 @@ mod verdicts;
 pub use comparing::{compare, count_commands};
 pub use filling::filled_text;
 pub use lines::{commentless, line_at_end, row_of, split_line, without_mark};
-pub use missing::{Known, Missing, Note, noted};
+pub use missing::{Known, Missing, Note, noted, one_more};
 pub use names::{name_of, names_in};
+pub use notes::{MOST_NOTES, Notes, note_at, notes_beside};
 pub use parts::printable;
 pub use plain::{append_plain, plain_story};
 pub use reading::{MOST, read_script_of_story};
 pub use scripts::script_of;
-pub use texts::{append_missing, notes_text};
+pub use texts::{append_missing, write_notes};
 pub use titles::titled_story;
 pub use verdicts::verdict_text;

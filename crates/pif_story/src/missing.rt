@@ -19,11 +19,20 @@ pub enum Missing {
     Priority(u32),
 }
 
-/// What is noted of the command in the line of this number, from 1.
-#[derive(Clone, Copy)]
+impl Default for Missing {
+    /// What fills a note that is not yet made.
+    fn default() -> Missing {
+        Missing::Thread(0)
+    }
+}
+
+/// What is noted of a command: where it names what isn't there.
+#[derive(Clone, Copy, Default)]
 pub struct Note {
-    /// The number of the line.
+    /// The number of its line, from 1.
     pub line: u64,
+    /// The column of what isn't there, from 1.
+    pub column: u64,
     /// What isn't there.
     pub missing: Missing,
 }
@@ -39,8 +48,8 @@ pub struct Known {
     pub conds: u32,
 }
 
-/// One more.
-fn one_more(count: u32) -> u32
+/// One more; `u32::MAX` stays.
+pub fn one_more(count: u32) -> u32
     ensures { result ≡ one_more count }
 {
     if count < u32::MAX { count + 1 } else { count }

@@ -1,17 +1,21 @@
-ghost use Rattle.std.specs.Prelude.{◌≡◌, ◌≤◌, IfOk, OnOk, length, option_copied, option_map};
+ghost use Rattle.std.specs.Prelude.{◌≡◌, ◌≤◌, ◌&&◌, not, nat_lt, length, option_copied};
 ghost use Rattle.pif_story_model.specs.Filling.{more_answers};
-ghost use Rattle.pif_story_model.specs.Lines.{lines, lines_behind};
+ghost use Rattle.pif_story_model.specs.Lines.{lines, lines_behind, plain_lines};
 ghost use Rattle.pif_story_model.specs.Stories.{rows_from};
-ghost use Rattle.pif_story.specs.Notes.{is_same, is_told, note_in, notes_of_rows, row_known, row_note, with_found, with_note, words_noted};
+ghost use Rattle.pif_story.specs.Notes.{is_same, is_told, note_at, note_in, notes_beside, notes_of_rows, row_known, row_missing, with_found, with_note, words_noted};
 ghost use Rattle.pif_story.specs.Rows.{next_known, next_note};
 
 use crate::missing::{Known, Missing, Note, noted};
-use crate::{row_of, split_line};
+use crate::places::{column_of, line_of};
+use crate::{MOST, row_of, split_line};
+use arrayvec::ArrayVec;
 use pif_text::command_of;
-use std::alloc::{AllocError, Global};
 
-/// The most notes that are told of a story.
-const MOST_NOTES: usize = 20;
+/// The most notes that are told of a script or a story.
+pub const MOST_NOTES: usize = 20;
+
+/// The notes on a script or a story. There is room for all that are told, so they take no memory.
+pub type Notes = ArrayVec<Note, MOST_NOTES>;
 
 /// A command of a story, and the answer that is written behind it, if there is one.
 type Row<'a> = (&'a [u8], Option<&'a [u8]>);
@@ -41,24 +45,35 @@ fn is_told(missing: &Missing, notes: &[Note]) -> bool
     false
 }
 
-/// Appends a note, unless its name was told, or there are as many as are told.
-#[tactic(auto, unfolding(crate::specs::Notes::with_note))]
-fn add_note(notes: &mut Vec<Note>, note: Note) -> Result<(), AllocError>
-    ensures { OnOk result (notes.new.items ≡ with_note notes.old.items note) }
+/// Whether a note on this is told behind these notes.
+fn is_new(missing: &Missing, notes: &Notes) -> bool
+    ensures { result ≡ (nat_lt (length notes.now.items) 20 && not (is_told missing.now notes.now.items)) }
 {
-    if notes.len() < MOST_NOTES && !is_told(&note.missing, notes.as_slice()) {
-        notes.push(note)?;
-    }
-    Ok(())
+    notes.len() < MOST_NOTES && !is_told(missing, notes.as_slice())
 }
 
-/// The note in the line of this number on what isn't there, if something isn't.
-fn in_line(line: u64, missing: Option<Missing>) -> Option<Note>
-    ensures { result ≡ option_map (note_in line) missing }
+/// Notes what isn't there in the line of this number and text, unless that was told, or there are as many notes as are
+/// told.
+#[tactic(auto, unfolding(crate::specs::Notes::with_note))]
+pub fn note_at(notes: &mut Notes, line: u64, text: &[u8], missing: &Missing)
+    ensures { notes.new.items ≡ with_note notes.old.items (note_at line text.now missing.now) }
 {
-    match missing {
-        Some(missing) => Some(Note { line, missing }),
-        None => None,
+    if is_new(missing, notes) {
+        notes.push(Note {
+            line,
+            column: column_of(missing, text),
+            missing: *missing,
+        });
+    }
+}
+
+/// Notes what isn't there in the line of this number of a story, likewise.
+#[tactic(auto, unfolding(crate::specs::Notes::with_note))]
+fn note_in(notes: &mut Notes, story: &[u8], line: u64, missing: &Missing)
+    ensures { notes.new.items ≡ with_note notes.old.items (note_in story.now line missing.now) }
+{
+    if is_new(missing, notes) {
+        note_at(notes, line, line_of(story, line), missing);
     }
 }
 
@@ -73,15 +88,14 @@ fn words_noted(known: &Known, words: &[u8], given: &[u8]) -> Option<Missing>
     }
 }
 
-/// The note on a command in the line of this number, beside what is printed for it, if there is one.
-#[tactic(auto, unfolding(crate::specs::Notes::row_note))]
-fn row_note(known: &Known, line: u64, row: Row<'_>, given: &[u8]) -> Option<Note>
-    ensures { result ≡ row_note known.now line (row.entry.0.now, option_copied row.entry.1) given.now }
+/// What is noted of a command beside what is printed for it.
+fn row_missing(known: &Known, row: Row<'_>, given: &[u8]) -> Option<Missing>
+    ensures { result ≡ row_missing known.now (row.entry.0.now, option_copied row.entry.1) given.now }
 {
     let (words, written) = row;
     match written {
         Some(_) => None,
-        None => in_line(line, words_noted(known, words, given)),
+        None => words_noted(known, words, given),
     }
 }
 
@@ -96,47 +110,45 @@ fn row_known(known: &Known, words: &[u8], given: &[u8]) -> Known
     }
 }
 
-/// Appends the note on a command in the line of this number, if there is one, beside the first of the lines that are
-/// printed from there on. Answers the lines behind it, or `None` if it is the last. If `answers` is `None`, no line is
-/// left: nothing is changed then, and the answer is `None`.
+/// Appends the note on a command in the line of this number of a story, if there is one, beside the first of the lines
+/// that are printed from there on. Answers the lines behind it, or `None` if it is the last. If `answers` is `None`, no
+/// line is left: nothing is changed then, and the answer is `None`.
+#[tactic(auto, unfolding(crate::specs::Notes::row_note))]
 fn take_row<'a>(
-    notes: &mut Vec<Note>,
+    notes: &mut Notes,
     known: &mut Known,
+    story: &[u8],
     line: u64,
     row: Row<'_>,
     answers: Option<&'a [u8]>,
-) -> Result<Option<&'a [u8]>, AllocError>
-    ensures notes { OnOk result (notes.new.items
-        ≡ with_found notes.old.items (next_note known.old line (row.entry.0.now, option_copied row.entry.1) (lines_behind (option_copied answers.entry)))) }
-    ensures known { OnOk result (known.new
-        ≡ next_known known.old (row.entry.0.now, option_copied row.entry.1) (lines_behind (option_copied answers.entry))) }
-    ensures left { IfOk result (λ left. lines_behind (option_copied left) ≡ more_answers (lines_behind (option_copied answers.entry))) }
+) -> Option<&'a [u8]>
+    ensures notes { notes.new.items ≡ with_found notes.old.items
+        (next_note story.now known.old line (row.entry.0.now, option_copied row.entry.1) (lines_behind (option_copied answers.entry))) }
+    ensures known { known.new
+        ≡ next_known known.old (row.entry.0.now, option_copied row.entry.1) (lines_behind (option_copied answers.entry)) }
+    ensures left { lines_behind (option_copied result) ≡ more_answers (lines_behind (option_copied answers.entry)) }
 {
     let Some(output) = answers else {
-        return Ok(None);
+        return None;
     };
     let (given, more) = split_line(output);
-    if let Some(note) = row_note(known, line, row, given) {
-        add_note(notes, note)?;
+    if let Some(missing) = row_missing(known, row, given) {
+        note_in(notes, story, line, &missing);
     }
     *known = row_known(known, row.0, given);
-    Ok(more)
+    more
 }
 
-/// The notes on the commands of a story, of which nothing but its words is given, beside the lines that are printed for
-/// its script.
-///
-/// # Errors
-///
-/// A growth of memory was refused.
+/// The notes on the commands of a story, of which nothing but its words is given besides, beside the lines that are
+/// printed for its script.
 #[tactic(auto, using(crate::proofs::NoteLemmas::notes_start, crate::proofs::NoteLemmas::notes_passed))]
-pub fn notes_of(alloc: Global, story: &[u8], output: &[u8]) -> Result<Vec<Note>, AllocError>
-    requires { length story.now ≤ 16777216 }
-    ensures { IfOk result (λ notes. notes.items ≡ notes_of_rows (rows_from 1 (lines story.now)) (lines output.now)) }
+fn notes_of(story: &[u8], words: &[u8], output: &[u8]) -> Notes
+    requires { length words.now ≤ 16777216 }
+    ensures { result.items ≡ notes_of_rows story.now (rows_from 1 (lines words.now)) (lines output.now) }
 {
-    let mut notes = Vec::new(alloc);
+    let mut notes = Notes::new();
     let mut known = Known::nothing();
-    let mut rest = Some(story);
+    let mut rest = Some(words);
     let mut answers = Some(output);
     let mut number = 0;
     'lines: while let Some(text) = rest {
@@ -144,8 +156,22 @@ pub fn notes_of(alloc: Global, story: &[u8], output: &[u8]) -> Result<Vec<Note>,
         rest = behind;
         number += 1;
         if let Some(row) = row_of(line) {
-            answers = take_row(&mut notes, &mut known, number, row, answers)?;
+            answers = take_row(&mut notes, &mut known, story, number, row, answers);
         }
     }
-    Ok(notes)
+    notes
+}
+
+/// The notes on a story. `words` is the story with nothing but its words, and `output` has the lines that are printed
+/// for its script. There is none on a story of more than 16,777,216 bytes.
+#[tactic(auto, unfolding(crate::specs::Notes::notes_beside))]
+pub fn notes_beside(story: &[u8], words: &[u8], output: &[u8]) -> Notes
+    requires lines { lines words.now ≡ plain_lines story.now }
+    requires shorter { length words.now ≤ length story.now }
+    ensures { result.items ≡ notes_beside story.now (lines output.now) }
+{
+    if story.len() > MOST {
+        return Notes::new();
+    }
+    notes_of(story, words, output)
 }

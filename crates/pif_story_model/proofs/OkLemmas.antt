@@ -28,7 +28,7 @@ use Rattle.pif_story_model.proofs.RowLemmas.{none_ends}
 
 -- ---- lines of answers
 
-line-first : (a rest : List ℕ) → lacks 10 a ≡ true → lines (a ++ 10 ∷ rest) ≡ a ∷ lines rest
+pub line-first : (a rest : List ℕ) → lacks 10 a ≡ true → lines (a ++ 10 ∷ rest) ≡ a ∷ lines rest
 unfolding lines
 line-first [] rest l = refl
 line-first (x ∷ xs) rest l =

@@ -50,7 +50,7 @@ fn note(noting: Noting, alloc: Global, text: &str, notice: &mut Notice) -> Resul
         Noting::Trace => trace_story(alloc, reader, writer, notice),
         Noting::Show => {
             let changes = Detail::Changes;
-            show_noting(changes, alloc, b"story", reader, writer, notice).and(Ok(()))
+            show_noting(changes, alloc, reader, writer, notice).and(Ok(()))
         }
         Noting::Check => check_noting(alloc, b"story", reader, writer, notice).and(Ok(())),
     }

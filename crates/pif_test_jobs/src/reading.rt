@@ -72,7 +72,7 @@ fn hold_talk(alloc: Global, is_noted: bool) -> (Result<(), CliFault>, u64, u64, 
         is_early: false,
     };
     let ended = if is_noted {
-        run_noted(alloc, b"", &mut input, &mut output, &mut Notice::new()).and(Ok(()))
+        run_noted(alloc, &mut input, &mut output, &mut Notice::new()).and(Ok(()))
     } else {
         run(alloc, &mut input, &mut output)
     };

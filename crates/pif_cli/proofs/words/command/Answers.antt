@@ -1,12 +1,15 @@
 use Rattle.std.proofs.Common.{◌≡◌, inl, inr, ℕ, ◌≤◌, List, Option, Result, Ok, Err, arith, rules, subst}
-use Rattle.clap.specs.Words.{kind_of}
+use Rattle.clap.specs.Words.{Text, kind_of}
 use Rattle.pif_script_model.specs.declared.faults.CliFault.{CliFault}
 use Rattle.pif_script_model.specs.declared.faults.CliFault.TheVariants.{Read, Write, NoMemory, Script, Differs}
 use Rattle.pif_cli_messages.specs.declared.statuses.JobFault.{JobFault}
 use Rattle.pif_cli_messages.specs.declared.statuses.JobFault.TheVariants.{Cli, Threads, Unsettled, Undecided}
 use Rattle.pif_cli_messages.specs.Messages.{TellsAt, TellsFault, TellsLine, TellsOf}
 use Rattle.pif_cli_messages.specs.Statuses.{fault_status, job_fault_status, job_status}
-use Rattle.pif_cli.specs.Words.{RefusesInput, no_file_text}
+use Rattle.pif_story.specs.Notes.{notes_text}
+use Rattle.pif_cli_words.specs.declared.jobs.Job.{Job}
+use Rattle.pif_cli.specs.Names.{shown_name}
+use Rattle.pif_cli.specs.Words.{Did, RefusesInput, no_file_text}
 use Rattle.pif_cli.proofs.WordsLemmas.{EndsIf-refused, refusal_tells}
 use Rattle.pif_cli.proofs.words.command.Goals as goal
 
@@ -45,6 +48,11 @@ job_tells : (notes : List ℕ) (result : Result (Unit {0}) JobFault) (status : �
 job_tells notes (Ok x) status held holds is told = inl (is, (notes, told))
 job_tells notes (Err fault) status held holds is told = fault_tells fault status held holds is told
 
+did_tells : (job : Job) (name : Text) (a b h k e f : Option (List ℕ)) (status : ℕ) → Did job name a b h k e f status
+    → TellsAt status e f
+did_tells job name a b h k e f status did =
+    job_tells (notes_text (shown_name name) did.1) did.0 status e f did.4 did.5
+
 -- what refusing the standard input tells them
 input_tells : (status : ℕ) (held holds : Option (List ℕ)) → RefusesInput held holds status → TellsAt status held holds
 input_tells status held holds told =
@@ -60,7 +68,7 @@ pub returns-in-Ok-clause-errors : goal.returns-in-Ok-clause-errors
 returns-in-Ok-clause-errors g c =
     let did = c.do_and_tell.ensures.did in
     subst (λ errors. TellsAt c.do_and_tell.result (g.E.Write.contents c.args.errors.now) (g.E.Write.contents errors))
-    (search rules) (job_tells did.1 did.0 c.do_and_tell.result _ _ did.4 did.5)
+    (search rules) (did_tells _ _ _ _ _ _ _ _ c.do_and_tell.result did)
 
 pub returns-clause-errors : goal.returns-clause-errors
 returns-clause-errors g c = refusal_tells (kind_of c.in-Err.error) _ _ _ _ _ c.refuse.ensures

@@ -9,7 +9,7 @@ returns-in_err-write_telling-clause-failed g c =
     let p = err_from_is_err_and c.from_residual-in_err-write_telling.result
     c.from_residual-in_err-write_telling.ensures.1 in
     let told = rw c.as_slice.ensures.value at c.in_ok-telling.ensures.told in
-    rw (p.1, p.2) (not_noted c.args.name.now _ _ _ _ _ c.in_err-write_telling.field-0.0
+    rw (p.1, p.2) (not_noted _ _ _ _ _ c.in_err-write_telling.field-0.0
     (checked_told false c.args.name.now _ _ _ _ c.in_ok-story.story.items _ _ _ c.in_ok-story.ensures.read told
     c.in_err-write_telling.ensures))
 

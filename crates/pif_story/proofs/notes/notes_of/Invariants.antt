@@ -9,8 +9,8 @@ use Rattle.pif_story.proofs.notes.notes_of.Given as goal
 
 abbrev pub invariant-lines : goal.invariant-lines
 invariant-lines l = record {
-  same : notes_of_rows (rows_from 1 (lines l.fn.story)) (lines l.fn.output)
-      ≡ notes_left l.notes.items l.known (l.number + 1) (lines_behind (option_copied l.rest))
+  same : notes_of_rows l.fn.story (rows_from 1 (lines l.fn.words)) (lines l.fn.output)
+      ≡ notes_left l.fn.story l.notes.items l.known (l.number + 1) (lines_behind (option_copied l.rest))
       (lines_behind (option_copied l.answers));
   within : l.number + option_map_or (λ text. length text.now + 1) l.rest 0 ≤ 16777217;
 }

@@ -3,11 +3,7 @@ use Rattle.pif_cli.proofs.NotesLemmas.{run_noting}
 use Rattle.pif_cli.proofs.told.Told.run.Goals as goal
 
 pub returns-in-Ok-clause-did : goal.returns-in-Ok-clause-did
-returns-in-Ok-clause-did g c = (Ok tt, run_noting c.shown.result.now _ _ _ _ _ c.in-Ok.ensures.noted, refl)
-
-pub returns-in-Ok-clause-noted : goal.returns-in-Ok-clause-noted
-returns-in-Ok-clause-noted g c =
-    let noted = rw c.shown.ensures at c.in-Ok.ensures.noted in (_, noted, c.if_any.ensures)
+returns-in-Ok-clause-did g c = (Ok tt, run_noting _ _ _ _ _ c.in-Ok.ensures.noted, refl)
 
 pub returns-in-Err-clause-did : goal.returns-in-Err-clause-did
 returns-in-Err-clause-did g c = (Err c.in-Err.fault, c.in-Err.ensures.failed, refl)

@@ -1,7 +1,7 @@
 use Rattle.std.proofs.Common.{arith, sym, ◌∙◌}
 use Rattle.std.proofs.lemmas.List.{take_rest}
 use Rattle.pif_story.proofs.NoteLemmas.{column_behind, column_end, column_here}
-use Rattle.pif_story.proofs.texts.column_in.Goals as goal
+use Rattle.pif_story.proofs.places.column_in.Goals as goal
 
 pub loop-place-preserved : goal.loop-place-preserved
 loop-place-preserved c =

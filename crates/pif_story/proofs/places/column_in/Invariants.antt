@@ -1,6 +1,6 @@
 use Rattle.std.proofs.Common.{◌≡◌, ◌+◌, ◌≤◌, true, drop, length}
 use Rattle.pif_story.specs.Notes.{column_from}
-use Rattle.pif_story.proofs.texts.column_in.Given as goal
+use Rattle.pif_story.proofs.places.column_in.Given as goal
 
 abbrev pub invariant-loop-place : goal.invariant-loop-place
 invariant-loop-place l = record {

@@ -3,7 +3,7 @@ use Rattle.std.specs.Prelude.{option_copied, slice_get}
 use Rattle.std.specs.Option.{option_map_or}
 use Rattle.pif_story_model.specs.Lines.{lines_behind}
 use Rattle.pif_story.specs.Notes.{line_in, line_or_empty}
-use Rattle.pif_story.proofs.texts.line_in.Given as goal
+use Rattle.pif_story.proofs.places.line_in.Given as goal
 
 abbrev pub invariant-lines : goal.invariant-lines
 invariant-lines l =
