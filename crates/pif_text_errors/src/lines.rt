@@ -21,6 +21,26 @@ pub struct Added {
 }
 
 impl Added {
+    /// None.
+    pub fn nothing() -> Added {
+        Added {
+            threads: 0,
+            mutexes: 0,
+            conds: 0,
+        }
+    }
+
+    /// Counts what a line adds, if it adds something.
+    pub fn count(&mut self, line: &[u8]) {
+        if line.starts_with(b"thread ") {
+            self.threads = self.threads.saturating_add(1);
+        } else if line.starts_with(b"mutex ") {
+            self.mutexes = self.mutexes.saturating_add(1);
+        } else if line.starts_with(b"cond ") {
+            self.conds = self.conds.saturating_add(1);
+        }
+    }
+
     /// As many as can be named.
     pub fn all() -> Added {
         Added {
@@ -191,7 +211,7 @@ impl LineSoFar {
             return Err(self.slip(wrong, near_part(word, part)));
         }
         if self.added.lacks(word, part) {
-            return Err(self.slip(Wrong::NotAdded, None));
+            return Err(self.slip(Wrong::NotAdded(part), None));
         }
         self.begin(more, self.behind);
         Ok(())
@@ -328,7 +348,7 @@ impl LineSoFar {
             return Err(self.no(Part::Subject));
         }
         if self.added.lacks(word, part) {
-            return Err(self.slip(Wrong::NotAdded, None));
+            return Err(self.slip(Wrong::NotAdded(part), None));
         }
         self.next = next;
         Ok(())

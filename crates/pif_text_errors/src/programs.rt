@@ -14,24 +14,14 @@ use pif_text::Cause;
 /// What the lines before the one of this number add, which is counted from 1, in a program whose lines so far are
 /// right.
 fn added_before(program: &[u8], number: u64) -> Added {
-    let mut added = Added {
-        threads: 0,
-        mutexes: 0,
-        conds: 0,
-    };
+    let mut added = Added::nothing();
     let mut line = 1_u64;
     for written in without_mark(program).split(|byte| *byte == b'\n') {
         if line >= number {
             break;
         }
         line = line.saturating_add(1);
-        if written.starts_with(b"thread ") {
-            added.threads = added.threads.saturating_add(1);
-        } else if written.starts_with(b"mutex ") {
-            added.mutexes = added.mutexes.saturating_add(1);
-        } else if written.starts_with(b"cond ") {
-            added.conds = added.conds.saturating_add(1);
-        }
+        added.count(written);
     }
     added
 }

@@ -7,9 +7,11 @@ use crate::forms::Shape;
 use crate::near::Named;
 use pif_text_model::CallKind;
 use std::fmt;
+use std::str::from_utf8;
 
 /// The first syntax error of a line that is no command. As a text it is what is wrong, the nearest word, or else what
-/// is allowed in its place, and the form that is wanted, as far as there are such.
+/// is allowed in its place, and the form that is wanted, as far as there are such. A name that nobody has is told
+/// behind what is wrong.
 #[derive(Clone, Copy)]
 pub struct SyntaxError<'a> {
     /// What is wrong.
@@ -106,7 +108,21 @@ fn write_call<W: fmt::Write>(
     }
 }
 
+/// The name at the front of a text, which ends before the first byte that is no letter or digit.
+fn name_in(text: &[u8]) -> &str {
+    let end = text.iter().position(|byte| !byte.is_ascii_alphanumeric());
+    from_utf8(&text[..end.unwrap_or(text.len())]).unwrap_or("")
+}
+
 impl SyntaxError<'_> {
+    /// Writes the name that nobody has, if that is what is wrong.
+    fn write_missing<W: fmt::Write>(&self, f: &mut fmt::Formatter<W>) -> fmt::Result {
+        match self.wrong {
+            Wrong::NotAdded(_) => write_all(&[" ", name_in(self.word)], f),
+            _ => Ok(()),
+        }
+    }
+
     /// Writes what is allowed in place of the wrong word.
     fn write_allowed<W: fmt::Write>(&self, f: &mut fmt::Formatter<W>) -> fmt::Result {
         if let Some(before) = self.wrong.before_call() {
@@ -119,6 +135,7 @@ impl SyntaxError<'_> {
 impl fmt::Display for SyntaxError<'_> {
     fn fmt<W: fmt::Write>(&self, f: &mut fmt::Formatter<W>) -> fmt::Result {
         f.write_str(self.wrong.words())?;
+        self.write_missing(f)?;
         match self.near {
             Some(near) => write_all(&[", perhaps '", near, "'"], f)?,
             None => self.write_allowed(f)?,

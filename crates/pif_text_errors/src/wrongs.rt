@@ -84,8 +84,8 @@ pub enum Wrong {
     Not(Part),
     /// The letter is right, and the number behind it is that of no name.
     NameNumber,
-    /// What is named was not added.
-    NotAdded,
+    /// Nobody has this name of a thread, a mutex or a condition variable.
+    NotAdded(Part),
     /// The rule is named a second time.
     RuleTwice,
     /// The time is 0, or not above the one before.
@@ -147,7 +147,9 @@ impl Wrong {
             Wrong::TooMany => "there are more words after the end of the command",
             Wrong::Not(part) => part.words(),
             Wrong::NameNumber => "a name has a number from 1 to 4294967295, with no zero in front",
-            Wrong::NotAdded => "no line before this one adds it",
+            Wrong::NotAdded(Part::Thread) => "there is no thread",
+            Wrong::NotAdded(Part::Mutex) => "there is no mutex",
+            Wrong::NotAdded(_) => "there is no condition variable",
             Wrong::RuleTwice => "the rule is named twice",
             Wrong::NotRising => "the times of ticks rise, and are above 0",
             Wrong::ClosesNothing => "it closes nothing",
