@@ -10,7 +10,7 @@
 time_t skipped_seconds;
 
 static const Feature *const all[] = {mutex_features, variable_features, thread_features, left_out_features,
-                                     end_features, handler_features, difference_features};
+                                     end_features, handler_features, difference_features, passed_features};
 
 /* Stands before the library's in the recorder's eyes. */
 int clock_gettime(clockid_t clock, struct timespec *time)

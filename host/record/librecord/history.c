@@ -139,12 +139,30 @@ static void note_threads(History *history)
         place_death(thread);
 }
 
+/* Whether the history could be opened. */
+static bool write_text(History *history)
+{
+    int why = history->no_memory ? ENOMEM : open_text(history_file);
+
+    if (why != 0) {
+        leave_file(history_file);
+        say_error("RECORD_FILE cannot be opened", history_file, why);
+        return false;
+    }
+    write_lines(history);
+    why = close_text(history_file);
+    if (why != 0)
+        say_error("RECORD_FILE cannot be written", history_file, why);
+    return true;
+}
+
 static void make_history(void)
 {
     History history;
 
     memset(&history, 0, sizeof history);
     if (!collect(&history) || !make_clock(&history)) {
+        leave_file(history_file);
         say("no memory to write the history", 0, NULL);
         return;
     }
@@ -152,15 +170,10 @@ static void make_history(void)
     note_threads(&history);
     leave_out_cancelled(&history);
     number_all(&history);
-    if (history.no_memory || !open_text(history_file)) {
-        say(history.no_memory ? "no memory to write the history" : "RECORD_FILE cannot be opened", 0, NULL);
-        return;
-    }
-    write_lines(&history);
     count_missed(&history);
-    if (!close_text(history_file))
-        say("RECORD_FILE cannot be written", 0, NULL);
-    say_left_out(&history);
+    read_maps();
+    if (write_text(&history))
+        say_left_out(&history);
 }
 
 void say_no_history(void)

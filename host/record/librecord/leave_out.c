@@ -75,6 +75,8 @@ static Dropped count_dropped(const History *history)
     return dropped;
 }
 
+static void say_line(const char *line) { say(line, 0, NULL); }
+
 void say_left_out(const History *history)
 {
     Dropped dropped = count_dropped(history);
@@ -94,6 +96,8 @@ void say_left_out(const History *history)
     say_some(counted(PRIORITIES_IN_CALLS),
              "left out: calls that give a priority inside another call of the same thread: ");
     say_some(history->missed, "missed: calls on mutexes, since a thread got one that it had: ");
+    say_some(history->found_free, "missed: calls on mutexes, since a thread found one free that another one had: ");
+    tell_passed(history, say_line);
     if (atomic_load(&lost_place) <= history->cut)
         say("cut where a thread had more records than RECORD_MAX, or memory was short: ", most_records, "");
     if (history->is_late)

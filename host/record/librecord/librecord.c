@@ -2,6 +2,7 @@
    This file starts it and ends it: the calls below it, its environment, forks, and signals that end the program. */
 #define _GNU_SOURCE
 #include <dlfcn.h>
+#include <errno.h>
 #include <limits.h>
 #include <signal.h>
 #include <stdlib.h>
@@ -14,13 +15,14 @@ enum { MOST_RECORDS = 262144 };
 enum { NOT_READY, STARTS, READY };
 
 Real real;
-bool records_all;
+bool records_all, records_where;
 uint32_t most_records = MOST_RECORDS;
 _Atomic bool recording;
 const char *history_file;
 
 static _Atomic int readiness;
 static __thread bool is_starting; /* then an allocation may lock a mutex of the program's */
+static _Atomic bool is_refused; /* the file can't be opened */
 static _Atomic bool taken; /* a call is recorded, so this is the program whose history is written */
 static _Atomic uint64_t counts[COUNTS];
 static pid_t process;
@@ -42,9 +44,10 @@ static void forget_counts(void)
     for (Count what = 0; what < COUNTS; what++)
         atomic_store(&counts[what], 0);
     forget_reasons();
+    forget_passed();
 }
 
-static void *below(const char *name) { return dlsym(RTLD_NEXT, name); }
+void *below(const char *name) { return dlsym(RTLD_NEXT, name); }
 
 /* Of glibc's calls on condition variables there are two versions on some machines, and the old one is of another form.
    A library between this one and glibc has its own. */
@@ -80,8 +83,7 @@ static void find_calls(void)
     *(void **)&real.exit = below("pthread_exit");
     *(void **)&real.setschedprio = below("pthread_setschedprio");
     *(void **)&real.setschedparam = below("pthread_setschedparam");
-    *(void **)&real.mtx_init = below("mtx_init");
-    *(void **)&real.cnd_init = below("cnd_init");
+    find_others();
 }
 
 /* Once a call of this process is recorded, its children record nothing. */
@@ -117,11 +119,24 @@ static unsigned long long number_in(const char *text)
     return text[0] >= '0' && text[0] <= '9' && *end == '\0' ? number : 0;
 }
 
+/* Whether a variable is 1; `said` is said if it is another word. */
+static bool is_one(const char *variable, const char *said)
+{
+    const char *word = getenv(variable);
+
+    if (word == NULL || word[0] == '\0' || strcmp(word, "0") == 0)
+        return false;
+    if (strcmp(word, "1") != 0 && getenv("RECORD_FILE") != NULL)
+        say(said, 0, NULL);
+    return strcmp(word, "1") == 0;
+}
+
 static void read_environment(void)
 {
-    const char *file = getenv("RECORD_FILE"), *all = getenv("RECORD_ALL"), *most = getenv("RECORD_MAX");
+    const char *file = getenv("RECORD_FILE"), *most = getenv("RECORD_MAX");
 
-    records_all = all != NULL && strcmp(all, "1") == 0;
+    records_all = is_one("RECORD_ALL", "RECORD_ALL is neither 0 nor 1, and is passed over");
+    records_where = is_one("RECORD_WHERE", "RECORD_WHERE is neither 0 nor 1, and is passed over");
     unsigned long long number = most == NULL ? 0 : number_in(most);
     if (number > 0)
         most_records = number > UINT32_MAX ? UINT32_MAX : (uint32_t)number;
@@ -166,7 +181,7 @@ __attribute__((constructor)) void be_ready(void)
 /* A signal that would end the program ends it, with its history written first. */
 static void end_by_signal(int number)
 {
-    if (getpid() == process)
+    if (getpid() == process && !atomic_load(&is_refused))
         write_history();
     signal(number, SIG_DFL);
     raise(number);
@@ -186,6 +201,22 @@ static void write_at_signal(int number)
     sigaction(number, &ours, NULL);
 }
 
+/* The program's call is no cancellation point, and leaves its errno as it was. */
+static void open_at_first(void)
+{
+    int number = errno, state;
+
+    pthread_setcancelstate(PTHREAD_CANCEL_DISABLE, &state);
+    int why = keep_file(history_file);
+    if (why != 0) {
+        atomic_store(&is_refused, true);
+        atomic_store(&recording, false);
+        say_error("nothing is recorded: RECORD_FILE cannot be opened", history_file, why);
+    }
+    pthread_setcancelstate(state, NULL);
+    errno = number;
+}
+
 /* At the first call. From here on this program is the one that is recorded: those that it starts find no RECORD_FILE.
    The variable's name is changed where it stands, since another thread may read the environment now. */
 void take_the_file(void)
@@ -197,13 +228,14 @@ void take_the_file(void)
     for (char **entry = environ; entry != NULL && *entry != NULL; entry++)
         if (strncmp(*entry, "RECORD_FILE=", 12) == 0)
             (*entry)[0] = '_';
+    open_at_first();
     for (size_t i = 0; i < sizeof last_signals / sizeof *last_signals; i++)
         write_at_signal(last_signals[i]);
 }
 
 __attribute__((destructor)) static void end_of_program(void)
 {
-    if (history_file == NULL || getpid() != process)
+    if (history_file == NULL || getpid() != process || atomic_load(&is_refused))
         return;
     if (atomic_load(&taken))
         write_history();

@@ -20,11 +20,13 @@ static void write_objects(const History *history)
         put_text(kinds[mutex->kind & KIND_BITS]);
         put_text((mutex->kind & KIND_ROBUST) != 0 ? " robust" : "");
         end_line();
+        write_name_of_object('m', mutex->number, mutex);
     }
     for (const Variable *variable = history->first_variable; variable != NULL; variable = variable->next_line) {
         put_text("cond ");
         put_name('m', variable->mutex->number);
         end_line();
+        write_name_of_object('c', variable->number, variable->object);
     }
 }
 
@@ -134,6 +136,7 @@ static void write_call(History *history, Record *record, uint64_t place)
 {
     if (is_begin(record, place)) {
         write_begin(history, record);
+        write_caller(record);
         record->thread->open = record;
         return;
     }
@@ -147,6 +150,7 @@ static void write_added(const Thread *thread)
     put_text("thread ");
     put_number((uint64_t)atomic_load(&thread->priority));
     end_line();
+    write_name_of_thread(thread);
 }
 
 static void write_death(const char *what, const Thread *thread)
@@ -172,8 +176,16 @@ static void write_record(History *history, Record *record, uint64_t place)
         write_death("dying ", of);
 }
 
+static void write_comment(const char *line)
+{
+    begin_comment();
+    put_text(line);
+    end_line();
+}
+
 void write_lines(History *history)
 {
+    tell_passed(history, write_comment);
     write_objects(history);
     for (uint64_t place = 1; place < history->cut; place++)
         if (history->at[place] != NULL)

@@ -1,6 +1,7 @@
 /* Calls that the recorder can't have seen: a thread is answered that it got a mutex which it owns by all that was seen.
-   glibc lets it wait for good, or answers an error. So it gave the mutex up by a call that was missed, or the mutex was
-   made anew. What is said of owners is never more than that: a mutex has none here if anybody may give it up. */
+   glibc lets it wait for good, or answers an error. Or another thread owns the mutex by all that was seen, and yet it
+   was found free. So the owner gave it up by a call that was missed, or the mutex was made anew. What is said of owners
+   is never more than that: a mutex has none here if anybody may give it up. */
 #define _GNU_SOURCE
 #include <errno.h>
 
@@ -30,13 +31,10 @@ static void answer_giving_up(const Record *record)
     mutex_of(record)->takers -= record->takes_from_others;
 }
 
-/* Whether the thread owned the mutex already. */
-static bool get(Object *mutex, Thread *thread)
+static void get(Object *mutex, const Record *record, uint64_t place)
 {
-    bool is_second = mutex->owner == thread && (mutex->kind & KIND_BITS) != KIND_IS_RECURSIVE;
-
-    mutex->owner = mutex->takers == 0 ? thread : NULL;
-    return is_second;
+    mutex->owner = mutex->takers == 0 ? record->thread : NULL;
+    mutex->owned_since = place;
 }
 
 static bool has_it(const Record *record)
@@ -44,21 +42,41 @@ static bool has_it(const Record *record)
     return record->answer == 0 || record->answer == EOWNERDEAD || (is_wait(record) && record->answer == ETIMEDOUT);
 }
 
-/* Whether this line says that something was missed. */
-static bool shows_missed(Record *record, uint64_t place)
+/* Whether the thread owned the mutex already. */
+static bool is_second(const Object *mutex, const Record *record)
+{
+    return mutex->owner == record->thread && (mutex->kind & KIND_BITS) != KIND_IS_RECURSIVE;
+}
+
+/* Whether another thread owned the mutex from the begin to the answer, and it was found free between them. */
+static bool was_lost(const Object *mutex, const Record *record)
+{
+    return record->found_free && mutex->owner != NULL && mutex->owner != record->thread
+           && mutex->owned_since < record->begin_place;
+}
+
+static void note_lock(History *history, const Record *record, uint64_t place)
+{
+    history->missed += is_second(record->object, record);
+    history->found_free += was_lost(record->object, record);
+    get(record->object, record, place);
+}
+
+static void note_missed(History *history, Record *record, uint64_t place)
 {
     bool gives_up = record->what == CALL_UNLOCK || is_wait(record);
 
     if (is_begin(record, place)) {
         if (gives_up)
             begin_giving_up(record);
-        return false;
+        return;
     }
     if (gives_up)
         answer_giving_up(record);
     if (is_wait(record) && has_it(record))
-        get(record->mutex, record->thread);
-    return is_lock(record) && has_it(record) && get(record->object, record->thread);
+        get(record->mutex, record, place);
+    if (is_lock(record) && has_it(record))
+        note_lock(history, record, place);
 }
 
 void count_missed(History *history)
@@ -66,6 +84,6 @@ void count_missed(History *history)
     for (uint64_t place = 1; place < history->cut; place++) {
         Record *record = history->at[place];
         if (record != NULL && is_call(record) && is_written(record))
-            history->missed += shows_missed(record, place);
+            note_missed(history, record, place);
     }
 }

@@ -22,6 +22,7 @@ static void add_variable(History *history, Object *object, Object *mutex)
         history->no_memory = true;
         return;
     }
+    added->object = object;
     added->mutex = mutex;
     added->number = ++history->variable_count;
     if (object->last_variable == NULL)

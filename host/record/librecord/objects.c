@@ -114,7 +114,7 @@ void forget_reasons(void)
 }
 
 /* NULL where there is no memory: then nothing is recorded any more. */
-Object *new_object(Reason reason)
+Object *new_object(Reason reason, uintptr_t address, uintptr_t first_used)
 {
     Object *object = take_memory(sizeof *object);
 
@@ -123,6 +123,8 @@ Object *new_object(Reason reason)
         return NULL;
     }
     object->clock = CLOCK_REALTIME;
+    object->address = address;
+    object->first_used = first_used;
     if (reason != KEPT)
         leave_out(object, reason);
     return object;
@@ -133,10 +135,11 @@ bool is_wanted(int kind) { return kind >= 0 && (records_all || (kind & (KIND_INH
 
 /* glibc marks robust mutexes as shared, too. No static initialiser gives either, so that such a mutex is known
    from its initialisation. One that is met first here was made by another process. */
-static Object *add_mutex(uintptr_t address, Object *present, int kind)
+static Object *add_mutex(uintptr_t address, Object *present, int kind, uintptr_t caller)
 {
     bool is_shared = (kind & (KIND_ROBUST | KIND_SHARED)) != 0;
-    Object *added = new_object((kind & KIND_PROTECT) != 0 ? PROTECTED : is_shared ? SHARED : KEPT);
+    Reason reason = (kind & KIND_PROTECT) != 0 ? PROTECTED : is_shared ? SHARED : KEPT;
+    Object *added = new_object(reason, address, caller);
 
     if (added == NULL)
         return NULL;
@@ -144,22 +147,29 @@ static Object *add_mutex(uintptr_t address, Object *present, int kind)
     return replace_at(&mutexes, address, present, added) ? held_at(&mutexes, address) : NULL;
 }
 
-/* NULL where it is not recorded. */
-Object *recorded_mutex(pthread_mutex_t *mutex)
+/* NULL where it is not recorded. Then the call is counted. */
+Object *recorded_mutex(pthread_mutex_t *mutex, uintptr_t caller)
 {
     int kind = mutex->__data.__kind;
     uintptr_t address = (uintptr_t)mutex;
 
-    if (!atomic_load_explicit(&recording, memory_order_relaxed) || !is_wanted(kind))
+    if (!atomic_load_explicit(&recording, memory_order_relaxed))
         return NULL;
+    if (!is_wanted(kind)) {
+        pass_by(OF_PLAIN_MUTEXES);
+        return NULL;
+    }
     Object *object = held_at(&mutexes, address);
     if (object == NULL || object->kind != (kind & KIND_COMPARED))
-        object = add_mutex(address, object, kind);
-    return object == NULL || atomic_load_explicit(&object->left_out, memory_order_relaxed) != KEPT ? NULL : object;
+        object = add_mutex(address, object, kind, caller);
+    if (object == NULL || atomic_load_explicit(&object->left_out, memory_order_relaxed) == KEPT)
+        return object;
+    pass_by_left_out(atomic_load_explicit(&object->left_out, memory_order_relaxed));
+    return NULL;
 }
 
 /* Also one that is left out; NULL where nothing is recorded. */
-Object *recorded_variable(pthread_cond_t *variable)
+Object *recorded_variable(pthread_cond_t *variable, uintptr_t caller)
 {
     uintptr_t address = (uintptr_t)variable;
 
@@ -168,14 +178,14 @@ Object *recorded_variable(pthread_cond_t *variable)
     Object *object = held_at(&variables, address);
     if (object != NULL)
         return object;
-    Object *added = new_object(KEPT);
+    Object *added = new_object(KEPT, address, caller);
     if (added == NULL || !replace_at(&variables, address, NULL, added))
         return NULL;
     return held_at(&variables, address);
 }
 
 /* Only what can't be seen at the first use is kept here; else the object is made then. */
-static void add_initialised(pthread_mutex_t *mutex, const pthread_mutexattr_t *attributes)
+static void add_initialised(pthread_mutex_t *mutex, const pthread_mutexattr_t *attributes, uintptr_t caller)
 {
     int kind = mutex->__data.__kind, shared = PTHREAD_PROCESS_PRIVATE;
 
@@ -188,7 +198,8 @@ static void add_initialised(pthread_mutex_t *mutex, const pthread_mutexattr_t *a
     if (attributes != NULL)
         pthread_mutexattr_getpshared(attributes, &shared);
     bool is_shared = shared == PTHREAD_PROCESS_SHARED;
-    Object *object = new_object((kind & KIND_PROTECT) != 0 ? PROTECTED : is_shared ? SHARED : KEPT);
+    Reason reason = (kind & KIND_PROTECT) != 0 ? PROTECTED : is_shared ? SHARED : KEPT;
+    Object *object = new_object(reason, (uintptr_t)mutex, caller);
     if (object == NULL)
         return;
     object->kind = kind & KIND_COMPARED;
@@ -201,7 +212,7 @@ int pthread_mutex_init(pthread_mutex_t *mutex, const pthread_mutexattr_t *attrib
     be_ready();
     int answer = real.mutex_init(mutex, attributes);
     if (answer == 0)
-        add_initialised(mutex, attributes);
+        add_initialised(mutex, attributes, CALLER);
     return answer;
 }
 
@@ -217,7 +228,7 @@ int pthread_mutex_destroy(pthread_mutex_t *mutex)
 OLD_NAME("__pthread_mutex_init", pthread_mutex_init);
 OLD_NAME("__pthread_mutex_destroy", pthread_mutex_destroy);
 
-static void add_initialised_variable(pthread_cond_t *variable, const pthread_condattr_t *attributes)
+static void add_initialised_variable(pthread_cond_t *variable, const pthread_condattr_t *attributes, uintptr_t caller)
 {
     int shared = PTHREAD_PROCESS_PRIVATE;
     clockid_t clock = CLOCK_REALTIME;
@@ -231,7 +242,7 @@ static void add_initialised_variable(pthread_cond_t *variable, const pthread_con
         forget_at(&variables, (uintptr_t)variable);
         return;
     }
-    Object *object = new_object(is_shared ? SHARED : KEPT);
+    Object *object = new_object(is_shared ? SHARED : KEPT, (uintptr_t)variable, caller);
     if (object == NULL)
         return;
     object->clock = clock;
@@ -243,7 +254,7 @@ int pthread_cond_init(pthread_cond_t *variable, const pthread_condattr_t *attrib
     be_ready();
     int answer = real.cond_init(variable, attributes);
     if (answer == 0 && atomic_load(&recording))
-        add_initialised_variable(variable, attributes);
+        add_initialised_variable(variable, attributes, CALLER);
     return answer;
 }
 

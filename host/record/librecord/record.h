@@ -9,6 +9,11 @@
 #include <stdint.h>
 #include <time.h>
 
+enum { MOST_DIGITS = 20, MOST_OF_LINE = 120 }; /* of a number, and of a line of a history */
+
+/* Where the call of the function that stands around this returns to. */
+#define CALLER ((uintptr_t)__builtin_return_address(0))
+
 /* Another name of a call, by which programs of older glibcs make it. */
 #define OLD_NAME(old, name) extern __typeof__(name) old_##name __asm__(old) __attribute__((alias(#name), copy(name)))
 
@@ -49,9 +54,34 @@ typedef enum {
     COUNTS,
 } Count;
 
+/* What passes the recorder by: calls that have no lines in the history, by kind, and what may make such calls. */
+typedef enum {
+    OF_PLAIN_MUTEXES,   /* without PTHREAD_PRIO_INHERIT, if not all are recorded; waits with them, too */
+    OF_THEIR_VARIABLES, /* signals and broadcasts */
+    OF_PROTECTED,
+    OF_SHARED,
+    OF_CANCELLED,
+    OF_CALLS_IN_CALLS,
+    OF_LEFT_OUT,
+    OF_RWLOCKS,
+    OF_SEMAPHORES,
+    OF_SPIN_LOCKS,
+    OF_BARRIERS,
+    OF_ONCE,
+    OF_C11_MUTEXES,
+    OF_C11_VARIABLES,
+    OF_C11_ONCE,
+    OF_PRIORITIES,
+    OF_POLICIES, /* sched_setscheduler and sched_setparam */
+    OF_MISSED,   /* unlocks and initialisations, by what is seen of mutexes */
+    DEEP_LIBRARIES,
+    OTHER_NAMESPACES,
+    KINDS_PASSED,
+} Passed;
+
 /* A condition variable as the history has it: bound to one mutex. */
 typedef struct Variable {
-    struct Object *mutex;
+    struct Object *object, *mutex;
     uint32_t number;
     struct Variable *next;      /* the one that it becomes when it is bound anew */
     struct Variable *next_line; /* in the order of their lines */
@@ -62,6 +92,8 @@ typedef struct Object {
     int kind;        /* of a mutex: bits of glibc's __kind */
     clockid_t clock; /* of a variable: that of pthread_cond_timedwait */
     _Atomic(Reason) left_out;
+    uintptr_t address;
+    uintptr_t first_used; /* where a call returns to that used it first; 0: it isn't known */
 
     /* while the history is written */
     uint32_t number; /* of a mutex; 0: it isn't used */
@@ -69,6 +101,7 @@ typedef struct Object {
     Variable *first_variable, *last_variable; /* of a variable: what it is in the history, one behind another */
     Variable *variable;                       /* which of them it is at this line; NULL: the first */
     struct Thread *owner;                     /* of a mutex at this line; NULL: nobody, or it isn't known */
+    uint64_t owned_since;                     /* the place of the answer by which the owner got it */
     uint32_t takers;                          /* open calls that may give up what another thread owns */
 } Object;
 
@@ -88,21 +121,27 @@ typedef struct {
     };
     Object *mutex;         /* of a wait */
     struct Thread *thread; /* which made the call */
-    What what;
+    uint8_t what;          /* a What */
+    bool found_free;       /* of a lock: its mutex was free between the begin's stamp and the real call */
     int16_t answer;
     bool bad_time; /* the timespec is none, or its clock: the call is a lock or wait if it isn't answered EINVAL */
     bool takes_from_others; /* while the history is written: it is one of its mutex's takers */
 } Record;
 
+enum { MOST_OF_NAME = 16 };
+
 typedef struct Thread {
     struct Thread *next;
     _Atomic(Record *) records;
+    _Atomic(uintptr_t *) callers; /* with RECORD_WHERE: for each record where its call returns to */
     _Atomic uint32_t used; /* of its records; a signal's handler may take some between two instructions */
     _Atomic int priority;
     _Atomic bool started, never_started, cancelled;
     _Atomic bool is_set; /* a call gives it a priority */
     _Atomic bool in_call;
     int rounds; /* of the keys' destructors */
+    pid_t number_of_kernel;
+    char name[MOST_OF_NAME], inherited[MOST_OF_NAME]; /* the kernel's for it: at its end, and at first */
     void *(*start)(void *);
     void *argument;
 
@@ -138,21 +177,28 @@ typedef struct {
     void (*exit)(void *) __attribute__((noreturn));
     int (*setschedprio)(pthread_t, int);
     int (*setschedparam)(pthread_t, int, const struct sched_param *);
-    int (*mtx_init)(void *, int);
-    int (*cnd_init)(void *);
 } Real;
 
 /* librecord.c */
 extern Real real;
-extern bool records_all;
+extern bool records_all, records_where;
 extern uint32_t most_records;
 extern _Atomic bool recording;
 extern const char *history_file;
 void be_ready(void); /* before a call of `real`, or a look at `recording`; it costs nothing the second time */
 void take_the_file(void);
+void *below(const char *name);
 void rest(void);
 void count(Count);
 uint64_t counted(Count);
+
+/* others.c */
+void find_others(void);
+
+/* passed.c */
+void pass_by(Passed);
+void pass_by_left_out(Reason);
+void forget_passed(void);
 
 /* memory.c: never given back; NULL if there is none */
 void *map_memory(size_t size);
@@ -165,9 +211,9 @@ void *held_at(Table *, uintptr_t address);
 bool hold_at(Table *, uintptr_t address, void *);
 bool replace_at(Table *, uintptr_t address, void *old, void *new);
 bool is_wanted(int kind);
-Object *new_object(Reason);
-Object *recorded_mutex(pthread_mutex_t *);
-Object *recorded_variable(pthread_cond_t *);
+Object *new_object(Reason, uintptr_t address, uintptr_t first_used);
+Object *recorded_mutex(pthread_mutex_t *, uintptr_t caller); /* counts the call if it is NULL */
+Object *recorded_variable(pthread_cond_t *, uintptr_t caller);
 bool leave_out(Object *, Reason);
 uint64_t left_out(Reason);
 void forget_reasons(void);
@@ -178,9 +224,10 @@ uint64_t now(void);
 void stop_recording(void);
 Record *new_record(Thread *, What);
 void stamp_begin(Record *);
-Record *begin_call(What, Object *, Object *mutex);
-Record *begin_timed(What, Object *, Object *mutex, clockid_t, const struct timespec *);
-Record *begin_setprio(Thread *named, int64_t priority);
+Record *begin_call(What, Object *, Object *mutex, uintptr_t caller);
+Record *begin_timed(What, Object *, Object *mutex, clockid_t, const struct timespec *, uintptr_t caller);
+Record *begin_setprio(Thread *named, int64_t priority, uintptr_t caller);
+uintptr_t caller_of(const Record *);
 void answer_call(Record *, int answer);
 void leave_call(void *record);
 
@@ -203,7 +250,8 @@ typedef struct {
     uint32_t waiting_count;
     uint64_t least_deadline, greatest_time;
     uint64_t tick; /* the time at this line */
-    uint64_t missed; /* answers that a thread got what it owns by all that was seen */
+    uint64_t missed;     /* answers that a thread got what it owns by all that was seen */
+    uint64_t found_free; /* answers that a thread got what it found free, and another one owns by all that was seen */
 } History;
 
 void write_history(void);
@@ -216,23 +264,45 @@ uint64_t time_at(const Record *, uint64_t place);
 uint64_t ticks_of(const History *, uint64_t time);
 uint64_t ticks_of_deadline(const History *, uint64_t deadline);
 
-/* its parts: leave_out.c, missed.c, numbers.c, ticks.c, lines.c */
+/* its parts: leave_out.c, missed.c, passed.c, numbers.c, ticks.c, lines.c */
 void leave_out_cancelled(History *);
 void count_missed(History *);
 void say_left_out(const History *);
+void tell_passed(const History *, void (*tell)(const char *line));
 void number_all(History *);
 bool make_clock(History *);
 void pass_time(History *, const Record *, uint64_t place);
 void forget_deadline(History *, Thread *);
 void write_lines(History *);
 
+/* symbols.c: names of addresses; NULL if there is none */
+void read_maps(void);
+const char *name_of_object(uintptr_t address);
+const char *name_of_call(uintptr_t returns_to);
+
+/* names.c: the comments that say who is who */
+void note_name(Thread *); /* by itself */
+void write_name_of_thread(const Thread *);
+void write_name_of_object(char letter, uint32_t number, const Object *);
+void write_caller(const Record *);
+
+/* file.c: the file of the history. 0, or the number of an error */
+int keep_file(const char *file); /* opens it for the end, when the program may have fewer rights */
+int open_file(const char *file);
+int write_file(const char *bytes, size_t size);
+int close_file(const char *file, int failed); /* leaves it as it was, if something has failed */
+void leave_file(const char *file);           /* as it was before the first call */
+
 /* text.c */
-bool open_text(const char *file);
-bool close_text(const char *file);
+int open_text(const char *file);
+int close_text(const char *file);
 void put_text(const char *);
 void put_number(uint64_t);
 void put_name(char letter, uint32_t number);
+void begin_comment(void); /* up to the line's end; it is cut if the line is full */
 void end_line(void);
+const char *digits_of(uint64_t number, unsigned base, char room[MOST_DIGITS + 1]);
 void say(const char *before, uint64_t number, const char *behind);
+void say_error(const char *what, const char *file, int error);
 
 #endif

@@ -42,6 +42,15 @@ void stop_recording(void)
     atomic_store(&recording, false);
 }
 
+static bool make_callers(Thread *thread)
+{
+    uintptr_t *present = NULL, *mapped = map_memory((size_t)most_records * sizeof *mapped);
+
+    if (mapped != NULL)
+        atomic_compare_exchange_strong(&thread->callers, &present, mapped);
+    return mapped != NULL;
+}
+
 /* The thread's room for records. A signal's handler may make it first. */
 static Record *records_of(Thread *thread)
 {
@@ -49,10 +58,26 @@ static Record *records_of(Thread *thread)
 
     if (present != NULL)
         return present;
+    if (records_where && !make_callers(thread))
+        return NULL;
     Record *mapped = map_memory((size_t)most_records * sizeof *mapped);
     if (mapped != NULL && !atomic_compare_exchange_strong(&thread->records, &present, mapped))
         return present;
     return mapped;
+}
+
+static void note_caller(const Record *record, uintptr_t caller)
+{
+    if (records_where)
+        atomic_load(&record->thread->callers)[record - atomic_load(&record->thread->records)] = caller;
+}
+
+/* 0: it isn't known. */
+uintptr_t caller_of(const Record *record)
+{
+    uintptr_t *callers = atomic_load(&record->thread->callers);
+
+    return callers == NULL ? 0 : callers[record - atomic_load(&record->thread->records)];
 }
 
 /* It isn't seen by who writes the history before it is stamped. */
@@ -99,11 +124,13 @@ static void leave_call_out(Object *object, Object *mutex)
         leave_out(object, IN_CALLS);
     if (mutex != NULL)
         leave_out(mutex, IN_CALLS);
+    if (object != NULL)
+        pass_by(OF_CALLS_IN_CALLS);
 }
 
 /* The record of a call on this object, and of a wait with this mutex; NULL if it isn't recorded. The thread is inside
    the call before it has the record, since a signal's handler may come between. */
-static Record *new_call(What what, Object *object, Object *mutex)
+static Record *new_call(What what, Object *object, Object *mutex, uintptr_t caller)
 {
     Thread *thread = this_thread();
 
@@ -122,12 +149,13 @@ static Record *new_call(What what, Object *object, Object *mutex)
     }
     record->object = object;
     record->mutex = mutex;
+    note_caller(record, caller);
     return record;
 }
 
-Record *begin_call(What what, Object *object, Object *mutex)
+Record *begin_call(What what, Object *object, Object *mutex, uintptr_t caller)
 {
-    Record *record = object == NULL ? NULL : new_call(what, object, mutex);
+    Record *record = object == NULL ? NULL : new_call(what, object, mutex, caller);
 
     if (record != NULL)
         stamp_begin(record);
@@ -154,13 +182,14 @@ static bool is_time(clockid_t clock, const struct timespec *time)
     return (clock == CLOCK_REALTIME || clock == CLOCK_MONOTONIC) && time->tv_nsec >= 0 && time->tv_nsec < SECOND;
 }
 
-Record *begin_timed(What what, Object *object, Object *mutex, clockid_t clock, const struct timespec *deadline)
+Record *begin_timed(What what, Object *object, Object *mutex, clockid_t clock, const struct timespec *deadline,
+                    uintptr_t caller)
 {
     if (object == NULL)
         return NULL;
     bool is_good = is_time(clock, deadline);
     uint64_t time = is_good ? monotonic_deadline(clock, deadline) : 0;
-    Record *record = new_call(what, object, mutex);
+    Record *record = new_call(what, object, mutex, caller);
     if (record == NULL)
         return NULL;
     record->deadline = time;
@@ -169,9 +198,9 @@ Record *begin_timed(What what, Object *object, Object *mutex, clockid_t clock, c
     return record;
 }
 
-Record *begin_setprio(Thread *named, int64_t priority)
+Record *begin_setprio(Thread *named, int64_t priority, uintptr_t caller)
 {
-    Record *record = new_call(CALL_SETPRIO, NULL, NULL);
+    Record *record = new_call(CALL_SETPRIO, NULL, NULL, caller);
 
     if (record == NULL)
         return NULL;

@@ -1,59 +1,55 @@
-/* Text into the history's file and to standard error, by system calls alone: it may be a signal's handler that writes.
-   A history is written beside its file, which it becomes once it is whole. */
+/* Text into the history's file and to standard error. */
 #define _GNU_SOURCE
 #include <errno.h>
-#include <fcntl.h>
-#include <limits.h>
-#include <stdio.h>
 #include <string.h>
-#include <sys/stat.h>
+#include <sys/uio.h>
 #include <unistd.h>
 
 #include "record.h"
 
-enum { ROOM = 1 << 16, MOST_DIGITS = 20 };
+enum { ROOM = 1 << 16, MOST_PARTS = 8 };
 
 static char text[ROOM];
 static size_t length;
-static int file;
-static bool is_failed, is_beside;
-static char beside[2 * PATH_MAX + MOST_DIGITS + 2]; /* the path of the file, a dot, and the number of the process */
-
-static bool write_all(int to, const char *bytes, size_t size)
-{
-    while (size > 0) {
-        ssize_t written = write(to, bytes, size);
-        if (written < 0 && errno == EINTR)
-            continue;
-        if (written <= 0)
-            return false;
-        bytes += written;
-        size -= (size_t)written;
-    }
-    return true;
-}
+static int failed; /* 0, or the number of the first error */
+static bool is_comment;
+static size_t left_of_comment;
 
 static void put_bytes(const char *bytes, size_t size)
 {
     if (size > ROOM - length) {
-        is_failed |= !write_all(file, text, length);
+        int why = write_file(text, length);
+        failed = failed != 0 ? failed : why;
         length = 0;
     }
     memcpy(text + length, bytes, size);
     length += size;
 }
 
-void put_text(const char *words) { put_bytes(words, strlen(words)); }
+/* What names hold that isn't of printable ASCII stands as a question mark. */
+static void put_in_comment(const char *words)
+{
+    for (; *words != '\0' && left_of_comment > 0; words++, left_of_comment--)
+        put_bytes(*words >= ' ' && *words <= '~' ? words : "?", 1);
+}
+
+void put_text(const char *words)
+{
+    if (is_comment)
+        put_in_comment(words);
+    else
+        put_bytes(words, strlen(words));
+}
 
 /* The digits of a number, at the end of the room; the first of them. */
-static const char *digits_of(uint64_t number, char room[MOST_DIGITS + 1])
+const char *digits_of(uint64_t number, unsigned base, char room[MOST_DIGITS + 1])
 {
     char *first = room + MOST_DIGITS;
 
     *first = '\0';
     do {
-        *--first = (char)('0' + number % 10);
-        number /= 10;
+        *--first = "0123456789abcdef"[number % base];
+        number /= base;
     } while (number > 0);
     return first;
 }
@@ -62,64 +58,65 @@ void put_number(uint64_t number)
 {
     char room[MOST_DIGITS + 1];
 
-    put_text(digits_of(number, room));
+    put_text(digits_of(number, 10, room));
 }
 
 void put_name(char letter, uint32_t number)
 {
-    put_bytes(&letter, 1);
+    const char name[] = {letter, '\0'};
+
+    put_text(name);
     put_number(number);
 }
 
-void end_line(void) { put_bytes("\n", 1); }
-
-static void name_beside(const char *name)
+void begin_comment(void)
 {
-    char room[MOST_DIGITS + 1];
-
-    strcpy(beside, name);
-    strcat(beside, ".");
-    strcat(beside, digits_of((uint64_t)getpid(), room));
+    is_comment = true;
+    left_of_comment = MOST_OF_LINE;
+    put_text("# ");
 }
 
-/* A device, a pipe or a link stays what it is, and is written where it stands. */
-bool open_text(const char *name)
+void end_line(void)
 {
-    struct stat present;
-
-    is_beside = lstat(name, &present) != 0 || S_ISREG(present.st_mode);
-    name_beside(name);
-    file = open(is_beside ? beside : name, O_WRONLY | O_CREAT | O_TRUNC | O_CLOEXEC, 0666);
-    return file >= 0;
+    is_comment = false;
+    put_bytes("\n", 1);
 }
 
-/* Whether the file has the whole text now; else it is what it was. */
-bool close_text(const char *name)
+int open_text(const char *name) { return open_file(name); }
+
+/* If the file has the whole text now, 0; else it is what it was. */
+int close_text(const char *name)
 {
-    is_failed |= !write_all(file, text, length);
+    int why = write_file(text, length);
+
     length = 0;
-    is_failed |= close(file) != 0;
-    if (is_beside && !is_failed)
-        is_failed = rename(beside, name) != 0;
-    if (is_beside && is_failed)
-        unlink(beside);
-    return !is_failed;
+    return close_file(name, failed != 0 ? failed : why);
 }
 
-/* One line to standard error. The number is left out where nothing stands behind it. */
+/* One line to standard error. */
+static void say_parts(const char *const parts[])
+{
+    struct iovec line[MOST_PARTS];
+    int count = 0;
+
+    for (; parts[count] != NULL; count++)
+        line[count] = (struct iovec){(void *)parts[count], strlen(parts[count])};
+    while (writev(STDERR_FILENO, line, count) < 0 && errno == EINTR)
+        ;
+}
+
+/* The number is left out where nothing stands behind it. */
 void say(const char *before, uint64_t number, const char *behind)
 {
-    static const char name[] = "librecord: ";
-    char line[256], room[MOST_DIGITS + 1];
-    const char *digits = behind == NULL ? "" : digits_of(number, room);
-    const char *parts[] = {name, before, digits, behind == NULL ? "" : behind, "\n"};
-    size_t size = 0;
+    char room[MOST_DIGITS + 1];
+    const char *digits = behind == NULL ? "" : digits_of(number, 10, room);
 
-    for (size_t i = 0; i < sizeof parts / sizeof *parts; i++) {
-        size_t more = strlen(parts[i]);
-        more = more > sizeof line - size ? sizeof line - size : more;
-        memcpy(line + size, parts[i], more);
-        size += more;
-    }
-    write_all(STDERR_FILENO, line, size);
+    say_parts((const char *const[]){"librecord: ", before, digits, behind == NULL ? "" : behind, "\n", NULL});
+}
+
+void say_error(const char *what, const char *file, int error)
+{
+    const char *why = strerrordesc_np(error);
+
+    say_parts((const char *const[]){"librecord: ", what, ": ", file, ": ", why == NULL ? "?" : why, "\n", NULL});
 }

@@ -3,6 +3,8 @@
 #include <errno.h>
 #include <limits.h>
 #include <sched.h>
+#include <sys/prctl.h>
+#include <unistd.h>
 
 #include "record.h"
 
@@ -81,6 +83,7 @@ static void take_name(Thread *thread)
     if (!atomic_load(&thread->is_set))
         atomic_store(&thread->priority, present_priority());
     atomic_store(&thread->started, true);
+    thread->number_of_kernel = gettid();
     hold_at(&threads, (uintptr_t)pthread_self(), thread);
     pthread_setspecific(key, thread);
 }
@@ -128,6 +131,7 @@ static void round_of_destructors(void *value)
         atomic_store(&thread->cancelled, true);
         atomic_store(&thread->in_call, false);
     }
+    note_name(thread);
     if (++thread->rounds < PTHREAD_DESTRUCTOR_ITERATIONS)
         pthread_setspecific(key, thread);
     else
@@ -153,6 +157,7 @@ static Thread *add_thread(const pthread_attr_t *attributes, void *(*start)(void 
         return NULL;
     added->start = start;
     added->argument = argument;
+    prctl(PR_GET_NAME, added->inherited);
     return record_of(maker, THREAD_ADDED, added) ? added : NULL;
 }
 
@@ -231,7 +236,7 @@ int pthread_setschedprio(pthread_t name, int priority)
     if (!is_real_time(policy) && priority == 0)
         recorded = LEAST_PRIORITY;
     Thread *named = named_thread(name, (is_real_time(policy) && priority >= 0) || priority == 0);
-    Record *call = named == NULL ? NULL : begin_setprio(named, recorded);
+    Record *call = named == NULL ? NULL : begin_setprio(named, recorded, CALLER);
     int answer = real.setschedprio(name, priority);
     answer_call(call, answer);
     return answer;
@@ -244,7 +249,7 @@ int pthread_setschedparam(pthread_t name, int policy, const struct sched_param *
 
     be_ready();
     Thread *named = named_thread(name, is_least || (is_real_time(policy) && priority >= 0));
-    Record *call = named == NULL ? NULL : begin_setprio(named, is_least ? LEAST_PRIORITY : priority);
+    Record *call = named == NULL ? NULL : begin_setprio(named, is_least ? LEAST_PRIORITY : priority, CALLER);
     int answer = real.setschedparam(name, policy, parameters);
     answer_call(call, answer);
     return answer;

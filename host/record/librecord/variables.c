@@ -3,13 +3,13 @@
 #include "record.h"
 
 /* Waits with a mutex that isn't recorded: no signal of this variable matters, up to a wait with one that is. */
-static void forget_variable(pthread_cond_t *variable)
+static void forget_variable(pthread_cond_t *variable, uintptr_t caller)
 {
     Object *present = held_at(&variables, (uintptr_t)variable);
 
     if (!atomic_load(&recording) || (present != NULL && atomic_load(&present->left_out) != KEPT))
         return;
-    Object *other = new_object(OF_OTHERS);
+    Object *other = new_object(OF_OTHERS, (uintptr_t)variable, caller);
     if (other == NULL)
         return;
     if (present != NULL)
@@ -17,13 +17,13 @@ static void forget_variable(pthread_cond_t *variable)
     hold_at(&variables, (uintptr_t)variable, other);
 }
 
-static Object *variable_of_wait(pthread_cond_t *variable)
+static Object *variable_of_wait(pthread_cond_t *variable, uintptr_t caller)
 {
-    Object *present = recorded_variable(variable);
+    Object *present = recorded_variable(variable, caller);
 
     if (present == NULL || atomic_load(&present->left_out) != OF_OTHERS)
         return present;
-    Object *added = new_object(KEPT);
+    Object *added = new_object(KEPT, (uintptr_t)variable, caller);
     if (added == NULL)
         return NULL;
     added->clock = present->clock;
@@ -32,25 +32,26 @@ static Object *variable_of_wait(pthread_cond_t *variable)
 }
 
 /* The variable of a wait that is recorded, and its mutex; or NULL. */
-static Object *objects_of_wait(pthread_cond_t *variable, pthread_mutex_t *mutex, Object **with)
+static Object *objects_of_wait(pthread_cond_t *variable, pthread_mutex_t *mutex, Object **with, uintptr_t caller)
 {
     be_ready();
-    *with = recorded_mutex(mutex);
+    *with = recorded_mutex(mutex, caller);
     if (*with == NULL) {
-        forget_variable(variable);
+        forget_variable(variable, caller);
         return NULL;
     }
-    Object *present = variable_of_wait(variable);
+    Object *present = variable_of_wait(variable, caller);
     if (present == NULL || atomic_load(&present->left_out) == KEPT)
         return present;
     leave_out(*with, WITH_LEFT_OUT);
+    pass_by_left_out(atomic_load(&present->left_out));
     return NULL;
 }
 
 int pthread_cond_wait(pthread_cond_t *variable, pthread_mutex_t *mutex)
 {
-    Object *with, *waited = objects_of_wait(variable, mutex, &with);
-    Record *call = begin_call(CALL_WAIT, waited, with);
+    Object *with, *waited = objects_of_wait(variable, mutex, &with, CALLER);
+    Record *call = begin_call(CALL_WAIT, waited, with, CALLER);
     int answer;
 
     pthread_cleanup_push(leave_call, call);
@@ -62,9 +63,9 @@ int pthread_cond_wait(pthread_cond_t *variable, pthread_mutex_t *mutex)
 
 int pthread_cond_timedwait(pthread_cond_t *variable, pthread_mutex_t *mutex, const struct timespec *deadline)
 {
-    Object *with, *waited = objects_of_wait(variable, mutex, &with);
+    Object *with, *waited = objects_of_wait(variable, mutex, &with, CALLER);
     clockid_t clock = waited == NULL ? CLOCK_REALTIME : waited->clock;
-    Record *call = begin_timed(CALL_TIMEDWAIT, waited, with, clock, deadline);
+    Record *call = begin_timed(CALL_TIMEDWAIT, waited, with, clock, deadline, CALLER);
     int answer;
 
     pthread_cleanup_push(leave_call, call);
@@ -77,8 +78,8 @@ int pthread_cond_timedwait(pthread_cond_t *variable, pthread_mutex_t *mutex, con
 int pthread_cond_clockwait(pthread_cond_t *variable, pthread_mutex_t *mutex, clockid_t clock,
                            const struct timespec *deadline)
 {
-    Object *with, *waited = objects_of_wait(variable, mutex, &with);
-    Record *call = begin_timed(CALL_TIMEDWAIT, waited, with, clock, deadline);
+    Object *with, *waited = objects_of_wait(variable, mutex, &with, CALLER);
+    Record *call = begin_timed(CALL_TIMEDWAIT, waited, with, clock, deadline, CALLER);
     int answer;
 
     pthread_cleanup_push(leave_call, call);
@@ -88,17 +89,20 @@ int pthread_cond_clockwait(pthread_cond_t *variable, pthread_mutex_t *mutex, clo
     return answer;
 }
 
-static Record *begin_use(What what, pthread_cond_t *variable)
+static Record *begin_use(What what, pthread_cond_t *variable, uintptr_t caller)
 {
     be_ready();
-    Object *used = recorded_variable(variable);
-    bool is_kept = used != NULL && atomic_load_explicit(&used->left_out, memory_order_relaxed) == KEPT;
-    return begin_call(what, is_kept ? used : NULL, NULL);
+    Object *used = recorded_variable(variable, caller);
+    Reason reason = used == NULL ? KEPT : atomic_load_explicit(&used->left_out, memory_order_relaxed);
+    if (reason == KEPT)
+        return begin_call(what, used, NULL, caller);
+    pass_by_left_out(reason);
+    return NULL;
 }
 
 int pthread_cond_signal(pthread_cond_t *variable)
 {
-    Record *call = begin_use(CALL_SIGNAL, variable);
+    Record *call = begin_use(CALL_SIGNAL, variable, CALLER);
     int answer = real.signal(variable);
 
     answer_call(call, answer);
@@ -107,26 +111,9 @@ int pthread_cond_signal(pthread_cond_t *variable)
 
 int pthread_cond_broadcast(pthread_cond_t *variable)
 {
-    Record *call = begin_use(CALL_BROADCAST, variable);
+    Record *call = begin_use(CALL_BROADCAST, variable, CALLER);
     int answer = real.broadcast(variable);
 
     answer_call(call, answer);
     return answer;
-}
-
-/* mtx_t and cnd_t of C11 are used inside of the library, where no call can be seen. */
-int mtx_init(void *mutex, int type)
-{
-    be_ready();
-    if (atomic_load(&recording))
-        count(C11_OBJECTS);
-    return real.mtx_init(mutex, type);
-}
-
-int cnd_init(void *variable)
-{
-    be_ready();
-    if (atomic_load(&recording))
-        count(C11_OBJECTS);
-    return real.cnd_init(variable);
 }

@@ -1,0 +1,80 @@
+/* The comments of the history that say who is who, and where a call was made. */
+#define _GNU_SOURCE
+#include <fcntl.h>
+#include <string.h>
+#include <sys/prctl.h>
+#include <unistd.h>
+
+#include "record.h"
+
+enum { MOST_OF_PATH = 64 };
+
+/* At its end: a thread may get its name long after its start. */
+void note_name(Thread *thread) { prctl(PR_GET_NAME, thread->name); }
+
+static void begin_name(char letter, uint32_t number)
+{
+    begin_comment();
+    put_name(letter, number);
+    put_text(" is ");
+}
+
+/* Of a thread that hasn't ended. */
+static void read_name(const Thread *thread, char name[MOST_OF_NAME])
+{
+    char path[MOST_OF_PATH] = "/proc/self/task/", room[MOST_DIGITS + 1];
+
+    strcat(path, digits_of((uint64_t)thread->number_of_kernel, 10, room));
+    strcat(path, "/comm");
+    int file = open(path, O_RDONLY | O_CLOEXEC);
+    ssize_t size = file < 0 ? 0 : read(file, name, MOST_OF_NAME - 1);
+    name[size > 0 ? size : 0] = '\0';
+    name[strcspn(name, "\n")] = '\0';
+    if (file >= 0)
+        close(file);
+}
+
+/* The name that the program has given it, or the function that it runs. */
+void write_name_of_thread(const Thread *thread)
+{
+    char name[MOST_OF_NAME];
+
+    strcpy(name, thread->name);
+    if (name[0] == '\0' && thread->number_of_kernel != 0)
+        read_name(thread, name);
+    bool is_own = name[0] != '\0' && strcmp(name, thread->inherited) != 0;
+    const char *runs = is_own || thread->start == NULL ? NULL : name_of_object((uintptr_t)thread->start);
+    if (!is_own && runs == NULL)
+        return;
+    begin_name('t', thread->number);
+    put_text(is_own ? name : runs);
+    end_line();
+}
+
+/* On the stack and the heap there are no names. Then it is said who used it first. */
+void write_name_of_object(char letter, uint32_t number, const Object *object)
+{
+    const char *name = name_of_object(object->address);
+    const char *user = name != NULL || object->first_used == 0 ? NULL : name_of_call(object->first_used);
+
+    if (name == NULL && user == NULL)
+        return;
+    begin_name(letter, number);
+    put_text(name != NULL ? name : "first used at ");
+    put_text(user != NULL ? user : "");
+    end_line();
+}
+
+/* Behind its begin. */
+void write_caller(const Record *record)
+{
+    uintptr_t caller = caller_of(record);
+    const char *name = caller == 0 ? NULL : name_of_call(caller);
+
+    if (name == NULL)
+        return;
+    begin_comment();
+    put_text("at ");
+    put_text(name);
+    end_line();
+}
