@@ -84,6 +84,13 @@ def judge(history, pif=None, states=None, seconds=None, rules=()):
     return Verdict(done.returncode, told, int(found[1]) if found else 0)
 
 
+def page(history, pif=None, rules=()):
+    """The page of the verdict, for a browser."""
+    allowed = [word for rule in rules for word in ("--allow", rule)]
+    words = [str(pif or TOP / "pif"), "judge", *allowed, "--html", str(history)]
+    return subprocess.run(words, stdin=subprocess.DEVNULL, capture_output=True, text=True).stdout
+
+
 def excerpt(history, line):
     """The calls on that line's mutex and its variables since it was last free, up to that line; else nothing."""
     done = subprocess.run([HERE / "excerpt", history, str(line)], capture_output=True, text=True)
