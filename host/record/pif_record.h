@@ -20,6 +20,7 @@
 
        PIF_ADD("thread %u", priority);             what there is, from one thread at a time: threads, mutexes
        PIF_ADD("mutex normal robust");             and variables, each numbered from 1 in this order
+       PIF_ADD("# m%u is uart_lock", m);           what one is called; it counts as one that is added
        PIF_BEGIN(t, "lock m%u", m);                before the call is entered
        PIF_ANSWER(t, a);                           after it has returned a: 0, or the number of an error
        PIF_LINE("tick %u", time);                  any other line of a history: tick, dying, end, rests, prio

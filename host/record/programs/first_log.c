@@ -50,6 +50,7 @@ int main(void)
     PIF_ADD("thread %u", 1u); /* t1, of priority 1 */
     PIF_ADD("thread %u", 1u); /* t2 */
     PIF_ADD("mutex normal");  /* m1 */
+    PIF_ADD("# m1 is my_lock");
     pthread_create(&first, NULL, work, (void *)1);
     pthread_create(&second, NULL, work, (void *)2);
     pthread_join(first, NULL);
