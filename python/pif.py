@@ -1,8 +1,12 @@
-"""The proved core of pif from Python, by ctypes over libpif.so.
+"""The core of pif from Python, by ctypes over libpif.so.
 
-`make -C c proved` proves the library's crates, and then `make -C c` builds it. It is looked for in the file that
-PIF_LIBRARY names, in c/out beside this folder, and where the system looks for libraries. If it can't be loaded, an
-ImportError says how to make it.
+`make -C c proved` proves the library's crates, and then `make -C c` builds it. `make -C c checked` builds one of which
+nothing is proved, in one to two minutes; it checks as it runs. The library is looked for in the file that PIF_LIBRARY
+names, in c/out beside this folder, the proved one first, and where the system looks for libraries. If none can be
+loaded, an ImportError says how to make one. `library()` says which it is: its `how` is proved, checked or unknown.
+
+    >>> library().how in ("proved", "checked")
+    True
 
     >>> core = Core(threads=4, mutexes=4)
     >>> low, high = core.add_thread(10), core.add_thread(50)
@@ -78,7 +82,7 @@ from collections import namedtuple
 from pathlib import Path
 from types import SimpleNamespace
 
-__all__ = ["Core", "Printed", "Refused", "Seen", "check", "judge", "replay", "run"]
+__all__ = ["Core", "Library", "Printed", "Refused", "Seen", "check", "judge", "library", "replay", "run"]
 
 WHAT = ("no core", "begun", "went", "waits", "answer", "ended", "ticked", "refused", "unnamed")
 REFUSALS = (None, "nosuch", "dead", "busy", "idle", "past")
@@ -106,6 +110,14 @@ CALLS = {
 
 Seen = namedtuple("Seen", "what detail")
 Seen.__doc__ = "What became of an event: begun, went, waits, answer, ended, ticked, refused or unnamed; and its detail."
+
+
+Library = namedtuple("Library", "path how said")
+Library.__doc__ = """A library: its file, or the name by which the system finds it; how it was made, as proved, checked
+or unknown; and what it says of itself."""
+
+# How a library was made, by the end of what it says.
+MADE = {", proved": "proved", ", checked as it runs, not proved": "checked"}
 
 
 class Printed(str):
@@ -197,23 +209,48 @@ def checked(function, takes):
     return call
 
 
-def load():
-    """The functions of the library by their names; an ImportError says how to make it if it can't be loaded."""
-    beside = Path(__file__).resolve().parent.parent / "c" / "out" / "libpif.so"
-    found = os.environ.get("PIF_LIBRARY") or (str(beside) if beside.exists() else ctypes.util.find_library("pif"))
+def place():
+    """The file of the library, or its name if the system has to look for it."""
+    out = Path(__file__).resolve().parent.parent / "c" / "out"
+    beside = [str(path) for path in (out / "libpif.so", out / "checked" / "libpif.so") if path.exists()]
+    return os.environ.get("PIF_LIBRARY") or (beside[0] if beside else ctypes.util.find_library("pif")) or "libpif.so"
+
+
+def said_by(library):
+    """What a library says of itself, or nothing if it has no function for that."""
     try:
-        library, functions = ctypes.CDLL(found or "libpif.so"), {}
+        function = library.pif_made
+    except AttributeError:
+        return ""
+    function.restype, function.argtypes = BYTES, ()
+    return function().decode()
+
+
+def load():
+    """The library, and its functions by their names; an ImportError says how to make it if it can't be loaded."""
+    path, functions = place(), {}
+    try:
+        library = ctypes.CDLL(path)
     except OSError as why:
-        raise ImportError("%s; in a clone of pif 'make -C c proved' and then 'make -C c' make c/out/libpif.so, within "
-                          "an hour or two; PIF_LIBRARY names one that is elsewhere" % why) from None
+        raise ImportError("%s; in a clone of pif 'make -C c checked' makes c/out/checked/libpif.so, which checks as it "
+                          "runs, in one to two minutes; 'make -C c proved' and then 'make -C c' make the proved "
+                          "c/out/libpif.so, within an hour or two; PIF_LIBRARY names one that is elsewhere"
+                          % why) from None
     for name, (answers, *takes) in SIGNATURES.items():
         function = getattr(library, name)
         function.restype, function.argtypes = answers, takes
         functions[name] = checked(function, takes)
-    return SimpleNamespace(**functions)
+    said = said_by(library)
+    how = next((how for end, how in MADE.items() if said.endswith(end)), "unknown")
+    return Library(path, how, said), SimpleNamespace(**functions)
 
 
-LIBRARY = load()
+LOADED, LIBRARY = load()
+
+
+def library():
+    """Which library this runs on."""
+    return LOADED
 
 
 def refuse(result):

@@ -1,6 +1,6 @@
 /* A unit test of a target, to copy: a small mutex with priority inheritance is held to the core, call by call. Each
    test makes the same calls on both. Of the first difference the story so far is printed, as `pif check` reads it, with
-   what the target says.
+   what the target says. The first line says which library this runs on.
 
        target_test [forgets_a_boost|wakes_the_first]     the status is 1 if a test fails, 2 if a core can't be had
 
@@ -194,8 +194,12 @@ static bool passes(const char *name, void (*test)(void))
     return !differs;
 }
 
+/* What the library says of itself: proved, or checked as it runs. */
+const char *pif_made(void);
+
 int main(int count, char **words)
 {
+    printf("on %s\n", pif_made());
     forgets_a_boost = count == 2 && strcmp(words[1], "forgets_a_boost") == 0;
     wakes_the_first = count == 2 && strcmp(words[1], "wakes_the_first") == 0;
     bool boosted = passes("holder_is_boosted", holder_is_boosted);
