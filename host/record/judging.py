@@ -72,9 +72,10 @@ def get_ready(pif=None):
 
 
 def judge(history, pif=None, states=None, seconds=None, rules=()):
-    """The verdict on a history, with what these rules allow; undecided if it isn't there after so many seconds."""
+    """The verdict of the machine on a history, with what these rules allow, without what POSIX says; undecided if it isn't
+    there after so many seconds."""
     allowed = [word for rule in rules for word in ("--allow", rule)]
-    words = [str(pif or TOP / "pif"), "judge", *allowed, *(["--states", str(states)] if states else []), str(history)]
+    words = [str(pif or TOP / "pif"), "judge", "--plain", *allowed, *(["--states", str(states)] if states else []), str(history)]
     try:
         done = subprocess.run(words, stdin=subprocess.DEVNULL, capture_output=True, text=True, timeout=seconds)
     except subprocess.TimeoutExpired:

@@ -1,5 +1,5 @@
 -- Bytes in, bytes out: what a job prints, handed out into memory of the caller's.
-use Rattle.std.specs.Prelude.{ℕ, ◌≡◌, ◌++◌, ◌≤◌, ◌<◌, Bool, List, [], length, drop, Option, Some, Result, Ok, Err, if◌then◌else◌}
+use Rattle.std.specs.Prelude.{ℕ, ◌≡◌, ◌++◌, ◌≤◌, ◌<◌, Bool, true, List, [], length, drop, Option, Some, Result, Ok, Err, if◌then◌else◌}
 use Rattle.pif_script_model.specs.declared.faults.CliFault.{CliFault}
 use Rattle.pif_script_model.specs.declared.faults.CliFault.TheVariants.{Read, Write, NoMemory, Script, Differs}
 use Rattle.pif_rules_model.specs.declared.rules.Rules.{Rules}
@@ -7,7 +7,7 @@ use Rattle.pif_job_judge.specs.declared.forms.Form.{Form}
 use Rattle.pif_job_judge.specs.declared.forms.Form.TheVariants as form
 use Rattle.pif_job_judge.specs.Judging.{JudgesTo}
 use Rattle.pif_job_judge.specs.declared.faults.JudgeFault.{JudgeFault}
-use Rattle.pif_job_judge.specs.declared.faults.JudgeFault.TheVariants.{Cli, Undecided}
+use Rattle.pif_job_judge.specs.declared.faults.JudgeFault.TheVariants.{Cli, PosixAllows, Undecided}
 use Rattle.pif_c_numbers.specs.Codes as pif
 use Rattle.pif_c.specs.declared.texts.PifText.{PifText}
 
@@ -27,6 +27,7 @@ abbrev pub judged_number : Result (Unit {0}) JudgeFault → ℕ
 judged_number (Ok x) = pif.whole
 judged_number (Err (Cli fault)) = fault_number fault
 judged_number (Err (Undecided n)) = pif.undecided
+judged_number (Err (PosixAllows n)) = pif.differs
 
 -- what a job says of a reader and a writer: what the reader had and has left, what the writer held and holds, and how
 -- the job ended
@@ -37,9 +38,10 @@ Job E = Option (List ℕ) → Option (List ℕ) → Option (List ℕ) → Option
 abbrev pub form_of : (witness : Bool) → Form
 form_of witness = if witness then form.Witness else form.Text
 
--- judging a history in a form, with these rules beside those that it allows, and no name in front of what is told
+-- judging a history in a form, with these rules beside those that it allows, without asking POSIX, and no name in front of
+-- what is told
 abbrev pub JudgesAlone : Form → Rules → Job JudgeFault
-JudgesAlone told r before left held holds done = JudgesTo told r before left held holds [] done
+JudgesAlone told r before left held holds done = JudgesTo true told r before left held holds [] done
 
 -- a job read from these bytes, and wrote this text into an empty writer
 abbrev pub Wholly : {E : Type 0} → Job E → List ℕ → List ℕ → Result (Unit {0}) E → Type 0

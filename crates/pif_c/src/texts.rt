@@ -1,10 +1,10 @@
-ghost use Rattle.std.specs.Prelude.{◌≡◌, ℕ, List, None, Result};
+ghost use Rattle.std.specs.Prelude.{◌≡◌, ℕ, List, None, Result, true};
 ghost use Rattle.pif_script_model.specs.Running.{RunsTo};
 ghost use Rattle.pif_script_model.specs.Traces.{ReplaysTo};
 ghost use Rattle.pif_script_model.specs.declared.faults.CliFault.{CliFault};
 ghost use Rattle.pif_story_model.specs.Checks.{TellsTo, check_telling};
 ghost use Rattle.pif_job_judge.specs.declared.faults.JudgeFault.{JudgeFault};
-ghost use Rattle.pif_rules_model.specs.Rules.{no_rules};
+ghost use Rattle.pif_rules_model.specs.Sets.{no_rules};
 ghost use Rattle.pif_c.specs.Texts.{fault_number, ended_number, judged_number, form_of, JudgesAlone, Wholly, HandsOut, IsHandedOut};
 
 use pif_c_numbers::codes::{DIFFERS, FAULT, OUT_OF_MEMORY, UNDECIDED, UNREAD, UNWRITTEN, WHOLE};
@@ -54,6 +54,8 @@ fn judged_number(done: Result<(), JudgeFault>) -> u32
         Ok(()) => WHOLE,
         Err(JudgeFault::Cli(fault)) => fault_number(fault),
         Err(JudgeFault::Undecided(_)) => UNDECIDED,
+        // POSIX isn't asked.
+        Err(JudgeFault::PosixAllows(_)) => DIFFERS,
     }
 }
 
@@ -111,7 +113,8 @@ fn judge_whole(
     asked: &Judging<'_>,
     history: &[u8],
 ) -> (Vec<u8>, Result<(), JudgeFault>)
-    requires { asked.now.name ≡ None }
+    requires nameless { asked.now.name ≡ None }
+    requires plain { asked.now.plain ≡ true }
     ensures { Wholly (JudgesAlone asked.now.form asked.now.allowed) history.now result.0.items result.1 }
 {
     let mut reader = history;
@@ -150,9 +153,9 @@ pub extern "C" fn pif_check(alloc: Global, name: &[u8], story: &[u8], out: &mut 
     hand_out(&text, ended_number(done), out)
 }
 
-/// Judges a history, with at most so many states made for a line, and writes what `pif judge` prints, with the witness
-/// of a legal one if that is asked for, to the start of `out`, if there is room for all of it; else `out` stays as it
-/// is.
+/// Judges a history, with at most so many states made for a line, and writes what `pif judge --plain` prints, with the
+/// witness of a legal one if that is asked for, to the start of `out`, if there is room for all of it; else `out` stays as
+/// it is.
 #[unsafe(no_mangle)]
 pub extern "C" fn pif_judge(
     alloc: Global,
@@ -168,6 +171,7 @@ pub extern "C" fn pif_judge(
         form: form_of(witness),
         states,
         allowed: no_rules(),
+        plain: true,
     };
     let (text, done) = judge_whole(alloc, &asked, history);
     hand_out(&text, judged_number(done), out)

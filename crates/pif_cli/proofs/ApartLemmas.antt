@@ -44,10 +44,10 @@ refused = Err (judge.Cli fault.NoMemory)
 module _ (text : List ℕ) (done : Done) (held holds : Option (List ℕ)) (result : Done)
     (again : Again unwritten refused text done held holds result) where
   -- what was told of a history
-  judges-again : (shape : Form) (r : Rules) (before after : Option (List ℕ)) (history : Result Heard CliFault) (front : List ℕ)
-      → ReadsHistory before after history → Judges shape (heard_allowing r history) (Some []) (Some text) front done
-      → Judges shape (heard_allowing r history) held holds front result
-  judges-again shape r before after (Ok h) front reads judged =
+  judges-again : (plain : Bool) (shape : Form) (r : Rules) (before after : Option (List ℕ)) (history : Result Heard CliFault) (front : List ℕ)
+      → ReadsHistory before after history → Judges plain shape (heard_allowing r history) (Some []) (Some text) front done
+      → Judges plain shape (heard_allowing r history) held holds front result
+  judges-again plain shape r before after (Ok h) front reads judged =
       elim judged [
         | inl none ↦ inl (again-refused unwritten refused text done held holds result again none.0 none.1)
         | inr told ↦ elim (again-text unwritten refused text done held holds result again _ told.1 told.3) [
@@ -55,17 +55,17 @@ module _ (text : List ℕ) (done : Done) (held holds : Option (List ℕ)) (resul
           | inr written ↦ inr (told.0, told.1, told.2, written)
         ]
       ]
-  judges-again shape r before after (Err (fault.Script line cause)) front reads judged =
+  judges-again plain shape r before after (Err (fault.Script line cause)) front reads judged =
       elim judged [
         | inl none ↦ inl (again-refused unwritten refused text done held holds result again none.0 none.1)
         | inr told ↦ again-text unwritten refused text done held holds result again _ _ told
       ]
-  judges-again shape r before after (Err fault.Read) front reads judged =
+  judges-again plain shape r before after (Err fault.Read) front reads judged =
       again-fault unwritten refused text done held holds result again _ judged.0 (λ e. cc) judged.1
-  judges-again shape r before after (Err fault.NoMemory) front reads judged =
+  judges-again plain shape r before after (Err fault.NoMemory) front reads judged =
       again-fault unwritten refused text done held holds result again _ judged.0 (λ e. cc) judged.1
-  judges-again shape r before after (Err fault.Write) front reads judged = absurd reads
-  judges-again shape r before after (Err (fault.Differs line)) front reads judged = absurd reads
+  judges-again plain shape r before after (Err fault.Write) front reads judged = absurd reads
+  judges-again plain shape r before after (Err (fault.Differs line)) front reads judged = absurd reads
 
   -- what was told of the rules that it needs
   least-again : (a : Rules) (before after : Option (List ℕ)) (front : List ℕ)
@@ -82,7 +82,7 @@ module _ (text : List ℕ) (done : Done) (held holds : Option (List ℕ)) (resul
               | inr written ↦ inr (t.0, t.1, t.2, written)
             ]
           ]
-      by_history (Err f) reads told = judges-again form.Text a before after (Err f) front reads told
+      by_history (Err f) reads told = judges-again true form.Text a before after (Err f) front reads told
 
   -- either
   as-again : (asked : Judging) (name : Option (List ℕ)) (before after : Option (List ℕ))
@@ -91,14 +91,14 @@ module _ (text : List ℕ) (done : Done) (held holds : Option (List ℕ)) (resul
     where
       by_test : (b : Bool)
           → MatchBool b (JudgesLeastTo asked.allowed before after (Some []) (Some text) (front_of name form.Text) done)
-          (JudgesTo (form_of asked) asked.allowed before after (Some []) (Some text) (front_of name (form_of asked)) done)
+          (JudgesTo asked.plain (form_of asked) asked.allowed before after (Some []) (Some text) (front_of name (form_of asked)) done)
           → MatchBool b (JudgesLeastTo asked.allowed before after held holds (front_of name form.Text) result)
-          (JudgesTo (form_of asked) asked.allowed before after held holds (front_of name (form_of asked)) result)
+          (JudgesTo asked.plain (form_of asked) asked.allowed before after held holds (front_of name (form_of asked)) result)
       by_test true judged = least-again asked.allowed before after (front_of name form.Text) judged
       by_test false judged = (
         judged.0,
         judged.1,
-        judges-again (form_of asked) asked.allowed before after judged.0 (front_of name (form_of asked)) judged.1 judged.2,
+        judges-again asked.plain (form_of asked) asked.allowed before after judged.0 (front_of name (form_of asked)) judged.1 judged.2,
       )
 
 -- how a job ends that ended as a history, and the end of the history
@@ -106,6 +106,7 @@ as-before : (done : Done) (end : Result (Unit {0}) JobFault) → end ≡ as_judg
 as-before (Ok x) end is e = cc
 as-before (Err (judge.Cli f)) end is e = cc
 as-before (Err (judge.Undecided line)) end is e = cc
+as-before (Err (judge.PosixAllows line)) end is e = cc
 
 -- what was judged of a history that is told under this name is written again
 pub written-again : (asked : Judging) (name : Text) (judged : Judged) (held holds : Option (List ℕ)) (result : Result (Unit {0}) JobFault)

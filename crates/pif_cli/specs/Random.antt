@@ -5,7 +5,7 @@ use Rattle.pif_script_model.specs.CommandLines.{HasNoFault, IsOfCommands}
 use Rattle.pif_script_model.specs.Runs.{WritesPart}
 use Rattle.pif_script_model.specs.declared.faults.CliFault.TheVariants.{Read, Write, NoMemory, Script, Differs}
 use Rattle.pif_cli_messages.specs.declared.statuses.JobFault.{JobFault}
-use Rattle.pif_cli_messages.specs.declared.statuses.JobFault.TheVariants.{Cli, Threads, Unsettled, Undecided}
+use Rattle.pif_cli_messages.specs.declared.statuses.JobFault.TheVariants.{Cli, Threads, Unsettled, Undecided, PosixAllows}
 
 -- a script of so many lines, each a command; if they are as many as `random` takes, a run of it has no fault
 abbrev pub IsRandom : ℕ → List ℕ → Type 0
@@ -17,6 +17,7 @@ WritesRandom lines held holds (Ok x) = (script : List ℕ) × IsRandom lines scr
 WritesRandom lines held holds (Err Threads) = ⊥
 WritesRandom lines held holds (Err Unsettled) = ⊥
 WritesRandom lines held holds (Err (Undecided line)) = ⊥
+WritesRandom lines held holds (Err (PosixAllows line)) = ⊥
 WritesRandom lines held holds (Err (Cli NoMemory)) = Keeps held holds
 WritesRandom lines held holds (Err (Cli Write)) =
     (script : List ℕ) × IsRandom lines script × WritesPart held holds script

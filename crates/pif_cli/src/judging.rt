@@ -19,6 +19,7 @@ fn as_judged(done: Result<(), JudgeFault>) -> Result<(), JobFault>
         Ok(()) => Ok(()),
         Err(JudgeFault::Cli(fault)) => Err(JobFault::Cli(fault)),
         Err(JudgeFault::Undecided(line)) => Err(JobFault::Undecided(line)),
+        Err(JudgeFault::PosixAllows(line)) => Err(JobFault::PosixAllows(line)),
     }
 }
 
@@ -60,6 +61,7 @@ fn judge_as<R: Read, W: Write, V: Watch>(
         form: form_of(asked),
         states: asked.states,
         allowed: asked.allowed,
+        plain: asked.plain,
     };
     if asked.least {
         judge_least(alloc, &judging, input, output, watch)

@@ -338,10 +338,11 @@ pub fn refuse<W: Write, E: Write>(
 /// - 4 if it ran out of memory;
 /// - 5 if a story or a trace differs, a history is illegal, or a claim is broken;
 /// - 6 if a thread can't be started, or the desk of the clients doesn't settle;
-/// - 7 if a history stayed undecided.
+/// - 7 if a history stayed undecided;
+/// - 8 if POSIX allows a history, and the machine doesn't or is undecided.
 ///
 /// At status 0 the notes of `run`, `check` and `show` go to `errors`, once the job is done, a line for each, and at 2
-/// to 7 one line of printable ASCII, which says what went wrong. If these cannot be written, the status stays. At 3 it
+/// to 8 one line of printable ASCII, which says what went wrong. If these cannot be written, the status stays. At 3 it
 /// is a part of the reason why the words are refused, if that could not be written. It is nothing if nobody reads
 /// `output` any more. No memory is taken for the line or the notes, but a story, a program or the last lines of a
 /// history are kept in memory for the place of a fault.

@@ -33,13 +33,13 @@ abbrev pub TellsOf : (notes : List ℕ) → Result (Unit {0}) JobFault → (held
 TellsOf notes (Ok x) held holds = TellsNotes notes held holds
 TellsOf notes (Err e) held holds = TellsFault e held holds
 
--- what is told at a status of the program: at 0 the notes of what was done; a text at 1; one line at 2 to 7. At 3 it is
+-- what is told at a status of the program: at 0 the notes of what was done; a text at 1; one line at 2 to 8. At 3 it is
 -- also a proper part of the text of 1, if that could not be written, and nothing of an output that nobody reads any
 -- more
 abbrev pub TellsAt : ℕ → (held holds : Option (List ℕ)) → Type 0
 TellsAt status held holds =
     ((status ≡ 0) × ((notes : List ℕ) × TellsNotes notes held holds))
     ⊎ (((status ≡ 1) × ((text : List ℕ) × Appends held holds text))
-    ⊎ (((2 ≤ status) × (status ≤ 7) × TellsLine held holds)
+    ⊎ (((2 ≤ status) × (status ≤ 8) × TellsLine held holds)
     ⊎ (((status ≡ 3) × ((text : List ℕ) × WritesPart held holds text))
     ⊎ ((status ≡ 3) × Keeps held holds))))

@@ -68,6 +68,12 @@ impl<'n, 's> Given<'n, 's> {
             JobFault::Undecided(number) => {
                 line_message(&self.place(number), undecided_words(self.job))
             }
+            JobFault::PosixAllows(number) => {
+                line_message(
+                    &self.place(number),
+                    "POSIX allows it, and the machine doesn't",
+                )
+            }
         }
     }
 
@@ -287,7 +293,8 @@ fn cause_in(kind: TextKind, cause: Cause) -> &'static str {
         (TextKind::Program, Cause::Command) =>
             "not a line of a program, or one that stands too late or twice, or names what is not there",
         (TextKind::History, Cause::Size) => "the input has more than 268435456 bytes",
-        (TextKind::History, Cause::Limits) => "the number of recursion is 256 to 4294967295",
+        (TextKind::History, Cause::Limits) =>
+            "recursion takes 256 to 4294967295, or bounds as 1..300",
         (TextKind::History, Cause::Command) => {
             "not a line of a history, or one that stands too late or twice"
         }

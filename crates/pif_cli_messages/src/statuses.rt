@@ -15,10 +15,12 @@ pub enum JobFault {
     /// At the line of this number, from 1, the search for a run of a history was given up; or a program has more states
     /// than may be kept, and then it is line 1.
     Undecided(u64),
+    /// At the line of this number, from 1, no run shows a history, or the search was given up, and POSIX allows it.
+    PosixAllows(u64),
 }
 
-/// The status of the program after this fault of a job: 6 if a thread could not be started, or the desk didn't settle,
-/// and 7 if a history was not decided, or not all states of a program were found.
+/// The status of the program after this fault of a job: 6 if a thread could not be started, or the desk didn't settle, 7
+/// if a history was not decided, or not all states of a program were found, and 8 if POSIX allows what the machine doesn't.
 pub fn job_fault_status(fault: JobFault) -> u8
     ensures { result ≡ job_fault_status fault }
 {
@@ -26,6 +28,7 @@ pub fn job_fault_status(fault: JobFault) -> u8
         JobFault::Cli(fault) => fault_status(fault),
         JobFault::Threads | JobFault::Unsettled => 6,
         JobFault::Undecided(_) => 7,
+        JobFault::PosixAllows(_) => 8,
     }
 }
 

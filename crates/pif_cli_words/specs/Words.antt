@@ -60,13 +60,13 @@ checked_app =
 abbrev pub check_app : App
 check_app = with_rule checked_app files_rule
 
--- the command `judge` for a person or, by a flag, for programs or with a page; its flag for the rules that histories need;
--- its options for how many states may be made for a line, for how many seconds the search goes on, and for how many
--- histories are judged side by side; and that for rules
+-- the command `judge` for a person or, by a flag, for programs or with a page; its flag for the rules that histories need,
+-- and that for the verdict alone; its options for how many states may be made for a line, for how many seconds the search
+-- goes on, and for how many histories are judged side by side; and that for rules
 abbrev pub flagged_app : App
 flagged_app =
-    with_rule (with_rule (with_rule (with_rule (new_app (codes "judge")) (flag_rule (codes "witness"))) (flag_rule (codes "json")))
-    (flag_rule (codes "html"))) (flag_rule (codes "least"))
+    with_rule (with_rule (with_rule (with_rule (with_rule (new_app (codes "judge")) (flag_rule (codes "witness")))
+    (flag_rule (codes "json"))) (flag_rule (codes "html"))) (flag_rule (codes "least"))) (flag_rule (codes "plain"))
 
 abbrev pub judged_app : App
 judged_app =
@@ -152,6 +152,7 @@ judging_in rows = record {
   json = flag_in (codes "json") rows;
   html = flag_in (codes "html") rows;
   least = flag_in (codes "least") rows;
+  plain = flag_in (codes "plain") rows;
   states = number_between 1 16777216 (first_of (codes "states") rows);
   seconds = unless_zero (number_between 0 86400 (first_of (codes "seconds") rows));
   jobs = unless_zero (number_between 1 64 (first_of (codes "jobs") rows));

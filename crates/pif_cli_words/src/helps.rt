@@ -64,6 +64,9 @@ pub const ABOUT_RUN_HTML: &str = "Writes a page with the verdict and a run; of o
 /// What the flag of `judge` for rules does.
 pub const ABOUT_LEAST: &str = "Says which of the rules of --allow a history needs";
 
+/// What the flag of `judge` against the second line does.
+pub const ABOUT_PLAIN: &str = "Doesn't say what POSIX says of a history that isn't legal";
+
 /// What the option of `judge` for states does.
 pub const ABOUT_STATES: &str = "Most states for a line, 1 to 16777216";
 
@@ -74,7 +77,7 @@ pub const ABOUT_SECONDS: &str = "Searches no line after N seconds, 0 to 86400; 0
 pub const ABOUT_JOBS: &str = "Most histories judged side by side, 1 to 64";
 
 /// What the option of `judge` for rules does.
-pub const ABOUT_ALLOW: &str = "Allows a rule, as 'steal' or 'recursion=300', or 'all'";
+pub const ABOUT_ALLOW: &str = "Allows a rule, as 'steal', 'recursion=300', 'posix', 'all'";
 
 /// What the files of `judge` are.
 pub const ABOUT_HISTORIES: &str = "The histories to read; '-' or none is the standard input";
@@ -372,10 +375,12 @@ in which it was seen. Its lines:
   tick N                      the time is N from here on
   rests tN, prio tN P         the thread was seen blocked, or at this priority
 
-Rules are what implementations do otherwise: steal, any_waiter, spurious,
-recursion N (--allow recursion=N), own_errorcheck, any_consistent, held_wait,
-lost_signal, revives. Those of the history and of each --allow hold
-together.
+Rules are what may happen beside. POSIX leaves open: any_waiter, spurious,
+recursion N or A..B (--allow recursion=N), held_wait, barge, cycle_waits,
+cycle_refused, timeout_consumes, ends_apart, stays_locked, rebinds, more_uses,
+refuses_setprio, consistent_by_any, cut_unlock; 'posix' names all of them.
+Implementations do against POSIX: steal, own_errorcheck, any_consistent,
+lost_signal, revives. Those of the history and of each --allow hold together.
 
 For each history it prints:
   legal N
@@ -391,6 +396,15 @@ For each history it prints:
     claim nothing of others
   fault L CAUSE
     line L is the first that is a fault
+Behind an illegal or undecided one a last line says what POSIX says, unless
+--plain, --json, --html or --least is given. It is asked with 'posix' and with
+the rules that are allowed; it knows no mutexes without inheritance:
+  POSIX allows it: RULE ..
+    with these of its rules, and no fewer, some run shows the lines; or with
+    these, 'perhaps fewer'
+  POSIX forbids it from M
+    with all its rules no run shows the lines up to M
+  POSIX: undecided
 With --json it prints an object for the verdict, and one for each line of a run
 with the moves before it: of a run that shows the history, or the lines before
 line L. With --html they stand in a page, which needs nothing from elsewhere: a
@@ -408,8 +422,9 @@ Example:
 prints 'legal 4'.
 
 Status, of the first history that is not legal: 0 legal, 1 wrong words, 2 a
-fault, 3 a read or write failed, 4 out of memory, 5 illegal, 7 undecided.
-Standard error says what went wrong, and in which line.";
+fault, 3 a read or write failed, 4 out of memory, 5 illegal, 7 undecided, 8
+POSIX allows it. With a line of POSIX, 5 and 7 are what it says. Standard error
+says what went wrong, and in which line.";
 
 /// What `explore` reads, and what it answers.
 pub const MORE_EXPLORE: &str =
@@ -442,6 +457,7 @@ is stuck, and mutexes and cells. Then, and last:
                               more
   race: tN tN xN              two next steps access xN, and the first writes it
   deadlock: tN                at the end tN waits for a mutex
+  cycle: tN mN                tN locks mN next, whose owner waits for tN
   lost wake-up: tN cN         at the end tN waits on cN; a signal woke nobody
   livelock                    from some state no final one is reached
   N outcomes, S states, T steps

@@ -28,6 +28,8 @@ pub struct Judging {
     pub html: bool,
     /// Whether the rules are told that each history needs.
     pub least: bool,
+    /// Whether POSIX isn't asked.
+    pub plain: bool,
     /// How many states may be made for a line.
     pub states: u32,
     /// Behind how many seconds the search for a run of a history is given up, 1 to 86,400, if at all.
@@ -186,6 +188,7 @@ fn judging_in(given: &clap::ArgMatches) -> Judging
         json: is_given(given, "json"),
         html: is_given(given, "html"),
         least: is_given(given, "least"),
+        plain: is_given(given, "plain"),
         states: small_number_between(given, "states", 1, 16_777_216),
         seconds: number_if_given(given, "seconds", 0, 86_400),
         jobs: number_if_given(given, "jobs", 1, 64),

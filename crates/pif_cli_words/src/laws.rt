@@ -1,7 +1,7 @@
 //! Laws on words: which job they ask for, and why they are refused.
 ghost use Rattle.std.specs.Prelude.{◌≡◌, ◌≤◌, ℕ, List, [], ◌∷◌, None, Some, codes, true, false};
 ghost use Rattle.clap.specs.declared.error.kind.ErrorKind.TheVariants.{ArgumentConflict, DisplayHelp, DisplayVersion, InvalidSubcommand, InvalidValue, MissingRequiredArgument, MissingSubcommand, TooManyValues, ValueValidation};
-ghost use Rattle.pif_rules_model.specs.Rules.{no_rules};
+ghost use Rattle.pif_rules_model.specs.Sets.{no_rules};
 ghost use Rattle.pif_cli_words.specs.Random.{plain_shape};
 ghost use Rattle.pif_cli_words.specs.Words.{refusals_of, job_of, files_of, rewrites};
 
@@ -16,7 +16,7 @@ use pif_script_model::{Detail, Picture};
 /// with a number from 1 to 64 do; no word, `--help`, `--version`, `judge --html` with another form or two files, `judge
 /// --least` with `--json`, `judge --json` with `--witness`, `judge --allow` with no rule, `check` with two of its
 /// flags, and `draw` with a last line before the first don't.
-#[tactic(auto, unfolding(clap::proofs::OnLiterals::clap_on_literals))]
+#[tactic(auto, unfolding(clap::proofs::OnLiterals::clap_on_literals, pif_rules::specs::Words::rule_in))]
 pub fn words_of_the_program()
     ensures run { (name : List ℕ) → (refusals_of (name ∷ codes "run" ∷ []) ≡ []) × (job_of (name ∷ codes "run" ∷ []) ≡ Job.Run) }
     ensures replay { (name : List ℕ) → (refusals_of (name ∷ codes "replay" ∷ []) ≡ []) × (job_of (name ∷ codes "replay" ∷ []) ≡ Job.Replay) }
@@ -50,19 +50,19 @@ pub fn words_of_the_program()
     ensures strict_or_print { (name : List ℕ) → refusals_of (name ∷ codes "check" ∷ codes "--strict" ∷ codes "--print" ∷ []) ≡ ArgumentConflict ∷ [] }
     ensures print_or_write { (name : List ℕ) → refusals_of (name ∷ codes "check" ∷ codes "--print" ∷ codes "--write" ∷ []) ≡ ArgumentConflict ∷ [] }
     ensures judge { (name : List ℕ) → (refusals_of (name ∷ codes "judge" ∷ []) ≡ [])
-        × (job_of (name ∷ codes "judge" ∷ []) ≡ Job.Judge (record { witness = false; json = false; html = false; least = false; states = 200000; seconds = None; jobs = None; several = false; allowed = no_rules })) }
+        × (job_of (name ∷ codes "judge" ∷ []) ≡ Job.Judge (record { witness = false; json = false; html = false; least = false; plain = false; states = 200000; seconds = None; jobs = None; several = false; allowed = no_rules })) }
     ensures judges { (name : List ℕ) → (refusals_of (name ∷ codes "judge" ∷ codes "--witness" ∷ codes "--states=7" ∷ codes "a" ∷ codes "b" ∷ []) ≡ [])
         × (job_of (name ∷ codes "judge" ∷ codes "--witness" ∷ codes "--states=7" ∷ codes "a" ∷ codes "b" ∷ [])
-        ≡ Job.Judge (record { witness = true; json = false; html = false; least = false; states = 7; seconds = None; jobs = None; several = true; allowed = no_rules })) }
+        ≡ Job.Judge (record { witness = true; json = false; html = false; least = false; plain = false; states = 7; seconds = None; jobs = None; several = true; allowed = no_rules })) }
     ensures objects { (name : List ℕ) → (refusals_of (name ∷ codes "judge" ∷ codes "--json" ∷ codes "a" ∷ codes "b" ∷ []) ≡ [])
         × (job_of (name ∷ codes "judge" ∷ codes "--json" ∷ codes "a" ∷ codes "b" ∷ [])
-        ≡ Job.Judge (record { witness = false; json = true; html = false; least = false; states = 200000; seconds = None; jobs = None; several = true; allowed = no_rules })) }
+        ≡ Job.Judge (record { witness = false; json = true; html = false; least = false; plain = false; states = 200000; seconds = None; jobs = None; several = true; allowed = no_rules })) }
     ensures judge_page { (name : List ℕ) → (refusals_of (name ∷ codes "judge" ∷ codes "--html" ∷ codes "a" ∷ []) ≡ [])
         × (job_of (name ∷ codes "judge" ∷ codes "--html" ∷ codes "a" ∷ [])
-        ≡ Job.Judge (record { witness = false; json = false; html = true; least = false; states = 200000; seconds = None; jobs = None; several = false; allowed = no_rules })) }
+        ≡ Job.Judge (record { witness = false; json = false; html = true; least = false; plain = false; states = 200000; seconds = None; jobs = None; several = false; allowed = no_rules })) }
     ensures judge_least { (name : List ℕ) → (refusals_of (name ∷ codes "judge" ∷ codes "--least" ∷ codes "a" ∷ codes "b" ∷ []) ≡ [])
         × (job_of (name ∷ codes "judge" ∷ codes "--least" ∷ codes "a" ∷ codes "b" ∷ [])
-        ≡ Job.Judge (record { witness = false; json = false; html = false; least = true; states = 200000; seconds = None; jobs = None; several = true; allowed = no_rules })) }
+        ≡ Job.Judge (record { witness = false; json = false; html = false; least = true; plain = false; states = 200000; seconds = None; jobs = None; several = true; allowed = no_rules })) }
     ensures least_or_json { (name : List ℕ) → refusals_of (name ∷ codes "judge" ∷ codes "--least" ∷ codes "--json" ∷ []) ≡ ArgumentConflict ∷ [] }
     ensures json_or_witness { (name : List ℕ) → refusals_of (name ∷ codes "judge" ∷ codes "--witness" ∷ codes "--json" ∷ []) ≡ ArgumentConflict ∷ [] }
     ensures no_rule { (name : List ℕ) → refusals_of (name ∷ codes "judge" ∷ codes "--allow" ∷ codes "theft" ∷ []) ≡ InvalidValue ∷ [] }
@@ -71,7 +71,7 @@ pub fn words_of_the_program()
     ensures page_of_one { (name : List ℕ) → refusals_of (name ∷ codes "judge" ∷ codes "--html" ∷ codes "a" ∷ codes "b" ∷ []) ≡ TooManyValues ∷ [] }
     ensures judge_timed { (name : List ℕ) → (refusals_of (name ∷ codes "judge" ∷ codes "--seconds=5" ∷ codes "--jobs=3" ∷ codes "a" ∷ codes "b" ∷ []) ≡ [])
         × (job_of (name ∷ codes "judge" ∷ codes "--seconds=5" ∷ codes "--jobs=3" ∷ codes "a" ∷ codes "b" ∷ [])
-        ≡ Job.Judge (record { witness = false; json = false; html = false; least = false; states = 200000; seconds = Some 5; jobs = Some 3; several = true; allowed = no_rules })) }
+        ≡ Job.Judge (record { witness = false; json = false; html = false; least = false; plain = false; states = 200000; seconds = Some 5; jobs = Some 3; several = true; allowed = no_rules })) }
     ensures judge_untimed { (name : List ℕ) → (refusals_of (name ∷ codes "judge" ∷ codes "--seconds=0" ∷ []) ≡ [])
         × (job_of (name ∷ codes "judge" ∷ codes "--seconds=0" ∷ []) ≡ job_of (name ∷ codes "judge" ∷ [])) }
     ensures too_many_seconds { (name : List ℕ) → refusals_of (name ∷ codes "judge" ∷ codes "--seconds=86401" ∷ []) ≡ ValueValidation ∷ [] }

@@ -1,7 +1,7 @@
 //! The rules that `judge` is told to allow.
 ghost use Rattle.std.specs.Prelude.{◌≡◌, map};
 ghost use Rattle.clap.specs.Words.{found_of, rows_of};
-ghost use Rattle.pif_rules_model.specs.Rules.{no_rules};
+ghost use Rattle.pif_rules_model.specs.Sets.{no_rules};
 ghost use Rattle.pif_cli_words.specs.Rules.{allow_all, allowed_in, are_rules, rules_of};
 
 use pif_rules::{both, no_rules, rules_named};

@@ -99,10 +99,13 @@ impl Allowed<'_> {
             Line::Answer(thread, answer) => {
                 self.try_to_answer(thread.get() as usize, answer, extras)
             }
-            Line::Rests(thread) => self.try_to_rob(thread.get() as usize, extras),
+            Line::End(thread) => self.try_to_pass_on(thread.get() as usize, extras),
+            Line::Rests(thread) => self.try_to_rest(thread.get() as usize, extras),
             Line::Prio(_, _) => {
-                for owner in 0..self.thread_count() {
-                    self.try_to_rob(owner, extras)?;
+                for other in 0..self.thread_count() {
+                    self.try_to_rob(other, extras)?;
+                    self.try_to_pass_on(other, extras)?;
+                    self.try_to_go_on(other, extras)?;
                 }
                 Ok(())
             }
@@ -119,20 +122,137 @@ impl Allowed<'_> {
     ) -> Result<(), Stop> {
         match self.scene.need(thread) {
             Need::Takes(mutex) | Need::Tries(mutex) => {
-                let owner = self.scene.owner(mutex);
-                if owner == 0 {
-                    return self.try_to_wake(thread, mutex, extras);
-                }
-                if answer == 0 || answer == Errno::OwnerDead.number() {
-                    return try_by_rule(extras, thread);
-                }
-                Ok(())
+                self.try_to_take(thread, mutex, answer, extras)
             }
-            Need::Queued(mutex) => self.try_to_rob(self.scene.owner(mutex), extras),
+            Need::Queued(mutex) => {
+                let owner = self.scene.owner(mutex);
+                self.try_to_go_on(thread, extras)?;
+                self.try_to_pass_on(owner, extras)?;
+                self.try_to_rob(owner, extras)
+            }
             Need::Blocked(_, _, _) => try_by_rule(extras, thread),
-            Need::Signals(variable) => self.try_to_lose(variable, extras),
+            Need::Signals(variable) => {
+                self.try_to_lose(variable, extras)?;
+                self.try_to_consume(variable, extras)
+            }
+            Need::Sets(other, _) => self.try_before_setting(other as usize, answer, extras),
             Need::Acts => self.try_before_mending(thread, extras),
             _ => Ok(()),
+        }
+    }
+
+    /// Adds what may lead, by rules, to this answer of the open call of a thread, which takes a mutex.
+    fn try_to_take(
+        &self,
+        thread: usize,
+        mutex: u32,
+        answer: Answer,
+        extras: &mut Vec<Extra>,
+    ) -> Result<(), Stop> {
+        let owner = self.scene.owner(mutex);
+        if owner == 0 {
+            self.try_to_wake(thread, mutex, extras)?;
+            return self.try_waiters(mutex, extras);
+        }
+        self.try_to_pass_on(owner, extras)?;
+        if answer == Errno::Deadlock.number() {
+            return self.try_to_refuse(thread, owner, extras);
+        }
+        if answer == 0 || answer == Errno::OwnerDead.number() {
+            return try_by_rule(extras, thread);
+        }
+        Ok(())
+    }
+
+    /// Whether a thread is dying, and lives yet.
+    fn may_end(&self, thread: usize) -> bool {
+        self.scene.is_dying(thread) && self.scene.world().is_living(thread)
+    }
+
+    /// Adds what may make a thread rest, by rules: a mutex is taken that it wants, or it is robbed of one.
+    fn try_to_rest(&self, thread: usize, extras: &mut Vec<Extra>) -> Result<(), Stop> {
+        match self.scene.need(thread) {
+            Need::Takes(mutex) if self.scene.owner(mutex) == 0 => self.try_waiters(mutex, extras),
+            _ => self.try_to_rob(thread, extras),
+        }
+    }
+
+    /// Adds that a thread that waits for a mutex takes it, if nobody owns it.
+    fn try_to_go_on(&self, thread: usize, extras: &mut Vec<Extra>) -> Result<(), Stop> {
+        match self.scene.need(thread) {
+            Need::Queued(mutex) if self.rules.barge && self.scene.owner(mutex) == 0 => {
+                try_by_rule(extras, thread)
+            }
+            _ => Ok(()),
+        }
+    }
+
+    /// Adds that a thread that waits for this mutex, which nobody owns, takes it.
+    fn try_waiters(&self, mutex: u32, extras: &mut Vec<Extra>) -> Result<(), Stop> {
+        for other in 0..self.thread_count() {
+            if let Need::Queued(wanted) = self.scene.need(other)
+                && wanted == mutex
+                && self.scene.may_own(other)
+            {
+                self.try_to_go_on(other, extras)?;
+            }
+        }
+        Ok(())
+    }
+
+    /// Adds that a robust mutex of a thread passes on that has ended before.
+    fn try_to_pass_on(&self, thread: usize, extras: &mut Vec<Extra>) -> Result<(), Stop> {
+        let has_left = self.scene.is_dying(thread) && !self.scene.world().is_living(thread);
+        if self.rules.ends_apart && has_left {
+            push(extras, Extra::Ends(thread))
+        } else {
+            Ok(())
+        }
+    }
+
+    /// Adds what may make a lock hopeless by a thread, since the owner of its mutex ends, and that the lock is refused.
+    fn try_to_refuse(
+        &self,
+        thread: usize,
+        owner: usize,
+        extras: &mut Vec<Extra>,
+    ) -> Result<(), Stop> {
+        if !self.rules.cycle_refused || owner == thread {
+            return Ok(());
+        }
+        if self.may_end(owner) {
+            push(extras, Extra::Ends(owner))?;
+        }
+        try_by_rule(extras, thread)
+    }
+
+    /// Adds that a wait runs out of time, which takes a signal of this variable with it.
+    fn try_to_consume(&self, variable: u32, extras: &mut Vec<Extra>) -> Result<(), Stop> {
+        if !self.rules.timeout_consumes {
+            return Ok(());
+        }
+        for other in 0..self.thread_count() {
+            if let Need::Blocked(wanted, _, _) = self.scene.need(other)
+                && wanted == variable
+                && self.scene.is_overdue(other)
+            {
+                try_by_rule(extras, other)?;
+            }
+        }
+        Ok(())
+    }
+
+    /// Adds that a thread ends before its priority is set, which is answered 0 then too.
+    fn try_before_setting(
+        &self,
+        thread: usize,
+        answer: Answer,
+        extras: &mut Vec<Extra>,
+    ) -> Result<(), Stop> {
+        if self.rules.refuses_setprio && answer == 0 && self.may_end(thread) {
+            push(extras, Extra::Ends(thread))
+        } else {
+            Ok(())
         }
     }
 
@@ -177,8 +297,7 @@ impl Allowed<'_> {
         for other in 0..self.thread_count() {
             if let Need::Blocked(wanted, _, _) = self.scene.need(other)
                 && wanted == variable
-                && self.scene.is_dying(other)
-                && self.scene.world().is_living(other)
+                && self.may_end(other)
             {
                 push(extras, Extra::Ends(other))?;
             }
@@ -200,7 +319,8 @@ impl Allowed<'_> {
     /// Adds what others do to the mutex that a thread makes consistent, which may own it or not.
     fn try_before_mending(&self, thread: usize, extras: &mut Vec<Extra>) -> Result<(), Stop> {
         let mutex = self.mended_by(thread);
-        if !self.rules.any_consistent || mutex == 0 {
+        let may_be_any = self.rules.any_consistent || self.rules.consistent_by_any;
+        if !may_be_any || mutex == 0 {
             return Ok(());
         }
         for other in 0..self.thread_count() {

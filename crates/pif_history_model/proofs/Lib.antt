@@ -25,6 +25,7 @@ pub mod Listing
 pub mod Selections
 pub mod Numbers
 pub mod ShownLines
+mod NoRules
 pub mod Widening
 pub mod Judging
 pub mod Covered

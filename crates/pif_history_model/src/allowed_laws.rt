@@ -1,7 +1,7 @@
 ghost use Rattle.std.specs.Prelude.{◌≡◌, List};
 ghost use Rattle.pif_types.specs.Bounds.{Bounds};
 ghost use Rattle.pif_rules_model.specs.declared.rules.Rules.{Rules};
-ghost use Rattle.pif_rules_model.specs.Rules.{AreAmong, no_rules};
+ghost use Rattle.pif_rules_model.specs.Sets.{AreAmong, no_rules};
 ghost use Rattle.pif_history_model.specs.declared.lines.Line.{Line};
 ghost use Rattle.pif_history_model.specs.Shown.{IsShown};
 ghost use Rattle.pif_history_model.specs.Searched.{IsShownWith};

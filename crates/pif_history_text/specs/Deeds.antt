@@ -5,8 +5,8 @@ use Rattle.pif_types.specs.declared.requests.Request.{Request}
 use Rattle.pif_model.specs.Posix.{Progress, named_by, variable_of}
 use Rattle.pif_model.specs.World.Progress.{Waiting, Stuck, Leaving, Has, Checked, Enlisted, Blocked, Reacquiring, Used}
 use Rattle.pif_text_model.specs.Replies.{thread_name, mutex_name, cond_name}
-use Rattle.pif_rules.specs.declared.rules.Rule.{Rule}
-use Rattle.pif_rules.specs.declared.rules.Rule.TheVariants.{Steal, Spurious, HeldWait}
+use Rattle.pif_rules_model.specs.declared.rules.Rule.{Rule}
+use Rattle.pif_rules_model.specs.declared.rules.Rule.TheVariants.{Steal, Spurious, HeldWait}
 use Rattle.pif_rules.specs.Sets.{name_of}
 use Rattle.pif_history_text.specs.declared.deeds.Deed.{Deed}
 use Rattle.pif_history_text.specs.declared.deeds.Deed.TheVariants.{Takes, TakesFrom, IsHanded, WaitsFor, WaitsForGood, Frees, SpoilsIt, Checks, IsBlocked, GoesOnWaiting, IsUnblocked, TimesOut, Uses, Comes}

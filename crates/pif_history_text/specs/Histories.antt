@@ -7,11 +7,11 @@ use Rattle.pif_story_model.specs.Lines.{lines}
 use Rattle.pif_story_model.specs.Verdicts.{Fault}
 use Rattle.std.specs.List.{list_any}
 use Rattle.pif_rules_model.specs.declared.rules.Rules.{Rules}
-use Rattle.pif_rules_model.specs.Rules.{no_rules}
+use Rattle.pif_rules_model.specs.Sets.{no_rules}
 use Rattle.pif_history_model.specs.declared.lines.Line.{Line}
 use Rattle.pif_history_model.specs.declared.lines.Line.TheVariants.{Begin}
-use Rattle.pif_history_text.specs.Allowed.{have_common, is_any, is_too_small}
-use Rattle.pif_rules.specs.Sets.{both}
+use Rattle.pif_rules.specs.Sets.{both, have_common, is_any}
+use Rattle.pif_rules.specs.Words.{are_beyond}
 use Rattle.pif_history_text.specs.declared.said.Said.{Said}
 use Rattle.pif_history_text.specs.declared.said.Said.TheVariants.{Allow, Limits, Nothing, Shown}
 use Rattle.pif_history_text.specs.Lines.{said_in, text_of_line, is_long}
@@ -63,7 +63,7 @@ abbrev pub after_allow : Heard → Rules → Result Heard Cause
 after_allow h r =
     if list_any is_begin h.shown then Err Command
     else if have_common h.allowed r then Err Command
-    else if is_too_small r.recursion then Err OutOfRange
+    else if are_beyond r.recursion then Err OutOfRange
     else Ok (record h { allowed = both h.allowed r; count = next_number h })
 
 -- One line more that is shown by runs, or by none.

@@ -1,15 +1,16 @@
 -- How a step of a run is told to a person: a line, or a move, and what it changes.
-use Rattle.std.specs.Prelude.{ℕ, zero, suc, ◌==◌, Bool, List, [], ◌++◌, length, Option, Some, None, codes, if◌then◌else◌}
+use Rattle.std.specs.Prelude.{ℕ, zero, suc, ◌==◌, Bool, false, true, List, [], ◌++◌, length, Option, Some, None, codes, if◌then◌else◌}
 use Rattle.pif_types.specs.declared.requests.Request.{Request}
-use Rattle.pif_model.specs.Posix.{World, Call, named_by, mutex_at, thread_at}
+use Rattle.pif_model.specs.Posix.{World, Call, is_living, named_by, mutex_at, thread_at}
 use Rattle.pif_text_model.specs.Replies.{thread_name}
 use Rattle.pif_history_model.specs.declared.labels.Label.{Label}
 use Rattle.pif_history_model.specs.declared.labels.Label.TheVariants.{Shown, Moves, Ends}
-use Rattle.pif_rules.specs.declared.rules.Rule.{Rule}
-use Rattle.pif_rules.specs.Sets.{name_of}
+use Rattle.pif_rules_model.specs.declared.rules.Rule.{Rule}
+use Rattle.pif_rules_model.specs.declared.rules.Rules.{Rules}
+use Rattle.pif_rules.specs.Sets.{first_of, is_any, names_of}
 use Rattle.pif_history_text.specs.Texts.{line_text}
 use Rattle.pif_history_text.specs.declared.deeds.Deed.{Deed}
-use Rattle.pif_history_text.specs.Deeds.{deed_line, other_deed, own_deed, rule_front}
+use Rattle.pif_history_text.specs.Deeds.{deed_line, other_deed, own_deed}
 
 -- Whether t owns m.
 abbrev pub owns : World → (t m : ℕ) → Bool
@@ -46,25 +47,36 @@ others_below (suc n) moving w v = others_below n moving w v ++ if_other moving n
 abbrev pub others : (moving : ℕ) → World → World → List ℕ
 others moving w v = others_below (length w.threads) moving w v
 
--- The rule that a line of the history needs, if it does.
-abbrev pub rule_telling : Option Rule → List ℕ
-rule_telling None = []
-rule_telling (Some rule) = codes "  " ++ name_of rule ++ codes "\n"
+-- The rules that a line of the history needs, if it needs some.
+abbrev pub rules_telling : Rules → List ℕ
+rules_telling by = if is_any by then codes " " ++ names_of by ++ codes "\n" else []
 
--- How a step begins, by this rule or by none: a line of the history, or what the thread does that moves or ends.
-abbrev pub label_telling : Option Rule → Label → World → World → List ℕ
-label_telling rule (Shown line) w v = line_text line ++ codes "\n" ++ rule_telling rule
-label_telling rule (Moves t) w v = own_telling rule t w v (thread_at w t).call (thread_at v t).call
-label_telling rule (Ends t) w v = codes "  " ++ rule_front rule ++ thread_name t ++ codes " ends\n"
+-- The rules that an end needs, in front of it.
+abbrev pub rules_front : Rules → List ℕ
+rules_front by = if is_any by then names_of by ++ codes ":" else []
+
+-- What a thread does at its end: all at one moment; or by `ends_apart` it leaves, and one of its mutexes passes on later.
+abbrev pub end_words : Rules → (lived : Bool) → List ℕ
+end_words by true = if by.ends_apart then codes " leaves\n" else codes " ends\n"
+end_words by false = codes " passes a mutex on\n"
+
+-- The line of an end, by these rules.
+abbrev pub end_telling : Rules → (t : ℕ) → (lived : Bool) → List ℕ
+end_telling by t lived = codes " " ++ rules_front by ++ codes " " ++ thread_name t ++ end_words by lived
+
+-- How a step begins, by these rules: a line of the history, or what the thread does that moves or ends. A move is by one
+-- rule at most.
+abbrev pub label_telling : Rules → Label → World → World → List ℕ
+label_telling by (Shown line) w v = line_text line ++ codes "\n" ++ rules_telling by
+label_telling by (Moves t) w v = own_telling (first_of by) t w v (thread_at w t).call (thread_at v t).call
+label_telling by (Ends t) w v = end_telling by t (is_living w t)
 
 -- The number of the thread that moves by a step; 0 if none does.
 abbrev pub moving : Label → ℕ
 moving (Moves t) = t
 moving x = 0
 
--- One step of the machine that is searched, from w to v, by this rule or by none: a line of the history; a move of a
--- thread; or the end of one that is dying.
-abbrev pub step_telling : Option Rule → Label → World → World → List ℕ
-step_telling rule (Shown line) w v = line_text line ++ codes "\n" ++ rule_telling rule ++ others 0 w v
-step_telling rule (Moves t) w v = own_telling rule t w v (thread_at w t).call (thread_at v t).call ++ others t w v
-step_telling rule (Ends t) w v = codes "  " ++ rule_front rule ++ thread_name t ++ codes " ends\n" ++ others 0 w v
+-- One step of the machine that is searched, from w to v, by these rules: a line of the history; a move of a thread; or
+-- the end of one that is dying.
+abbrev pub step_telling : Rules → Label → World → World → List ℕ
+step_telling by x w v = label_telling by x w v ++ others (moving x) w v

@@ -190,10 +190,10 @@ fn append_deed(request: &Request, deed: Deed, out: &mut Text)
 }
 
 /// How many bytes of room a rule in front of a line needs.
-const RULE_ROOM: usize = 16;
+const RULE_ROOM: usize = 19;
 
 /// Appends what stands in front of a line of a step: the name of the rule that it needs, if it does.
-pub fn append_front(rule: Option<Rule>, out: &mut Text)
+fn append_front(rule: Option<Rule>, out: &mut Text)
     requires { array_vec_len out.old + RULE_ROOM ≤ TEXT_ROOM }
     ensures items { out.new.items ≡ out.old.items ++ rule_front rule }
     ensures len { array_vec_len out.new ≤ array_vec_len out.old + RULE_ROOM }

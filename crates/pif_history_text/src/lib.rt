@@ -24,7 +24,6 @@ mod texts;
 mod verdicts;
 mod writing;
 
-pub use allowed::{have_common, is_any, is_too_small};
 pub use deeds::Deed;
 pub use heard::{History, MOST_BYTES};
 pub use lines::{answer_of, said_of};

@@ -1,9 +1,8 @@
 -- What is appended piece by piece.
-use Rattle.std.proofs.Common.{◌≡◌, ◌∙◌, ◌-◌, ℕ, Bool, Option, List, ◌++◌, length, ap, append_assoc, Result, Ok, Err, OnOk, is_ok, if◌then◌else◌}
+use Rattle.std.proofs.Common.{◌≡◌, ◌∙◌, ◌-◌, ℕ, Bool, List, ◌++◌, length, ap, append_assoc, Result, Ok, Err, OnOk, is_ok, if◌then◌else◌}
 use Rattle.pif_model.specs.World.{World, effective_of, is_living, rests, thread_at}
 use Rattle.pif_history_model.specs.declared.lines.Line.{Line}
 use Rattle.pif_history_text.specs.Texts.{line_text}
-use Rattle.pif_rules.specs.declared.rules.Rule.{Rule}
 use Rattle.pif_history_told.specs.StateObjects.{call_members, change_lists, change_members, thread_object, thread_text}
 use Rattle.pif_history_told.specs.Runs.{line_members, line_object}
 
@@ -53,10 +52,10 @@ changes_appended whole w v old new threads mutexes conds ts ms cs all =
     ∙ ap (λ n. old ++ change_lists whole w v (length v.threads - 1) (length v.mutexes - 1) n) cs
 
 -- A line, by its number and its text.
-pub line_appended : (whole : Bool) (number : ℕ) (line : Line) (moves : List ℕ) (rule : Option Rule) (w v : World)
+pub line_appended : (whole : Bool) (number : ℕ) (line : Line) (moves names : List ℕ) (w v : World)
     (old new : List ℕ) (n : ℕ) (text : List ℕ) → n ≡ number → text ≡ line_text line
-    → new ≡ old ++ line_members whole n text moves rule w v → new ≡ old ++ line_object whole number line moves rule w v
+    → new ≡ old ++ line_members whole n text moves names w v → new ≡ old ++ line_object whole number line moves names w v
 unfolding line_object
-line_appended whole number line moves rule w v old new n text counted read all =
-    all ∙ ap (λ k. old ++ line_members whole k text moves rule w v) counted
-    ∙ ap (λ l. old ++ line_members whole number l moves rule w v) read
+line_appended whole number line moves names w v old new n text counted read all =
+    all ∙ ap (λ k. old ++ line_members whole k text moves names w v) counted
+    ∙ ap (λ l. old ++ line_members whole number l moves names w v) read

@@ -2,9 +2,10 @@
 use Rattle.std.proofs.Common.{◌≡◌, ◌∙◌, ℕ, zero, suc, ◌+◌, ◌-◌, ◌<◌, ◌≤◌, List, [], ◌∷◌, ◌++◌, take, drop, length, get_or, Result, Ok, Err, OnOk, refl, sym, ap, arith, append_assoc}
 use Rattle.std.proofs.lemmas.List.{drop_more, take_rest, append-nil}
 use Rattle.pif_rules_model.specs.declared.rules.Rules.{Rules}
-use Rattle.pif_rules.specs.declared.rules.Rule.{Rule}
+use Rattle.pif_rules_model.specs.declared.rules.Rule.{Rule}
+use Rattle.pif_rules_model.specs.Sets.{no_rules}
 use Rattle.pif_rules.specs.Sets.{both, only}
-use Rattle.pif_history_told.specs.Sets.{sets_below, sets_of_size}
+use Rattle.pif_history_told.specs.Sets.{sets_below, sets_but_all, sets_in_order, sets_of_size}
 use Rattle.pif_history_told.specs.Texts.{with_names}
 
 -- the sets of one size more
@@ -18,6 +19,14 @@ below_more a k held rules old new e f =
 pub below_none : (a held : Rules) (rules : List Rule) → sets_below a 0 held rules ≡ []
 unfolding sets_below
 below_none a held rules = refl
+
+-- all sets, if no rule holds in any case
+pub all_in_order : (base other a last : Rules) (sets new : List Rules) → sets ≡ sets_but_all base a → base ≡ no_rules → other ≡ no_rules
+    → last ≡ both a other → new ≡ sets ++ last ∷ [] → new ≡ sets_in_order no_rules a
+all_in_order base other a last sets new are none others is grown =
+    grown
+    ∙ (ap (λ (ys : List Rules). ys ++ last ∷ []) (are ∙ ap (λ (q : Rules). sets_but_all q a) none)
+    ∙ ap (λ (q : Rules). sets_but_all no_rules a ++ q ∷ []) (is ∙ ap (λ (q : Rules). both a q) others))
 
 -- the sets of no rule
 of_none : (a : Rules) (size : ℕ) (held : Rules) (rules : List Rule) → size ≡ 0 → sets_of_size a size held rules ≡ held ∷ []

@@ -1,134 +1,241 @@
--- A step with rules needs none of them, or is there if one of them alone is allowed. What is listed without rules is
--- listed first with any.
-use Rattle.std.proofs.Common.{ℕ, ◌≡◌, ◌∙◌, Bool, true, false, List, [], ◌++◌, map, Option, Some, None, is_some, sym, ap, inl, inr, ◌⊎◌, if◌then◌else◌}
-use Rattle.std.specs.List.{flat_map}
-use Rattle.std.proofs.lemmas.List.{append-nil, map-append}
+-- A step with rules is there with few of them: a move with one at most, and any other with those that change an end.
+use Rattle.std.proofs.Common.{ℕ, ◌≡◌, ◌∙◌, Bool, true, false, ◌||◌, ◌∷◌, filter, map, Contains, arith, refl}
+use Rattle.std.proofs.lemmas.List.Elements.{Contains-push}
 use Rattle.pif_types.specs.Bounds.{Bounds}
-use Rattle.pif_model.specs.declared.events.Event.TheVariants as event
-use Rattle.pif_model.specs.declared.events.Seen.TheVariants as seen
+use Rattle.pif_model.specs.Posix.{World}
 use Rattle.pif_model.specs.declared.events.Entry.{Entry}
-use Rattle.pif_model.specs.declared.events.Entry.TheVariants as entry
-use Rattle.pif_posix_model.specs.Doing.{moved, is_allowed, robust_of, ended}
+use Rattle.pif_posix_model.proofs.DoingLists.{in_filter_from, in_first, in_map_from, in_rest}
+use Rattle.pif_rules_model.specs.declared.rules.Rule.{Rule}
+use Rattle.pif_rules_model.specs.declared.rules.Rule.TheVariants.{Steal, AnyWaiter, Spurious, Recursion, OwnErrorcheck, AnyConsistent, HeldWait, LostSignal, Revives, Barge, CycleWaits, CycleRefused, TimeoutConsumes, EndsApart, StaysLocked, Rebinds, MoreUses, RefusesSetprio, ConsistentByAny, CutUnlock}
 use Rattle.pif_rules_model.specs.declared.rules.Rules.{Rules}
-use Rattle.pif_rules_model.specs.Rules.{Wide, WideEnters, MovesByRule, no_rules, end_of}
+use Rattle.pif_rules_model.specs.Sets.{has, no_rules, rules_in_order}
+use Rattle.pif_rules_model.specs.Rules.{Wide, WideEnters, WideEndsApart, MovesByRule, DoesBy, EndsBy, HasReleased, MayRevive, FindsHealth, PassesBy, ReleasesBy}
 use Rattle.pif_rules_model.specs.Rules.WideMoves.{plain, ruled}
 use Rattle.pif_rules_model.specs.Rules.WideEnters.{ended as wide_end, other as wide_other}
-use Rattle.pif_rules_model.specs.Rules.EndsOrRevives.{as_ever, after_reviving}
-use Rattle.pif_rules_model.specs.Rules.MovesByRule.{steal, any_waiter, spurious, recursion, own_errorcheck, any_consistent, held_wait, lost_signal}
-use Rattle.pif_rules_model.specs.Ruled.{beside, remembering, moved_by_rule, ended_after_reviving, entered_as}
+use Rattle.pif_rules_model.specs.Rules.WideEndsApart.{leaves, passes as wide_passes}
+use Rattle.pif_rules_model.specs.Rules.MayRevive.{revives, cut}
+use Rattle.pif_rules_model.specs.Rules.FindsHealth.{as_it_is, one}
+use Rattle.pif_rules_model.specs.Rules.PassesBy.{passes, left_free}
+use Rattle.pif_rules_model.specs.Rules.ReleasesBy.{none_left, they_stay, one_more}
+use Rattle.pif_rules_model.specs.Rules.HasReleased.{at_once as released_at_once, none_left as released_none, they_stay as released_staying}
+use Rattle.pif_rules.specs.Sets.{both, only}
 use Rattle.pif_history_model.specs.declared.lines.Line.{Line}
 use Rattle.pif_history_model.specs.declared.labels.Label.{Label}
 use Rattle.pif_history_model.specs.declared.labels.Label.TheVariants.{Shown, Moves, Ends}
-use Rattle.pif_history_model.specs.Lines.{is_among, is_line_among, dying_after}
-use Rattle.pif_history_model.specs.Searched.{Configuration, Advances}
-use Rattle.pif_history_model.specs.Searched.Advances.{moves, ends, enters, sees, has_ended}
-use Rattle.pif_history_model.specs.Listed as listed
-use Rattle.pif_history_model.specs.Listed.{with_dying, entry_for, one_if, behind_entry, behind_some, behind_line, behind_move, behind_end, behind}
-use Rattle.pif_rules.specs.declared.rules.Rule.{Rule}
-use Rattle.pif_rules.specs.declared.rules.Rule.TheVariants.{Steal, AnyWaiter, Spurious, Recursion, OwnErrorcheck, AnyConsistent, HeldWait, LostSignal, Revives}
-use Rattle.pif_rules.specs.Sets.{has, only}
-use Rattle.pif_history_told.specs.Steps.{IsStepBy}
+use Rattle.pif_history_model.specs.Searched.{Configuration, Advances, IsThrough}
+use Rattle.pif_history_model.specs.Searched.IsThrough.{at_once as through_at_once, released as through_released}
+use Rattle.pif_history_model.specs.Searched.Advances.{moves, ends, ends_apart, enters, sees, has_ended}
+use Rattle.pif_history_told.specs.Sets.{sets_but_all, sets_in_order}
+use Rattle.pif_history_told.specs.Steps.{IsStepBy, asked_with, of_ends, of_lines, sets_for}
 
--- BY ONE RULE
+-- ENDS
 
-moved_by_one : (r : Rules) (t : ℕ) (s n : Wide) → MovesByRule r t s n
-    → (rule : Rule) × (has r rule ≡ true) × MovesByRule (only r rule) t s n
-moved_by_one r t s n (steal v a h e) = (Steal, a, steal v a h e)
-moved_by_one r t s n (any_waiter v a h e) = (AnyWaiter, a, any_waiter v a h e)
-moved_by_one r t s n (spurious v a h e) = (Spurious, a, spurious v a h e)
-moved_by_one r t s n (recursion v most a h e) = (Recursion, ap (λ (o : Option ℕ). is_some o) a, recursion v most a h e)
-moved_by_one r t s n (own_errorcheck v a h e) = (OwnErrorcheck, a, own_errorcheck v a h e)
-moved_by_one r t s n (any_consistent v a h e) = (AnyConsistent, a, any_consistent v a h e)
-moved_by_one r t s n (held_wait v a h e) = (HeldWait, a, held_wait v a h e)
-moved_by_one r t s n (lost_signal a h) = (LostSignal, a, lost_signal a h)
+-- b has the rules of a that change an end
+record EndsAlike (a b : Rules) : Type 0 where
+  revives : b.revives ≡ a.revives
+  barge : b.barge ≡ a.barge
+  ends_apart : b.ends_apart ≡ a.ends_apart
+  stays_locked : b.stays_locked ≡ a.stays_locked
+  cut_unlock : b.cut_unlock ≡ a.cut_unlock
 
--- an entry by none, or by one
-entered_by_one : (r : Rules) (l : Bounds) (s : Wide) (e : Entry) (n : Wide) → WideEnters r l s e n
-    → WideEnters no_rules l s e n ⊎ ((rule : Rule) × (has r rule ≡ true) × WideEnters (only r rule) l s e n)
-entered_by_one r l s e n (wide_end t v q (as_ever h) f) = inl (wide_end t v q (as_ever h) f)
-entered_by_one r l s e n (wide_end t v q (after_reviving m a o k u h) f) =
-    inr (Revives, a, wide_end t v q (after_reviving m a o k u h) f)
-entered_by_one r l s e n (wide_other v q h f) = inl (wide_other v q h f)
+may_revive : (a b : Rules) → EndsAlike a b → (t m : ℕ) (w : World) → MayRevive a t m w → MayRevive b t m w
+may_revive a b h t m w (revives e) = revives (h.revives ∙ e)
+may_revive a b h t m w (cut e c) = cut (h.cut_unlock ∙ e) c
 
-pub by_one : (r : Rules) (l : Bounds) (s : Configuration) (x : Label) (n : Configuration) → Advances r l s x n
-    → (rule : Option Rule) × IsStepBy r l s x rule n
-by_one r l s x n (moves t v i (plain w g f) e) = (None, moves t v i (plain w g f) e)
-by_one r l s x n (moves t v i (ruled a m) e) =
-    let p = moved_by_one r t s.wide v m in (Some p.0, (p.1, moves t v i (ruled a p.2) e))
-by_one r l s x n (ends t v i d h e) =
-    elim (entered_by_one r l s.wide (entry.Step (event.End t) seen.Ended) v h) [
-      | inl g ↦ (None, ends t v i d g e)
-      | inr p ↦ (Some p.0, (p.1, ends t v i d p.2 e))
-    ]
-by_one r l s x n (enters line c v i k d h e) =
-    elim (entered_by_one r l s.wide c v h) [
-      | inl g ↦ (None, enters line c v i k d g e)
-      | inr p ↦ (Some p.0, (p.1, enters line c v i k d p.2 e))
-    ]
-by_one r l s x n (sees line i d h e) = (None, sees line i d h e)
-by_one r l s x n (has_ended t i d h e) = (None, has_ended t i d h e)
+finds : (a b : Rules) → EndsAlike a b → (t : ℕ) (w v : World) → FindsHealth a t w v → FindsHealth b t w v
+finds a b h t w v (as_it_is e) = as_it_is e
+finds a b h t w v (one m may o s u e) = one m (may_revive a b h t m w may) o s u e
 
--- WHAT IS LISTED FIRST
+passes_on : (a b : Rules) → EndsAlike a b → (m : ℕ) (w v : World) → PassesBy a m w v → PassesBy b m w v
+passes_on a b h m w v (passes p) = passes p
+passes_on a b h m w v (left_free e f) = left_free (h.barge ∙ e) f
 
-grown : {A B : Type 0} (f : A → B) (xs ys : List A) → map f (xs ++ ys) ≡ map f (xs ++ []) ++ map f ys
-grown f xs ys = map-append f xs ys ∙ ap (λ l. map f l ++ map f ys) (sym (append-nil xs))
+releases : (a b : Rules) → EndsAlike a b → (t : ℕ) (w v : World) → ReleasesBy a t w v → ReleasesBy b t w v
+releases a b h t w v (none_left o e) = none_left o e
+releases a b h t w v (they_stay s e) = they_stay (h.stays_locked ∙ s) e
+releases a b h t w v (one_more m o s p more) = one_more m o s (passes_on a b h m _ _ p) (releases a b h t _ v more)
 
-twice_grown : {A B C : Type 0} (g : B → C) (f : A → B) (xs ys : List A)
-    → map g (map f (xs ++ ys)) ≡ map g (map f (xs ++ [])) ++ map g (map f ys)
-twice_grown g f xs ys = ap (λ l. map g l) (grown f xs ys) ∙ map-append g (map f (xs ++ [])) (map f ys)
+ends_by : (a b : Rules) → EndsAlike a b → (t : ℕ) (w v : World) → EndsBy a t w v → EndsBy b t w v
+ends_by a b h t w v e = record {
+  allowed = e.allowed;
+  found = e.found;
+  finds = finds a b h t w e.found e.finds;
+  releases = releases a b h t _ v e.releases;
+}
 
--- one list begins with another
-abbrev BeginsWith : List Configuration → List Configuration → Type 0
-BeginsWith all first = (rest : List Configuration) × (all ≡ first ++ rest)
+enters_by : (a b : Rules) → EndsAlike a b → (l : Bounds) (s : Wide) (e : Entry) (n : Wide) → WideEnters a l s e n → WideEnters b l s e n
+enters_by a b h l s e n (wide_end t v q x f) = wide_end t v q (ends_by a b h t s.world v x) f
+enters_by a b h l s e n (wide_other v q x f) = wide_other v q x f
 
-itself : (all : List Configuration) → BeginsWith all all
-itself all = ([], sym (append-nil all))
+apart_by : (a b : Rules) → EndsAlike a b → (t : ℕ) (s n : Wide) → WideEndsApart a t s n → WideEndsApart b t s n
+apart_by a b h t s n (leaves v x f) =
+    leaves v (record {
+      apart = h.ends_apart ∙ x.apart;
+      allowed = x.allowed;
+      found = x.found;
+      finds = finds a b h t s.world x.found x.finds;
+      leaves = x.leaves;
+    }) f
+apart_by a b h t s n (wide_passes v there x f) =
+    wide_passes v there (record {
+      apart = h.ends_apart ∙ x.apart;
+      ended = x.ended;
+      mutex = x.mutex;
+      owns = x.owns;
+      robust = x.robust;
+      passes = passes_on a b h x.mutex _ v x.passes;
+    }) f
 
-entry_first : (r : Rules) (l : Bounds) (s : Configuration) (e : Entry) (us : List ℕ)
-    → BeginsWith (behind_entry r l s e us) (behind_entry no_rules l s e us)
-entry_first r l s e us = go (end_of e)
-  where
-    go : (o : Option ℕ) → BeginsWith (map (with_dying us) (entered_as r l s.wide e o)) (map (with_dying us) (entered_as no_rules l s.wide e o))
-    go None = itself _
-    go (Some t) =
-        let w = s.wide.world in
-        let more = if r.revives then flat_map (ended_after_reviving t w) (robust_of w t) else [] in
-        (map (with_dying us) (map (remembering t s.wide) more), twice_grown (with_dying us) (remembering t s.wide) (ended t w) more)
+has_released : (a b : Rules) → EndsAlike a b → (t : ℕ) (s : Wide) → HasReleased a t s → HasReleased b t s
+has_released a b h t s (released_at_once e) = released_at_once e
+has_released a b h t s (released_none o) = released_none o
+has_released a b h t s (released_staying e) = released_staying (h.stays_locked ∙ e)
 
-move_first : (r : Rules) (s : Configuration) (t : ℕ) → BeginsWith (behind_move r s t) (behind_move no_rules s t)
-move_first r s t = go (is_allowed s.wide.world (event.Go t))
-  where
-    go : (b : Bool)
-        → BeginsWith (map (with_dying s.dying) (map (beside s.wide) (moved t s.wide.world) ++ (if b then moved_by_rule r t s.wide else [])))
-        (map (with_dying s.dying) (map (beside s.wide) (moved t s.wide.world) ++ (if b then moved_by_rule no_rules t s.wide else [])))
-    go true = (
-      map (with_dying s.dying) (moved_by_rule r t s.wide),
-      grown (with_dying s.dying) (map (beside s.wide) (moved t s.wide.world)) (moved_by_rule r t s.wide),
-    )
-    go false = itself _
+is_through : (a b : Rules) → EndsAlike a b → (t : ℕ) (s : Wide) → IsThrough a t s → IsThrough b t s
+is_through a b h t s (through_at_once e) = through_at_once (h.ends_apart ∙ e)
+is_through a b h t s (through_released x) = through_released (has_released a b h t s x)
 
-end_first : (r : Rules) (l : Bounds) (s : Configuration) (t : ℕ) → BeginsWith (behind_end r l s t) (behind_end no_rules l s t)
-end_first r l s t = go (is_among s.dying t)
-  where
-    go : (b : Bool)
-        → BeginsWith (if b then behind_entry r l s (entry.Step (event.End t) seen.Ended) s.dying else [])
-        (if b then behind_entry no_rules l s (entry.Step (event.End t) seen.Ended) s.dying else [])
-    go true = entry_first r l s (entry.Step (event.End t) seen.Ended) s.dying
-    go false = itself []
+-- THE LAST SET
 
-line_first : (r : Rules) (l : Bounds) (s : Configuration) (line : Line) → BeginsWith (behind_line r l s line) (behind_line no_rules l s line)
-line_first r l s line = go (is_line_among s.dying line) (entry_for s.wide.world line)
-  where
-    over : List Configuration
-    over = one_if (listed.has_ended s.wide.world line) (dying_after line s.dying) s.wide
+or_false : (b : Bool) → (b || false) ≡ b
+or_false true = refl
+or_false false = refl
 
-    go : (b : Bool) (o : Option Entry)
-        → BeginsWith (if b then over else behind_some r l s line o) (if b then over else behind_some no_rules l s line o)
-    go true o = itself _
-    go false None = itself _
-    go false (Some e) = entry_first r l s e (dying_after line s.dying)
+last_of : Rules → Rules
+last_of r = both r no_rules
 
-pub plain_first : (r : Rules) (l : Bounds) (s : Configuration) (x : Label) → BeginsWith (behind r l s x) (behind no_rules l s x)
-plain_first r l s (Shown line) = line_first r l s line
-plain_first r l s (Moves t) = move_first r s t
-plain_first r l s (Ends t) = end_first r l s t
+lines_alike : (r : Rules) (line : Line) → EndsAlike r (asked_with r (Shown line) (last_of (of_lines r)))
+unfolding last_of
+lines_alike r line = record {
+  revives = or_false r.revives;
+  barge = or_false r.barge;
+  ends_apart = refl;
+  stays_locked = or_false r.stays_locked;
+  cut_unlock = or_false r.cut_unlock;
+}
+
+ends_alike : (r : Rules) (t : ℕ) → EndsAlike r (asked_with r (Ends t) (last_of (of_ends r)))
+unfolding last_of
+ends_alike r t = record {
+  revives = or_false r.revives;
+  barge = or_false r.barge;
+  ends_apart = or_false r.ends_apart;
+  stays_locked = or_false r.stays_locked;
+  cut_unlock = or_false r.cut_unlock;
+}
+
+last_shown : (r : Rules) → Contains (sets_in_order no_rules r) (last_of r)
+unfolding last_of
+last_shown r = Contains-push (sets_but_all no_rules r) (both r no_rules)
+
+-- MOVES
+
+-- each rule stands in the table
+in_order : (rule : Rule) → Contains rules_in_order rule
+in_order Steal = (0, omega arith, refl)
+in_order AnyWaiter = (1, omega arith, refl)
+in_order Spurious = (2, omega arith, refl)
+in_order Recursion = (3, omega arith, refl)
+in_order OwnErrorcheck = (4, omega arith, refl)
+in_order AnyConsistent = (5, omega arith, refl)
+in_order HeldWait = (6, omega arith, refl)
+in_order LostSignal = (7, omega arith, refl)
+in_order Revives = (8, omega arith, refl)
+in_order Barge = (9, omega arith, refl)
+in_order CycleWaits = (10, omega arith, refl)
+in_order CycleRefused = (11, omega arith, refl)
+in_order TimeoutConsumes = (12, omega arith, refl)
+in_order EndsApart = (13, omega arith, refl)
+in_order StaysLocked = (14, omega arith, refl)
+in_order Rebinds = (15, omega arith, refl)
+in_order MoreUses = (16, omega arith, refl)
+in_order RefusesSetprio = (17, omega arith, refl)
+in_order ConsistentByAny = (18, omega arith, refl)
+in_order CutUnlock = (19, omega arith, refl)
+
+-- a rule is one of those that it has alone
+has_alone : (r : Rules) (rule : Rule) → has r rule ≡ true → has (only r rule) rule ≡ true
+has_alone r Steal e = e
+has_alone r AnyWaiter e = e
+has_alone r Spurious e = e
+has_alone r Recursion e = e
+has_alone r OwnErrorcheck e = e
+has_alone r AnyConsistent e = e
+has_alone r HeldWait e = e
+has_alone r LostSignal e = e
+has_alone r Revives e = e
+has_alone r Barge e = e
+has_alone r CycleWaits e = e
+has_alone r CycleRefused e = e
+has_alone r TimeoutConsumes e = e
+has_alone r EndsApart e = e
+has_alone r StaysLocked e = e
+has_alone r Rebinds e = e
+has_alone r MoreUses e = e
+has_alone r RefusesSetprio e = e
+has_alone r ConsistentByAny e = e
+has_alone r CutUnlock e = e
+
+does_alone : (r : Rules) (rule : Rule) (t : ℕ) (s n : Wide) → DoesBy r rule t s n → DoesBy (only r rule) rule t s n
+does_alone r Recursion t s n d = d
+does_alone r Steal t s n d = d
+does_alone r AnyWaiter t s n d = d
+does_alone r Spurious t s n d = d
+does_alone r OwnErrorcheck t s n d = d
+does_alone r AnyConsistent t s n d = d
+does_alone r HeldWait t s n d = d
+does_alone r LostSignal t s n d = d
+does_alone r Barge t s n d = d
+does_alone r CycleWaits t s n d = d
+does_alone r CycleRefused t s n d = d
+does_alone r TimeoutConsumes t s n d = d
+does_alone r Rebinds t s n d = d
+does_alone r MoreUses t s n d = d
+does_alone r RefusesSetprio t s n d = d
+does_alone r ConsistentByAny t s n d = d
+does_alone r _ t s n d = absurd d
+
+moves_alone : (r : Rules) (t : ℕ) (s n : Wide) (m : MovesByRule r t s n) → MovesByRule (only r m.rule) t s n
+moves_alone r t s n m = record {
+  rule = m.rule;
+  allowed = has_alone r m.rule m.allowed;
+  does = does_alone r m.rule t s n m.does;
+}
+
+alone_listed : (r : Rules) (rule : Rule) → has r rule ≡ true → Contains (no_rules ∷ map (only r) (filter (has r) rules_in_order)) (only r rule)
+alone_listed r rule e =
+    in_rest no_rules (map (only r) (filter (has r) rules_in_order)) (only r rule)
+    (in_map_from (only r) (filter (has r) rules_in_order) rule (in_filter_from (has r) rules_in_order rule (in_order rule) e))
+
+-- ALL STEPS
+
+-- a step that is no move is there with rules that change an end alike
+no_move : (a b : Rules) → EndsAlike a b → (l : Bounds) (s : Configuration) (x : Label) (n : Configuration)
+    → ((t : ℕ) → x ≡ Moves t → ⊥) → Advances a l s x n → Advances b l s x n
+no_move a b h l s x n none (moves t v i m e) = absurd (none t i)
+no_move a b h l s x n none (ends t v i d g e) = ends t v i d (enters_by a b h l s.wide _ v g) e
+no_move a b h l s x n none (ends_apart t v i d g e) = ends_apart t v i d (apart_by a b h t s.wide v g) e
+no_move a b h l s x n none (enters line c v i k d g e) = enters line c v i k d (enters_by a b h l s.wide c v g) e
+no_move a b h l s x n none (sees line i d g e) = sees line i d g e
+no_move a b h l s x n none (has_ended t i d g q e) = has_ended t i d g (is_through a b h t s.wide q) e
+
+pub by_set : (r : Rules) (l : Bounds) (s : Configuration) (x : Label) (n : Configuration) → Advances r l s x n
+    → (q : Rules) × IsStepBy r l s x q n
+unfolding sets_for
+by_set r l s (Moves t) n (moves u v i (plain w g f) e) =
+    (no_rules, (in_first no_rules (map (only r) (filter (has r) rules_in_order)), moves u v i (plain w g f) e))
+by_set r l s (Moves t) n (moves u v i (ruled a m) e) =
+    (only r m.rule, (alone_listed r m.rule m.allowed, moves u v i (ruled a (moves_alone r u s.wide v m)) e))
+by_set r l s (Moves t) n (ends u v i d h e) = absurd (cc)
+by_set r l s (Moves t) n (ends_apart u v i d h e) = absurd (cc)
+by_set r l s (Moves t) n (enters line c v i k d h e) = absurd (cc)
+by_set r l s (Moves t) n (sees line i d h e) = absurd (cc)
+by_set r l s (Moves t) n (has_ended u i d h g e) = absurd (cc)
+by_set r l s (Shown line) n a = (
+  last_of (of_lines r),
+  (last_shown (of_lines r), no_move r _ (lines_alike r line) l s (Shown line) n (λ t i. cc) a),
+)
+by_set r l s (Ends u) n a = (
+  last_of (of_ends r),
+  (last_shown (of_ends r), no_move r _ (ends_alike r u) l s (Ends u) n (λ t i. cc) a),
+)

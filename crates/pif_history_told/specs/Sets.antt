@@ -1,20 +1,21 @@
 -- Sets of rules, in the order in which they are tried.
-use Rattle.std.specs.Prelude.{ℕ, zero, suc, ◌&&◌, Bool, true, false, not, nat_lt, List, [], ◌∷◌, ◌++◌, filter, length, Option, Some, None}
+use Rattle.std.specs.Prelude.{ℕ, zero, suc, ◌&&◌, ◌||◌, Bool, true, false, not, nat_lt, List, [], ◌∷◌, ◌++◌, filter, length, Option, Some, None}
+use Rattle.pif_rules_model.specs.declared.rules.HoldLimits.{HoldLimits}
+use Rattle.pif_rules_model.specs.declared.rules.Rule.{Rule}
+use Rattle.pif_rules_model.specs.declared.rules.Rule.TheVariants.{Recursion}
 use Rattle.pif_rules_model.specs.declared.rules.Rules.{Rules}
-use Rattle.pif_rules.specs.declared.rules.Rule.{Rule}
-use Rattle.pif_rules.specs.declared.rules.Rule.TheVariants.{Recursion}
-use Rattle.pif_rules.specs.Sets.{rules_in_order, both, has, only}
+use Rattle.pif_rules_model.specs.Sets.{has, rules_in_order}
+use Rattle.pif_rules.specs.Sets.{both, only}
 
--- Whether the second number is the greater, or is there alone.
-abbrev pub greater_number : Option ℕ → Option ℕ → Bool
-greater_number None None = false
-greater_number None (Some n) = true
-greater_number (Some m) None = false
-greater_number (Some m) (Some n) = nat_lt m n
+-- Whether the second bounds allow what the first don't, or are there alone.
+abbrev pub are_wider : Option HoldLimits → Option HoldLimits → Bool
+are_wider base None = false
+are_wider None (Some y) = true
+are_wider (Some x) (Some y) = nat_lt y.least x.least || nat_lt x.most y.most
 
 -- Whether a rule of a adds to the rules of base.
 abbrev pub adds : (base a : Rules) → Rule → Bool
-adds base a Recursion = greater_number base.recursion a.recursion
+adds base a Recursion = are_wider base.recursion a.recursion
 adds base a rule = has a rule && not (has base rule)
 
 -- The rules of a that add to those of base.

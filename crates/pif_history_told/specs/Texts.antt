@@ -1,24 +1,28 @@
 -- What is told of the least set of rules.
-use Rattle.std.specs.Prelude.{ℕ, List, [], ◌∷◌, ◌++◌, Option, Some, None, codes, decimal}
+use Rattle.std.specs.Prelude.{ℕ, ◌==◌, List, [], ◌∷◌, ◌++◌, Option, Some, None, codes, decimal, if◌then◌else◌}
 use Rattle.std.specs.List.{flat_map}
 use Rattle.pif_rules_model.specs.declared.rules.Rules.{Rules}
-use Rattle.pif_rules.specs.declared.rules.Rule.{Rule}
-use Rattle.pif_rules.specs.declared.rules.Rule.TheVariants.{Recursion}
+use Rattle.pif_rules_model.specs.declared.rules.HoldLimits.{HoldLimits}
+use Rattle.pif_rules_model.specs.declared.rules.Rule.{Rule}
+use Rattle.pif_rules_model.specs.declared.rules.Rule.TheVariants.{Recursion}
 use Rattle.pif_rules.specs.Sets.{name_of}
 use Rattle.pif_history_told.specs.Sets.{added}
 
--- The number behind the name of `recursion`.
-abbrev pub most_text : Option ℕ → List ℕ
-most_text None = []
-most_text (Some n) = codes "=" ++ decimal n
+-- The bounds behind the name of `recursion`: those from 255 on by their greatest number alone.
+abbrev pub least_text : (least : ℕ) → List ℕ
+least_text least = if least == 255 then [] else decimal least ++ codes ".."
 
-abbrev pub number_text : Rules → Rule → List ℕ
-number_text r Recursion = most_text r.recursion
-number_text r x = []
+abbrev pub limits_text : Option HoldLimits → List ℕ
+limits_text None = []
+limits_text (Some x) = codes "=" ++ least_text x.least ++ decimal x.most
+
+abbrev pub bounds_text : Rules → Rule → List ℕ
+bounds_text r Recursion = limits_text r.recursion
+bounds_text r x = []
 
 -- A rule of a set, behind a space.
 abbrev pub rule_text : Rules → Rule → List ℕ
-rule_text r x = codes " " ++ name_of x ++ number_text r x
+rule_text r x = codes " " ++ name_of x ++ bounds_text r x
 
 -- The rules of r that add to those of base.
 abbrev pub names_of : (base r : Rules) → List ℕ
@@ -36,3 +40,11 @@ legal_with lines base r = codes "legal " ++ decimal lines ++ with_names (names_o
 -- At the line of this number the search was given up with the rules of r.
 abbrev pub undecided_with : (number : ℕ) → (base r : Rules) → List ℕ
 undecided_with number base r = codes "undecided at " ++ decimal number ++ with_names (names_of base r)
+
+-- The rules of r that add to those of base, behind a colon, if there are some.
+abbrev pub colon_names : List ℕ → List ℕ
+colon_names [] = []
+colon_names (x ∷ names) = codes ":" ++ x ∷ names
+
+abbrev pub needs_text : (base r : Rules) → List ℕ
+needs_text base r = colon_names (names_of base r)

@@ -46,11 +46,11 @@ mod texts;
 mod verdicts;
 mod ways;
 
-pub use following::witness_text;
+pub use following::{rules_of_run, witness_text};
 pub use pages::{PAGE_LINES, append_page, first_shown};
 pub use places::{line_at, number_at, unfound_of};
 pub use runs::run_text;
-pub use sets::sets_but_all;
+pub use sets::{added, sets_of_size};
 pub use telling::{began_before, tell_legal, tell_unfound, tell_why};
-pub use texts::{push_legal_with, push_undecided_with};
+pub use texts::{push_legal_with, push_needed, push_undecided_with};
 pub use verdicts::{Began, Known, Unfound, append_illegal, append_legal, append_undecided};

@@ -5,7 +5,6 @@ use crate::changes::{Change, append_changes};
 use pif_history_model::{Label, Line};
 use pif_history_text::line_text;
 use pif_posix::State;
-use pif_rules::{Rule, name_of};
 use pif_search::{Stop, at_or};
 use pif_text::Text;
 use pif_text_json::{Member, append_members};
@@ -44,8 +43,8 @@ pub struct Frame<'a> {
 /// A step of a run, from a state to a state.
 #[derive(Clone, Copy)]
 pub struct Leap<'a> {
-    /// The rule that it needs, if it does.
-    pub rule: Option<Rule>,
+    /// The names of the rules that it needs, each behind a space.
+    pub names: &'a [u8],
     /// The state before it.
     pub from: &'a State,
     /// The state behind it.
@@ -63,23 +62,23 @@ fn append_comma(out: &mut Vec<u8>) -> Result<(), Stop>
     Ok(())
 }
 
-/// Appends the rule that a step needs, if it does, as a member.
-fn append_rule(rule: Option<Rule>, out: &mut Vec<u8>) -> Result<(), AllocError>
-    ensures { OnOk result (out.new.items ≡ out.old.items ++ rule_members rule) }
+/// Appends the names of the rules that a step needs, if it needs some, as a member.
+fn append_rules(names: &[u8], out: &mut Vec<u8>) -> Result<(), AllocError>
+    ensures { OnOk result (out.new.items ≡ out.old.items ++ rule_members names.now) }
 {
-    match rule {
-        Some(rule) => append_members(out, b',', &[Member::Quoted("rule", name_of(rule))]),
-        None => Ok(()),
+    match names {
+        [] => Ok(()),
+        [_, names @ ..] => append_members(out, b',', &[Member::Quoted("rule", names)]),
     }
 }
 
 /// Appends a move of a thread that no line shows, as an object.
 #[tactic(auto, unfolding(crate::specs::Runs::move_object))]
 fn append_move(name: &str, thread: Tid, step: &Leap<'_>, out: &mut Vec<u8>) -> Result<(), Stop>
-    ensures { OnOk result (out.new.items ≡ out.old.items ++ move_object name.now thread step.now.rule step.now.from.now step.now.to.now) }
+    ensures { OnOk result (out.new.items ≡ out.old.items ++ move_object name.now thread step.now.names.now step.now.from.now step.now.to.now) }
 {
     append_members(out, b'{', &[Member::Name(name, b't', thread.get())])?;
-    append_rule(step.rule, out)?;
+    append_rules(step.names, out)?;
     let change = Change {
         from: step.from,
         to: step.to,
@@ -90,17 +89,17 @@ fn append_move(name: &str, thread: Tid, step: &Leap<'_>, out: &mut Vec<u8>) -> R
     Ok(())
 }
 
-/// Appends a line of the history with this number, the moves before it, the rule that it needs, and what it changes.
+/// Appends a line of the history with this number, the moves before it, the rules that it needs, and what it changes.
 #[tactic(auto, unfolding(crate::specs::Runs::line_object))]
 fn append_line(
     number: u32,
     line: &Line,
     moves: &[u8],
-    rule: Option<Rule>,
+    names: &[u8],
     change: &Change<'_>,
     out: &mut Vec<u8>,
 ) -> Result<(), Stop>
-    ensures { OnOk result (out.new.items ≡ out.old.items ++ line_object change.now.is_whole number line.now moves.now rule change.now.from.now change.now.to.now) }
+    ensures { OnOk result (out.new.items ≡ out.old.items ++ line_object change.now.is_whole number line.now moves.now names.now change.now.from.now change.now.to.now) }
 {
     let mut text = Text::new();
     line_text(*line, &mut text);
@@ -120,7 +119,7 @@ fn append_line(
             Member::Bool("whole", change.is_whole),
         ],
     )?;
-    append_rule(rule, out)?;
+    append_rules(names, out)?;
     append_changes(change, out)?;
     out.extend_from_slice(b"}\n")?;
     Ok(())
@@ -135,7 +134,7 @@ fn append_told(
     step: &Leap<'_>,
     out: &mut Vec<u8>,
 ) -> Result<(), Stop>
-    ensures { OnOk result (out.new.items ≡ out.old.items ++ told_line frame.now.from frame.now.numbers.now place line.now moves.now step.now.rule step.now.from.now step.now.to.now) }
+    ensures { OnOk result (out.new.items ≡ out.old.items ++ told_line frame.now.from frame.now.numbers.now place line.now moves.now step.now.names.now step.now.from.now step.now.to.now) }
 {
     if place < frame.from {
         return Ok(());
@@ -149,7 +148,7 @@ fn append_told(
         at_or(frame.numbers, place, 0),
         line,
         moves,
-        step.rule,
+        step.names,
         &change,
         out,
     )
@@ -176,7 +175,7 @@ impl Telling {
 
     /// Adds a line of the history.
     fn add_line(&mut self, frame: &Frame<'_>, line: &Line, step: &Leap<'_>) -> Result<(), Stop>
-        ensures { OnOk result (self.new ≡ with_line frame.now.from frame.now.numbers.now line.now step.now.rule step.now.from.now step.now.to.now self.old) }
+        ensures { OnOk result (self.new ≡ with_line frame.now.from frame.now.numbers.now line.now step.now.names.now step.now.from.now step.now.to.now self.old) }
     {
         append_told(
             frame,
@@ -199,7 +198,7 @@ impl Telling {
         thread: Tid,
         step: &Leap<'_>,
     ) -> Result<(), Stop>
-        ensures { OnOk result (self.new ≡ with_move frame.now.from name.now thread step.now.rule step.now.from.now step.now.to.now self.old) }
+        ensures { OnOk result (self.new ≡ with_move frame.now.from name.now thread step.now.names.now step.now.from.now step.now.to.now self.old) }
     {
         if frame.from >= self.place {
             return Ok(());
@@ -211,7 +210,7 @@ impl Telling {
     /// Adds a step of a run.
     #[tactic(auto, unfolding(crate::specs::Runs::with_step))]
     pub fn add(&mut self, frame: &Frame<'_>, label: &Label, step: &Leap<'_>) -> Result<(), Stop>
-        ensures { OnOk result (self.new ≡ with_step frame.now.from frame.now.numbers.now label.now step.now.rule step.now.from.now step.now.to.now self.old) }
+        ensures { OnOk result (self.new ≡ with_step frame.now.from frame.now.numbers.now label.now step.now.names.now step.now.from.now step.now.to.now self.old) }
     {
         match *label {
             Label::Shown(line) => self.add_line(frame, &line, step),

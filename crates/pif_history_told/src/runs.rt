@@ -1,6 +1,7 @@
-ghost use Rattle.std.specs.Prelude.{◌≡◌, ◌≤◌, ◌-◌, ◌∷◌, Option, drop, length, IfOk};
+ghost use Rattle.std.specs.Prelude.{◌≡◌, ◌≤◌, ◌-◌, ◌∷◌, drop, length, IfOk};
 ghost use Rattle.pif_history_model.specs.Searched.{Configuration};
-ghost use Rattle.pif_rules.specs.declared.rules.Rule.{Rule};
+ghost use Rattle.pif_rules_model.specs.declared.rules.Rules.{Rules as TheRules};
+ghost use Rattle.pif_rules.specs.Sets.{names_of};
 ghost use Rattle.pif_history_told.specs.Runs.{IsTold, Telling, with_step};
 ghost use Rattle.pif_history_told.specs.Steps.{IsStepBy};
 ghost use Rattle.pif_history_told.specs.Ways.{HasCome, IsRun};
@@ -9,6 +10,7 @@ use crate::run_lines::{Frame, Leap, Telling};
 use crate::ways::{choices, next_step};
 use pif_history_machine::Position;
 use pif_history_model::{HistoryLimits, Label};
+use pif_rules::push_names;
 use pif_rules_model::Rules;
 use pif_search::Stop;
 use std::alloc::Global;
@@ -29,13 +31,15 @@ fn take_step(
     requires within { left ≤ length labels.now }
     requires come { HasCome rules.now limits labels.now choices.now left from.now }
     ensures come { IfOk result (λ to. HasCome rules.now limits labels.now choices.now (left - 1) to) }
-    ensures told { IfOk result (λ to. (x : Label) × (rule : Option Rule) × (drop (left - 1) labels.now ≡ x ∷ drop left labels.now)
-        × IsStepBy rules.now limits from.now x rule to
-        × (told.new ≡ with_step frame.now.from frame.now.numbers.now x rule from.now.wide.world to.wide.world told.old)) }
+    ensures told { IfOk result (λ to. (x : Label) × (q : TheRules) × (drop (left - 1) labels.now ≡ x ∷ drop left labels.now)
+        × IsStepBy rules.now limits from.now x q to
+        × (told.new ≡ with_step frame.now.from frame.now.numbers.now x (names_of q) from.now.wide.world to.wide.world told.old)) }
 {
     let step = next_step(alloc, rules, limits, labels, choices, left, from)?;
+    let mut names = Vec::new(alloc);
+    push_names(&step.by, &mut names)?;
     let leap = Leap {
-        rule: step.rule,
+        names: names.as_slice(),
         from: from.world(),
         to: step.position.world(),
     };
@@ -45,7 +49,7 @@ fn take_step(
 
 /// A run whose steps have these labels, newest first, as lines of JSON: one for each line of the history but the first
 /// `from`, which has the number of its place among `numbers`, the moves before it, and what each changes. A step that
-/// needs one of these rules names it. There has to be such a run.
+/// needs some of these rules names them. There has to be such a run.
 ///
 /// # Errors
 ///

@@ -1,19 +1,19 @@
 ghost use Rattle.std.specs.Prelude.{◌≡◌, ◌++◌, IfOk, OnOk};
-ghost use Rattle.pif_history_told.specs.Sets.{added, adds, greater_number, sets_but_all, sets_of_size};
+ghost use Rattle.pif_history_told.specs.Sets.{added, adds, are_wider, sets_but_all, sets_of_size};
 
 use pif_rules::{RULES, Rule, both, has, only};
-use pif_rules_model::Rules;
+use pif_rules_model::{HoldLimits, Rules};
 use pif_search::{Stop, push};
 use std::alloc::Global;
 
-/// Whether a number of `recursion` is greater than another, or is there alone.
-fn is_greater(base: Option<u32>, asked: Option<u32>) -> bool
-    ensures { result ≡ greater_number base asked }
+/// Whether bounds of `recursion` allow what others don't, or are there alone.
+fn are_wider(base: Option<HoldLimits>, asked: Option<HoldLimits>) -> bool
+    ensures { result ≡ are_wider base asked }
 {
     match (base, asked) {
         (_, None) => false,
         (None, Some(_)) => true,
-        (Some(one), Some(other)) => one < other,
+        (Some(one), Some(other)) => other.least < one.least || one.most < other.most,
     }
 }
 
@@ -22,7 +22,7 @@ fn adds(base: &Rules, asked: &Rules, rule: Rule) -> bool
     ensures { result ≡ adds base.now asked.now rule }
 {
     match rule {
-        Rule::Recursion => is_greater(base.recursion, asked.recursion),
+        Rule::Recursion => are_wider(base.recursion, asked.recursion),
         _ => has(asked, rule) && !has(base, rule),
     }
 }
@@ -61,6 +61,25 @@ fn push_sets(
             push_sets(held, asked, size, rest, sets)
         }
     }
+}
+
+/// The sets of so many of these rules, in the order in which they are tried. Each has the rules that hold in any case.
+///
+/// # Errors
+///
+/// Out of memory.
+pub fn sets_of_size(
+    alloc: Global,
+    base: &Rules,
+    asked: &Rules,
+    size: usize,
+    rules: &[Rule],
+) -> Result<Vec<Rules>, Stop>
+    ensures { IfOk result (λ v. v.items ≡ sets_of_size asked.now size base.now rules.now) }
+{
+    let mut sets = Vec::new(alloc);
+    push_sets(*base, asked, size, rules, &mut sets)?;
+    Ok(sets)
 }
 
 /// The sets of rules that are tried, but for that of all, in the order in which they are: those of fewer rules come

@@ -1,7 +1,7 @@
 ghost use Rattle.std.specs.Prelude.{◌≡◌, ◌++◌, IfOk, OnOk};
 ghost use Rattle.std.specs.List.{flat_map};
 ghost use Rattle.pif_history_told.specs.Sets.{added};
-ghost use Rattle.pif_history_told.specs.Texts.{legal_with, names_of, number_text, rule_text, undecided_with, with_names};
+ghost use Rattle.pif_history_told.specs.Texts.{bounds_text, colon_names, least_text, legal_with, names_of, needs_text, rule_text, undecided_with, with_names};
 
 use crate::sets::added;
 use pif_rules::{Rule, name_of};
@@ -10,14 +10,30 @@ use pif_search::Stop;
 use pif_text_json::append_decimal;
 use std::alloc::Global;
 
-/// Appends the number of `recursion`, if this is the rule.
-fn push_number(rules: &Rules, rule: Rule, out: &mut Vec<u8>) -> Result<(), Stop>
-    ensures { OnOk result (out.new.items ≡ out.old.items ++ number_text rules.now rule) }
+/// From so many holds on the machine refuses a lock without a rule.
+const MOST_HOLDS: u32 = 255;
+
+/// Appends the least of the bounds of `recursion`, unless it is that of the machine.
+fn push_least(least: u32, out: &mut Vec<u8>) -> Result<(), Stop>
+    ensures { OnOk result (out.new.items ≡ out.old.items ++ least_text least) }
+{
+    if least == MOST_HOLDS {
+        return Ok(());
+    }
+    append_decimal(out, u64::from(least))?;
+    out.extend_from_slice(b"..")?;
+    Ok(())
+}
+
+/// Appends the bounds of `recursion`, if this is the rule.
+fn push_bounds(rules: &Rules, rule: Rule, out: &mut Vec<u8>) -> Result<(), Stop>
+    ensures { OnOk result (out.new.items ≡ out.old.items ++ bounds_text rules.now rule) }
 {
     match (rule, rules.recursion) {
-        (Rule::Recursion, Some(most)) => {
+        (Rule::Recursion, Some(bounds)) => {
             out.extend_from_slice(b"=")?;
-            append_decimal(out, u64::from(most))?;
+            push_least(bounds.least, out)?;
+            append_decimal(out, u64::from(bounds.most))?;
             Ok(())
         }
         _ => Ok(()),
@@ -30,7 +46,7 @@ fn push_rule(rules: &Rules, rule: Rule, out: &mut Vec<u8>) -> Result<(), Stop>
 {
     out.extend_from_slice(b" ")?;
     out.extend_from_slice(name_of(rule))?;
-    push_number(rules, rule, out)
+    push_bounds(rules, rule, out)
 }
 
 /// The rules of a set that add to those that hold in any case, each behind a space.
@@ -97,4 +113,32 @@ pub fn push_undecided_with(
     out.extend_from_slice(b"undecided at ")?;
     append_decimal(out, u64::from(number))?;
     push_with(names.as_slice(), out)
+}
+
+/// Appends these names behind a colon, if there are any.
+fn push_colon(names: &[u8], out: &mut Vec<u8>) -> Result<(), Stop>
+    ensures { OnOk result (out.new.items ≡ out.old.items ++ colon_names names.now) }
+{
+    if !names.is_empty() {
+        out.extend_from_slice(b":")?;
+        out.extend_from_slice(names)?;
+    }
+    Ok(())
+}
+
+/// Appends the rules of a set that add to those that hold in any case, behind a colon, if there are any.
+///
+/// # Errors
+///
+/// Out of memory.
+pub fn push_needed(
+    alloc: Global,
+    base: &Rules,
+    rules: &Rules,
+    out: &mut Vec<u8>,
+) -> Result<(), Stop>
+    ensures { OnOk result (out.new.items ≡ out.old.items ++ needs_text base.now rules.now) }
+{
+    let names = names(alloc, base, rules)?;
+    push_colon(names.as_slice(), out)
 }

@@ -1,5 +1,5 @@
 -- What is told of a history, put together.
-use Rattle.std.proofs.Common.{◌≡◌, ℕ, ◌-◌, ◌⊎◌, inl, inr, List, [], ◌++◌, Vec, Global, Option, None, Some, IfSome, take, sym, Result, Ok, Err, IfOk, refl, ap, ◌∙◌, subst, append_assoc}
+use Rattle.std.proofs.Common.{◌≡◌, ℕ, ◌-◌, ◌⊎◌, Bool, false, true, inl, inr, List, [], ◌++◌, Vec, Global, Option, None, Some, IfSome, take, sym, Result, Ok, Err, IfOk, refl, ap, ◌∙◌, subst, append_assoc}
 use Rattle.std.specs.Prelude.{slice_get}
 use Rattle.pif_script_model.specs.declared.faults.CliFault.{CliFault}
 use Rattle.pif_script_model.specs.declared.faults.CliFault.TheVariants.{Differs}
@@ -23,7 +23,9 @@ use Rattle.pif_job_judge.specs.declared.faults.JudgeFault.{JudgeFault}
 use Rattle.pif_job_judge.specs.declared.faults.JudgeFault.TheVariants as fault
 use Rattle.pif_job_judge.specs.declared.forms.Form.{Form}
 use Rattle.pif_job_judge.specs.declared.forms.Form.TheVariants.{Text, Witness, Json, Page}
-use Rattle.pif_job_judge.specs.Judging.{AppendsTold, Judges, WritesText}
+use Rattle.pif_job_judge.specs.Judging.{AppendsAll, AppendsTold, Judges, WritesText, asks}
+use Rattle.pif_job_judge.specs.Judging.TellsAll.{asked as posix_asked, verdict as verdict_alone}
+use Rattle.pif_job_judge.specs.Posix.{AppendsPosix}
 use Rattle.pif_history_told.specs.WhyTexts.{unfound_text, why_text}
 use Rattle.pif_job_judge.specs.Lines.{AppendsLines, TellsIllegal, TellsUndecided, TellsVerdict}
 use Rattle.pif_job_judge.specs.Lines.IsTold.{legal, illegal, undecided}
@@ -105,10 +107,10 @@ page_told form h end start lines slice old new page empty same told framed =
     (parts.0 ++ text ++ parts.1, (text, objects, (parts.0, parts.1, refl)), parts.2)
 
 -- what is told of a history was written, behind its front
-pub judged : (form : Form) (h : Heard) (held holds : Option (List ℕ)) (front old new : List ℕ)
-    (end result : Result (Unit {0}) JudgeFault) → old ≡ front → AppendsTold form h end old new
-    → WritesText held holds new end result → Judges form (Ok h) held holds front result
-judged form h held holds front old new end result e told w =
+pub judged : (plain : Bool) (form : Form) (h : Heard) (held holds : Option (List ℕ)) (front old new : List ℕ)
+    (end result : Result (Unit {0}) JudgeFault) → old ≡ front → AppendsAll plain form h end old new
+    → WritesText held holds new end result → Judges plain form (Ok h) held holds front result
+judged plain form h held holds front old new end result e told w =
     inr (
       told.0,
       end,
@@ -116,6 +118,32 @@ judged form h held holds front old new end result e told w =
       subst (λ (l : List ℕ). WritesText held holds l end result)
           (told.2 ∙ ap (λ (l : List ℕ). l ++ told.0) e) w,
     )
+
+-- the verdict alone: of a legal history, or if POSIX isn't asked; and with what POSIX says
+pub legal_alone : (plain : Bool) (form : Form) (h : Heard) (old new : List ℕ) → AppendsTold form h (Ok tt) old new
+    → AppendsAll plain form h (Ok tt) old new
+legal_alone plain form h old new told = (told.0, verdict_alone told.1 (inr refl), told.2)
+
+pub not_asked : (plain : Bool) (form : Form) (h : Heard) (fault : JudgeFault) (old new : List ℕ) → asks plain form ≡ false
+    → AppendsTold form h (Err fault) old new → AppendsAll plain form h (Err fault) old new
+not_asked plain form h fault old new none told = (told.0, verdict_alone told.1 (inl none), told.2)
+
+pub posix_told : (plain : Bool) (form : Form) (h : Heard) (fault said : JudgeFault) (old mid new : List ℕ)
+    → asks plain form ≡ true → AppendsTold form h (Err fault) old mid → AppendsPosix h fault said mid new
+    → AppendsAll plain form h (Err said) old new
+posix_told plain form h fault said old mid new asks_it told more = (
+  told.0 ++ more.0,
+  posix_asked told.0 more.0 fault said asks_it told.1 more.1 refl refl,
+  more.2 ∙ (ap (λ (l : List ℕ). l ++ more.0) told.2 ∙ append_assoc old told.0 more.0),
+)
+
+-- bytes that grew four times
+pub grown_by_four : (old a b c d one two three four : List ℕ) → one ≡ old ++ a → two ≡ one ++ b → three ≡ two ++ c
+    → four ≡ three ++ d → four ≡ old ++ (a ++ b ++ c ++ d)
+grown_by_four old a b c d one two three four first second third fourth =
+    let by_two : two ≡ old ++ (a ++ b) = second ∙ (ap (λ (l : List ℕ). l ++ b) first ∙ append_assoc old a b) in
+    let by_three : three ≡ old ++ (a ++ b ++ c) = third ∙ (ap (λ (l : List ℕ). l ++ c) by_two ∙ append_assoc old (a ++ b) c) in
+    fourth ∙ (ap (λ (l : List ℕ). l ++ d) by_three ∙ append_assoc old (a ++ b ++ c) d)
 
 -- WHAT IS KNOWN
 

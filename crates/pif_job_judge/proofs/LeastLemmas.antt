@@ -1,6 +1,7 @@
 -- Judging a history with sets of rules, put together.
-use Rattle.std.proofs.Common.{◌≡◌, ◌∙◌, ℕ, inr, List, ◌++◌, Option, Result, Ok, Err, refl, ap, subst}
+use Rattle.std.proofs.Common.{◌≡◌, ◌∙◌, ℕ, Bool, true, inr, List, ◌++◌, Option, Result, Ok, Err, refl, ap, subst}
 use Rattle.pif_script_model.specs.declared.faults.CliFault.{CliFault}
+use Rattle.pif_script_model.specs.declared.faults.CliFault.TheVariants.{Script, Read, Write, NoMemory, Differs}
 use Rattle.pif_rules_model.specs.declared.rules.Rules.{Rules}
 use Rattle.pif_history_text.specs.Histories.{Heard}
 use Rattle.pif_job_judge.specs.declared.faults.JudgeFault.{JudgeFault}
@@ -24,12 +25,20 @@ pub told_in_lines : (form : Form) (h : Heard) (end : Ended) (front old new : Lis
 told_in_lines form h end front old new f e t =
     subst (λ (l : List ℕ). AppendsTold Text h end l new) e (subst (λ (x : Form). AppendsTold x h end old new) f t)
 
-pub fault_in_lines : (form : Form) (given name : Option (List ℕ)) (f : CliFault) (held holds : Option (List ℕ)) (result : Ended)
-    → form ≡ Text → given ≡ name → Judges form (Err f) held holds (front_of given form) result
-    → Judges Text (Err f) held holds (front_of name Text) result
-fault_in_lines form given name f held holds result e same j =
-    subst (λ (n : Option (List ℕ)). Judges Text (Err f) held holds (front_of n Text) result) same
-    (subst (λ (x : Form). Judges x (Err f) held holds (front_of given x) result) e j)
+pub fault_in_lines : (plain : Bool) (form : Form) (given name : Option (List ℕ)) (f : CliFault) (held holds : Option (List ℕ)) (result : Ended)
+    → form ≡ Text → given ≡ name → Judges plain form (Err f) held holds (front_of given form) result
+    → Judges true Text (Err f) held holds (front_of name Text) result
+fault_in_lines plain form given name f held holds result e same j =
+    subst (λ (n : Option (List ℕ)). Judges true Text (Err f) held holds (front_of n Text) result) same
+    (plainly f (subst (λ (x : Form). Judges plain x (Err f) held holds (front_of given x) result) e j))
+  where
+    plainly : (f : CliFault) → Judges plain Text (Err f) held holds (front_of given Text) result
+        → Judges true Text (Err f) held holds (front_of given Text) result
+    plainly (Script line cause) k = k
+    plainly Read k = k
+    plainly Write k = k
+    plainly NoMemory k = k
+    plainly (Differs line) k = k
 
 -- WRITING
 

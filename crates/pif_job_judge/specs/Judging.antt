@@ -1,5 +1,5 @@
 -- What judging a history over a reader and a writer does: by the bytes that the reader gave, what the writer was given.
-use Rattle.std.specs.Prelude.{ℕ, ◌≡◌, ◌⊎◌, List, [], ◌++◌, Option, Some, None, Result, Ok, Err, codes}
+use Rattle.std.specs.Prelude.{ℕ, ◌≡◌, ◌⊎◌, Bool, false, true, not, List, [], ◌++◌, Option, Some, None, Result, Ok, Err, codes}
 use Rattle.std.specs.Io.KnownBytes.{Appends, Keeps}
 use Rattle.pif_text_model.specs.declared.replies.Cause.{Cause}
 use Rattle.pif_script_model.specs.declared.faults.CliFault.{CliFault}
@@ -17,6 +17,7 @@ use Rattle.pif_job_judge.specs.declared.faults.JudgeFault.{JudgeFault}
 use Rattle.pif_job_judge.specs.declared.faults.JudgeFault.TheVariants as fault
 use Rattle.pif_job_judge.specs.Lines.{IsTold}
 use Rattle.pif_job_judge.specs.Objects.{AreObjects}
+use Rattle.pif_job_judge.specs.Posix.{TellsPosix}
 
 -- What stands in front of what is told: the name, if it is to be told, and if that is told in lines.
 abbrev pub front_of : (name : Option (List ℕ)) → Form → List ℕ
@@ -36,6 +37,22 @@ Tells Page h text end = (lines : List ℕ) × AreObjects Page h lines end × IsP
 abbrev pub AppendsTold : Form → Heard → (end : Result (Unit {0}) JudgeFault) → (old new : List ℕ) → Type 0
 AppendsTold form h end old new = (text : List ℕ) × Tells form h text end × (new ≡ old ++ text)
 
+-- Whether POSIX is asked of a history that isn't legal.
+abbrev pub asks : (plain : Bool) → Form → Bool
+asks plain Text = not plain
+asks plain Witness = not plain
+asks plain form = false
+
+-- All that is told of a history, and how that ends: the verdict, and if it isn't legal and POSIX is asked, what POSIX says.
+pub data TellsAll (plain : Bool) (form : Form) (h : Heard) (text : List ℕ) (end : Result (Unit {0}) JudgeFault) : Type 0 where
+  verdict : Tells form h text end → (asks plain form ≡ false) ⊎ (end ≡ Ok tt) → TellsAll plain form h text end
+  asked : (first more : List ℕ) (fault said : JudgeFault) → asks plain form ≡ true → Tells form h first (Err fault)
+      → TellsPosix h fault more said → text ≡ first ++ more → end ≡ Err said → TellsAll plain form h text end
+
+-- Bytes grew by all that is told of a history that ends so.
+abbrev pub AppendsAll : (plain : Bool) → Form → Heard → (end : Result (Unit {0}) JudgeFault) → (old new : List ℕ) → Type 0
+AppendsAll plain form h end old new = (text : List ℕ) × TellsAll plain form h text end × (new ≡ old ++ text)
+
 -- What is told of a fault: its line, but nothing in lines of JSON and in a page.
 abbrev pub fault_told : Form → (line : ℕ) → Cause → List ℕ
 fault_told Text line cause = fault_line line cause
@@ -54,18 +71,18 @@ HadNoMemory held holds result = (result ≡ Err (fault.Cli NoMemory)) × Keeps h
 
 -- Judging a history, or the bytes that have a fault: what is told of it in this form was written, behind these bytes.
 -- If a read failed or memory ran out, nothing was.
-abbrev pub Judges : Form → (history : Result Heard CliFault) → (held holds : Option (List ℕ)) → (front : List ℕ)
+abbrev pub Judges : (plain : Bool) → Form → (history : Result Heard CliFault) → (held holds : Option (List ℕ)) → (front : List ℕ)
     → Result (Unit {0}) JudgeFault → Type 0
-Judges form (Ok h) held holds front result =
+Judges plain form (Ok h) held holds front result =
     HadNoMemory held holds result
-    ⊎ ((text : List ℕ) × (end : Result (Unit {0}) JudgeFault) × Tells form h text end
+    ⊎ ((text : List ℕ) × (end : Result (Unit {0}) JudgeFault) × TellsAll plain form h text end
     × WritesText held holds (front ++ text) end result)
-Judges form (Err (Script line cause)) held holds front result =
+Judges plain form (Err (Script line cause)) held holds front result =
     HadNoMemory held holds result
     ⊎ WritesText held holds (front ++ fault_told form line cause) (Err (fault.Cli (Script line cause))) result
-Judges form (Err other) held holds front result = (result ≡ Err (fault.Cli other)) × Keeps held holds
+Judges plain form (Err other) held holds front result = (result ≡ Err (fault.Cli other)) × Keeps held holds
 
--- A history that allows these rules, too. Of two numbers of `recursion` the greater counts.
+-- A history that allows these rules, too. Of two bounds of `recursion` the wider count.
 abbrev pub allowing : Rules → Heard → Heard
 allowing r h = record h { allowed = both r h.allowed }
 
@@ -76,8 +93,8 @@ heard_allowing r (Err fault) = Err fault
 
 -- Judging by what the reader had and has left, and what the writer held and holds. These rules hold beside those that the
 -- history allows.
-abbrev pub JudgesTo : Form → Rules → (before after held holds : Option (List ℕ)) → (front : List ℕ)
+abbrev pub JudgesTo : (plain : Bool) → Form → Rules → (before after held holds : Option (List ℕ)) → (front : List ℕ)
     → Result (Unit {0}) JudgeFault → Type 0
-JudgesTo form r before after held holds front result =
+JudgesTo plain form r before after held holds front result =
     (history : Result Heard CliFault) × ReadsHistory before after history
-    × Judges form (heard_allowing r history) held holds front result
+    × Judges plain form (heard_allowing r history) held holds front result

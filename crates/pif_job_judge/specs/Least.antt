@@ -1,5 +1,5 @@
 -- Judging a history with sets of rules: by the bytes that the reader gave, what the writer was given.
-use Rattle.std.specs.Prelude.{ℕ, ◌≡◌, ◌⊎◌, List, ◌++◌, Option, Result, Ok, Err}
+use Rattle.std.specs.Prelude.{ℕ, ◌≡◌, ◌⊎◌, true, List, ◌++◌, Option, Result, Ok, Err}
 use Rattle.pif_script_model.specs.declared.faults.CliFault.{CliFault}
 use Rattle.pif_rules_model.specs.declared.rules.Rules.{Rules}
 use Rattle.pif_history_text.specs.Histories.{Heard}
@@ -24,7 +24,7 @@ JudgesLeast a (Ok h) held holds front result =
     HadNoMemory held holds result
     ⊎ ((text : List ℕ) × (end : Result (Unit {0}) JudgeFault) × IsTold a h text end
     × WritesText held holds (front ++ text) end result)
-JudgesLeast a (Err fault) held holds front result = Judges Text (Err fault) held holds front result
+JudgesLeast a (Err fault) held holds front result = Judges true Text (Err fault) held holds front result
 
 -- Judging by what the reader had and has left, and what the writer held and holds.
 abbrev pub JudgesLeastTo : (a : Rules) → (before after held holds : Option (List ℕ)) → (front : List ℕ)

@@ -4,3 +4,4 @@ pub mod Lines
 pub mod Needed
 pub mod Objects
 pub mod LeastRules
+pub mod Posix

@@ -7,4 +7,6 @@ pub enum JudgeFault {
     Cli(CliFault),
     /// At the line of this number, from 1, the search was given up.
     Undecided(u64),
+    /// At the line of this number, from 1, there is no run, or the search was given up, and POSIX allows the history.
+    PosixAllows(u64),
 }

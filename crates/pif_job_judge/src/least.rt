@@ -29,6 +29,7 @@ fn in_lines<'a>(asked: &Judging<'a>) -> Judging<'a>
         form: Form::Text,
         states: asked.states,
         allowed: asked.allowed,
+        plain: true,
     }
 }
 

@@ -9,6 +9,7 @@
 //! | `unfound` | what is found of the first line for which no run was |
 //! | `lines` | verdicts in lines for a person |
 //! | `objects` | a history as lines of JSON: its verdict, and its run |
+//! | `posix` | what POSIX says of a history that isn't legal |
 //! | `judging` | a history, read and judged |
 //!
 //! | Module | What it has of the rules that a history needs |
@@ -26,6 +27,7 @@ mod least;
 mod lines;
 mod needed;
 mod objects;
+mod posix;
 mod search;
 mod unfound;
 

@@ -1,12 +1,12 @@
 ghost use Rattle.std.specs.Prelude.{◌≡◌, IfOk};
-ghost use Rattle.pif_job_judge.specs.LeastRules.{IsLeast, IsLegalSomehow};
+ghost use Rattle.pif_job_judge.specs.LeastRules.{IsFirst, IsLeast, IsLegalSomehow};
 ghost use Rattle.pif_history_lines.specs.Verdicts.{IsVerdictOf};
 ghost use Rattle.pif_rules.specs.Sets.{both};
 
 use pif_history::judge_lines;
 use pif_history_lines::Verdict;
 use pif_history_model::{HistoryLimits, Line};
-use pif_history_told::sets_but_all;
+use pif_history_told::{added, sets_of_size};
 use pif_rules::both;
 use pif_rules_model::Rules;
 use pif_search::{Stop, Watch};
@@ -19,6 +19,29 @@ pub enum Needed {
     Legal(Rules),
     /// With these rules the search was given up at this line, from 1. With each set that comes before there is no run.
     Undecided(Rules, usize),
+}
+
+/// The first of these sets with which some run shows the lines, or with which the search is given up; `None` if there is
+/// no run with any of them.
+fn first_in<W: Watch>(
+    alloc: Global,
+    sets: &Vec<Rules>,
+    limits: HistoryLimits,
+    lines: &[Line],
+    states: usize,
+    watch: &mut W,
+) -> Result<Option<Needed>, Stop>
+    ensures { IfOk result (IsFirst limits lines.now sets.now.items) }
+{
+    for place in 0..sets.len() {
+        let rules = sets[place];
+        match judge_lines(alloc, &rules, limits, lines, states, watch)? {
+            Verdict::Legal(_) => return Ok(Some(Needed::Legal(rules))),
+            Verdict::Undecided(line) => return Ok(Some(Needed::Undecided(rules, line))),
+            Verdict::Illegal(_) => {}
+        }
+    }
+    Ok(None)
 }
 
 /// The least set of the rules that are asked for, beside those that hold in any case, with which some run shows the
@@ -41,13 +64,12 @@ pub fn least<W: Watch>(
     requires { IsLegalSomehow limits lines.now (both asked.now base.now) }
     ensures { IfOk result (IsLeast base.now asked.now limits lines.now) }
 {
-    let sets = sets_but_all(alloc, base, asked)?;
-    for place in 0..sets.len() {
-        let rules = sets[place];
-        match judge_lines(alloc, &rules, limits, lines, states, watch)? {
-            Verdict::Legal(_) => return Ok(Needed::Legal(rules)),
-            Verdict::Undecided(line) => return Ok(Needed::Undecided(rules, line)),
-            Verdict::Illegal(_) => {}
+    let rules = added(alloc, base, asked)?;
+    for size in 0..rules.len() {
+        let sets = sets_of_size(alloc, base, asked, size, rules.as_slice())?;
+        let first = first_in(alloc, &sets, limits, lines, states, watch)?;
+        if let Some(found) = first {
+            return Ok(found);
         }
     }
     Ok(Needed::Legal(both(asked, base)))

@@ -3,6 +3,7 @@ use Rattle.std.proofs.Common.{ℕ, zero, suc, ◌≡◌, ◌≤◌, ◌<◌, ◌
 use Rattle.std.specs.List.{filter, flat_map}
 use Rattle.std.proofs.lemmas.List.{take_more, take_all, drop_all, drop_more, map_more, map-append, length-map, length-take-le, get_or_at, set_at}
 use Rattle.std.proofs.lemmas.List.Elements.{filter-append}
+use Rattle.std.proofs.lemmas.Grind.{flat_map-append}
 use Rattle.pif_posix_model.specs.Doing.{passing}
 
 -- a loop that changes each item has changed all
@@ -27,7 +28,23 @@ pub each_done : {A : Type 0} (f : ℕ → List A) (test : ℕ → Bool) (n : ℕ
 each_done f test zero xs all e h = sym (append-nil xs) ∙ h
 each_done f test (suc n) xs all e h = absurd (omega arith)
 
+-- one number more, for which a list is made
+pub each_more : {A : Type 0} (f : ℕ → List A) (test : ℕ → Bool) (j n : ℕ) (xs ys all : List A) → j ≡ suc n → test n ≡ true
+    → ys ≡ xs ++ f n → xs ++ flat_map f (passing test j) ≡ all → ys ++ flat_map f (passing test n) ≡ all
+each_more f test j n xs ys all s t e h =
+    let passes : flat_map f (passing test (suc n)) ≡ f n ++ flat_map f (passing test n) = rw t in
+    ap (λ zs. zs ++ flat_map f (passing test n)) e ∙ append_assoc xs (f n) (flat_map f (passing test n))
+    ∙ ap (λ zs. xs ++ zs) (sym (ap (λ (k : ℕ). flat_map f (passing test k)) s ∙ passes)) ∙ h
+
 -- OVER A LIST, FROM THE FRONT
+
+-- one item more, for which a list is made
+pub item_more : {A B : Type 0} (f : A → List B) (xs : List A) (i : ℕ) (d : A) (bs cs : List B) → i < length xs
+    → bs ≡ flat_map f (take i xs) → cs ≡ bs ++ f (get_or xs i d) → cs ≡ flat_map f (take (i + 1) xs)
+item_more f xs i d bs cs lt e g =
+    g ∙ ap (λ zs. zs ++ f (get_or xs i d)) e
+    ∙ sym (ap (flat_map f) (take_more xs i d lt) ∙ flat_map-append f (take i xs) (get_or xs i d ∷ [])
+    ∙ ap (λ zs. flat_map f (take i xs) ++ zs) (append-nil (f (get_or xs i d))))
 
 module _ {A : Type 0} (f : ℕ → A) (test : ℕ → Bool) (us : List ℕ) (i : ℕ) (lt : i < length us) where
   step : (rest : List ℕ) → filter test (get_or us i 0 ∷ []) ≡ rest → map f (filter test (take (i + 1) us)) ≡ map f (filter test (take i us)) ++ map f rest

@@ -2,4 +2,5 @@ pub mod Choices
 pub mod Results
 pub mod Shapes
 pub mod Beside
-pub mod Moving
+pub mod Waiting
+pub mod Mending

@@ -4,6 +4,7 @@ ghost use Rattle.pif_model.specs.Posix.{with_waiter, without_waiter, with_hold_c
 ghost use Rattle.pif_model.specs.World.Progress.{Has};
 ghost use Rattle.pif_model.specs.Graph.{without};
 ghost use Rattle.pif_types.specs.Numbers.{number_of};
+ghost use Rattle.pif_rules_model.specs.Rules.{bound_to, used_uncounted};
 ghost use Rattle.pif_posix.specs.Shapes.{health_of, progress_of};
 
 use crate::parts::Task;
@@ -165,5 +166,21 @@ impl State {
         }
         see_use(&mut self.threads, variable);
         Ok(())
+    }
+
+    /// A signal or broadcast uses a variable, and that isn't counted.
+    pub(crate) fn use_uncounted(&mut self, variable: u32)
+        ensures { self.new ≡ used_uncounted variable self.old }
+    {
+        see_use(&mut self.threads, variable);
+    }
+
+    /// A variable is bound to a mutex.
+    pub(crate) fn bind(&mut self, variable: usize, mutex: u32)
+        requires { variable < length self.old.variables }
+        ensures { self.new ≡ bound_to variable mutex self.old }
+    {
+        let it = &mut self.variables[variable];
+        it.mutex = mutex;
     }
 }

@@ -10,8 +10,8 @@ use pif_search::{Stop, push};
 use pif_types::Request;
 use std::alloc::Global;
 
-/// How many states of one broadcast are made at most: those of 16 threads that it may wake or not.
-const MOST_AT_ONCE: usize = 65_536;
+/// How many states of one step are made at most: those of a broadcast with 16 threads that it may wake or not.
+pub(crate) const MOST_AT_ONCE: usize = 65_536;
 
 /// Whether none of these priorities is greater than this one.
 fn is_none_above(priorities: &[u32], priority: u32) -> bool
@@ -32,7 +32,7 @@ pub(crate) fn is_among(others: &[(u32, u64)], thread: u32, waits: u64) -> bool
 /// Whom signals and broadcasts wake.
 impl State {
     /// The number of threads' places, as a thread's number.
-    fn threads_end(&self) -> Result<u32, Stop>
+    pub(crate) fn threads_end(&self) -> Result<u32, Stop>
         ensures { IfOk result (λ n. n ≡ length self.now.threads) }
     {
         match u32::try_from(self.thread_count()) {

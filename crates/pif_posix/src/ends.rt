@@ -1,6 +1,7 @@
 ghost use Rattle.std.specs.Prelude.{◌≡◌, ◌==◌, ◌<◌, ◌++◌, ℕ, length, IfOk, OnOk};
 ghost use Rattle.std.specs.List.{list_all};
 ghost use Rattle.pif_model.specs.Graph.{waited_by};
+ghost use Rattle.pif_model.specs.Posix.{after_end, after_owner_death, with_no_owner};
 ghost use Rattle.pif_posix_model.specs.Doing.{owns_robust, robust_of, passed_on_by_death, inherited, inherited_below, is_orderly, all_inherited, ended};
 
 use crate::state::State;
@@ -29,7 +30,7 @@ impl State {
     }
 
     /// How many robust mutexes a thread owns.
-    fn robust_count(&self, thread: u32) -> usize
+    pub(crate) fn robust_count(&self, thread: u32) -> usize
         ensures { result ≡ length (robust_of self.now thread) }
     {
         let mut count = 0;
@@ -42,7 +43,7 @@ impl State {
     }
 
     /// The number of mutexes' places, as a mutex's number.
-    fn mutexes_end(&self) -> Result<u32, Stop>
+    pub(crate) fn mutexes_end(&self) -> Result<u32, Stop>
         ensures { IfOk result (λ n. n ≡ length self.now.mutexes) }
     {
         match u32::try_from(self.mutex_count()) {
@@ -51,27 +52,46 @@ impl State {
         }
     }
 
+    /// The owner of a mutex has ended.
+    fn see_death(&mut self, mutex: usize)
+        requires { mutex < length self.old.mutexes }
+        ensures { self.new ≡ after_owner_death mutex self.old }
+    {
+        let health = match self.health(mutex) {
+            Health::Fine => Health::Inconsistent,
+            Health::Inconsistent => Health::Inconsistent,
+            Health::Unusable => Health::Unusable,
+        };
+        self.set_health(mutex, health);
+    }
+
     /// A mutex, whose owner has ended, passes on.
     fn pass_on_by_death(&mut self, mutex: u32) -> Result<(), Stop>
         requires { mutex < length self.old.mutexes }
         ensures { OnOk result (self.new ≡ passed_on_by_death mutex self.old) }
     {
-        let health = match self.health(mutex as usize) {
-            Health::Fine => Health::Inconsistent,
-            Health::Inconsistent => Health::Inconsistent,
-            Health::Unusable => Health::Unusable,
-        };
-        self.set_health(mutex as usize, health);
+        self.see_death(mutex as usize);
         self.pass_on(mutex)
     }
 
     /// The state once a mutex, whose owner has ended, passes on.
-    fn passed_on_by_death(&self, alloc: Global, mutex: u32) -> Result<State, Stop>
+    pub(crate) fn passed_on_by_death(&self, alloc: Global, mutex: u32) -> Result<State, Stop>
         requires { mutex < length self.now.mutexes }
         ensures { IfOk result (λ s. s ≡ passed_on_by_death mutex self.now) }
     {
         let mut next = self.copied(alloc)?;
         next.pass_on_by_death(mutex)?;
+        Ok(next)
+    }
+
+    /// The state once a mutex, whose owner has ended, is left free, whoever waits for it.
+    pub(crate) fn freed_by_death(&self, alloc: Global, mutex: u32) -> Result<State, Stop>
+        requires { mutex < length self.now.mutexes }
+        ensures { IfOk result (λ s. s ≡ with_no_owner mutex (after_owner_death mutex self.now)) }
+    {
+        let mut next = self.copied(alloc)?;
+        next.see_death(mutex as usize);
+        next.set_owner(mutex as usize, 0, 1);
         Ok(next)
     }
 
@@ -120,6 +140,33 @@ impl State {
         Ok(())
     }
 
+    /// The state once a thread has ended, but for the robust mutexes that it owns.
+    pub(crate) fn after_end(&self, alloc: Global, thread: u32) -> Result<State, Stop>
+        ensures { IfOk result (λ s. s ≡ after_end thread self.now) }
+    {
+        if thread as usize >= self.thread_count() {
+            return Err(Stop::Range);
+        }
+        let mut next = self.copied(alloc)?;
+        next.leave_all(thread);
+        Ok(next)
+    }
+
+    /// The states once all robust mutexes of a thread, which has left all waiters, have passed on: one, if the state is
+    /// orderly; else one for each order.
+    pub(crate) fn all_inherited(self, alloc: Global, thread: u32) -> Result<Vec<State>, Stop>
+        ensures { IfOk result (λ v. v.items ≡ all_inherited thread self) }
+    {
+        let mut next = self;
+        if next.is_orderly() {
+            next.inherit_in_order(thread)?;
+            return one(alloc, next);
+        }
+        let mut all = Vec::new(alloc);
+        next.inherit(alloc, next.robust_count(thread), thread, &mut all)?;
+        Ok(all)
+    }
+
     /// The states once a thread has ended and its robust mutexes have passed on: one, if the state is orderly, as in a
     /// run; else one for each order. None if the end is refused.
     ///
@@ -132,17 +179,7 @@ impl State {
         if self.end_refusal(thread).is_some() {
             return Ok(Vec::new(alloc));
         }
-        if thread as usize >= self.thread_count() {
-            return Err(Stop::Range);
-        }
-        let mut next = self.copied(alloc)?;
-        next.leave_all(thread);
-        if next.is_orderly() {
-            next.inherit_in_order(thread)?;
-            return one(alloc, next);
-        }
-        let mut all = Vec::new(alloc);
-        next.inherit(alloc, next.robust_count(thread), thread, &mut all)?;
-        Ok(all)
+        let next = self.after_end(alloc, thread)?;
+        next.all_inherited(alloc, thread)
     }
 }

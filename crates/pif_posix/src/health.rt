@@ -1,30 +1,48 @@
 ghost use Rattle.std.specs.Prelude.{◌≡◌, ◌<◌, ℕ, length, IfOk};
-ghost use Rattle.std.specs.List.{flat_map};
 ghost use Rattle.pif_model.specs.World.{mutex_at};
-ghost use Rattle.pif_posix_model.specs.Doing.{robust_of};
-ghost use Rattle.pif_rules_model.specs.Rules.{is_mended};
-ghost use Rattle.pif_rules_model.specs.Ruled.{mended, mended_by_any, ended_after_reviving, ended_or_revived};
+ghost use Rattle.pif_rules_model.specs.Rules.{is_unusable};
+ghost use Rattle.pif_rules_model.specs.Ruled.{is_inconsistent, mended, mending, mended_by_any, refused_free, mended_or_refused};
+ghost use Rattle.pif_posix.specs.Mending.{mended_as};
+ghost use Rattle.pif_posix.specs.declared.health.Treated.TheVariants.{RefusedFree};
 
 use crate::locks::failed;
 use crate::next::mended_next;
-use crate::wide_lists::{append, joined};
+use crate::wide_lists::joined;
 use crate::{Progress, State};
 use pif_search::{Stop, one};
 use pif_types::{Errno, Health};
 use std::alloc::Global;
 
-/// Whether a mutex is inconsistent and owned.
-fn is_mended(state: &State, mutex: usize) -> bool
+/// What comes of a thread that makes a robust mutex consistent which it doesn't own.
+#[derive(Clone, Copy)]
+pub(crate) enum Treated {
+    /// It is answered as the owner is.
+    AsOwner,
+    /// It is refused, though the mutex is inconsistent, since nobody owns it.
+    RefusedFree,
+}
+
+/// Whether a mutex is inconsistent.
+pub(crate) fn is_inconsistent(state: &State, mutex: usize) -> bool
     requires { mutex < length state.now.mutexes }
-    ensures { result ≡ is_mended (mutex_at state.now mutex) }
+    ensures { result ≡ is_inconsistent (mutex_at state.now mutex).health }
 {
-    if state.owner_or_none(mutex) == 0 {
-        return false;
-    }
     match state.health(mutex) {
         Health::Inconsistent => true,
         Health::Fine => false,
         Health::Unusable => false,
+    }
+}
+
+/// Whether a mutex was given up for good.
+pub(crate) fn is_unusable(state: &State, mutex: usize) -> bool
+    requires { mutex < length state.now.mutexes }
+    ensures { result ≡ is_unusable (mutex_at state.now mutex).health }
+{
+    match state.health(mutex) {
+        Health::Unusable => true,
+        Health::Fine => false,
+        Health::Inconsistent => false,
     }
 }
 
@@ -34,7 +52,7 @@ fn mended(alloc: Global, state: &State, thread: u32, mutex: usize) -> Result<Sta
     requires mutex { mutex < length state.now.mutexes }
     ensures { IfOk result (λ s. s ≡ mended thread state.now mutex) }
 {
-    if !is_mended(state, mutex) {
+    if !is_inconsistent(state, mutex) {
         return failed(alloc, state, thread, Errno::Invalid);
     }
     let mut next = state.copied(alloc)?;
@@ -43,10 +61,52 @@ fn mended(alloc: Global, state: &State, thread: u32, mutex: usize) -> Result<Sta
     Ok(next)
 }
 
-/// The state once a thread has made a robust mutex that it doesn't own consistent as its owner does.
-pub(crate) fn mended_by_any(alloc: Global, state: &State, thread: u32) -> Result<Vec<State>, Stop>
+/// The state once a thread is refused that made a free and inconsistent mutex consistent; none if the mutex isn't so.
+fn refused_if_free(
+    alloc: Global,
+    state: &State,
+    thread: u32,
+    mutex: usize,
+) -> Result<Vec<State>, Stop>
+    requires thread { thread < length state.now.threads }
+    requires mutex { mutex < length state.now.mutexes }
+    ensures { IfOk result (λ v. v.items ≡ mended_as RefusedFree thread state.now mutex) }
+{
+    if state.owner_or_none(mutex) != 0 {
+        return Ok(Vec::new(alloc));
+    }
+    if !is_inconsistent(state, mutex) {
+        return Ok(Vec::new(alloc));
+    }
+    let next = failed(alloc, state, thread, Errno::Invalid)?;
+    one(alloc, next)
+}
+
+/// The state once this came of a thread that made a mutex consistent; none if it can't be.
+fn mended_as(
+    alloc: Global,
+    state: &State,
+    thread: u32,
+    mutex: usize,
+    how: Treated,
+) -> Result<Vec<State>, Stop>
+    requires thread { thread < length state.now.threads }
+    requires mutex { mutex < length state.now.mutexes }
+    ensures { IfOk result (λ v. v.items ≡ mended_as how thread state.now mutex) }
+{
+    match how {
+        Treated::AsOwner => {
+            let next = mended(alloc, state, thread, mutex)?;
+            one(alloc, next)
+        }
+        Treated::RefusedFree => refused_if_free(alloc, state, thread, mutex),
+    }
+}
+
+/// The state once this came of a thread that made a robust mutex consistent which it doesn't own; none if it can't be.
+fn mending(alloc: Global, state: &State, thread: u32, how: Treated) -> Result<Vec<State>, Stop>
     requires { thread < length state.now.threads }
-    ensures { IfOk result (λ v. v.items ≡ mended_by_any thread state.now) }
+    ensures { IfOk result (λ v. v.items ≡ mending (mended_as how thread state.now) thread state.now) }
 {
     match mended_next(state, thread as usize) {
         None => Ok(Vec::new(alloc)),
@@ -58,58 +118,38 @@ pub(crate) fn mended_by_any(alloc: Global, state: &State, thread: u32) -> Result
             if state.owner_or_none(at) == thread {
                 return Ok(Vec::new(alloc));
             }
-            let next = mended(alloc, state, thread, at)?;
-            one(alloc, next)
+            mended_as(alloc, state, thread, at, how)
         }
     }
 }
 
-/// The states once a thread has ended after the revival of a mutex; none if the mutex isn't unusable.
-fn ended_after_reviving(
+/// The state once a thread has made a robust mutex that it doesn't own consistent as its owner does.
+pub(crate) fn mended_by_any(alloc: Global, state: &State, thread: u32) -> Result<Vec<State>, Stop>
+    requires { thread < length state.now.threads }
+    ensures { IfOk result (λ v. v.items ≡ mended_by_any thread state.now) }
+{
+    mending(alloc, state, thread, Treated::AsOwner)
+}
+
+/// The state once a thread that made a free and inconsistent mutex consistent is refused; none if the mutex isn't so.
+fn refused_free(alloc: Global, state: &State, thread: u32) -> Result<Vec<State>, Stop>
+    requires { thread < length state.now.threads }
+    ensures { IfOk result (λ v. v.items ≡ refused_free thread state.now) }
+{
+    mending(alloc, state, thread, Treated::RefusedFree)
+}
+
+/// The states once a thread has made a robust mutex that it doesn't own consistent, or is refused.
+pub(crate) fn mended_or_refused(
     alloc: Global,
     state: &State,
     thread: u32,
-    mutex: usize,
 ) -> Result<Vec<State>, Stop>
-    requires { mutex < length state.now.mutexes }
-    ensures { IfOk result (λ v. v.items ≡ ended_after_reviving thread state.now mutex) }
+    requires { thread < length state.now.threads }
+    ensures { IfOk result (λ v. v.items ≡ mended_or_refused thread state.now) }
 {
-    match state.health(mutex) {
-        Health::Unusable => {
-            let mut next = state.copied(alloc)?;
-            next.set_health(mutex, Health::Inconsistent);
-            next.ended(alloc, thread)
-        }
-        Health::Fine => Ok(Vec::new(alloc)),
-        Health::Inconsistent => Ok(Vec::new(alloc)),
-    }
-}
-
-/// The states once a thread has ended after the revival of one of its robust mutexes.
-fn ended_after_any(alloc: Global, state: &State, thread: u32) -> Result<Vec<State>, Stop>
-    ensures { IfOk result (λ v. v.items ≡ flat_map (ended_after_reviving thread state.now) (robust_of state.now thread)) }
-{
-    let mut all = Vec::new(alloc);
-    for mutex in (0..state.mutex_count()).rev() {
-        if state.owns_robust(thread, mutex) {
-            append(&mut all, ended_after_reviving(alloc, state, thread, mutex))?;
-        }
-    }
-    Ok(all)
-}
-
-/// The states once a thread has ended, also after a revival if those are allowed.
-pub(crate) fn ended_or_revived(
-    alloc: Global,
-    state: &State,
-    revives: bool,
-    thread: u32,
-) -> Result<Vec<State>, Stop>
-    ensures { IfOk result (λ v. v.items ≡ ended_or_revived revives thread state.now) }
-{
-    let ended = state.ended(alloc, thread);
-    if !revives {
-        return ended;
-    }
-    joined(ended, ended_after_any(alloc, state, thread))
+    joined(
+        mended_by_any(alloc, state, thread),
+        refused_free(alloc, state, thread),
+    )
 }

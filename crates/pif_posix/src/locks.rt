@@ -1,28 +1,19 @@
-ghost use Rattle.std.specs.Prelude.{◌≡◌, ◌<◌, ℕ, length, nat_lt, nat_le, IfOk};
-ghost use Rattle.pif_model.specs.NamedNumbers.{EAGAIN};
+ghost use Rattle.std.specs.Prelude.{◌≡◌, ◌<◌, ℕ, [], length, nat_lt, nat_le, if◌then◌else◌, IfOk};
+ghost use Rattle.pif_model.specs.NamedNumbers.{EAGAIN, most_holds};
 ghost use Rattle.pif_model.specs.World.{mutex_at, with_progress};
 ghost use Rattle.pif_model.specs.World.Progress.{Has};
 ghost use Rattle.pif_model.specs.Posix.{with_one_hold_more};
 ghost use Rattle.pif_types.specs.Numbers.{number_of};
 ghost use Rattle.pif_rules_model.specs.Rules.{stolen};
-ghost use Rattle.pif_rules_model.specs.Ruled.{listed_of, one_if, is_mutex_of, stolen_from, stolen_by, locked_more_or_refused, beyond, locked_beyond, tried_own};
+ghost use Rattle.pif_rules_model.specs.Ruled.{listed_of, one_if, stolen_from, stolen_by, locked_more_or_refused, beyond, locked_beyond, locked_within, tried_own};
 
-use crate::next::{got, locked_next, tried_next};
+use crate::next::{got, is_mutex_of, locked_next, tried_next};
 use crate::wide_lists::joined;
 use crate::{MOST_HOLDS, Progress, State};
+use pif_rules_model::HoldLimits;
 use pif_search::{Stop, one};
 use pif_types::{Errno, Kind};
 use std::alloc::Global;
-
-/// Whether a mutex that may be there is this one.
-fn is_mutex_of(found: Option<u32>, mutex: u32) -> bool
-    ensures { result ≡ is_mutex_of found mutex }
-{
-    match found {
-        None => false,
-        Some(other) => other == mutex,
-    }
-}
 
 /// The state once the call of a thread has the number of this error as its result.
 pub(crate) fn failed(alloc: Global, state: &State, thread: u32, error: Errno) -> Result<State, Stop>
@@ -96,20 +87,23 @@ pub(crate) fn stolen_by(alloc: Global, state: &State, thread: u32) -> Result<Vec
     }
 }
 
-/// The state once the owner of a mutex has locked it again, if it holds it fewer than so many times.
+/// The state once the owner of a mutex, who holds it 255 times or more, has locked it again; none if it may not.
 fn locked_below(
     alloc: Global,
     state: &State,
-    most: u32,
+    limits: HoldLimits,
     thread: u32,
     mutex: usize,
 ) -> Result<Vec<State>, Stop>
     requires thread { thread < length state.now.threads }
     requires mutex { mutex < length state.now.mutexes }
-    ensures { IfOk result (λ v. v.items ≡ one_if (nat_lt (mutex_at state.now mutex).count most) (with_progress thread (Has 0) (with_one_hold_more mutex state.now))) }
+    ensures { IfOk result (λ v. v.items ≡ (if nat_le most_holds (mutex_at state.now mutex).count then one_if (nat_lt (mutex_at state.now mutex).count limits.most) (with_progress thread (Has 0) (with_one_hold_more mutex state.now)) else [])) }
 {
     let count = state.count(mutex);
-    if count >= most {
+    if count < MOST_HOLDS {
+        return Ok(Vec::new(alloc));
+    }
+    if count >= limits.most {
         return Ok(Vec::new(alloc));
     }
     let mut next = state.copied(alloc)?;
@@ -118,53 +112,57 @@ fn locked_below(
     one(alloc, next)
 }
 
-/// The state once the lock of a mutex's owner was refused, if it holds it so many times at most.
+/// The state once the lock of a mutex's owner was refused; none if it may not be.
 fn refused_within(
     alloc: Global,
     state: &State,
-    most: u32,
+    limits: HoldLimits,
     thread: u32,
     mutex: usize,
 ) -> Result<Vec<State>, Stop>
     requires thread { thread < length state.now.threads }
     requires mutex { mutex < length state.now.mutexes }
-    ensures { IfOk result (λ v. v.items ≡ one_if (nat_le (mutex_at state.now mutex).count most) (with_progress thread (Has EAGAIN) state.now)) }
+    ensures { IfOk result (λ v. v.items ≡ (if nat_le limits.least (mutex_at state.now mutex).count then one_if (nat_le (mutex_at state.now mutex).count limits.most) (with_progress thread (Has EAGAIN) state.now) else [])) }
 {
-    if state.count(mutex) > most {
+    let count = state.count(mutex);
+    if count < limits.least {
+        return Ok(Vec::new(alloc));
+    }
+    if count > limits.most {
         return Ok(Vec::new(alloc));
     }
     let next = failed(alloc, state, thread, Errno::Again)?;
     one(alloc, next)
 }
 
-/// The states once the owner of a mutex has locked it again, or was refused, if it may hold it so many times.
+/// The states once the owner of a mutex has locked it again, or was refused, within these limits.
 fn locked_or_refused(
     alloc: Global,
     state: &State,
-    most: u32,
+    limits: HoldLimits,
     thread: u32,
     mutex: usize,
 ) -> Result<Vec<State>, Stop>
     requires thread { thread < length state.now.threads }
     requires mutex { mutex < length state.now.mutexes }
-    ensures { IfOk result (λ v. v.items ≡ locked_more_or_refused most thread mutex state.now) }
+    ensures { IfOk result (λ v. v.items ≡ locked_more_or_refused limits thread mutex state.now) }
 {
     joined(
-        locked_below(alloc, state, most, thread, mutex),
-        refused_within(alloc, state, most, thread, mutex),
+        locked_below(alloc, state, limits, thread, mutex),
+        refused_within(alloc, state, limits, thread, mutex),
     )
 }
 
-/// The states once the owner of a recursive mutex, which it holds 255 times or more, has locked it, or was refused.
+/// The states once a thread has locked a recursive mutex of its own again, or was refused, within these limits.
 fn beyond(
     alloc: Global,
     state: &State,
-    most: u32,
+    limits: HoldLimits,
     thread: u32,
     mutex: u32,
 ) -> Result<Vec<State>, Stop>
     requires { thread < length state.now.threads }
-    ensures { IfOk result (λ v. v.items ≡ beyond most thread state.now mutex) }
+    ensures { IfOk result (λ v. v.items ≡ beyond limits thread state.now mutex) }
 {
     let at = state.place_of_mutex(mutex)?;
     if state.owner_or_none(at) != thread {
@@ -173,45 +171,59 @@ fn beyond(
     if state.kind(at) != Kind::Recursive {
         return Ok(Vec::new(alloc));
     }
-    if state.count(at) < MOST_HOLDS {
-        return Ok(Vec::new(alloc));
-    }
-    locked_or_refused(alloc, state, most, thread, at)
+    locked_or_refused(alloc, state, limits, thread, at)
 }
 
 /// The same for a mutex that may be there.
 fn any_beyond(
     alloc: Global,
     state: &State,
-    most: u32,
+    limits: HoldLimits,
     thread: u32,
     mutex: Option<u32>,
 ) -> Result<Vec<State>, Stop>
     requires { thread < length state.now.threads }
-    ensures { IfOk result (λ v. v.items ≡ listed_of mutex (beyond most thread state.now)) }
+    ensures { IfOk result (λ v. v.items ≡ listed_of mutex (beyond limits thread state.now)) }
 {
     match mutex {
         None => Ok(Vec::new(alloc)),
-        Some(mutex) => beyond(alloc, state, most, thread, mutex),
+        Some(mutex) => beyond(alloc, state, limits, thread, mutex),
     }
 }
 
-/// The states once a thread, which holds a recursive mutex 255 times or more, has locked it, or was refused.
-pub(crate) fn locked_beyond(
+/// The states once a thread has locked or tried a recursive mutex of its own again, or was refused, within these
+/// limits.
+fn locked_beyond(
     alloc: Global,
     state: &State,
-    most: u32,
+    limits: HoldLimits,
     thread: u32,
 ) -> Result<Vec<State>, Stop>
     requires { thread < length state.now.threads }
-    ensures { IfOk result (λ v. v.items ≡ locked_beyond most thread state.now) }
+    ensures { IfOk result (λ v. v.items ≡ locked_beyond limits thread state.now) }
 {
     let locked = locked_next(state, thread as usize);
     let tried = tried_next(state, thread as usize);
     joined(
-        any_beyond(alloc, state, most, thread, locked),
-        any_beyond(alloc, state, most, thread, tried),
+        any_beyond(alloc, state, limits, thread, locked),
+        any_beyond(alloc, state, limits, thread, tried),
     )
+}
+
+/// The same for limits that may be there.
+pub(crate) fn locked_within(
+    alloc: Global,
+    state: &State,
+    limits: Option<HoldLimits>,
+    thread: u32,
+) -> Result<Vec<State>, Stop>
+    requires { thread < length state.now.threads }
+    ensures { IfOk result (λ v. v.items ≡ locked_within limits thread state.now) }
+{
+    match limits {
+        None => Ok(Vec::new(alloc)),
+        Some(limits) => locked_beyond(alloc, state, limits, thread),
+    }
 }
 
 /// The state once a thread, which tries to lock an errorcheck mutex of its own, is refused as if it locked it.

@@ -1,7 +1,7 @@
 ghost use Rattle.std.specs.Prelude.{◌≡◌, ◌==◌, ◌<◌, ◌∷◌, ℕ, length, map, IfOk};
 ghost use Rattle.std.specs.List.{list_any};
 ghost use Rattle.pif_rules_model.specs.Rules.{without_one, lost_by};
-ghost use Rattle.pif_posix.specs.Beside.{with_lost};
+ghost use Rattle.pif_posix.specs.Beside.{with_lists};
 
 use crate::State;
 use crate::next::blocked_on;
@@ -10,11 +10,11 @@ use crate::wide_lists::joined;
 use pif_search::{Stop, one, push};
 use std::alloc::Global;
 
-/// Whether a variable is among these.
-pub(crate) fn is_lost(lost: &[u32], variable: u32) -> bool
-    ensures { result ≡ list_any (λ x. x == variable) lost.now }
+/// Whether a variable, or a thread, is among these.
+pub(crate) fn is_there(numbers: &[u32], number: u32) -> bool
+    ensures { result ≡ list_any (λ x. x == number) numbers.now }
 {
-    lost.iter().any(|other| *other == variable)
+    numbers.iter().any(|other| *other == number)
 }
 
 /// These without the first that is this variable.
@@ -31,6 +31,14 @@ pub(crate) fn without_one(alloc: Global, variable: u32, lost: &[u32]) -> Result<
     Ok(all)
 }
 
+/// A number before these.
+pub(crate) fn with_first(alloc: Global, first: u32, rest: &[u32]) -> Result<Vec<u32>, Stop>
+    ensures { IfOk result (λ v. v.items ≡ first ∷ rest.now) }
+{
+    let copy = Vec::from_slice(alloc, rest)?;
+    joined(one(alloc, first), Ok(copy))
+}
+
 /// These, with the variable on which a thread of this state is blocked before them, if it is.
 pub(crate) fn lost_by(
     alloc: Global,
@@ -40,21 +48,29 @@ pub(crate) fn lost_by(
 ) -> Result<Vec<u32>, Stop>
     ensures { IfOk result (λ v. v.items ≡ lost_by state.now thread lost.now) }
 {
-    let copy = Vec::from_slice(alloc, lost)?;
     match blocked_on(state, thread as usize) {
-        None => Ok(copy),
-        Some(variable) => joined(one(alloc, variable), Ok(copy)),
+        None => {
+            let copy = Vec::from_slice(alloc, lost)?;
+            Ok(copy)
+        }
+        Some(variable) => with_first(alloc, variable, lost),
     }
 }
 
-/// These states, with the same variables remembered beside each.
-pub(crate) fn all_beside(alloc: Global, states: Vec<State>, lost: &[u32]) -> Result<Vec<Wide>, Stop>
-    ensures { IfOk result (λ v. v.items ≡ map (with_lost lost.now) states.items) }
+/// These states, with the same variables and the same threads remembered beside each.
+pub(crate) fn all_beside(
+    alloc: Global,
+    states: Vec<State>,
+    lost: &[u32],
+    apart: &[u32],
+) -> Result<Vec<Wide>, Stop>
+    ensures { IfOk result (λ v. v.items ≡ map (with_lists lost.now apart.now) states.items) }
 {
     let mut all = Vec::new(alloc);
     for state in states {
         let lost = Vec::from_slice(alloc, lost)?;
-        push(&mut all, Wide { state, lost })?;
+        let apart = Vec::from_slice(alloc, apart)?;
+        push(&mut all, Wide { state, lost, apart })?;
     }
     Ok(all)
 }

@@ -2,8 +2,7 @@ ghost use Rattle.std.specs.Prelude.{◌≡◌, All, Contains, IfOk};
 ghost use Rattle.pif_rules_model.specs.Rules.{Wide as Widened, WideEnters, end_of};
 ghost use Rattle.pif_rules_model.specs.Ruled.{widely_ended, widely_entered};
 
-use crate::health::ended_or_revived;
-use crate::lost::{all_beside, lost_by};
+use crate::ruled_ends::ended_by;
 use crate::wide::Wide;
 use pif_model::{Entry, Event, Seen};
 use pif_posix_model::HistoryLimits;
@@ -27,9 +26,8 @@ impl Wide {
     fn widely_ended(&self, alloc: Global, thread: u32, rules: &Rules) -> Result<Vec<Wide>, Stop>
         ensures { IfOk result (λ v. v.items ≡ widely_ended rules.now thread self.now) }
     {
-        let states = ended_or_revived(alloc, &self.state, rules.revives, thread)?;
-        let lost = lost_by(alloc, &self.state, thread, self.lost.as_slice())?;
-        all_beside(alloc, states, lost.as_slice())
+        let states = ended_by(alloc, &self.state, rules, thread);
+        self.remembering(alloc, thread, states)
     }
 
     /// One entry: all states to which it leads.
@@ -48,8 +46,9 @@ impl Wide {
         }
     }
 
-    /// The states to which one entry of a history leads that a line shows. By the rule `revives`, the end of a thread may
-    /// revive a mutex that it is giving up. It is remembered if the thread is blocked on a variable. All other entries
+    /// The states to which one entry of a history leads that a line shows. By the rules `revives` and `cut_unlock`, the
+    /// end of a thread may revive a mutex that it is giving up; by `barge` its robust mutexes may be left free, and by
+    /// `stays_locked` they may stay with it. It is remembered if the thread is blocked on a variable. All other entries
     /// lead where `State::enter` says. This state stays as it is.
     ///
     /// # Errors

@@ -3,19 +3,21 @@ ghost use Rattle.std.specs.List.{list_any};
 ghost use Rattle.pif_model.specs.World.{with_progress};
 ghost use Rattle.pif_model.specs.World.Progress.{Has};
 ghost use Rattle.pif_rules_model.specs.Rules.{Wide as Widened, WideMoves, without_one};
-ghost use Rattle.pif_rules_model.specs.Ruled.{one_if, by_recursion, signal_lost, moved_by_rule, widely_moved};
-ghost use Rattle.pif_posix.specs.Moving.{moved_by};
+ghost use Rattle.pif_rules_model.specs.Ruled.{one_if, signal_lost, done_by, moved_by_rule, widely_moved};
 
 use crate::Progress;
-use crate::health::mended_by_any;
-use crate::locks::{locked_beyond, stolen_by, tried_own};
-use crate::lost::{is_lost, without_one};
+use crate::barging::barged;
+use crate::cycles::{refused_cycle, waiting_in_cycle};
+use crate::health::{mended_by_any, mended_or_refused};
+use crate::locks::{locked_within, stolen_by, tried_own};
+use crate::lost::{is_there, without_one};
 use crate::next::signalled_next;
-use crate::rule::{EACH_RULE, Rule};
+use crate::priorities::priority_refused;
+use crate::ruled_variables::{bound_anew, signal_consumed, used_by};
 use crate::wakes::{any_woken, waiting_held, woken_by_itself};
 use crate::wide::Wide;
 use crate::wide_lists::{append, joined};
-use pif_rules_model::Rules;
+use pif_rules_model::{RULES, Rule, Rules, has};
 use pif_search::{Stop, one};
 use std::alloc::Global;
 
@@ -24,15 +26,16 @@ impl Wide {
     /// The state once a signal of a thread on a variable is lost; none if it can't be lost.
     fn signal_lost_on(&self, alloc: Global, thread: u32, variable: u32) -> Result<Vec<Wide>, Stop>
         requires { thread < length self.now.world.threads }
-        ensures { IfOk result (λ v. v.items ≡ one_if (list_any (λ x. x == variable) self.now.lost) (record { world = with_progress thread (Has 0) self.now.world; lost = without_one variable self.now.lost })) }
+        ensures { IfOk result (λ v. v.items ≡ one_if (list_any (λ x. x == variable) self.now.lost) (record self.now { world = with_progress thread (Has 0) self.now.world; lost = without_one variable self.now.lost })) }
     {
-        if !is_lost(self.lost.as_slice(), variable) {
+        if !is_there(self.lost.as_slice(), variable) {
             return Ok(Vec::new(alloc));
         }
         let mut state = self.state.copied(alloc)?;
         state.set_progress(thread as usize, Progress::Has(0));
         let lost = without_one(alloc, variable, self.lost.as_slice())?;
-        one(alloc, Wide { state, lost })
+        let apart = Vec::from_slice(alloc, self.apart.as_slice())?;
+        one(alloc, Wide { state, lost, apart })
     }
 
     /// The state once a signal of a thread is lost; none if it can't be lost.
@@ -46,43 +49,40 @@ impl Wide {
         }
     }
 
-    /// By `recursion`: the thread locks a recursive mutex beyond 255 holds, or is refused.
-    fn locked_beyond(
-        &self,
-        alloc: Global,
-        thread: u32,
-        most: Option<u32>,
-    ) -> Result<Vec<Wide>, Stop>
-        requires { thread < length self.now.world.threads }
-        ensures { IfOk result (λ v. v.items ≡ by_recursion most thread self.now) }
-    {
-        match most {
-            None => Ok(Vec::new(alloc)),
-            Some(most) => self.beside(alloc, locked_beyond(alloc, &self.state, most, thread)),
-        }
-    }
-
-    /// A move of a thread by one rule, which is allowed: all states to which it leads.
-    fn moved_by(
+    /// What a thread does by a rule: all states to which it leads.
+    fn done_by(
         &self,
         alloc: Global,
         thread: u32,
         rules: &Rules,
-        rule: &Rule,
+        rule: Rule,
     ) -> Result<Vec<Wide>, Stop>
         requires { thread < length self.now.world.threads }
-        ensures { IfOk result (λ v. v.items ≡ moved_by rule.now rules.now thread self.now) }
+        ensures { IfOk result (λ v. v.items ≡ done_by rules.now rule thread self.now) }
     {
         let state = &self.state;
         match rule {
             Rule::Steal => self.beside(alloc, stolen_by(alloc, state, thread)),
-            Rule::Recursion => self.locked_beyond(alloc, thread, rules.recursion),
-            Rule::OwnErrorcheck => self.beside(alloc, tried_own(alloc, state, thread)),
             Rule::AnyWaiter => self.beside(alloc, any_woken(alloc, state, thread)),
             Rule::Spurious => self.beside(alloc, woken_by_itself(alloc, state, thread)),
-            Rule::LostSignal => self.signal_lost(alloc, thread),
-            Rule::AnyConsistent => self.beside(alloc, mended_by_any(alloc, state, thread)),
+            Rule::Recursion => {
+                self.beside(alloc, locked_within(alloc, state, rules.recursion, thread))
+            }
+            Rule::OwnErrorcheck => self.beside(alloc, tried_own(alloc, state, thread)),
+            Rule::AnyConsistent => self.beside(alloc, mended_or_refused(alloc, state, thread)),
             Rule::HeldWait => self.beside(alloc, waiting_held(alloc, state, thread)),
+            Rule::LostSignal => self.signal_lost(alloc, thread),
+            Rule::Barge => self.beside(alloc, barged(alloc, state, thread)),
+            Rule::CycleWaits => self.beside(alloc, waiting_in_cycle(alloc, state, thread)),
+            Rule::CycleRefused => self.beside(alloc, refused_cycle(alloc, state, thread)),
+            Rule::TimeoutConsumes => self.beside(alloc, signal_consumed(alloc, state, thread)),
+            Rule::Rebinds => self.beside(alloc, bound_anew(alloc, state, thread)),
+            Rule::MoreUses => self.beside(alloc, used_by(alloc, state, thread)),
+            Rule::RefusesSetprio => self.beside(alloc, priority_refused(alloc, state, thread)),
+            Rule::ConsistentByAny => self.beside(alloc, mended_by_any(alloc, state, thread)),
+            Rule::Revives | Rule::EndsApart | Rule::StaysLocked | Rule::CutUnlock => {
+                Ok(Vec::new(alloc))
+            }
         }
     }
 
@@ -92,9 +92,9 @@ impl Wide {
         ensures { IfOk result (λ v. v.items ≡ moved_by_rule rules.now thread self.now) }
     {
         let mut all = Vec::new(alloc);
-        for rule in &EACH_RULE {
-            if rule.is_allowed(rules) {
-                append(&mut all, self.moved_by(alloc, thread, rules, rule))?;
+        for rule in &RULES {
+            if has(rules, *rule) {
+                append(&mut all, self.done_by(alloc, thread, rules, *rule))?;
             }
         }
         Ok(all)

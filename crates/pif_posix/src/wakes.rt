@@ -46,7 +46,7 @@ pub(crate) fn any_woken(alloc: Global, state: &State, thread: u32) -> Result<Vec
     }
 }
 
-/// The state once a thread, whose wait is blocked and not due, wakes by itself.
+/// The state once a thread, whose wait is blocked, wakes by itself.
 pub(crate) fn woken_by_itself(alloc: Global, state: &State, thread: u32) -> Result<Vec<State>, Stop>
     requires { thread < length state.now.threads }
     ensures { IfOk result (λ v. v.items ≡ woken_by_itself thread state.now) }
@@ -54,9 +54,6 @@ pub(crate) fn woken_by_itself(alloc: Global, state: &State, thread: u32) -> Resu
     match blocked_on(state, thread as usize) {
         None => Ok(Vec::new(alloc)),
         Some(_) => {
-            if state.is_due(thread as usize) {
-                return Ok(Vec::new(alloc));
-            }
             let next = state.with_awake(alloc, thread as usize)?;
             one(alloc, next)
         }

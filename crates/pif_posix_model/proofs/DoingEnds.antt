@@ -91,7 +91,7 @@ module _ (t m : ℕ) (w : World) where
       both_ways (names t w.waiters) h (subst (λ (x : ℕ). names x w.waiters ≡ true) e (named-from_pair w.waiters u m among))
 
   -- m as it is afterwards, and the others as they were
-  new_owner : t ≢ 0 → names t w.waiters ≡ false
+  pub new_owner : t ≢ 0 → names t w.waiters ≡ false
       → (x : ℕ) × (x ≢ t)
       × ((passed_on_by_death m w).mutexes ≡ set (after_owner_death m w).mutexes m (record (mutex_at (after_owner_death m w) m) { owner = x; count = 1 }))
   new_owner n h = by_next (cases_eq (next_of (after_owner_death m w) m) 0)
@@ -123,23 +123,23 @@ module _ (t m : ℕ) (w v : World) (y z : Mutex) (e : v.mutexes ≡ set (set w.m
       false_from_ne_true (owns_robust v t m)
       (λ f. n (sym (ap (λ (x : Mutex). x.owner) this) ∙ (owns_robust_to v t m f).1))
 
--- t owns one robust mutex less
+-- t owns one robust mutex less, once another owns it
+pub one_robust_less : (t m : ℕ) (w v : World) (x : ℕ) → IsNotStalled w m → IsOwner w t m → x ≢ t
+    → v.mutexes ≡ set (after_owner_death m w).mutexes m (record (mutex_at (after_owner_death m w) m) { owner = x; count = 1 })
+    → length (robust_of w t) ≡ suc (length (robust_of v t))
+one_robust_less t m w v x r o k e =
+    let y : Mutex = record (mutex_at w m) { health = on_death (mutex_at w m).health } in
+    let z : Mutex = record (mutex_at (after_owner_death m w) m) { owner = x; count = 1 } in
+    passing-one_less (owns_robust w t) (owns_robust v t) (length w.mutexes) m (robust_is_added w t m r)
+    (owns_robust_from w t m r o) (orphaned_it t m w v y z e (robust_is_added w t m r) k)
+    (others_same t m w v y z e)
+    ∙ ap (λ (n : ℕ). suc (length (passing (owns_robust v t) n))) (sym (as_many t m w v y z e))
+
 pub loses_one : (t m : ℕ) (w : World) → t ≢ 0 → names t w.waiters ≡ false → IsNotStalled w m → IsOwner w t m
     → length (robust_of w t) ≡ suc (length (robust_of (passed_on_by_death m w) t))
 loses_one t m w n h r o =
     let c = new_owner t m w n h in
-    count c.0 c.1 c.2
-  where
-    count : (x : ℕ) → x ≢ t
-        → (passed_on_by_death m w).mutexes ≡ set (after_owner_death m w).mutexes m (record (mutex_at (after_owner_death m w) m) { owner = x; count = 1 })
-        → length (robust_of w t) ≡ suc (length (robust_of (passed_on_by_death m w) t))
-    count x k e =
-        let y : Mutex = record (mutex_at w m) { health = on_death (mutex_at w m).health } in
-        let z : Mutex = record (mutex_at (after_owner_death m w) m) { owner = x; count = 1 } in
-        passing-one_less (owns_robust w t) (owns_robust (passed_on_by_death m w) t) (length w.mutexes) m (robust_is_added w t m r)
-        (owns_robust_from w t m r o) (orphaned_it t m w (passed_on_by_death m w) y z e (robust_is_added w t m r) k)
-        (others_same t m w (passed_on_by_death m w) y z e)
-        ∙ ap (λ (n : ℕ). suc (length (passing (owns_robust (passed_on_by_death m w) t) n))) (sym (as_many t m w (passed_on_by_death m w) y z e))
+    one_robust_less t m w (passed_on_by_death m w) c.0 r o c.1 c.2
 
 -- RELEASES
 
@@ -271,7 +271,7 @@ module _ (t : ℕ) (w : World) (s : t ≢ 0) (h : names t w.waiters ≡ false) w
   in_order_releases = below_releases (length w.mutexes) t w s h (λ i le. false_from_ne_true (owns_robust w t i)
       (λ e. absurd (omega (arith, le, robust_is_added w t i (owns_robust_to w t i e).0))))
 
-  all_inherited_from : (v : World) → Releases t w v → Contains (all_inherited t w) v
+  pub all_inherited_from : (v : World) → Releases t w v → Contains (all_inherited t w) v
   all_inherited_from v x = by_order (cases_Bool (is_orderly w))
     where
       by_order : (is_orderly w ≡ true) ⊎ (is_orderly w ≡ false) → Contains (all_inherited t w) v
@@ -281,7 +281,7 @@ module _ (t : ℕ) (w : World) (s : t ≢ 0) (h : names t w.waiters ≡ false) w
       by_order (inr e) =
           subst (λ (xs : List World). Contains xs v) (sym (choose_else (is_orderly w) _ _ e)) (inherited_from t w v s h x)
 
-  all_inherited_to : (v : World) → Contains (all_inherited t w) v → Releases t w v
+  pub all_inherited_to : (v : World) → Contains (all_inherited t w) v → Releases t w v
   all_inherited_to v k = by_order (cases_Bool (is_orderly w))
     where
       by_order : (is_orderly w ≡ true) ⊎ (is_orderly w ≡ false) → Releases t w v
@@ -295,7 +295,7 @@ module _ (t : ℕ) (w : World) (s : t ≢ 0) (h : names t w.waiters ≡ false) w
           (subst (λ (xs : List World). Contains xs v) (choose_else (is_orderly w) _ _ e) k)
 
 module _ (t : ℕ) (w : World) where
-  unnamed_at_end : names t (after_end t w).waiters ≡ false
+  pub unnamed_at_end : names t (after_end t w).waiters ≡ false
   unnamed_at_end = named-without_same w.waiters t
 
   pub ended_from : (v : World) → Ends t w v → Contains (ended t w) v

@@ -7,7 +7,7 @@ ghost use Rattle.pif_search.specs.declared.verdicts.Verdict.TheVariants.{Illegal
 ghost use Rattle.pif_search.specs.Runs.{CanShow};
 ghost use Rattle.pif_search.specs.Enough.{IsEnough};
 ghost use Rattle.pif_search.specs.Verdicts.{IsVerdict};
-ghost use Rattle.pif_rules_model.specs.Rules.{no_rules};
+ghost use Rattle.pif_rules_model.specs.Sets.{no_rules};
 ghost use Rattle.pif_history_model.specs.declared.lines.Line.{Line};
 ghost use Rattle.pif_history_model.specs.declared.labels.Label.{Label};
 ghost use Rattle.pif_history_model.specs.declared.labels.Label.TheVariants.{Shown};

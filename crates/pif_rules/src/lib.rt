@@ -11,7 +11,9 @@ mod rules;
 mod sets;
 mod words;
 
-pub use pif_rules_model::no_rules;
-pub use rules::{RULES, Rule, name_of};
-pub use sets::{both, has, only};
-pub use words::{LEAST_RECURSION, all_rules, rule_in, rules_named};
+pub use pif_rules_model::{HoldLimits, RULES, Rule, Rules, has, no_rules};
+pub use rules::{is_of_posix, name_of};
+pub use sets::{both, first_of, have_common, is_any, only, posix_rules, push_names};
+pub use words::{
+    LEAST_RECURSION, all_rules, are_beyond, bounds_in, just, rule_in, rules_named, set_in,
+};

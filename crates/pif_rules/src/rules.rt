@@ -1,41 +1,8 @@
 ghost use Rattle.std.specs.Prelude.{◌≡◌};
+ghost use Rattle.pif_rules_model.specs.Sets.{is_of_posix};
 ghost use Rattle.pif_rules.specs.Sets.{name_of};
 
-/// A rule. `Rules` of `pif_rules_model` says what it allows.
-#[derive(Clone, Copy, PartialEq, Eq)]
-pub enum Rule {
-    /// `steal`.
-    Steal,
-    /// `any_waiter`.
-    AnyWaiter,
-    /// `spurious`.
-    Spurious,
-    /// `recursion`.
-    Recursion,
-    /// `own_errorcheck`.
-    OwnErrorcheck,
-    /// `any_consistent`.
-    AnyConsistent,
-    /// `held_wait`.
-    HeldWait,
-    /// `lost_signal`.
-    LostSignal,
-    /// `revives`.
-    Revives,
-}
-
-/// All rules, in the order in which they are told.
-pub const RULES: [Rule; 9] = [
-    Rule::Steal,
-    Rule::AnyWaiter,
-    Rule::Spurious,
-    Rule::Recursion,
-    Rule::OwnErrorcheck,
-    Rule::AnyConsistent,
-    Rule::HeldWait,
-    Rule::LostSignal,
-    Rule::Revives,
-];
+use pif_rules_model::Rule;
 
 /// The name of a rule.
 pub fn name_of(rule: Rule) -> &'static [u8]
@@ -51,5 +18,30 @@ pub fn name_of(rule: Rule) -> &'static [u8]
         Rule::HeldWait => b"held_wait",
         Rule::LostSignal => b"lost_signal",
         Rule::Revives => b"revives",
+        Rule::Barge => b"barge",
+        Rule::CycleWaits => b"cycle_waits",
+        Rule::CycleRefused => b"cycle_refused",
+        Rule::TimeoutConsumes => b"timeout_consumes",
+        Rule::EndsApart => b"ends_apart",
+        Rule::StaysLocked => b"stays_locked",
+        Rule::Rebinds => b"rebinds",
+        Rule::MoreUses => b"more_uses",
+        Rule::RefusesSetprio => b"refuses_setprio",
+        Rule::ConsistentByAny => b"consistent_by_any",
+        Rule::CutUnlock => b"cut_unlock",
+    }
+}
+
+/// Whether POSIX allows what a rule adds. The others are what implementations do against it.
+pub fn is_of_posix(rule: Rule) -> bool
+    ensures { result ≡ is_of_posix rule }
+{
+    match rule {
+        Rule::Steal
+        | Rule::OwnErrorcheck
+        | Rule::AnyConsistent
+        | Rule::LostSignal
+        | Rule::Revives => false,
+        _ => true,
     }
 }

@@ -1,4 +1,5 @@
 pub mod Listing
 pub mod Moves
+pub mod Ruling
 pub mod Entries
 pub mod Sets

@@ -1,8 +1,8 @@
 -- What is in lists that are there if something else is.
-use Rattle.std.proofs.Common.{◌≡◌, ◌⊎◌, Bool, true, false, List, ◌++◌, Option, Some, None, refl, sym, subst, inl, inr, Contains}
-use Rattle.std.proofs.lemmas.List.Elements.{Contains-append_left, Contains-append_right, Contains-append_cases}
-use Rattle.pif_posix_model.proofs.DoingLists.{not_in_none, in_one, in_one_from}
-use Rattle.pif_rules_model.specs.Ruled.{listed_of, one_if}
+use Rattle.std.proofs.Common.{◌≡◌, Bool, true, false, List, [], ◌∷◌, Option, Some, None, refl, sym, subst, Contains}
+use Rattle.std.proofs.lemmas.Bool.{both_ways}
+use Rattle.pif_posix_model.proofs.DoingLists.{not_in_none, in_first, in_one, in_one_from}
+use Rattle.pif_rules_model.specs.Ruled.{listed_of, one_if, is_some_of}
 
 module _ {A B : Type 0} where
   pub in_listed : (o : Option A) (f : A → List B) (v : B) → Contains (listed_of o f) v → (x : A) × (o ≡ Some x) × Contains (f x) v
@@ -20,19 +20,14 @@ module _ {B : Type 0} where
   pub in_one_if_from : (b : Bool) (x v : B) → b ≡ true → v ≡ x → Contains (one_if b x) v
   in_one_if_from b x v e f = subst (λ (a : Bool). Contains (one_if a x) v) (sym e) (in_one_from x v f)
 
-  -- what is in three lists in a row
-  pub in_three : (xs ys zs : List B) (v : B) → Contains (xs ++ ys ++ zs) v → Contains xs v ⊎ Contains ys v ⊎ Contains zs v
-  in_three xs ys zs v k =
-      elim (Contains-append_cases (xs ++ ys) zs v k) [
-        | inl c ↦ elim (Contains-append_cases xs ys v c) [ inl d ↦ inl d | inr d ↦ inr (inl d) ]
-        | inr c ↦ inr (inr c)
-      ]
+  -- whether there is something in a list
+  pub some_is_there : (xs : List B) → is_some_of xs ≡ true → (x : B) × Contains xs x
+  some_is_there [] e = absurd (cc)
+  some_is_there (x ∷ xs) e = (x, in_first x xs)
 
-  pub in_front : (xs ys zs : List B) (v : B) → Contains xs v → Contains (xs ++ ys ++ zs) v
-  in_front xs ys zs v k = Contains-append_left (xs ++ ys) zs v (Contains-append_left xs ys v k)
+  pub some_from_there : (xs : List B) (x : B) → Contains xs x → is_some_of xs ≡ true
+  some_from_there [] x c = absurd (not_in_none x c)
+  some_from_there (y ∷ ys) x c = refl
 
-  pub in_second : (xs ys zs : List B) (v : B) → Contains ys v → Contains (xs ++ ys ++ zs) v
-  in_second xs ys zs v k = Contains-append_left (xs ++ ys) zs v (Contains-append_right xs ys v k)
-
-  pub in_third : (xs ys zs : List B) (v : B) → Contains zs v → Contains (xs ++ ys ++ zs) v
-  in_third xs ys zs v k = Contains-append_right (xs ++ ys) zs v k
+  pub none_is_there : (xs : List B) (x : B) → is_some_of xs ≡ false → Contains xs x → ⊥
+  none_is_there xs x e c = both_ways (is_some_of xs) e (some_from_there xs x c)

@@ -1,5 +1,6 @@
 -- With more rules there is each step that there is with fewer, and with none there are those of the plain machine.
-use Rattle.std.proofs.Common.{ℕ, ◌≡◌, ◌≤◌, false, Option, Some, None, refl, sym, subst, inl, inr, arith}
+use Rattle.std.proofs.Common.{ℕ, ◌≡◌, false, Option, Some, None, refl, sym, subst, inl, inr, arith}
+use Rattle.std.proofs.lemmas.Bool.{both_ways}
 use Rattle.pif_types.specs.Bounds.{Bounds}
 use Rattle.pif_model.specs.declared.events.Event.{Event}
 use Rattle.pif_model.specs.declared.events.Event.TheVariants.{Begin, Go, End, Tick}
@@ -7,67 +8,177 @@ use Rattle.pif_model.specs.declared.events.Seen.{Seen}
 use Rattle.pif_model.specs.declared.events.Seen.TheVariants.{Begun, Went, Waits, Answered, Ended, Ticked, Refused}
 use Rattle.pif_model.specs.declared.events.Entry.{Entry}
 use Rattle.pif_model.specs.declared.events.Entry.TheVariants.{Thread as AddThread, Mutex as AddMutex, Cond as AddCond, Step as Happened}
-use Rattle.pif_model.specs.Posix.{World, Ends}
+use Rattle.pif_model.specs.Posix.{World, Ends, after_end, after_owner_death}
 use Rattle.pif_model.specs.Posix.Step.{ended as ends}
 use Rattle.pif_posix_model.specs.Once.{MovesOnce, Enters}
 use Rattle.pif_posix_model.specs.Once.Enters.{other as entered}
 use Rattle.pif_posix_model.proofs.DoingEnds.{ended_to}
 use Rattle.pif_posix_model.proofs.DoingEntries.{entered_from}
+use Rattle.pif_rules_model.specs.declared.rules.HoldLimits.{HoldLimits}
+use Rattle.pif_rules_model.specs.declared.rules.Rule.{Rule}
+use Rattle.pif_rules_model.specs.declared.rules.Rule.TheVariants.{Steal, AnyWaiter, Spurious, Recursion, OwnErrorcheck, AnyConsistent, HeldWait, LostSignal, Revives, Barge, CycleWaits, CycleRefused, TimeoutConsumes, EndsApart, StaysLocked, Rebinds, MoreUses, RefusesSetprio, ConsistentByAny, CutUnlock}
 use Rattle.pif_rules_model.specs.declared.rules.Rules.{Rules}
-use Rattle.pif_rules_model.specs.Rules.{Wide, LocksBeyond, MovesByRule, WideMoves, EndsOrRevives, WideEnters, AreAmong, no_rules, end_of, lost_by}
-use Rattle.pif_rules_model.specs.Rules.MovesByRule.{steal, any_waiter, spurious, recursion, own_errorcheck, any_consistent, held_wait, lost_signal}
+use Rattle.pif_rules_model.specs.Sets.{has, no_rules, AreAmong, AreWithin}
+use Rattle.pif_rules_model.specs.Rules.{Wide, LocksBeyond, LocksWithin, DoesBy, MovesByRule, WideMoves, MayRevive, FindsHealth, PassesBy, ReleasesBy, EndsBy, EndsApartBy, PassesApart, HasReleased, WideEnters, WideEndsApart, end_of, lost_by}
 use Rattle.pif_rules_model.specs.Rules.WideMoves.{plain, ruled}
-use Rattle.pif_rules_model.specs.Rules.EndsOrRevives.{as_ever, after_reviving}
+use Rattle.pif_rules_model.specs.Rules.MayRevive.{revives, cut}
+use Rattle.pif_rules_model.specs.Rules.FindsHealth.{as_it_is, one}
+use Rattle.pif_rules_model.specs.Rules.PassesBy.{passes, left_free}
+use Rattle.pif_rules_model.specs.Rules.ReleasesBy.{none_left, they_stay, one_more}
+use Rattle.pif_rules_model.specs.Rules.HasReleased.{at_once, none_left as none_kept, they_stay as they_are_kept}
 use Rattle.pif_rules_model.specs.Rules.WideEnters.{ended, other}
+use Rattle.pif_rules_model.specs.Rules.WideEndsApart.{leaves, passes as passes_later}
+use Rattle.pif_rules_model.proofs.Entries.{plainly_released, widely_released}
 
 module _ (a b : Rules) (more : AreAmong a b) where
-  beyond_more : (n m t : ℕ) (w v : World) → n ≤ m → LocksBeyond n t w v → LocksBeyond m t w v
-  beyond_more n m t w v l h = record {
+  beyond_more : (x y : HoldLimits) → AreWithin x y → (t : ℕ) (w v : World) → LocksBeyond x t w v → LocksBeyond y t w v
+  beyond_more x y k t w v h = record {
     mutex = h.mutex;
     locks = h.locks;
     owns = h.owns;
     recursive = h.recursive;
-    many = h.many;
-    comes = elim h.comes [ inl x ↦ inl (omega (arith, x.0, l), x.1) | inr x ↦ inr (omega (arith, x.0, l), x.1) ];
+    comes = elim h.comes [
+      | inl c ↦ inl (c.0, omega (arith, c.1, k.most), c.2)
+      | inr c ↦ inr (omega (arith, c.0, k.least), omega (arith, c.1, k.most), c.2)
+    ];
   }
 
+  within_more : (t : ℕ) (w v : World) → LocksWithin a.recursion t w v → LocksWithin b.recursion t w v
+  within_more t w v h = by_limits a.recursion refl h
+    where
+      by_limits : (o : Option HoldLimits) → a.recursion ≡ o → LocksWithin o t w v → LocksWithin b.recursion t w v
+      by_limits None e k = absurd k
+      by_limits (Some x) e k =
+          let y = more.recursion x e in
+          subst (λ (o : Option HoldLimits). LocksWithin o t w v) (sym y.1) (beyond_more x y.0 y.2 t w v k)
+
+  pub does_more : (x : Rule) (t : ℕ) (s n : Wide) → DoesBy a x t s n → DoesBy b x t s n
+  does_more Recursion t s n h = record { world = h.world; step = within_more t s.world h.world h.step; same = h.same }
+  does_more Steal t s n h = h
+  does_more AnyWaiter t s n h = h
+  does_more Spurious t s n h = h
+  does_more OwnErrorcheck t s n h = h
+  does_more AnyConsistent t s n h = h
+  does_more HeldWait t s n h = h
+  does_more LostSignal t s n h = h
+  does_more Barge t s n h = h
+  does_more CycleWaits t s n h = h
+  does_more CycleRefused t s n h = h
+  does_more TimeoutConsumes t s n h = h
+  does_more Rebinds t s n h = h
+  does_more MoreUses t s n h = h
+  does_more RefusesSetprio t s n h = h
+  does_more ConsistentByAny t s n h = h
+  does_more _ t s n h = h
+
   ruled_more : (t : ℕ) (s n : Wide) → MovesByRule a t s n → MovesByRule b t s n
-  ruled_more t s n (steal v i h e) = steal v (more.steal i) h e
-  ruled_more t s n (any_waiter v i h e) = any_waiter v (more.any_waiter i) h e
-  ruled_more t s n (spurious v i h e) = spurious v (more.spurious i) h e
-  ruled_more t s n (recursion v most i h e) =
-      let x = more.recursion most i in recursion v x.0 x.1 (beyond_more most x.0 t s.world v x.2 h) e
-  ruled_more t s n (own_errorcheck v i h e) = own_errorcheck v (more.own_errorcheck i) h e
-  ruled_more t s n (any_consistent v i h e) = any_consistent v (more.any_consistent i) h e
-  ruled_more t s n (held_wait v i h e) = held_wait v (more.held_wait i) h e
-  ruled_more t s n (lost_signal i h) = lost_signal (more.lost_signal i) h
+  ruled_more t s n h = record { rule = h.rule; allowed = more.among h.rule h.allowed; does = does_more h.rule t s n h.does }
 
   pub moves_more : (t : ℕ) (s n : Wide) → WideMoves a t s n → WideMoves b t s n
   moves_more t s n (plain v h e) = plain v h e
   moves_more t s n (ruled i h) = ruled i (ruled_more t s n h)
 
-  ends_more : (t : ℕ) (w v : World) → EndsOrRevives a.revives t w v → EndsOrRevives b.revives t w v
-  ends_more t w v (as_ever h) = as_ever h
-  ends_more t w v (after_reviving m i o r u h) = after_reviving m (more.revives i) o r u h
+  revives_more : (t m : ℕ) (w : World) → MayRevive a t m w → MayRevive b t m w
+  revives_more t m w (revives e) = revives (more.among Revives e)
+  revives_more t m w (cut e h) = cut (more.among CutUnlock e) h
+
+  finds_more : (t : ℕ) (w v : World) → FindsHealth a t w v → FindsHealth b t w v
+  finds_more t w v (as_it_is e) = as_it_is e
+  finds_more t w v (one m h o r u e) = one m (revives_more t m w h) o r u e
+
+  passes_more : (m : ℕ) (w v : World) → PassesBy a m w v → PassesBy b m w v
+  passes_more m w v (passes p) = passes p
+  passes_more m w v (left_free e f) = left_free (more.among Barge e) f
+
+  releases_more : (t : ℕ) (w v : World) → ReleasesBy a t w v → ReleasesBy b t w v
+  releases_more t w v (none_left n e) = none_left n e
+  releases_more t w v (they_stay i e) = they_stay (more.among StaysLocked i) e
+  releases_more t w v (one_more {u = u} m o r p rest) =
+      one_more m o r (passes_more m (after_owner_death m w) u p) (releases_more t u v rest)
+
+  pub ends_more : (t : ℕ) (w v : World) → EndsBy a t w v → EndsBy b t w v
+  ends_more t w v h = record {
+    allowed = h.allowed;
+    found = h.found;
+    finds = finds_more t w h.found h.finds;
+    releases = releases_more t (after_end t h.found) v h.releases;
+  }
+
+  pub leaves_more : (t : ℕ) (w v : World) → EndsApartBy a t w v → EndsApartBy b t w v
+  leaves_more t w v h = record {
+    apart = more.among EndsApart h.apart;
+    allowed = h.allowed;
+    found = h.found;
+    finds = finds_more t w h.found h.finds;
+    leaves = h.leaves;
+  }
+
+  pub passes_apart_more : (t : ℕ) (w v : World) → PassesApart a t w v → PassesApart b t w v
+  passes_apart_more t w v h = record {
+    apart = more.among EndsApart h.apart;
+    ended = h.ended;
+    mutex = h.mutex;
+    owns = h.owns;
+    robust = h.robust;
+    passes = passes_more h.mutex (after_owner_death h.mutex w) v h.passes;
+  }
+
+  pub ends_apart_more : (t : ℕ) (s n : Wide) → WideEndsApart a t s n → WideEndsApart b t s n
+  ends_apart_more t s n (leaves v h e) = leaves v (leaves_more t s.world v h) e
+  ends_apart_more t s n (passes_later v i h e) = passes_later v i (passes_apart_more t s.world v h) e
+
+  pub released_more : (t : ℕ) (s : Wide) → HasReleased a t s → HasReleased b t s
+  released_more t s (at_once e) = at_once e
+  released_more t s (none_kept h) = none_kept h
+  released_more t s (they_are_kept e) = they_are_kept (more.among StaysLocked e)
 
   pub enters_more : (l : Bounds) (s : Wide) (e : Entry) (n : Wide) → WideEnters a l s e n → WideEnters b l s e n
   enters_more l s e n (ended t v is h f) = ended t v is (ends_more t s.world v h) f
   enters_more l s e n (other v is h f) = other v is h f
 
--- no rule makes no move
+-- NO RULES
+
+-- no rule is one of none
+pub none_is_among : (x : Rule) → has no_rules x ≡ false
+none_is_among Steal = refl
+none_is_among AnyWaiter = refl
+none_is_among Spurious = refl
+none_is_among Recursion = refl
+none_is_among OwnErrorcheck = refl
+none_is_among AnyConsistent = refl
+none_is_among HeldWait = refl
+none_is_among LostSignal = refl
+none_is_among Revives = refl
+none_is_among Barge = refl
+none_is_among CycleWaits = refl
+none_is_among CycleRefused = refl
+none_is_among TimeoutConsumes = refl
+none_is_among EndsApart = refl
+none_is_among StaysLocked = refl
+none_is_among Rebinds = refl
+none_is_among MoreUses = refl
+none_is_among RefusesSetprio = refl
+none_is_among ConsistentByAny = refl
+none_is_among CutUnlock = refl
+
+-- none of them is among any
+pub none_among : (r : Rules) → AreAmong no_rules r
+none_among r = record {
+  among = λ x e. absurd (both_ways (has no_rules x) (none_is_among x) e);
+  recursion = λ x e. absurd (cc);
+}
+
 no_rule_moves : (t : ℕ) (s n : Wide) → MovesByRule no_rules t s n → ⊥
-no_rule_moves t s n (steal v i h e) = cc
-no_rule_moves t s n (any_waiter v i h e) = cc
-no_rule_moves t s n (spurious v i h e) = cc
-no_rule_moves t s n (recursion v most i h e) = cc
-no_rule_moves t s n (own_errorcheck v i h e) = cc
-no_rule_moves t s n (any_consistent v i h e) = cc
-no_rule_moves t s n (held_wait v i h e) = cc
-no_rule_moves t s n (lost_signal i h) = cc
+no_rule_moves t s n h = both_ways (has no_rules h.rule) (none_is_among h.rule) h.allowed
 
 pub plain_moves : (t : ℕ) (s n : Wide) → WideMoves no_rules t s n → MovesOnce t s.world n.world
 plain_moves t s n (plain v h e) = subst (λ (x : Wide). MovesOnce t s.world x.world) (sym e) h
 plain_moves t s n (ruled i h) = absurd (no_rule_moves t s n h)
+
+-- no thread ends apart
+pub none_ends_apart : (t : ℕ) (s n : Wide) → WideEndsApart no_rules t s n → ⊥
+none_ends_apart t s n (leaves v h e) = both_ways false refl h.apart
+none_ends_apart t s n (passes_later v i h e) = both_ways false refl h.apart
 
 -- AN ENTRY OF THE PLAIN MACHINE
 
@@ -90,26 +201,45 @@ end_is (Happened x seen) t h = by_event x seen h
     by_event (End u) (Refused r) h = absurd (cc)
 
 module _ (l : Bounds) (s : Wide) (e : Entry) where
-  ends_as_ever : (t : ℕ) (v : World) → EndsOrRevives false t s.world v → Ends t s.world v
-  ends_as_ever t v (as_ever h) = h
-  ends_as_ever t v (after_reviving m i o r u h) = absurd (cc)
+  ends_as_ever : (t : ℕ) (w v : World) → EndsBy no_rules t w v → Ends t w v
+  ends_as_ever t w v h =
+      let found : h.found ≡ w = by_health h.found h.finds in
+      record {
+        allowed = h.allowed;
+        releases = plainly_released no_rules t refl refl (after_end t w) v
+            (subst (λ (x : World). ReleasesBy no_rules t (after_end t x) v) found h.releases);
+      }
+    where
+      by_health : (x : World) → FindsHealth no_rules t w x → x ≡ w
+      by_health x (as_it_is f) = f
+      by_health x (one m (revives f) o r u g) = absurd (both_ways false refl f)
+      by_health x (one m (cut f k) o r u g) = absurd (both_ways false refl f)
 
   pub plain_enters : (n : Wide) → WideEnters no_rules l s e n → Enters l s.world e n.world
   plain_enters n (ended t v is h f) =
       let this : e ≡ Happened (End t) Ended = end_is e t is in
       subst (λ (x : Wide). Enters l s.world e x.world) (sym f)
-      (subst (λ (x : Entry). Enters l s.world x v) (sym this) (entered refl refl (ends t refl (ends_as_ever t v h))))
+      (subst (λ (x : Entry). Enters l s.world x v) (sym this) (entered refl refl (ends t refl (ends_as_ever t s.world v h))))
   plain_enters n (other v is h f) = subst (λ (x : Wide). Enters l s.world e x.world) (sym f) h
 
-  pub enters_widely : (r : Rules) (v : World) → Enters l s.world e v → (n : Wide) × WideEnters r l s e n × (n.world ≡ v)
+  ends_widely : (r : Rules) (t : ℕ) (w v : World) → Ends t w v → EndsBy r t w v
+  ends_widely r t w v h = record {
+    allowed = h.allowed;
+    found = w;
+    finds = as_it_is refl;
+    releases = widely_released r t (after_end t w) v h.releases;
+  }
+
+  -- what is remembered of threads that ended apart stays
+  pub enters_widely : (r : Rules) (v : World) → Enters l s.world e v → (n : Wide) × WideEnters r l s e n × (n.world ≡ v) × (n.apart ≡ s.apart)
   enters_widely r v h = by_end (end_of e) refl
     where
-      by_end : (o : Option ℕ) → end_of e ≡ o → (n : Wide) × WideEnters r l s e n × (n.world ≡ v)
-      by_end None is = (record s { world = v }, other v is h refl, refl)
+      by_end : (o : Option ℕ) → end_of e ≡ o → (n : Wide) × WideEnters r l s e n × (n.world ≡ v) × (n.apart ≡ s.apart)
+      by_end None is = (record s { world = v }, other v is h refl, refl, refl)
       by_end (Some t) is =
           let this : Enters l s.world (Happened (End t) Ended) v = subst (λ (x : Entry). Enters l s.world x v) (end_is e t is) h in
           let end : Ends t s.world v = ended_to t s.world v (entered_from l s.world (Happened (End t) Ended) v this) in
-          (record { world = v; lost = lost_by s.world t s.lost }, ended t v is (as_ever end) refl, refl)
+          (record s { world = v; lost = lost_by s.world t s.lost }, ended t v is (ends_widely r t s.world v end) refl, refl, refl)
 
 pub moves_widely : (r : Rules) (t : ℕ) (s : Wide) (v : World) → MovesOnce t s.world v → WideMoves r t s (record s { world = v })
 moves_widely r t s v h = plain v h refl

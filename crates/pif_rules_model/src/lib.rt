@@ -12,4 +12,4 @@ mod rules;
 pub use laws::{
     more_rules_allow_more, steps_lead_to_those_listed, without_rules_the_machine_is_plain,
 };
-pub use rules::{Rules, no_rules};
+pub use rules::{HoldLimits, RULES, Rule, Rules, has, no_rules};

@@ -57,7 +57,7 @@ impl Part {
             Part::Number => "a number from 0 to 4294967295 is wanted, with no zero in front",
             Part::Robust | Part::OfThread | Part::OfMutex => "another word is wanted here",
             Part::Answer => "a number or the name of an error is wanted here, as 0 or EBUSY",
-            Part::Recursion => "the number of recursion is 256 to 4294967295",
+            Part::Recursion => "recursion takes 256 to 4294967295, or bounds as 1..300",
             Part::Priority => "a priority is a number from 1 to 99, with no zero in front",
             Part::Cell => "a cell is wanted here, x1 to x64",
             Part::Value => "a number from 0 to 255 is wanted here",

@@ -36,6 +36,23 @@ fn is_between(word: &[u8], least: u32, most: u32) -> bool {
     number_of(word).is_some_and(|number| number >= least && number <= most)
 }
 
+/// Whether a word has bounds of `recursion`: a number from 256 on, or two that don't fall, as `1..300`. Those of the machine
+/// itself, 255 for both, are none.
+fn is_recursion(word: &[u8]) -> bool {
+    let Some(end) = word.iter().position(|byte| *byte == b'.') else {
+        return is_between(word, 256, u32::MAX);
+    };
+    let most = match word[end..].strip_prefix(b"..") {
+        Some(most) => number_of(most),
+        None => None,
+    };
+    match (number_of(&word[..end]), most) {
+        (Some(255), Some(255)) => false,
+        (Some(least), Some(most)) => least > 0 && least <= most,
+        _ => false,
+    }
+}
+
 /// Whether a word is an answer: a number, or the name of an error.
 pub fn is_answer(word: &[u8]) -> bool {
     number_of(word).is_some() || errno_named(word).is_some()
@@ -51,7 +68,7 @@ fn is_plain(word: &[u8], part: Part) -> bool {
     match part {
         Part::Number => number_of(word).is_some(),
         Part::Answer => is_answer(word),
-        Part::Recursion => is_between(word, 256, u32::MAX),
+        Part::Recursion => is_recursion(word),
         Part::Priority => is_between(word, 1, 99),
         Part::Cell => is_cell(word),
         Part::Value => is_between(word, 0, 255),

@@ -238,10 +238,10 @@ pub static ROBUST: [Form; 1] = [Form {
     rest: Rest::End,
 }];
 
-/// How many rules there are.
-pub const RULE_COUNT: usize = 9;
+/// How many words name rules.
+pub const RULE_COUNT: usize = 21;
 
-/// The rules that a history or a program may allow.
+/// The rules that a history or a program may allow, and the name of those of POSIX.
 pub static RULES: [Form; RULE_COUNT] = [
     Form {
         name: "steal",
@@ -263,7 +263,7 @@ pub static RULES: [Form; RULE_COUNT] = [
     },
     Form {
         name: "recursion",
-        text: "allow recursion N",
+        text: "allow recursion A..B",
         parts: Parts::Of(&[Part::Recursion]),
         rest: Rest::End,
     },
@@ -293,6 +293,78 @@ pub static RULES: [Form; RULE_COUNT] = [
     },
     Form {
         name: "revives",
+        text: "allow RULE ..",
+        parts: Parts::Of(&[]),
+        rest: Rest::End,
+    },
+    Form {
+        name: "barge",
+        text: "allow RULE ..",
+        parts: Parts::Of(&[]),
+        rest: Rest::End,
+    },
+    Form {
+        name: "cycle_waits",
+        text: "allow RULE ..",
+        parts: Parts::Of(&[]),
+        rest: Rest::End,
+    },
+    Form {
+        name: "cycle_refused",
+        text: "allow RULE ..",
+        parts: Parts::Of(&[]),
+        rest: Rest::End,
+    },
+    Form {
+        name: "timeout_consumes",
+        text: "allow RULE ..",
+        parts: Parts::Of(&[]),
+        rest: Rest::End,
+    },
+    Form {
+        name: "ends_apart",
+        text: "allow RULE ..",
+        parts: Parts::Of(&[]),
+        rest: Rest::End,
+    },
+    Form {
+        name: "stays_locked",
+        text: "allow RULE ..",
+        parts: Parts::Of(&[]),
+        rest: Rest::End,
+    },
+    Form {
+        name: "rebinds",
+        text: "allow RULE ..",
+        parts: Parts::Of(&[]),
+        rest: Rest::End,
+    },
+    Form {
+        name: "more_uses",
+        text: "allow RULE ..",
+        parts: Parts::Of(&[]),
+        rest: Rest::End,
+    },
+    Form {
+        name: "refuses_setprio",
+        text: "allow RULE ..",
+        parts: Parts::Of(&[]),
+        rest: Rest::End,
+    },
+    Form {
+        name: "consistent_by_any",
+        text: "allow RULE ..",
+        parts: Parts::Of(&[]),
+        rest: Rest::End,
+    },
+    Form {
+        name: "cut_unlock",
+        text: "allow RULE ..",
+        parts: Parts::Of(&[]),
+        rest: Rest::End,
+    },
+    Form {
+        name: "posix",
         text: "allow RULE ..",
         parts: Parts::Of(&[]),
         rest: Rest::End,

@@ -1,5 +1,5 @@
 use Rattle.std.proofs.Common.{◌≡◌, drop, map}
-use Rattle.pif_rules_model.specs.Rules.{no_rules}
+use Rattle.pif_rules_model.specs.Sets.{no_rules}
 use Rattle.pif_cli_words.specs.Rules.{allow_all}
 use Rattle.pif_cli_words.proofs.rules.allow_all.Given as goal
 

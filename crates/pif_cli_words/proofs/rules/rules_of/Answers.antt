@@ -1,7 +1,7 @@
 use Rattle.std.proofs.Common.{◌∙◌, List, Some, None, ap, map, sym}
 use Rattle.clap.specs.Words.{Text, found_of}
 use Rattle.pif_rules_model.specs.declared.rules.Rules.{Rules}
-use Rattle.pif_rules_model.specs.Rules.{no_rules}
+use Rattle.pif_rules_model.specs.Sets.{no_rules}
 use Rattle.pif_cli_words.specs.Rules.{allow_all}
 use Rattle.pif_cli_words.proofs.RulesLemmas.{allow_none, rules_found}
 use Rattle.pif_cli_words.proofs.rules.rules_of.Goals as goal

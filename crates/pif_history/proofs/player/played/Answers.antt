@@ -1,4 +1,4 @@
-use Rattle.pif_rules_model.specs.Rules.{no_rules}
+use Rattle.pif_rules_model.specs.Sets.{no_rules}
 use Rattle.pif_history.proofs.Playing.{legal_by_play}
 use Rattle.pif_history.proofs.player.played.Goals as goal
 

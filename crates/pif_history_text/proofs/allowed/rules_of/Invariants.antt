@@ -1,6 +1,6 @@
 use Rattle.std.proofs.Common.{◌≡◌, length, option_copied}
 use Rattle.pif_text_model.specs.Words.{words, words_behind}
-use Rattle.pif_rules_model.specs.Rules.{no_rules}
+use Rattle.pif_rules_model.specs.Sets.{no_rules}
 use Rattle.pif_history_text.specs.Allowed.{rules_in}
 use Rattle.pif_history_text.proofs.allowed.rules_of.Given as goal
 

@@ -1,12 +1,7 @@
-use Rattle.std.proofs.Common.{◌≡◌, ◌++◌, None, take}
+use Rattle.std.proofs.Common.{◌≡◌, take}
 use Rattle.std.specs.List.{flat_map}
-use Rattle.pif_rules_model.specs.Rules.{no_rules}
-use Rattle.pif_rules.specs.Sets.{rules_in_order}
-use Rattle.pif_history_model.specs.Listed.{behind}
-use Rattle.pif_history_told.specs.Steps.{added_by, led_by}
+use Rattle.pif_history_told.specs.Steps.{led_by}
 use Rattle.pif_history_told.proofs.leading.listed.Given as goal
 
-abbrev pub invariant-loop-rule : goal.invariant-loop-rule
-invariant-loop-rule c =
-    c.found.items
-    ≡ led_by None (behind no_rules c.limits c.from c.label) ++ flat_map (added_by c.rules c.limits c.from c.label) (take c.rule-index rules_in_order)
+abbrev pub invariant-loop-by : goal.invariant-loop-by
+invariant-loop-by c = c.found.items ≡ flat_map (led_by c.rules c.limits c.from c.label) (take c.by-index c.by-items)

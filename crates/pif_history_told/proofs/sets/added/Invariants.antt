@@ -1,5 +1,5 @@
 use Rattle.std.proofs.Common.{◌≡◌, filter, take}
-use Rattle.pif_rules.specs.Sets.{rules_in_order}
+use Rattle.pif_rules_model.specs.Sets.{rules_in_order}
 use Rattle.pif_history_told.specs.Sets.{adds}
 use Rattle.pif_history_told.proofs.sets.added.Given as goal
 

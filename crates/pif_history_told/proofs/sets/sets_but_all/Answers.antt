@@ -1,5 +1,5 @@
 use Rattle.std.proofs.Common.{◌∙◌, List, ◌++◌, ap, sym}
-use Rattle.pif_rules.specs.declared.rules.Rule.{Rule}
+use Rattle.pif_rules_model.specs.declared.rules.Rule.{Rule}
 use Rattle.pif_history_told.specs.Sets.{sets_of_size}
 use Rattle.pif_history_told.proofs.SetLemmas.{below_more, below_none}
 use Rattle.pif_history_told.proofs.sets.sets_but_all.Goals as goal

@@ -5,11 +5,11 @@ use Rattle.pif_job_judge.specs.Judging.{WritesText, front_of}
 use Rattle.pif_job_judge.proofs.JudgingLemmas.{judged}
 use Rattle.pif_job_judge.proofs.judging.judge_history.Goals as goal
 
-pub returns-in-Ok-tell_history : goal.returns-in-Ok-tell_history
-returns-in-Ok-tell_history g c =
+pub returns-in-Ok-tell_all : goal.returns-in-Ok-tell_all
+returns-in-Ok-tell_all g c =
     let held = g.W.Write.contents c.args.writer.now in
     let holds = g.W.Write.contents c.write_told.new.writer in
-    let written = subst (λ (l : List ℕ). WritesText held holds l c.in-Ok-tell_history.end c.write_told.result)
+    let written = subst (λ (l : List ℕ). WritesText held holds l c.in-Ok-tell_all.end c.write_told.result)
     c.as_slice.ensures.value c.write_told.ensures in
-    judged c.args.asked.now.form (heard_of c.args.history.now) held holds (front_of (option_copied c.args.asked.now.name) c.args.asked.now.form) c.in-Ok.out.items
-    c.tell_history.new.out.items c.in-Ok-tell_history.end c.write_told.result c.in-Ok.ensures c.in-Ok-tell_history.ensures.told written
+    judged c.args.asked.now.plain c.args.asked.now.form (heard_of c.args.history.now) held holds (front_of (option_copied c.args.asked.now.name) c.args.asked.now.form) c.in-Ok.out.items
+    c.tell_all.new.out.items c.in-Ok-tell_all.end c.write_told.result c.in-Ok.ensures c.in-Ok-tell_all.ensures.told written

@@ -1,48 +1,44 @@
-use Rattle.std.proofs.Common.{arith, subst, sym}
-use Rattle.pif_history_lines.specs.declared.verdicts.Verdict.{Verdict}
-use Rattle.pif_history_lines.specs.Verdicts.{IsVerdictOf}
+use Rattle.std.proofs.Common.{◌≡◌, ◌∙◌, ap, arith, List, None, Option, Some, subst, sym}
+use Rattle.pif_rules_model.specs.declared.rules.Rule.{Rule}
 use Rattle.pif_rules_model.specs.declared.rules.Rules.{Rules}
-use Rattle.pif_job_judge.specs.LeastRules.{IsLegalSomehow}
-use Rattle.pif_job_judge.proofs.LeastRulesLemmas.{all_illegal, behind_illegal, illegal_more}
+use Rattle.pif_history_told.specs.Sets.{sets_of_size}
+use Rattle.pif_job_judge.specs.declared.search.Needed.{Needed}
+use Rattle.pif_job_judge.specs.LeastRules.{IsFirst, IsLegalSomehow}
+use Rattle.pif_job_judge.proofs.LeastRulesLemmas.{found_of_size, none_before, none_of_size, all_below}
 use Rattle.pif_job_judge.proofs.search.least.Goals as goal
 
-pub returns-in-Legal : goal.returns-in-Legal
-returns-in-Legal g c =
-    let legal = subst (λ (v : Verdict). IsVerdictOf c.index.result.now c.args.limits c.args.lines.now v) c.in-Legal.is
-    c.in_ok-judge_lines.ensures in (
-      (c.in-Legal.field-0.items, legal),
-      behind_illegal c.args.base.now c.args.asked.now c.args.limits c.args.lines.now c.in_ok-sets.sets.items c.loop-place.place
-          c.index.result.now c.in_ok-sets.ensures
-          (omega (arith, c.loop-place-test.true, c.len-place-end.ensures, c.in_ok-sets.sets.ok.0)) c.index.ensures
-          c.loop-place.invariant,
-    )
+pub loop-size-init : goal.loop-size-init
+loop-size-init g c =
+    none_before c.args.asked.now c.args.limits c.args.lines.now c.args.base.now c.in_ok-rules.rules.items
 
-pub returns-in-Undecided : goal.returns-in-Undecided
-returns-in-Undecided g c =
-    let within = subst (λ (v : Verdict). IsVerdictOf c.index.result.now c.args.limits c.args.lines.now v) c.in-Undecided.is
-    c.in_ok-judge_lines.ensures in (
-      within.0,
-      within.1,
-      behind_illegal c.args.base.now c.args.asked.now c.args.limits c.args.lines.now c.in_ok-sets.sets.items c.loop-place.place
-          c.index.result.now c.in_ok-sets.ensures
-          (omega (arith, c.loop-place-test.true, c.len-place-end.ensures, c.in_ok-sets.sets.ok.0)) c.index.ensures
-          c.loop-place.invariant,
-    )
+pub returns-in-Some : goal.returns-in-Some
+returns-in-Some g c =
+    let tried : c.in_ok-sets.sets.items ≡ sets_of_size c.args.asked.now c.loop-size.size c.args.base.now c.in_ok-rules.rules.items =
+    c.in_ok-sets.ensures
+    ∙ ap (λ (rules : List Rule). sets_of_size c.args.asked.now c.loop-size.size c.args.base.now rules) c.as_slice.ensures.value in
+    found_of_size c.args.base.now c.args.asked.now c.args.limits c.args.lines.now c.loop-size.size c.in_ok-rules.rules.items
+    c.in-Some.found c.in_ok-rules.ensures
+    (omega (arith, c.loop-size-test.true, c.len-size-end.ensures, c.in_ok-rules.rules.ok.0))
+    c.loop-size.invariant
+    (subst (λ (sets : List Rules). IsFirst c.args.limits c.args.lines.now sets (Some c.in-Some.found)) tried
+    (subst (λ (o : Option Needed). IsFirst c.args.limits c.args.lines.now c.in_ok-sets.sets.items o) c.in-Some.is c.in_ok-first.ensures))
 
-pub loop-place-preserved : goal.loop-place-preserved
-loop-place-preserved g c =
-    let illegal = subst (λ (v : Verdict). IsVerdictOf c.index.result.now c.args.limits c.args.lines.now v) c.in-Illegal.is
-    c.in_ok-judge_lines.ensures in
-    illegal_more c.args.limits c.args.lines.now c.in_ok-sets.sets.items c.loop-place.place c.index.result.now
-    (omega (arith, c.loop-place-test.true, c.len-place-end.ensures, c.in_ok-sets.sets.ok.0)) c.index.ensures
-    (c.in-Illegal.field-0, illegal.2) c.loop-place.invariant
+pub loop-size-preserved : goal.loop-size-preserved
+loop-size-preserved g c =
+    let tried : c.in_ok-sets.sets.items ≡ sets_of_size c.args.asked.now c.loop-size.size c.args.base.now c.in_ok-rules.rules.items =
+    c.in_ok-sets.ensures
+    ∙ ap (λ (rules : List Rule). sets_of_size c.args.asked.now c.loop-size.size c.args.base.now rules) c.as_slice.ensures.value in
+    none_of_size c.args.base.now c.args.asked.now c.args.limits c.args.lines.now c.loop-size.size c.in_ok-rules.rules.items
+    c.loop-size.invariant
+    (subst (λ (sets : List Rules). IsFirst c.args.limits c.args.lines.now sets None) tried
+    (subst (λ (o : Option Needed). IsFirst c.args.limits c.args.lines.now c.in_ok-sets.sets.items o) c.in_default.is c.in_ok-first.ensures))
 
 pub returns : goal.returns
 returns g c =
     let legal = subst (λ (r : Rules). IsLegalSomehow c.args.limits c.args.lines.now r) (sym c.both.ensures) c.requires in (
       legal,
-      all_illegal c.args.base.now c.args.asked.now c.args.limits c.args.lines.now c.in_ok-sets.sets.items c.loop-place.place
-          c.both.result c.in_ok-sets.ensures
-          (omega (arith, c.loop-place-test.false, c.len-place-end.ensures, c.in_ok-sets.sets.ok.0)) c.both.ensures
-          c.loop-place.invariant,
+      all_below c.args.base.now c.args.asked.now c.args.limits c.args.lines.now c.loop-size.size c.in_ok-rules.rules.items
+          c.both.result c.in_ok-rules.ensures
+          (omega (arith, c.loop-size-test.false, c.len-size-end.ensures, c.in_ok-rules.rules.ok.0)) c.both.ensures
+          c.loop-size.invariant,
     )

@@ -1,6 +1,7 @@
-use Rattle.std.proofs.Common.{All, take}
+use Rattle.std.proofs.Common.{All}
+use Rattle.pif_history_told.specs.Sets.{sets_below}
 use Rattle.pif_job_judge.specs.LeastRules.{IsIllegalSomewhere}
 use Rattle.pif_job_judge.proofs.search.least.Given as goal
 
-abbrev pub invariant-loop-place : goal.invariant-loop-place
-invariant-loop-place g l = All (IsIllegalSomewhere l.limits l.lines) (take l.place l.sets.items)
+abbrev pub invariant-loop-size : goal.invariant-loop-size
+invariant-loop-size g l = All (IsIllegalSomewhere l.limits l.lines) (sets_below l.asked l.size l.base l.rules.items)

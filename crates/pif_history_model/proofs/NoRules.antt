@@ -1,0 +1,59 @@
+-- Whether any rule is allowed.
+use Rattle.std.proofs.Common.{◌≡◌, ◌⊎◌, ◌∙◌, true, false, List, [], ◌∷◌, Option, Some, None, is_some, refl, sym, ap, inl, inr}
+use Rattle.std.proofs.lemmas.Bool.{true≢false, cases_Bool}
+use Rattle.std.specs.List.{All}
+use Rattle.std.proofs.lemmas.List.Elements.{All-nil, All-cons, All-contains}
+use Rattle.pif_rules_model.specs.declared.rules.HoldLimits.{HoldLimits}
+use Rattle.pif_rules_model.specs.declared.rules.Rule.{Rule}
+use Rattle.pif_rules_model.specs.declared.rules.Rule.TheVariants.{Steal, AnyWaiter, Spurious, Recursion, OwnErrorcheck, AnyConsistent, HeldWait, LostSignal, Revives, Barge, CycleWaits, CycleRefused, TimeoutConsumes, EndsApart, StaysLocked, Rebinds, MoreUses, RefusesSetprio, ConsistentByAny, CutUnlock}
+use Rattle.pif_rules_model.specs.declared.rules.Rules.{Rules}
+use Rattle.pif_rules_model.specs.Sets.{has, no_rules, rules_in_order}
+use Rattle.pif_rules_model.proofs.Ruling.{each_is_in_order}
+use Rattle.pif_rules_model.proofs.Sets.{none_is_among}
+
+no_limits : (o : Option HoldLimits) → is_some o ≡ false → o ≡ None
+no_limits None e = refl
+no_limits (Some x) e = absurd (true≢false e)
+
+-- rules of which none is allowed
+are_none : (r : Rules) → ((x : Rule) → has r x ≡ false) → r ≡ no_rules
+are_none r none = λ i. record {
+  steal = none Steal i;
+  any_waiter = none AnyWaiter i;
+  spurious = none Spurious i;
+  recursion = no_limits r.recursion (none Recursion) i;
+  own_errorcheck = none OwnErrorcheck i;
+  any_consistent = none AnyConsistent i;
+  held_wait = none HeldWait i;
+  lost_signal = none LostSignal i;
+  revives = none Revives i;
+  barge = none Barge i;
+  cycle_waits = none CycleWaits i;
+  cycle_refused = none CycleRefused i;
+  timeout_consumes = none TimeoutConsumes i;
+  ends_apart = none EndsApart i;
+  stays_locked = none StaysLocked i;
+  rebinds = none Rebinds i;
+  more_uses = none MoreUses i;
+  refuses_setprio = none RefusesSetprio i;
+  consistent_by_any = none ConsistentByAny i;
+  cut_unlock = none CutUnlock i;
+}
+
+-- one of these is allowed, or none of them
+one_or_none : (r : Rules) (xs : List Rule) → ((x : Rule) × (has r x ≡ true)) ⊎ All (λ x. has r x ≡ false) xs
+one_or_none r [] = inr (All-nil (λ x. has r x ≡ false))
+one_or_none r (x ∷ xs) = by_first (cases_Bool (has r x)) (one_or_none r xs)
+  where
+    by_first : (has r x ≡ true) ⊎ (has r x ≡ false) → ((y : Rule) × (has r y ≡ true)) ⊎ All (λ y. has r y ≡ false) xs
+        → ((y : Rule) × (has r y ≡ true)) ⊎ All (λ y. has r y ≡ false) (x ∷ xs)
+    by_first (inl there) rest = inl (x, there)
+    by_first (inr missing) (inl some) = inl some
+    by_first (inr missing) (inr none) = inr (All-cons (λ y. has r y ≡ false) x xs missing none)
+
+-- no rule is allowed, or some is
+pub none_or_some : (r : Rules) → (r ≡ no_rules) ⊎ (r ≡ no_rules → ⊥)
+none_or_some r = elim (one_or_none r rules_in_order) [
+  | inl some ↦ inr (λ is. true≢false (sym some.1 ∙ (ap (λ (q : Rules). has q some.0) is ∙ none_is_among some.0)))
+  | inr none ↦ inl (are_none r (λ x. All-contains (λ y. has r y ≡ false) rules_in_order x none (each_is_in_order x)))
+]
