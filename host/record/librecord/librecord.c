@@ -1,7 +1,6 @@
 /* librecord.so: records what a program of glibc calls on mutexes and condition variables, as a history.
    This file starts it and ends it: the calls below it, its environment, forks, and signals that end the program. */
 #define _GNU_SOURCE
-#include <dlfcn.h>
 #include <errno.h>
 #include <limits.h>
 #include <signal.h>
@@ -45,20 +44,6 @@ static void forget_counts(void)
         atomic_store(&counts[what], 0);
     forget_reasons();
     forget_passed();
-}
-
-void *below(const char *name) { return dlsym(RTLD_NEXT, name); }
-
-/* Of glibc's calls on condition variables there are two versions on some machines, and the old one is of another form.
-   A library between this one and glibc has its own. */
-static void *new_below(const char *name)
-{
-    void *first = below(name), *versioned = dlvsym(RTLD_NEXT, name, "GLIBC_2.3.2");
-    Dl_info of_first, of_versioned;
-
-    if (versioned == NULL || dladdr(first, &of_first) == 0 || dladdr(versioned, &of_versioned) == 0)
-        return first;
-    return of_first.dli_fbase == of_versioned.dli_fbase ? versioned : first;
 }
 
 static void find_calls(void)

@@ -2,8 +2,6 @@
 #define _GNU_SOURCE
 #include "record.h"
 
-enum { KIND_BITS = 3, KIND_ROBUST = 16 };
-
 static const char *const kinds[] = {"normal", "recursive", "errorcheck", "normal"}; /* the last: adaptive */
 
 static const char *const calls[] = {
@@ -17,7 +15,7 @@ static void write_objects(const History *history)
 {
     for (const Object *mutex = history->first_mutex; mutex != NULL; mutex = mutex->next_line) {
         put_text("mutex ");
-        put_text(kinds[mutex->kind & KIND_BITS]);
+        put_text(kinds[mutex->kind & KIND_TYPE]);
         put_text((mutex->kind & KIND_ROBUST) != 0 ? " robust" : "");
         end_line();
         write_name_of_object('m', mutex->number, mutex);

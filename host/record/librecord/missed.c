@@ -7,7 +7,7 @@
 
 #include "record.h"
 
-enum { KIND_BITS = 3, KIND_IS_RECURSIVE = 1 };
+enum { KIND_IS_RECURSIVE = 1 };
 
 static Object *mutex_of(const Record *record) { return is_wait(record) ? record->mutex : record->object; }
 
@@ -45,7 +45,7 @@ static bool has_it(const Record *record)
 /* Whether the thread owned the mutex already. */
 static bool is_second(const Object *mutex, const Record *record)
 {
-    return mutex->owner == record->thread && (mutex->kind & KIND_BITS) != KIND_IS_RECURSIVE;
+    return mutex->owner == record->thread && (mutex->kind & KIND_TYPE) != KIND_IS_RECURSIVE;
 }
 
 /* Whether another thread owned the mutex from the begin to the answer, and it was found free between them. */

@@ -1,98 +1,24 @@
-/* Which mutex, variable or thread is at an address. Nothing here waits: any thread may be preempted anywhere. */
+/* Which mutex, variable or thread is at an address. */
 #define _GNU_SOURCE
 #include "record.h"
-
-enum { SLOTS = 65536 };
-
-/* Bits of glibc's pthread_mutex_t, in __data.__kind. */
-enum { KIND_ROBUST = 16, KIND_INHERIT = 32, KIND_PROTECT = 64, KIND_SHARED = 128, KIND_COMPARED = 255 };
-
-typedef struct Address {
-    uintptr_t address;
-    struct Address *next;
-    _Atomic(void *) holds;
-} Address;
-
-struct Table {
-    _Atomic(Address *) slots[SLOTS];
-};
 
 Table mutexes, variables, threads;
 
 static _Atomic uint64_t reasons[REASONS];
 
-static _Atomic(Address *) *slot_of(Table *table, uintptr_t address)
+/* If there is no memory nothing is recorded any more. */
+static bool kept(bool is_kept)
 {
-    uint32_t mixed = (uint32_t)(address >> 3 ^ address >> 35) * 2654435761u;
-
-    return &table->slots[mixed >> 16];
-}
-
-static Address *find_from(Address *first, uintptr_t address)
-{
-    while (first != NULL && first->address != address)
-        first = first->next;
-    return first;
-}
-
-static Address *find(Table *table, uintptr_t address)
-{
-    return find_from(atomic_load_explicit(slot_of(table, address), memory_order_acquire), address);
-}
-
-/* Addresses are added in front and stay, so that a thread which reads needs no lock. */
-static Address *find_or_add(Table *table, uintptr_t address)
-{
-    _Atomic(Address *) *slot = slot_of(table, address);
-    Address *first = atomic_load(slot), *found = find_from(first, address);
-
-    if (found != NULL)
-        return found;
-    Address *added = take_memory(sizeof *added);
-    if (added == NULL) {
+    if (!is_kept)
         stop_recording();
-        return NULL;
-    }
-    added->address = address;
-    do {
-        found = find_from(first, address);
-        added->next = first;
-    } while (found == NULL && !atomic_compare_exchange_weak(slot, &first, added));
-    return found != NULL ? found : added;
+    return is_kept;
 }
 
-void *held_at(Table *table, uintptr_t address)
+bool hold_object(Table *table, uintptr_t address, void *held) { return kept(hold_at(table, address, held)); }
+
+bool replace_object(Table *table, uintptr_t address, void *old, void *new)
 {
-    Address *found = find(table, address);
-
-    return found == NULL ? NULL : atomic_load_explicit(&found->holds, memory_order_acquire);
-}
-
-bool hold_at(Table *table, uintptr_t address, void *value)
-{
-    Address *found = find_or_add(table, address);
-
-    if (found != NULL)
-        atomic_store(&found->holds, value);
-    return found != NULL;
-}
-
-/* Changes nothing where another value stands there meanwhile. */
-bool replace_at(Table *table, uintptr_t address, void *old, void *new)
-{
-    Address *found = find_or_add(table, address);
-
-    if (found != NULL)
-        atomic_compare_exchange_strong(&found->holds, &old, new);
-    return found != NULL;
-}
-
-static void forget_at(Table *table, uintptr_t address)
-{
-    Address *found = find(table, address);
-
-    if (found != NULL)
-        atomic_store(&found->holds, NULL);
+    return kept(replace_at(table, address, old, new));
 }
 
 bool leave_out(Object *object, Reason reason)
@@ -144,7 +70,7 @@ static Object *add_mutex(uintptr_t address, Object *present, int kind, uintptr_t
     if (added == NULL)
         return NULL;
     added->kind = kind & KIND_COMPARED;
-    return replace_at(&mutexes, address, present, added) ? held_at(&mutexes, address) : NULL;
+    return replace_object(&mutexes, address, present, added) ? held_at(&mutexes, address) : NULL;
 }
 
 /* NULL where it is not recorded. Then the call is counted. */
@@ -179,7 +105,7 @@ Object *recorded_variable(pthread_cond_t *variable, uintptr_t caller)
     if (object != NULL)
         return object;
     Object *added = new_object(KEPT, address, caller);
-    if (added == NULL || !replace_at(&variables, address, NULL, added))
+    if (added == NULL || !replace_object(&variables, address, NULL, added))
         return NULL;
     return held_at(&variables, address);
 }
@@ -203,7 +129,7 @@ static void add_initialised(pthread_mutex_t *mutex, const pthread_mutexattr_t *a
     if (object == NULL)
         return;
     object->kind = kind & KIND_COMPARED;
-    hold_at(&mutexes, (uintptr_t)mutex, object);
+    hold_object(&mutexes, (uintptr_t)mutex, object);
 }
 
 /* What is initialised again is a new object, also where nobody destroyed it. */
@@ -246,7 +172,7 @@ static void add_initialised_variable(pthread_cond_t *variable, const pthread_con
     if (object == NULL)
         return;
     object->clock = clock;
-    hold_at(&variables, (uintptr_t)variable, object);
+    hold_object(&variables, (uintptr_t)variable, object);
 }
 
 int pthread_cond_init(pthread_cond_t *variable, const pthread_condattr_t *attributes)

@@ -2,20 +2,7 @@
 #ifndef PIF_RECORD_LIBRARY_H
 #define PIF_RECORD_LIBRARY_H
 
-#include <pthread.h>
-#include <stdatomic.h>
-#include <stdbool.h>
-#include <stddef.h>
-#include <stdint.h>
-#include <time.h>
-
-enum { MOST_DIGITS = 20, MOST_OF_LINE = 120 }; /* of a number, and of a line of a history */
-
-/* Where the call of the function that stands around this returns to. */
-#define CALLER ((uintptr_t)__builtin_return_address(0))
-
-/* Another name of a call, by which programs of older glibcs make it. */
-#define OLD_NAME(old, name) extern __typeof__(name) old_##name __asm__(old) __attribute__((alias(#name), copy(name)))
+#include "../../common/common.h"
 
 typedef enum {
     CALL_LOCK,
@@ -187,7 +174,6 @@ extern _Atomic bool recording;
 extern const char *history_file;
 void be_ready(void); /* before a call of `real`, or a look at `recording`; it costs nothing the second time */
 void take_the_file(void);
-void *below(const char *name);
 void rest(void);
 void count(Count);
 uint64_t counted(Count);
@@ -200,16 +186,10 @@ void pass_by(Passed);
 void pass_by_left_out(Reason);
 void forget_passed(void);
 
-/* memory.c: never given back; NULL if there is none */
-void *map_memory(size_t size);
-void *take_memory(size_t size);
-
-/* objects.c: what is at which address */
-typedef struct Table Table;
+/* objects.c: what is at which address. If there is no memory nothing is recorded any more */
 extern Table mutexes, variables, threads;
-void *held_at(Table *, uintptr_t address);
-bool hold_at(Table *, uintptr_t address, void *);
-bool replace_at(Table *, uintptr_t address, void *old, void *new);
+bool hold_object(Table *, uintptr_t address, void *);
+bool replace_object(Table *, uintptr_t address, void *old, void *new);
 bool is_wanted(int kind);
 Object *new_object(Reason, uintptr_t address, uintptr_t first_used);
 Object *recorded_mutex(pthread_mutex_t *, uintptr_t caller); /* counts the call if it is NULL */
@@ -275,11 +255,6 @@ void pass_time(History *, const Record *, uint64_t place);
 void forget_deadline(History *, Thread *);
 void write_lines(History *);
 
-/* symbols.c: names of addresses; NULL if there is none */
-void read_maps(void);
-const char *name_of_object(uintptr_t address);
-const char *name_of_call(uintptr_t returns_to);
-
 /* names.c: the comments that say who is who */
 void note_name(Thread *); /* by itself */
 void write_name_of_thread(const Thread *);
@@ -301,7 +276,6 @@ void put_number(uint64_t);
 void put_name(char letter, uint32_t number);
 void begin_comment(void); /* up to the line's end; it is cut if the line is full */
 void end_line(void);
-const char *digits_of(uint64_t number, unsigned base, char room[MOST_DIGITS + 1]);
 void say(const char *before, uint64_t number, const char *behind);
 void say_error(const char *what, const char *file, int error);
 

@@ -6,7 +6,7 @@
 #include "record.h"
 
 /* A place that no deadline, and no difference of two times, reaches. */
-enum { SECOND = 1000000000, FAR_SECONDS = 1000000000 };
+enum { FAR_SECONDS = 1000000000 };
 
 _Atomic uint64_t next_place = 1, lost_place = UINT64_MAX;
 
@@ -175,11 +175,6 @@ static uint64_t monotonic_deadline(clockid_t clock, const struct timespec *deadl
     seconds = seconds < -far ? -far : seconds > far ? far : seconds;
     int64_t time = start + seconds * SECOND + (deadline->tv_nsec - present.tv_nsec);
     return time < 0 ? 0 : (uint64_t)time;
-}
-
-static bool is_time(clockid_t clock, const struct timespec *time)
-{
-    return (clock == CLOCK_REALTIME || clock == CLOCK_MONOTONIC) && time->tv_nsec >= 0 && time->tv_nsec < SECOND;
 }
 
 Record *begin_timed(What what, Object *object, Object *mutex, clockid_t clock, const struct timespec *deadline,

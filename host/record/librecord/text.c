@@ -41,19 +41,6 @@ void put_text(const char *words)
         put_bytes(words, strlen(words));
 }
 
-/* The digits of a number, at the end of the room; the first of them. */
-const char *digits_of(uint64_t number, unsigned base, char room[MOST_DIGITS + 1])
-{
-    char *first = room + MOST_DIGITS;
-
-    *first = '\0';
-    do {
-        *--first = "0123456789abcdef"[number % base];
-        number /= base;
-    } while (number > 0);
-    return first;
-}
-
 void put_number(uint64_t number)
 {
     char room[MOST_DIGITS + 1];

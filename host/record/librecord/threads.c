@@ -8,20 +8,10 @@
 
 #include "record.h"
 
-enum { LEAST_PRIORITY = 1 };
-
 _Atomic(Thread *) all_threads;
 
 static __thread _Atomic(Thread *) self __attribute__((tls_model("initial-exec")));
 static pthread_key_t key;
-
-/* Without what it says of the threads that such a one makes. */
-static int plain_policy(int policy) { return policy & ~SCHED_RESET_ON_FORK; }
-
-static bool is_real_time(int policy)
-{
-    return plain_policy(policy) == SCHED_FIFO || plain_policy(policy) == SCHED_RR;
-}
 
 /* Threads that aren't of real time are all of one priority. */
 static int present_priority(void)
@@ -31,21 +21,6 @@ static int present_priority(void)
     if (!is_real_time(sched_getscheduler(0)) || sched_getparam(0, &parameters) != 0)
         return LEAST_PRIORITY;
     return parameters.sched_priority;
-}
-
-/* That of a thread which this one makes. */
-static int priority_of_new(const pthread_attr_t *attributes)
-{
-    struct sched_param parameters;
-    int inherits = PTHREAD_INHERIT_SCHED, policy;
-
-    if (attributes != NULL)
-        pthread_attr_getinheritsched(attributes, &inherits);
-    if (inherits != PTHREAD_EXPLICIT_SCHED)
-        return present_priority();
-    if (pthread_attr_getschedpolicy(attributes, &policy) != 0 || !is_real_time(policy))
-        return LEAST_PRIORITY;
-    return pthread_attr_getschedparam(attributes, &parameters) != 0 ? LEAST_PRIORITY : parameters.sched_priority;
 }
 
 static Thread *new_thread(int priority)
@@ -84,7 +59,7 @@ static void take_name(Thread *thread)
         atomic_store(&thread->priority, present_priority());
     atomic_store(&thread->started, true);
     thread->number_of_kernel = gettid();
-    hold_at(&threads, (uintptr_t)pthread_self(), thread);
+    hold_object(&threads, (uintptr_t)pthread_self(), thread);
     pthread_setspecific(key, thread);
 }
 
@@ -152,7 +127,7 @@ static Thread *add_thread(const pthread_attr_t *attributes, void *(*start)(void 
 {
     if (!atomic_load(&recording))
         return NULL;
-    Thread *maker = this_thread(), *added = maker == NULL ? NULL : new_thread(priority_of_new(attributes));
+    Thread *maker = this_thread(), *added = maker == NULL ? NULL : new_thread(priority_by(attributes, present_priority()));
     if (added == NULL)
         return NULL;
     added->start = start;
@@ -167,7 +142,7 @@ static void name_thread(Thread *thread, pthread_t name)
     void *present = held_at(&threads, (uintptr_t)name);
 
     if (!atomic_load(&thread->started))
-        replace_at(&threads, (uintptr_t)name, present, thread);
+        replace_object(&threads, (uintptr_t)name, present, thread);
 }
 
 int pthread_create(pthread_t *name, const pthread_attr_t *attributes, void *(*start)(void *), void *argument)
@@ -192,7 +167,7 @@ int pthread_join(pthread_t name, void **result)
     int answer = real.join(name, result);
     if (answer != 0 || ended == NULL || !atomic_load(&recording))
         return answer;
-    replace_at(&threads, (uintptr_t)name, ended, NULL);
+    replace_object(&threads, (uintptr_t)name, ended, NULL);
     Thread *joiner = this_thread();
     if (joiner != NULL)
         record_of(joiner, THREAD_ENDED, ended);

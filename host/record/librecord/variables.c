@@ -14,7 +14,7 @@ static void forget_variable(pthread_cond_t *variable, uintptr_t caller)
         return;
     if (present != NULL)
         other->clock = present->clock;
-    hold_at(&variables, (uintptr_t)variable, other);
+    hold_object(&variables, (uintptr_t)variable, other);
 }
 
 static Object *variable_of_wait(pthread_cond_t *variable, uintptr_t caller)
@@ -27,7 +27,7 @@ static Object *variable_of_wait(pthread_cond_t *variable, uintptr_t caller)
     if (added == NULL)
         return NULL;
     added->clock = present->clock;
-    replace_at(&variables, (uintptr_t)variable, present, added);
+    replace_object(&variables, (uintptr_t)variable, present, added);
     return held_at(&variables, (uintptr_t)variable);
 }
 

@@ -10,7 +10,7 @@
 #include <sys/stat.h>
 #include <unistd.h>
 
-#include "record.h"
+#include "common.h"
 
 enum { MOST_FILES = 1024, MOST_HEADERS = 64, LEAST_OF_MAPS = 1 << 16, MOST_OF_MAPS = 1 << 26, SLOTS = 4096 };
 enum { MOST_OF_SYMBOL = 60, MOST_OF_BASE = 30 };

@@ -1,8 +1,8 @@
-/* Memory of the system's, for what is recorded: malloc may be the program's own, and may lock. */
+/* Memory of the system's, for what is noted: malloc may be the program's own, and may lock. */
 #define _GNU_SOURCE
 #include <sys/mman.h>
 
-#include "record.h"
+#include "common.h"
 
 enum { POOL = 256 << 20, ALIGNMENT = 16 };
 
