@@ -1,0 +1,190 @@
+/* What all parts of libschedule share: the program's threads, of which one at a time has the turn, and what they wait
+   for. All but the turn itself is read and written by the thread that has the turn. */
+#ifndef PIF_SCHEDULE_LIBRARY_H
+#define PIF_SCHEDULE_LIBRARY_H
+
+#include "../../common/common.h"
+#include "pif.h"
+
+enum { MOST_THREADS = 1024, MOST_MUTEXES = 1024, MOST_VARIABLES = 256 };
+enum { MOST_OF_CHOICE = 1 << 14, MOST_OF_REASON = 400, MOST_OF_NAME = 300 }; /* bytes: of a line of the schedule */
+
+/* How the library ends a run. */
+typedef enum {
+    DEADLOCK,
+    LOST_WAKE_UP, /* nobody can go, and a thread waits on a variable that was signalled when nobody waited */
+    STUCK,        /* nobody can go, for another reason */
+    MISUSE,       /* a call that POSIX leaves undefined, or that is answered by an error of its caller */
+    LIVELOCK,     /* more points than the run may have */
+    DIVERGED,     /* the schedule doesn't fit the program */
+    LIMIT,        /* more of something than there may be */
+    UNSUPPORTED,  /* a call that can't be scheduled */
+    VERDICTS,
+} Verdict;
+
+typedef enum { RANDOM, PCT, PICK, STAY, STRATEGIES } Strategy;
+
+/* What the tool asks of a run. */
+typedef struct {
+    uint64_t strategy, seed;
+    uint64_t depth, length; /* of PCT: the depth of bugs, and the points that a run is thought to have */
+    uint64_t ends;          /* how many threads may stop for good */
+    uint64_t time;          /* the time moves at one of so many points; 0: only if nobody can go */
+    uint64_t steps;         /* the most points */
+    uint64_t inherit;       /* each mutex is taken as one that inherits */
+    uint64_t errors;        /* an error that POSIX names is answered, and no misuse */
+    uint64_t each;          /* points with one choice have a line, too, as long as a thread may stop */
+    uint64_t loose;         /* choices are found by the thread and its own count, and those that don't fit are left out */
+    uint64_t whole;         /* no choice may come behind those that were given */
+    uint64_t story;         /* the events of the core are told */
+} Options;
+
+/* glibc's call of the same name. */
+#define BELOW(call) ((__typeof__(&call))below(#call))
+#define NEW_BELOW(call) ((__typeof__(&call))new_below(#call))
+
+typedef struct Thread Thread;
+
+/* Whether a thread can go on, by what it waits for outside of the core. It may be asked at any choice. */
+typedef bool Condition(const Thread *);
+
+struct Thread {
+    uint32_t number; /* of the core, from 1 */
+    _Atomic int turn;
+    bool gone;    /* it has ended, or has stopped for good */
+    bool stopped; /* it has stopped for good, since the tool said so */
+    bool joined, detached, in_call;
+    bool yields;         /* it has nothing to do now: another thread goes first */
+    bool open;           /* a call of the core is open, and waits */
+    bool asks_the_kernel; /* what it waits for may come from outside of the program */
+    bool is_timed;
+    uint32_t deadline; /* in microseconds of the run's time, if it is timed */
+    uint32_t wants;    /* a mutex for which it waits outside of the core */
+    uint32_t count;    /* of its own points */
+    uint32_t seen;     /* what it saw when it began to wait */
+    Condition *can_go; /* NULL: it waits for nothing outside of the core */
+    const void *waits_for;
+    const char *waits_how;
+    const char *call; /* the one it makes or made last */
+    uintptr_t caller; /* where that returns to */
+    uint64_t rank;    /* of PCT: the greatest goes */
+    int priority, rounds; /* the base priority; rounds of the keys' destructors */
+    uint64_t signals; /* sent to it, one bit each, while it waits for them */
+    pthread_t name;
+    void *(*start)(void *);
+    void *argument;
+};
+
+/* libschedule.c: the run, and whose it is */
+extern Options options;
+extern pif_core core;
+extern bool keeps_time;                            /* the run's, and not the machine's */
+Thread *enter(const char *call, uintptr_t caller); /* NULL: this process isn't scheduled */
+Thread *enter_if_on(const char *call, uintptr_t caller);
+void leave(Thread *);
+bool is_on(void);
+
+/* server.c */
+void serve(void); /* returns in a process of its own for each run */
+
+/* asked.c: what the tool asks */
+typedef enum { CHOOSE_THREAD, CHOOSE_END, CHOOSE_TIME } Kind;
+
+/* A line `20 t1.5 > t2 of t1 t2`: at point 20, the fifth of t1's own, t2 goes, of those that can. In place of `> t2`
+   stands `end t2` if t2 stops for good, and `time` if the time moves. */
+typedef struct {
+    const char *line;
+    uint32_t chooser, count, thread;
+    Kind kind;
+    bool is_used;
+} Choice;
+
+bool read_asked(const char *file);
+const Choice *asked_choice(Kind, const char *line, const Thread *chooser);
+const char *next_line(void);
+
+/* told.c: what the tool is told. It is in memory that outlives the process. */
+bool open_told(const char *folder);
+bool take_told(void); /* this process is the first that wants to be scheduled */
+void tell_points(uint64_t points, bool is_switch);
+void tell_choice(const char *line);
+void tell_fork(void);
+void tell_exit(void);
+void tell_verdict(Verdict, const char *reason);
+void tell_reason(const char *format, ...) __attribute__((format(printf, 1, 2)));
+void tell_event(const char *format, ...) __attribute__((format(printf, 1, 2)));
+void tell_call(const Thread *, const char *how, const pif_request *, pif_seen);
+void end_run(void) __attribute__((noreturn));
+
+/* turns.c */
+extern Thread *running;
+void point(Thread *);                       /* another thread may go first */
+void yield(Thread *);                       /* likewise, and this one has nothing to do */
+void wait_in_core(Thread *);                /* its call of the core waits */
+void wait_until(Thread *, Condition *, const void *on, const char *how);
+void first_turn(Thread *);                  /* of a new thread */
+void last_turn(Thread *);                   /* of one that ends */
+void use_for_nothing(Thread *);             /* it has found nothing to do, and will yield at its next point */
+
+/* strategies.c */
+typedef struct {
+    Thread *at[MOST_THREADS];
+    uint32_t count;
+} Threads;
+void begin_strategy(void);
+uint32_t draw_below(uint32_t);
+void rank_new(Thread *);
+void rank_last(Thread *);
+Thread *choose_by_strategy(const Threads *, Thread *present, uint64_t point);
+
+/* verdicts.c: each ends the run */
+void nobody_can_go(void) __attribute__((noreturn));
+void tell_deadlock(Thread *) __attribute__((noreturn)); /* of a thread that wants a mutex, or waits for good */
+void stop(Verdict, const char *format, ...) __attribute__((noreturn, format(printf, 2, 3)));
+void misuse(const Thread *, const char *format, ...) __attribute__((noreturn, format(printf, 2, 3)));
+
+const char *object_name(uintptr_t address); /* as those of symbols.c */
+const char *call_name(uintptr_t returns_to);
+
+/* clock.c: the run's time, which moves if nobody can go, and a little at each look */
+uint32_t microseconds(void);
+void catch_up(void); /* the core's time is the run's */
+bool move_to_deadline(void); /* the least one that anybody waits for; false: nobody does */
+bool is_due(const Thread *);
+void set_deadline(Thread *, clockid_t, const struct timespec *);
+void set_timeout(Thread *, uint64_t microseconds);
+
+/* threads.c */
+extern Thread threads[MOST_THREADS + 1]; /* by number */
+extern uint32_t thread_count;
+extern Threads living;
+bool begin_threads(void);
+Thread *this_thread(void);
+Thread *thread_named(pthread_t);
+void stop_thread(Thread *); /* for good */
+
+/* core.c: calls that the core answers */
+int ask(Thread *, pif_request);
+int ask_for_lock(Thread *, pif_request); /* a cycle is no answer, but a deadlock, or a wait until a deadline */
+
+/* objects.c: the core's numbers of mutexes and variables */
+typedef struct {
+    uintptr_t address, first_used;
+    uint32_t number;    /* of the core; 0: no wait has bound it yet */
+    uint32_t mutex;     /* to which that number is bound */
+    uint32_t waiting;   /* threads that are inside a wait */
+    uint32_t for_nobody; /* signals and broadcasts when nobody waited */
+} Variable;
+
+uint32_t number_of_mutex(const Thread *, pthread_mutex_t *);
+bool is_plain(uint32_t mutex); /* POSIX doesn't say what a thread is answered that unlocks it and doesn't hold it */
+Variable *variable_at(const Thread *, pthread_cond_t *);
+void bind_variable(const Thread *, Variable *, uint32_t mutex);
+const Variable *variable_numbered(uint32_t);
+void forget_mutex(const Thread *, pthread_mutex_t *);
+void forget_variable(const Thread *, pthread_cond_t *);
+const char *name_of_mutex(uint32_t);    /* in brackets with a blank before; empty without one */
+const char *name_of_variable(uint32_t);
+const char *bracketed(const char *name, const char *before, char *room, size_t size);
+
+#endif

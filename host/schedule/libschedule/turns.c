@@ -1,0 +1,351 @@
+/* The turn: one thread has it, and at each point it may pass to another one. */
+#define _GNU_SOURCE
+#include <errno.h>
+#include <linux/futex.h>
+#include <stdio.h>
+#include <string.h>
+#include <sys/syscall.h>
+#include <unistd.h>
+
+#include "schedule.h"
+
+enum { IDLE_ROUNDS = 3 }; /* of all threads, in which each only says that it has nothing to do */
+
+Thread *running;
+
+static Threads can; /* at this choice */
+static char line[MOST_OF_CHOICE];
+static uint64_t points;
+static uint32_t idle; /* points, one behind another, at which nobody had anything to do */
+static uint32_t stopped;
+static pid_t ending; /* a thread that has ended, and that the kernel may still have */
+
+static long futex(_Atomic int *word, int what, int number)
+{
+    return syscall(SYS_futex, word, what, number, NULL, NULL, 0);
+}
+
+/* CHOICES */
+
+static bool can_go(const Thread *thread)
+{
+    if (thread->open)
+        return pif_waiting(&core, thread->number).number == 0;
+    return thread->can_go == NULL || thread->can_go(thread);
+}
+
+static void remove_from(Threads *some, const Thread *thread)
+{
+    for (uint32_t i = 0; i < some->count; i++)
+        if (some->at[i] == thread) {
+            some->count--;
+            memmove(&some->at[i], &some->at[i + 1], (some->count - i) * sizeof *some->at);
+        }
+}
+
+/* Under `stay` a thread that has nothing to do lets the others go first, so that its loop ends. */
+static void find_those_who_can(const Thread *me)
+{
+    can.count = 0;
+    for (uint32_t i = 0; i < living.count; i++)
+        if (can_go(living.at[i]))
+            can.at[can.count++] = living.at[i];
+    if (me->yields && options.strategy == STAY && can.count > 1)
+        remove_from(&can, me);
+}
+
+static char *write_number(char *at, const char *before, uint64_t number)
+{
+    char room[MOST_DIGITS + 1];
+
+    return stpcpy(stpcpy(at, before), digits_of(number, 10, room));
+}
+
+static char *write_names(char *at, const char *before, const Threads *some)
+{
+    at = stpcpy(at, before);
+    for (uint32_t i = 0; i < some->count; i++)
+        at = write_number(at, " t", some->at[i]->number);
+    return at;
+}
+
+/* Who may stop for good here: any thread but the first. */
+static bool may_stop(void) { return stopped < options.ends; }
+
+/* Up to what is chosen. */
+static char *begin_line(const Thread *me)
+{
+    return write_number(write_number(write_number(line, "", points), " t", me->number), ".", me->count);
+}
+
+static void end_line(char *at)
+{
+    Threads others;
+
+    at = write_names(at, " of", &can);
+    if (!options.each || !may_stop())
+        return;
+    others.count = 0;
+    for (uint32_t i = 0; i < living.count; i++)
+        if (living.at[i]->number > 1)
+            others.at[others.count++] = living.at[i];
+    if (others.count > 0)
+        write_names(at, " or end", &others);
+}
+
+/* The line of this choice is told. It has to be the one that is asked. */
+static void note_choice(const Choice *asked)
+{
+    if (asked != NULL && !options.loose && strcmp(asked->line, line) != 0)
+        stop(DIVERGED, "the schedule has '%s', and this is '%s'", asked->line, line);
+    tell_choice(line);
+}
+
+/* A choice is left, and the schedule has another one, or none. */
+static void expect_none(void)
+{
+    const char *next = next_line();
+
+    if (next != NULL)
+        stop(DIVERGED, "the schedule has '%s', and this is point %s", next, line);
+    if (options.whole)
+        stop(DIVERGED, "the schedule has no choice for point %s", line);
+}
+
+static Thread *living_thread(uint32_t number)
+{
+    Thread *thread = number == 0 || number > thread_count ? NULL : &threads[number];
+
+    return thread == NULL || thread->gone ? NULL : thread;
+}
+
+static Thread *thread_that_can(uint32_t number)
+{
+    for (uint32_t i = 0; i < can.count; i++)
+        if (can.at[i]->number == number)
+            return can.at[i];
+    return NULL;
+}
+
+/* Whether the time moves though somebody can go. */
+static bool lets_time_pass(Thread *me)
+{
+    if (options.time == 0)
+        return false;
+    char *at = begin_line(me);
+    const Choice *asked = asked_choice(CHOOSE_TIME, line, me);
+    bool is_drawn = options.strategy != STAY && draw_below((uint32_t)options.time) == 0;
+    if (asked == NULL && !is_drawn)
+        return false;
+    end_line(stpcpy(at, " time"));
+    if (!move_to_deadline())
+        return false;
+    note_choice(asked);
+    return true;
+}
+
+/* One that is drawn: at one of so many points a thread stops. */
+static Thread *drawn_to_stop(void)
+{
+    enum { ONE_OF = 32 };
+
+    if (options.strategy == STAY || living.count < 2 || draw_below(ONE_OF) != 0)
+        return NULL;
+    Thread *thread = living.at[draw_below(living.count)];
+    return thread->number == 1 ? NULL : thread;
+}
+
+static bool stops_one(Thread *me)
+{
+    if (!may_stop())
+        return false;
+    char *at = begin_line(me);
+    const Choice *asked = asked_choice(CHOOSE_END, line, me);
+    Thread *thread = asked == NULL ? drawn_to_stop() : living_thread(asked->thread);
+    if (thread == NULL || thread->number == 1)
+        return false;
+    end_line(write_number(at, " end t", thread->number));
+    note_choice(asked);
+    stopped++;
+    stop_thread(thread);
+    return true;
+}
+
+static Thread *choose_thread(Thread *me)
+{
+    char *at = begin_line(me);
+    const Choice *asked = asked_choice(CHOOSE_THREAD, line, me);
+    Thread *next = asked == NULL ? NULL : thread_that_can(asked->thread);
+
+    if (asked != NULL && next == NULL && !options.loose) {
+        end_line(at);
+        stop(DIVERGED, "the schedule has '%s', and at point %s that can't go", asked->line, line);
+    }
+    if (asked == NULL && can.count > 1) {
+        end_line(at);
+        expect_none();
+    }
+    if (next == NULL)
+        next = choose_by_strategy(&can, me, points);
+    end_line(write_number(at, " > t", next->number));
+    note_choice(asked);
+    return next;
+}
+
+static void look_again(void)
+{
+    struct timespec pause = {0, 200000};
+
+    syscall(SYS_nanosleep, &pause, NULL);
+}
+
+static bool asks_the_kernel(void)
+{
+    for (uint32_t i = 0; i < living.count; i++)
+        if (living.at[i]->asks_the_kernel)
+            return true;
+    return false;
+}
+
+/* Nobody can go now: the time moves, or something comes from outside, or nobody ever can. */
+static void help(void)
+{
+    if (move_to_deadline())
+        return;
+    if (!asks_the_kernel())
+        nobody_can_go();
+    look_again();
+}
+
+/* If all that can go only say that they have nothing to do, time has to pass for them. */
+static void count_idle(const Thread *me)
+{
+    idle = me->yields ? idle + 1 : 0;
+    if (idle > IDLE_ROUNDS * (living.count + 1)) {
+        move_to_deadline();
+        idle = 0;
+    }
+}
+
+static void count_point(Thread *me)
+{
+    points++;
+    me->count++;
+    tell_points(points, false);
+    if (points > options.steps)
+        stop(LIVELOCK, "more than %lu points", (unsigned long)options.steps);
+}
+
+static Thread *choose(Thread *me)
+{
+    count_point(me);
+    count_idle(me);
+    for (;;) {
+        catch_up();
+        find_those_who_can(me);
+        if (can.count == 0)
+            help();
+        else if (lets_time_pass(me) || stops_one(me))
+            continue;
+        else if (can.count > 1 || (options.each && may_stop()))
+            return choose_thread(me);
+        else
+            return can.at[0];
+    }
+}
+
+/* THE TURN */
+
+static void give(Thread *thread)
+{
+    tell_points(points, true);
+    running = thread;
+    atomic_store(&thread->turn, 1);
+    futex(&thread->turn, FUTEX_WAKE_PRIVATE, 1);
+}
+
+/* What the kernel and glibc do at the end of a thread comes before anything of the next one: so a run with the same
+   choices has the same addresses. The first thread stays until the process ends. */
+static void let_it_end(void)
+{
+    if (ending == 0 || ending == getpid())
+        return;
+    while (syscall(SYS_tgkill, getpid(), ending, 0) == 0)
+        syscall(SYS_sched_yield);
+    ending = 0;
+}
+
+static void await(Thread *me)
+{
+    while (atomic_exchange(&me->turn, 0) == 0)
+        futex(&me->turn, FUTEX_WAIT_PRIVATE, 0);
+    let_it_end();
+}
+
+static void stand_still(void)
+{
+    static _Atomic int never;
+
+    for (;;)
+        futex(&never, FUTEX_WAIT_PRIVATE, 0);
+}
+
+static void pass_turn(Thread *me)
+{
+    int number = errno;
+    Thread *next = choose(me);
+
+    if (next != me)
+        give(next);
+    if (me->stopped)
+        stand_still();
+    if (next != me)
+        await(me);
+    me->yields = false;
+    errno = number;
+}
+
+void point(Thread *me) { pass_turn(me); }
+
+void yield(Thread *me)
+{
+    use_for_nothing(me);
+    pass_turn(me);
+}
+
+void use_for_nothing(Thread *me)
+{
+    me->yields = true;
+    if (options.strategy == PCT)
+        rank_last(me);
+}
+
+void wait_in_core(Thread *me)
+{
+    me->open = true;
+    pass_turn(me);
+}
+
+void wait_until(Thread *me, Condition *condition, const void *on, const char *how)
+{
+    me->can_go = condition;
+    me->waits_for = on;
+    me->waits_how = how;
+    while (!condition(me))
+        pass_turn(me);
+    me->can_go = NULL;
+    me->waits_for = NULL;
+    me->waits_how = NULL;
+    me->is_timed = false;
+}
+
+void first_turn(Thread *me) { await(me); }
+
+/* It has left `living`, and doesn't wait for its turn again. */
+void last_turn(Thread *me)
+{
+    Thread *next = choose(me);
+
+    ending = gettid();
+    give(next);
+}

@@ -1,0 +1,340 @@
+"""What the tools of this folder share: programs are run by libschedule.so, and schedules are read and written."""
+
+import ctypes
+import hashlib
+import json
+import os
+import re
+import resource
+import select
+import shutil
+import signal
+import struct
+import subprocess
+import tempfile
+import time
+from pathlib import Path
+from typing import NamedTuple
+
+HERE = Path(__file__).resolve().parent
+TOP = HERE.parent.parent
+LIBRARY = HERE / "out" / "libschedule.so"
+FIRST_LINE = "pif-schedule 1"
+STRATEGIES = ("random", "pct", "pick", "stay")  # by the numbers of schedule.h
+
+# What ends a run without a verdict on the program.
+UNDECIDED = ("hang", "diverged", "limit", "unsupported", "no call")
+
+# The head of a file in which the library tells of a run, as told.c has it; its text is behind.
+HEAD = struct.Struct("<8Q")
+ROOM = 1 << 26
+BY_LIBRARY = 2
+ADDR_NO_RANDOMIZE = 0x0040000
+
+
+class Refused(Exception):
+    """What is asked can't be done, and why."""
+
+
+class Told(NamedTuple):
+    """A file of the library."""
+
+    takers: int
+    points: int
+    switches: int
+    forks: int
+    ended: int
+    is_full: bool
+    text: str
+
+
+LINE = re.compile(r"(\d+) t(\d+)\.(\d+) (?:> t(\d+)|end t(\d+)|(time)) of((?: t\d+)*)(?: or end((?: t\d+)+))?")
+
+
+class Choice(NamedTuple):
+    """A line of a schedule. `kind` is `go`, `end` or `time`; `can` are those who can go, `may_end` those who may stop."""
+
+    line: str
+    chooser: int
+    kind: str
+    thread: int
+    can: tuple
+    may_end: tuple
+
+    def is_preemption(self):
+        """Whether a thread that can go on makes way for another one."""
+        return self.kind == "go" and self.chooser in self.can and self.thread != self.chooser
+
+    def is_usual(self):
+        """Whether this is what happens without a choice: a thread goes on, then the next one by number."""
+        later = [thread for thread in self.can if thread > self.chooser]
+        usual = self.chooser if self.chooser in self.can else (later or list(self.can))[0]
+        return self.kind == "go" and self.thread == usual
+
+    def instead(self, kind, thread):
+        """This choice with another thread."""
+        before = self.line[: self.line.index(" ", self.line.index(" t") + 1)]
+        behind = self.line[self.line.index(" of ") :]
+        return read_choice("%s %s t%d%s" % (before, ">" if kind == "go" else "end", thread, behind))
+
+
+def numbers_of(text):
+    return tuple(int(word[1:]) for word in (text or "").split())
+
+
+def read_choice(line):
+    """A line of a schedule as a choice; None if it is none."""
+    found = LINE.fullmatch(line)
+    if found is None:
+        return None
+    kind = "go" if found[4] else "end" if found[5] else "time"
+    thread = int(found[4] or found[5] or 0)
+    return Choice(line, int(found[2]), kind, thread, numbers_of(found[7]), numbers_of(found[8]))
+
+
+class Run(NamedTuple):
+    """What became of a run. `kind` is the verdict in short, None if it didn't fail; `reasons` are its lines."""
+
+    kind: str | None
+    reasons: list
+    points: int
+    switches: int
+    choices: list
+    story: str
+    is_story_cut: bool
+    forks: int
+    others: int
+    out: bytes
+    err: str
+
+    def failed(self):
+        return self.kind is not None and self.kind not in UNDECIDED
+
+    def preemptions(self):
+        return sum(choice.is_preemption() for choice in self.choices)
+
+
+class Asked(NamedTuple):
+    """What is asked of each run. The names are those of asked.c; `expect` and what follows are the tool's."""
+
+    strategy: str = "random"
+    seed: int = 1
+    depth: int = 3
+    length: int = 100
+    ends: int = 0
+    time: int = 0
+    steps: int = 1_000_000
+    inherit: bool = False
+    errors: bool = False
+    each: bool = False
+    loose: bool = False
+    whole: bool = False
+    story: bool = False
+    expect: int = 0
+    output: bytes | None = None
+    seconds: float = 10.0
+
+    def text(self, choices):
+        """The file that the library reads."""
+        told = self._replace(strategy=STRATEGIES.index(self.strategy))._asdict()
+        lines = ["%s %d" % (name, told[name]) for name in list(told)[: list(told).index("expect")]]
+        return "".join(line + "\n" for line in [*lines, *(choice.line for choice in choices)])
+
+
+# What a schedule keeps of what was asked: a replay needs it.
+KEPT = ("ends", "time", "steps", "inherit", "errors", "each", "expect")
+
+
+def sum_of(program):
+    """A sum of the program's file."""
+    return hashlib.sha256(Path(program).read_bytes()).hexdigest()[:16]
+
+
+def program_named(word):
+    """The file of a program that is named as a shell does it."""
+    found = shutil.which(word)
+    if found is None:
+        raise Refused("there is no program %s" % word)
+    return found
+
+
+def before_exec():
+    """Of the process that becomes the program: the same addresses in each run, and no files of memory."""
+    ctypes.CDLL(None).personality(ADDR_NO_RANDOMIZE)
+    resource.setrlimit(resource.RLIMIT_CORE, (0, 0))
+
+
+class Program:
+    """A program that is started once, and runs by forks of that start."""
+
+    def __init__(self, words):
+        self.words = list(words)
+        self.file = program_named(words[0])
+        self.made = ""
+        self.room = tempfile.TemporaryDirectory(prefix="pif-schedule.", dir="/dev/shm" if os.access("/dev/shm", os.W_OK)
+                                                else None)
+        self.folder = Path(self.room.name)
+        self.process = None
+
+    def __enter__(self):
+        try:
+            self.start()
+        except BaseException:
+            self.room.cleanup()
+            raise
+        return self
+
+    def __exit__(self, *_):
+        os.close(self.to_program)
+        os.close(self.from_program)
+        self.process.kill()
+        self.process.wait()
+        self.out.close()
+        self.err.close()
+        self.room.cleanup()
+
+    def file_of(self, name):
+        return self.folder / name
+
+    def preloaded(self):
+        """The library under a name without blanks and colons, at which LD_PRELOAD is cut."""
+        link = self.folder / "libschedule.so"
+        link.symlink_to(LIBRARY)  # the folder's own name has neither
+        return " ".join(filter(None, [str(link), os.environ.get("LD_PRELOAD")]))
+
+    def start(self):
+        self.out = open(self.file_of("out"), "ab", buffering=0)
+        self.err = open(self.file_of("err"), "ab", buffering=0)
+        read_end, self.to_program = os.pipe()
+        self.from_program, write_end = os.pipe()
+        environment = {**os.environ, "LD_PRELOAD": self.preloaded(), "PIF_SCHEDULE": str(self.folder),
+                       "PIF_SCHEDULE_SERVER": "%d,%d" % (read_end, write_end)}
+        self.process = subprocess.Popen(
+            [self.file, *self.words[1:]], env=environment, stdin=subprocess.DEVNULL, preexec_fn=before_exec,
+            stdout=self.out, stderr=self.err, pass_fds=(read_end, write_end))
+        os.close(read_end)
+        os.close(write_end)
+        self.rest = b""
+        self.made = self.answer("ready", 20)
+        if self.made is None:
+            raise Refused("libschedule.so isn't loaded by %s: it is linked statically, has other rights than yours, or "
+                          "is no program" % self.words[0])
+
+    def answer(self, word, seconds):
+        """What is behind this word in the next line of the program; None if there is none in time."""
+        until = time.monotonic() + seconds
+        while b"\n" not in self.rest:
+            ready, _, _ = select.select([self.from_program], [], [], max(0, until - time.monotonic()))
+            more = os.read(self.from_program, 4096) if ready else b""
+            if not more:
+                return None
+            self.rest += more
+        line, _, self.rest = self.rest.partition(b"\n")
+        said, _, behind = line.decode("utf-8", "replace").partition(" ")
+        return behind if said == word else None
+
+    def status(self, seconds):
+        """How the process of a run ended, as waitpid has it; None if it had to be killed."""
+        os.write(self.to_program, b"r")
+        process = self.answer("process", 20)
+        if process is None:
+            raise Refused("the program isn't there any more")
+        status = self.answer("status", seconds)
+        if status is not None:
+            return int(status)
+        os.killpg(int(process), signal.SIGKILL)
+        self.answer("status", 20)
+        return None
+
+    def told(self, name):
+        with open(self.file_of(name), "rb") as file:
+            takers, length, points, switches, forks, ended, is_full, _ = HEAD.unpack(file.read(HEAD.size))
+            return Told(takers, points, switches, forks, ended, bool(is_full), file.read(length).decode("ascii", "replace"))
+
+    def run(self, asked, choices=()):
+        """Runs the program once."""
+        for name in ("told", "story"):
+            with open(self.file_of(name), "wb") as file:
+                file.truncate(ROOM)
+        self.out.truncate(0)
+        self.err.truncate(0)
+        self.file_of("asked").write_text(asked.text(choices))
+        status = self.status(asked.seconds)
+        told, story = self.told("told"), self.told("story")
+        lines = told.text.splitlines()
+        reasons = [line[2:] for line in lines if line.startswith("# ")]
+        made = [choice for choice in map(read_choice, lines) if choice]
+        out = self.file_of("out").read_bytes()
+        kind, reasons = verdict(asked, told, reasons, status, out)
+        return Run(kind, reasons, told.points, told.switches, made, story.text, story.is_full, told.forks,
+                   max(0, told.takers - 1), out, self.file_of("err").read_text("utf-8", "replace"))
+
+
+def verdict(asked, told, reasons, status, out):
+    """The verdict on a run in short, and its lines."""
+    if status is None:
+        return "hang", ["hang: the run takes more than %g seconds" % asked.seconds]
+    if told.ended == BY_LIBRARY:
+        return reasons[0].partition(":")[0], reasons
+    if os.WIFSIGNALED(status):
+        name = signal.Signals(os.WTERMSIG(status)).name
+        return name, ["%s: %s" % (name, signal.strsignal(os.WTERMSIG(status)))]
+    if told.takers == 0:
+        return "no call", ["no call: no thread was started, and no call on locks was seen"]
+    if os.WEXITSTATUS(status) != asked.expect:
+        return "status %d" % os.WEXITSTATUS(status), ["status %d, and %d is expected" % (os.WEXITSTATUS(status),
+                                                                                        asked.expect)]
+    if asked.output is not None and out != asked.output:
+        return "wrong output", ["wrong output: %d bytes, and %d are expected" % (len(out), len(asked.output))]
+    return None, []
+
+
+class Schedule(NamedTuple):
+    """A schedule's file: of which program it is, what was asked, how it ended, and its choices."""
+
+    words: list
+    sum: str
+    asked: Asked
+    outcome: str
+    reasons: list
+    choices: list
+
+    def text(self):
+        asked = self.asked._asdict()
+        kept = ["set %s %d" % (name, asked[name]) for name in KEPT]
+        lines = [FIRST_LINE, "program %s" % self.sum, *("word %s" % json.dumps(word) for word in self.words), "on core",
+                 "strategy %s" % self.asked.strategy, "seed %d" % self.asked.seed, *kept,
+                 "outcome %s" % self.outcome, *("# %s" % line for line in self.reasons),
+                 *(choice.line for choice in self.choices)]
+        return "".join(line + "\n" for line in lines)
+
+
+def read_schedule(path):
+    """The schedule of a file."""
+    try:
+        lines = Path(path).read_text("utf-8").splitlines()
+    except (OSError, UnicodeDecodeError) as why:
+        raise Refused("%s can't be read: %s" % (path, getattr(why, "strerror", None) or "it is no text")) from why
+    if not lines or lines[0] != FIRST_LINE:
+        raise Refused("%s is no schedule: its first line isn't '%s'" % (path, FIRST_LINE))
+    words, head, kept, reasons, choices = [], {}, {}, [], []
+    for number, line in enumerate(lines[1:], 2):
+        word, _, behind = line.partition(" ")
+        if word == "word" and behind.startswith('"'):
+            words.append(json.loads(behind))
+        elif word in ("program", "on", "strategy", "seed", "outcome"):
+            head[word] = behind
+        elif word == "set" and re.fullmatch(r"(?:%s) \d+" % "|".join(KEPT), behind):
+            kept[behind.split()[0]] = int(behind.split()[1])
+        elif word == "#":
+            reasons.append(behind)
+        elif choice := read_choice(line):
+            choices.append(choice)
+        else:
+            raise Refused("%s is no schedule: its line %d is '%s'" % (path, number, line))
+    missing = [word for word in ("program", "on", "strategy", "seed", "outcome") if word not in head]
+    if missing or not words or head["strategy"] not in STRATEGIES or not head["seed"].isdigit() or head["on"] != "core":
+        raise Refused("%s is no schedule: %s" % (path, "it has no line '%s'" % missing[0] if missing else "a line of its "
+                                                 "head is wrong"))
+    asked = Asked(strategy=head["strategy"], seed=int(head["seed"]), **kept)
+    return Schedule(words, head["program"], asked, head["outcome"], reasons, choices)
