@@ -23,7 +23,7 @@ int pthread_mutex_init(pthread_mutex_t *mutex, const pthread_mutexattr_t *attrib
 
     if (attributes != NULL)
         pthread_mutexattr_getpshared(attributes, &shared);
-    if (is_on() && shared == PTHREAD_PROCESS_SHARED)
+    if (shared == PTHREAD_PROCESS_SHARED && enter("pthread_mutex_init", CALLER) != NULL)
         stop(UNSUPPORTED, "a mutex that is shared between processes");
     return BELOW(pthread_mutex_init)(mutex, attributes);
 }
@@ -117,13 +117,6 @@ int pthread_mutex_consistent(pthread_mutex_t *mutex)
         judged(me, number, answer, "calls consistent, and is not the owner of an inconsistent mutex,");
     leave(me);
     return answer;
-}
-
-int pthread_mutex_setprioceiling(pthread_mutex_t *restrict mutex, int ceiling, int *restrict old)
-{
-    if (is_on())
-        stop(UNSUPPORTED, "pthread_mutex_setprioceiling");
-    return BELOW(pthread_mutex_setprioceiling)(mutex, ceiling, old);
 }
 
 OLD_NAME("__pthread_mutex_init", pthread_mutex_init);

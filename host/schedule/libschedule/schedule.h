@@ -39,9 +39,16 @@ typedef struct {
     uint64_t story;         /* the events of the core are told */
 } Options;
 
-/* glibc's call of the same name. */
-#define BELOW(call) ((__typeof__(&call))below(#call))
-#define NEW_BELOW(call) ((__typeof__(&call))new_below(#call))
+/* glibc's call of the same name, which is looked for once. */
+#define FOUND_BELOW(call, find) \
+    ({ \
+        static __typeof__(&call) found; \
+        if (__atomic_load_n(&found, __ATOMIC_RELAXED) == NULL) \
+            __atomic_store_n(&found, (__typeof__(&call))find(#call), __ATOMIC_RELAXED); \
+        __atomic_load_n(&found, __ATOMIC_RELAXED); \
+    })
+#define BELOW(call) FOUND_BELOW(call, below)
+#define NEW_BELOW(call) FOUND_BELOW(call, new_below)
 
 typedef struct Thread Thread;
 
@@ -60,6 +67,7 @@ struct Thread {
     bool is_timed;
     uint32_t deadline; /* in microseconds of the run's time, if it is timed */
     uint32_t wants;    /* a mutex for which it waits outside of the core */
+    bool wants_lock;   /* it waits for a lock that the core hasn't got */
     uint32_t count;    /* of its own points */
     uint32_t seen;     /* what it saw when it began to wait */
     Condition *can_go; /* NULL: it waits for nothing outside of the core */

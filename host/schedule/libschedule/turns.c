@@ -147,7 +147,7 @@ static bool lets_time_pass(Thread *me)
 /* One that is drawn: at one of so many points a thread stops. */
 static Thread *drawn_to_stop(void)
 {
-    enum { ONE_OF = 32 };
+    enum { ONE_OF = 16 };
 
     if (options.strategy == STAY || living.count < 2 || draw_below(ONE_OF) != 0)
         return NULL;

@@ -192,22 +192,23 @@ void tell_deadlock(Thread *me)
     end_run();
 }
 
-/* A mutex that is waited for in vain makes it a deadlock; else a variable, and whether it had a signal. */
+/* A lock that is waited for in vain makes it a deadlock; else a variable, and whether it had a signal. */
 void nobody_can_go(void)
 {
     const Thread *queued = NULL;
-    bool is_lost = false;
+    bool is_lost = false, wants_lock = false;
 
     for (uint32_t i = 0; i < living.count; i++) {
         const Thread *thread = living.at[i];
         if (queued == NULL && mutex_of(thread) != 0)
             queued = thread;
+        wants_lock = wants_lock || queued != NULL || thread->wants_lock;
         if (is_parked(thread)) {
             const Variable *variable = variable_numbered(pif_status(&core, thread->number).waits_for);
             is_lost = is_lost || (variable != NULL && variable->for_nobody > 0);
         }
     }
-    tell_verdict(queued != NULL ? DEADLOCK : is_lost ? LOST_WAKE_UP : STUCK, "no thread can go");
+    tell_verdict(wants_lock ? DEADLOCK : is_lost ? LOST_WAKE_UP : STUCK, "no thread can go");
     if (queued != NULL)
         tell_chain(queued);
     tell_threads();

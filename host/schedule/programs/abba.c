@@ -1,6 +1,4 @@
 /* Two threads lock the same two mutexes in opposite orders. Mended: in the same order. */
-#include <pthread.h>
-
 #include "programs.h"
 
 static pthread_mutex_t first = PTHREAD_MUTEX_INITIALIZER, second = PTHREAD_MUTEX_INITIALIZER;

@@ -3,6 +3,7 @@
 #define PIF_PROGRAMS_H
 
 #include <pthread.h>
+#include <stdbool.h>
 #include <stdlib.h>
 
 #ifndef MENDED

@@ -1,0 +1,288 @@
+/* Calls of the kernel that wait: for a file, a signal, a process. Each is asked without waiting at every choice, so that
+   a pipe between two threads is part of the schedule. What comes from outside of the program is no part of it. */
+#define _GNU_SOURCE
+#include <errno.h>
+#include <fcntl.h>
+#include <poll.h>
+#include <signal.h>
+#include <sys/epoll.h>
+#include <sys/select.h>
+#include <sys/socket.h>
+#include <sys/stat.h>
+#include <sys/syscall.h>
+#include <sys/uio.h>
+#include <sys/wait.h>
+#include <unistd.h>
+
+#include "schedule.h"
+
+enum { MILLISECOND = 1000, MICROSECONDS = 1000000, NANOSECONDS = 1000 };
+
+/* Waits until the condition holds, or that long, in microseconds; below 0: for good. */
+static void wait_outside(Thread *me, Condition *condition, const void *on, int64_t time)
+{
+    point(me);
+    if (time >= 0)
+        set_timeout(me, (uint64_t)time);
+    me->asks_the_kernel = true;
+    wait_until(me, condition, on, "waits for the kernel");
+    me->asks_the_kernel = false;
+    leave(me);
+}
+
+static int64_t length_of(const struct timespec *time)
+{
+    return time == NULL ? -1 : (int64_t)time->tv_sec * MICROSECONDS + (time->tv_nsec + NANOSECONDS - 1) / NANOSECONDS;
+}
+
+static const struct timespec no_time;
+
+/* POLL AND SELECT */
+
+typedef struct {
+    struct pollfd *files;
+    nfds_t count;
+    const sigset_t *blocked;
+} Polled;
+
+static int poll_now(const Polled *polled)
+{
+    struct timespec none = no_time;
+
+    return (int)syscall(SYS_ppoll, polled->files, polled->count, &none, polled->blocked, _NSIG / 8);
+}
+
+static bool is_polled(const Thread *thread) { return is_due(thread) || poll_now(thread->waits_for) != 0; }
+
+int ppoll(struct pollfd *files, nfds_t count, const struct timespec *time, const sigset_t *blocked)
+{
+    Polled polled = {files, count, blocked};
+    Thread *me = enter_if_on("poll", CALLER);
+
+    if (me == NULL)
+        return BELOW(ppoll)(files, count, time, blocked);
+    wait_outside(me, is_polled, &polled, length_of(time));
+    return poll_now(&polled);
+}
+
+int poll(struct pollfd *files, nfds_t count, int milliseconds)
+{
+    struct timespec time = {milliseconds / MILLISECOND, (long)(milliseconds % MILLISECOND) * MICROSECONDS};
+
+    if (!is_on())
+        return BELOW(poll)(files, count, milliseconds);
+    return ppoll(files, count, milliseconds < 0 ? NULL : &time, NULL);
+}
+
+typedef struct {
+    int count;
+    fd_set *sets[3];
+} Selected;
+
+static void copy_sets(fd_set *const from[3], fd_set into[3], fd_set *given[3])
+{
+    for (int i = 0; i < 3; i++) {
+        if (from[i] != NULL)
+            into[i] = *from[i];
+        given[i] = from[i] == NULL ? NULL : &into[i];
+    }
+}
+
+static int select_now(const Selected *selected, fd_set result[3])
+{
+    struct timespec none = no_time;
+    fd_set *given[3];
+
+    copy_sets(selected->sets, result, given);
+    return (int)syscall(SYS_pselect6, selected->count, given[0], given[1], given[2], &none, NULL);
+}
+
+static bool is_selected(const Thread *thread)
+{
+    fd_set result[3];
+
+    return is_due(thread) || select_now(thread->waits_for, result) != 0;
+}
+
+static int select_for(Thread *me, Selected *selected, int64_t time)
+{
+    fd_set result[3];
+
+    wait_outside(me, is_selected, selected, time);
+    int answer = select_now(selected, result);
+    for (int i = 0; answer >= 0 && i < 3; i++)
+        if (selected->sets[i] != NULL)
+            *selected->sets[i] = result[i];
+    return answer;
+}
+
+int select(int count, fd_set *restrict read, fd_set *restrict write, fd_set *restrict except,
+           struct timeval *restrict time)
+{
+    Selected selected = {count, {read, write, except}};
+    Thread *me = enter_if_on("select", CALLER);
+
+    if (me == NULL)
+        return BELOW(select)(count, read, write, except, time);
+    return select_for(me, &selected, time == NULL ? -1 : (int64_t)time->tv_sec * MICROSECONDS + time->tv_usec);
+}
+
+int pselect(int count, fd_set *restrict read, fd_set *restrict write, fd_set *restrict except,
+            const struct timespec *restrict time, const sigset_t *restrict blocked)
+{
+    Selected selected = {count, {read, write, except}};
+    Thread *me = enter_if_on("pselect", CALLER);
+
+    if (me == NULL)
+        return BELOW(pselect)(count, read, write, except, time, blocked);
+    if (blocked != NULL)
+        stop(UNSUPPORTED, "pselect with a mask of signals");
+    return select_for(me, &selected, length_of(time));
+}
+
+int epoll_wait(int file, struct epoll_event *events, int most, int milliseconds)
+{
+    struct pollfd polled = {file, POLLIN, 0};
+    int64_t time = milliseconds < 0 ? -1 : (int64_t)milliseconds * MILLISECOND;
+    Thread *me = enter_if_on("epoll_wait", CALLER);
+
+    if (me == NULL)
+        return BELOW(epoll_wait)(file, events, most, milliseconds);
+    wait_outside(me, is_polled, &(Polled){&polled, 1, NULL}, time);
+    return BELOW(epoll_wait)(file, events, most, 0);
+}
+
+/* FILES: a call that may wait comes when it no longer has to. */
+
+static bool may_wait(int file)
+{
+    struct stat present;
+
+    return is_on() && fstat(file, &present) == 0 && (S_ISFIFO(present.st_mode) || S_ISSOCK(present.st_mode))
+           && (fcntl(file, F_GETFL) & O_NONBLOCK) == 0;
+}
+
+static void wait_for_file(const char *call, uintptr_t caller, int file, short events)
+{
+    struct pollfd polled = {file, events, 0};
+    int number = errno;
+    Thread *me = may_wait(file) ? enter_if_on(call, caller) : NULL;
+
+    if (me != NULL)
+        wait_outside(me, is_polled, &(Polled){&polled, 1, NULL}, -1);
+    errno = number;
+}
+
+#define FILE_CALL(type, call, events, parameters, arguments) \
+    type call parameters \
+    { \
+        wait_for_file(#call, CALLER, file, events); \
+        return BELOW(call) arguments; \
+    }
+FILE_CALL(ssize_t, read, POLLIN, (int file, void *bytes, size_t size), (file, bytes, size))
+FILE_CALL(ssize_t, readv, POLLIN, (int file, const struct iovec *parts, int count), (file, parts, count))
+FILE_CALL(ssize_t, recv, POLLIN, (int file, void *bytes, size_t size, int flags), (file, bytes, size, flags))
+FILE_CALL(ssize_t, recvmsg, POLLIN, (int file, struct msghdr *message, int flags), (file, message, flags))
+FILE_CALL(ssize_t, recvfrom, POLLIN,
+          (int file, void *restrict bytes, size_t size, int flags, __SOCKADDR_ARG from, socklen_t *restrict length),
+          (file, bytes, size, flags, from, length))
+FILE_CALL(int, accept, POLLIN, (int file, __SOCKADDR_ARG from, socklen_t *restrict length), (file, from, length))
+FILE_CALL(int, accept4, POLLIN, (int file, __SOCKADDR_ARG from, socklen_t *restrict length, int flags),
+          (file, from, length, flags))
+FILE_CALL(ssize_t, write, POLLOUT, (int file, const void *bytes, size_t size), (file, bytes, size))
+FILE_CALL(ssize_t, writev, POLLOUT, (int file, const struct iovec *parts, int count), (file, parts, count))
+FILE_CALL(ssize_t, send, POLLOUT, (int file, const void *bytes, size_t size, int flags), (file, bytes, size, flags))
+
+/* SIGNALS: those of the process, and of a thread, which nobody else can ask for. */
+
+static uint64_t bit_of(int signal) { return UINT64_C(1) << (signal - 1); }
+
+static bool has_signal(const Thread *thread)
+{
+    const sigset_t *wanted = thread->waits_for;
+    sigset_t pending, both;
+
+    sigpending(&pending);
+    sigandset(&both, &pending, wanted);
+    for (int signal = 1; signal < _NSIG; signal++)
+        if ((thread->signals & bit_of(signal)) != 0 && sigismember(wanted, signal) == 1)
+            return true;
+    return is_due(thread) || !sigisemptyset(&both);
+}
+
+/* A signal to a thread that waits for it. */
+int pthread_kill(pthread_t name, int signal)
+{
+    Thread *thread = is_on() ? thread_named(name) : NULL;
+
+    if (thread != NULL && signal > 0 && signal < _NSIG)
+        thread->signals |= bit_of(signal);
+    return BELOW(pthread_kill)(name, signal);
+}
+
+static void wait_for_signal(Thread *me, const sigset_t *wanted, int64_t time)
+{
+    if (me == NULL)
+        return;
+    wait_outside(me, has_signal, wanted, time);
+    me->signals = 0;
+}
+
+int sigwait(const sigset_t *restrict wanted, int *restrict signal)
+{
+    wait_for_signal(enter_if_on("sigwait", CALLER), wanted, -1);
+    return BELOW(sigwait)(wanted, signal);
+}
+
+int sigwaitinfo(const sigset_t *restrict wanted, siginfo_t *restrict signal)
+{
+    wait_for_signal(enter_if_on("sigwaitinfo", CALLER), wanted, -1);
+    return BELOW(sigwaitinfo)(wanted, signal);
+}
+
+int sigtimedwait(const sigset_t *restrict wanted, siginfo_t *restrict signal, const struct timespec *restrict time)
+{
+    Thread *me = enter_if_on("sigtimedwait", CALLER);
+
+    if (me == NULL)
+        return BELOW(sigtimedwait)(wanted, signal, time);
+    wait_for_signal(me, wanted, length_of(time));
+    return BELOW(sigtimedwait)(wanted, signal, &no_time);
+}
+
+/* CHILDREN */
+
+typedef struct {
+    idtype_t kind;
+    id_t which;
+    int options;
+} Child;
+
+static bool has_changed(const Thread *thread)
+{
+    const Child *child = thread->waits_for;
+    siginfo_t found = {.si_pid = 0};
+
+    return waitid(child->kind, child->which, &found, child->options | WNOHANG | WNOWAIT) != 0 || found.si_pid != 0;
+}
+
+static Child child_of(pid_t process, int options)
+{
+    int wanted = WEXITED | (options & WUNTRACED ? WSTOPPED : 0) | (options & WCONTINUED);
+
+    if (process > 0)
+        return (Child){P_PID, (id_t)process, wanted};
+    return process == -1 ? (Child){P_ALL, 0, wanted} : (Child){P_PGID, (id_t)-process, wanted};
+}
+
+pid_t waitpid(pid_t process, int *status, int options)
+{
+    Child child = child_of(process, options);
+    Thread *me = (options & WNOHANG) != 0 ? NULL : enter_if_on("waitpid", CALLER);
+
+    if (me != NULL)
+        wait_outside(me, has_changed, &child, -1);
+    return BELOW(waitpid)(process, status, options);
+}
+
+pid_t wait(int *status) { return waitpid(-1, status, 0); }
