@@ -201,7 +201,8 @@ int sched_yield(void)
 
     if (me == NULL)
         return (int)syscall(SYS_sched_yield);
-    yield(me);
+    point(me);
+    find_nothing(me);
     leave(me);
     return 0;
 }

@@ -49,10 +49,24 @@ static bool has_deadline(uint32_t mutex, const Thread *me)
     return false;
 }
 
-/* The chain isn't what it was when the thread began to wait, or its own deadline is there. */
+/* Whether the chain from the mutex that a thread wants comes back to it. */
+static bool closes_cycle(const Thread *me)
+{
+    pif_owned owner = pif_owner(&core, me->wants);
+
+    for (uint32_t i = 0; i < MOST_THREADS && owner.result == PIF_OK && owner.thread != me->number; i++) {
+        pif_doing doing = pif_status(&core, owner.thread);
+        if (doing.state != PIF_QUEUED)
+            return false;
+        owner = pif_owner(&core, doing.waits_for);
+    }
+    return owner.result == PIF_OK && owner.thread == me->number;
+}
+
+/* There is no cycle any more, or no deadline that could undo it, or its own deadline is there. */
 static bool is_undone(const Thread *me)
 {
-    return is_due(me) || pif_owner(&core, me->wants).thread != me->seen || !has_deadline(me->wants, me);
+    return is_due(me) || !closes_cycle(me) || (!me->is_timed && !has_deadline(me->wants, me));
 }
 
 /* A lock that would close a cycle is answered EDEADLK by the core, and glibc's waits. If no deadline can undo it that is
@@ -63,15 +77,13 @@ int ask_for_lock(Thread *me, pif_request request)
 
     for (;;) {
         int answer = ask(me, request);
-        uint32_t owner = pif_owner(&core, request.mutex).thread;
-        if (answer != EDEADLK || owner == me->number)
+        if (answer != EDEADLK || pif_owner(&core, request.mutex).thread == me->number)
             return answer;
         me->wants = request.mutex;
         if (!is_timed && !has_deadline(request.mutex, me))
             tell_deadlock(me);
         me->is_timed = is_timed;
         me->deadline = request.deadline;
-        me->seen = owner;
         wait_until(me, is_undone, NULL, "waits in a cycle for");
         me->wants = 0;
         if (is_timed && request.deadline <= microseconds())

@@ -90,6 +90,9 @@ Thread *enter_if_on(const char *call, uintptr_t caller)
     if (me->in_call || running != me)
         stop(UNSUPPORTED, "%s by a signal's handler, while its thread is inside of %s", call, me->call);
     me->in_call = true;
+    me->was_idle = me->idle;
+    me->idle = 0;
+    me->yields = me->was_idle >= MOST_IDLE;
     me->call = call;
     me->caller = caller;
     return me;

@@ -5,16 +5,16 @@
 #include "schedule.h"
 
 /* An error that tells of a mistake of its caller. POSIX leaves it undefined of plain mutexes. */
-static int judged(const Thread *me, uint32_t mutex, int answer, const char *mistake)
+static int judged(const Thread *me, uint32_t mutex, int answer, const char *does, const char *mistake)
 {
     if (is_plain(mutex) || !options.errors)
-        misuse(me, "%s m%u%s", mistake, mutex, name_of_mutex(mutex));
+        misuse(me, "%s m%u%s, %s", does, mutex, name_of_mutex(mutex), mistake);
     return answer;
 }
 
 static int judged_lock(const Thread *me, uint32_t mutex, int answer)
 {
-    return answer == EDEADLK ? judged(me, mutex, answer, "holds, and locks again,") : answer;
+    return answer == EDEADLK ? judged(me, mutex, answer, "locks", "which it holds") : answer;
 }
 
 int pthread_mutex_init(pthread_mutex_t *mutex, const pthread_mutexattr_t *attributes)
@@ -61,7 +61,7 @@ int pthread_mutex_trylock(pthread_mutex_t *mutex)
     point(me);
     int answer = ask(me, pif_trylock(number_of_mutex(me, mutex)));
     if (answer == EBUSY)
-        use_for_nothing(me);
+        find_nothing(me);
     leave(me);
     return answer;
 }
@@ -99,7 +99,7 @@ int pthread_mutex_unlock(pthread_mutex_t *mutex)
     uint32_t number = number_of_mutex(me, mutex);
     int answer = ask(me, pif_unlock(number));
     if (answer == EPERM)
-        judged(me, number, answer, "unlocks, and doesn't hold,");
+        judged(me, number, answer, "unlocks", "which it doesn't hold");
     leave(me);
     return answer;
 }
@@ -114,7 +114,7 @@ int pthread_mutex_consistent(pthread_mutex_t *mutex)
     uint32_t number = number_of_mutex(me, mutex);
     int answer = ask(me, pif_consistent(number));
     if (answer == EINVAL)
-        judged(me, number, answer, "calls consistent, and is not the owner of an inconsistent mutex,");
+        judged(me, number, answer, "calls consistent", "which it doesn't hold, or which isn't inconsistent");
     leave(me);
     return answer;
 }

@@ -1,11 +1,12 @@
-/* Which number of the core is whose. A mutex is marked in its own memory, which glibc doesn't use here: so one that is
-   initialised again, also by a static initialiser, or copied, is seen to be another one. */
+/* Which number of the core is whose. A mutex is marked in its own memory, in the two words that glibc writes before it
+   reads them. So one that is initialised again, also by a static initialiser, or copied, is seen to be another one, and
+   a child of a fork goes on with it. */
 #define _GNU_SOURCE
 #include <stdio.h>
 
 #include "schedule.h"
 
-enum { MARK = 0x70696673, KINDS = 6, SHARED_BIT = 1 };
+enum { MARK = 0x70696673, KINDS = 6, SHARED_BIT = 1 }; /* the last: of glibc's variables */
 
 typedef struct {
     uintptr_t address, first_used;
@@ -120,11 +121,22 @@ static uint32_t take_mutex(uint32_t kind)
     return number;
 }
 
+static uint32_t marked_number(const pthread_mutex_t *mutex)
+{
+    return (uint32_t)(uintptr_t)mutex->__data.__list.__next;
+}
+
+static void mark(pthread_mutex_t *mutex, uintptr_t word, uint32_t number)
+{
+    mutex->__data.__list.__prev = (void *)word;
+    mutex->__data.__list.__next = (void *)(uintptr_t)number;
+}
+
 static bool is_marked(const pthread_mutex_t *mutex)
 {
-    uint32_t number = (uint32_t)mutex->__data.__owner;
+    uint32_t number = marked_number(mutex);
 
-    return mutex->__data.__nusers == MARK && number >= 1 && number <= MOST_MUTEXES
+    return (uintptr_t)mutex->__data.__list.__prev == MARK && number >= 1 && number <= MOST_MUTEXES
            && mutexes[number].address == (uintptr_t)mutex;
 }
 
@@ -133,15 +145,14 @@ uint32_t number_of_mutex(const Thread *me, pthread_mutex_t *mutex)
     uintptr_t address = (uintptr_t)mutex;
 
     if (is_marked(mutex))
-        return (uint32_t)mutex->__data.__owner;
+        return marked_number(mutex);
     refuse_others(me, mutex);
     uintptr_t before = (uintptr_t)held_at(&mutexes_at, address);
     if (before != 0 && mutexes[before].address == address)
         give_back((uint32_t)before);
     uint32_t kind = kind_of(mutex->__data.__kind), number = take_mutex(kind);
     mutexes[number] = (Mutex){.address = address, .first_used = me->caller, .kind = kind};
-    mutex->__data.__owner = (int)number;
-    mutex->__data.__nusers = MARK;
+    mark(mutex, MARK, number);
     if (!hold_at(&mutexes_at, address, (void *)(uintptr_t)number))
         stop(LIMIT, "memory");
     return number;
@@ -151,13 +162,12 @@ void forget_mutex(const Thread *me, pthread_mutex_t *mutex)
 {
     if (!is_marked(mutex))
         return;
-    uint32_t number = (uint32_t)mutex->__data.__owner;
+    uint32_t number = marked_number(mutex);
     pif_owned owner = pif_owner(&core, number);
     if (owner.result == PIF_OK && !threads[owner.thread].gone)
         misuse(me, "destroys m%u%s, which t%u holds", number, name_of_mutex(number), owner.thread);
     give_back(number);
-    mutex->__data.__owner = 0;
-    mutex->__data.__nusers = 0;
+    mark(mutex, 0, 0);
 }
 
 /* VARIABLES */

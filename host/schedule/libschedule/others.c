@@ -63,7 +63,7 @@ static int take_one(Thread *me, sem_t *semaphore, int otherwise)
 
     *value_of(semaphore) -= has;
     if (!has)
-        use_for_nothing(me);
+        find_nothing(me);
     leave(me);
     errno = has ? errno : otherwise;
     return has ? 0 : -1;
@@ -184,7 +184,7 @@ static int try_access(Thread *me, pthread_rwlock_t *lock, const Access *access)
     point(me);
     if (shared->writer == 0 && (!access->writes || shared->readers == 0))
         return take_access(me, lock, access);
-    use_for_nothing(me);
+    find_nothing(me);
     leave(me);
     return EBUSY;
 }
@@ -348,7 +348,7 @@ int pthread_spin_trylock(pthread_spinlock_t *lock)
     point(me);
     int answer = BELOW(pthread_spin_trylock)(lock);
     if (answer == EBUSY)
-        use_for_nothing(me);
+        find_nothing(me);
     leave(me);
     return answer;
 }

@@ -3,6 +3,7 @@
 #define _GNU_SOURCE
 #include <errno.h>
 #include <fcntl.h>
+#include <limits.h>
 #include <poll.h>
 #include <signal.h>
 #include <sys/epoll.h>
@@ -189,9 +190,33 @@ FILE_CALL(ssize_t, recvfrom, POLLIN,
 FILE_CALL(int, accept, POLLIN, (int file, __SOCKADDR_ARG from, socklen_t *restrict length), (file, from, length))
 FILE_CALL(int, accept4, POLLIN, (int file, __SOCKADDR_ARG from, socklen_t *restrict length, int flags),
           (file, from, length, flags))
-FILE_CALL(ssize_t, write, POLLOUT, (int file, const void *bytes, size_t size), (file, bytes, size))
 FILE_CALL(ssize_t, writev, POLLOUT, (int file, const struct iovec *parts, int count), (file, parts, count))
 FILE_CALL(ssize_t, send, POLLOUT, (int file, const void *bytes, size_t size, int flags), (file, bytes, size, flags))
+
+static bool is_pipe(int file)
+{
+    struct stat present;
+
+    return fstat(file, &present) == 0 && S_ISFIFO(present.st_mode);
+}
+
+/* A pipe that isn't full takes PIPE_BUF bytes. More are written in parts, each once there is room. */
+ssize_t write(int file, const void *bytes, size_t size)
+{
+    ssize_t part, all = 0;
+
+    wait_for_file("write", CALLER, file, POLLOUT);
+    if (size <= PIPE_BUF || !may_wait(file) || !is_pipe(file))
+        return BELOW(write)(file, bytes, size);
+    do {
+        size_t rest = size - (size_t)all;
+        part = BELOW(write)(file, (const char *)bytes + all, rest < PIPE_BUF ? rest : PIPE_BUF);
+        all += part > 0 ? part : 0;
+        if (part > 0 && (size_t)all < size)
+            wait_for_file("write", CALLER, file, POLLOUT);
+    } while (part > 0 && (size_t)all < size);
+    return all > 0 ? all : part;
+}
 
 /* SIGNALS: those of the process, and of a thread, which nobody else can ask for. */
 

@@ -7,7 +7,8 @@
 #include "pif.h"
 
 enum { MOST_THREADS = 1024, MOST_MUTEXES = 1024, MOST_VARIABLES = 256 };
-enum { MOST_OF_CHOICE = 1 << 14, MOST_OF_REASON = 400, MOST_OF_NAME = 300 }; /* bytes: of a line of the schedule */
+enum { MOST_OF_CHOICE = 1 << 14, MOST_OF_REASON = 400, MOST_OF_NAME = 300 }; /* bytes */
+enum { MOST_IDLE = 2 }; /* calls in a row that find nothing to do, before another thread goes first */
 
 /* How the library ends a run. */
 typedef enum {
@@ -61,7 +62,8 @@ struct Thread {
     bool gone;    /* it has ended, or has stopped for good */
     bool stopped; /* it has stopped for good, since the tool said so */
     bool joined, detached, in_call;
-    bool yields;         /* it has nothing to do now: another thread goes first */
+    uint32_t idle, was_idle; /* how often in a row calls of it found nothing to do: with this call, and before it */
+    bool yields;         /* that was too often: another thread goes first */
     bool open;           /* a call of the core is open, and waits */
     bool asks_the_kernel; /* what it waits for may come from outside of the program */
     bool is_timed;
@@ -127,12 +129,11 @@ void end_run(void) __attribute__((noreturn));
 /* turns.c */
 extern Thread *running;
 void point(Thread *);                       /* another thread may go first */
-void yield(Thread *);                       /* likewise, and this one has nothing to do */
 void wait_in_core(Thread *);                /* its call of the core waits */
 void wait_until(Thread *, Condition *, const void *on, const char *how);
 void first_turn(Thread *);                  /* of a new thread */
 void last_turn(Thread *);                   /* of one that ends */
-void use_for_nothing(Thread *);             /* it has found nothing to do, and will yield at its next point */
+void find_nothing(Thread *);                /* its call found nothing to do, as a loop may that waits for another thread */
 
 /* strategies.c */
 typedef struct {

@@ -198,7 +198,7 @@ int pthread_tryjoin_np(pthread_t name, void **result)
     point(me);
     Thread *thread = thread_to_join(me, name);
     if (!thread->gone)
-        use_for_nothing(me);
+        find_nothing(me);
     int answer = thread->gone ? take_result(thread, result) : EBUSY;
     leave(me);
     return answer;

@@ -43,14 +43,14 @@ static void remove_from(Threads *some, const Thread *thread)
         }
 }
 
-/* Under `stay` a thread that has nothing to do lets the others go first, so that its loop ends. */
+/* A thread in a loop that waits for another one lets the others go first, so that its loop ends. */
 static void find_those_who_can(const Thread *me)
 {
     can.count = 0;
     for (uint32_t i = 0; i < living.count; i++)
         if (can_go(living.at[i]))
             can.at[can.count++] = living.at[i];
-    if (me->yields && options.strategy == STAY && can.count > 1)
+    if (me->yields && can.count > 1)
         remove_from(&can, me);
 }
 
@@ -301,21 +301,14 @@ static void pass_turn(Thread *me)
         stand_still();
     if (next != me)
         await(me);
-    me->yields = false;
     errno = number;
 }
 
 void point(Thread *me) { pass_turn(me); }
 
-void yield(Thread *me)
+void find_nothing(Thread *me)
 {
-    use_for_nothing(me);
-    pass_turn(me);
-}
-
-void use_for_nothing(Thread *me)
-{
-    me->yields = true;
+    me->idle = me->was_idle + 1;
     if (options.strategy == PCT)
         rank_last(me);
 }
