@@ -1,5 +1,5 @@
-/* measure THREADS PAIRS: what a lock or an unlock costs, by the machine's own clocks. Each thread makes so many pairs on
-   one mutex. Run alone it measures glibc, and by pif-schedule the library. */
+/* measure THREADS PAIRS: what a lock or an unlock costs, by the machine's own clocks. Each thread makes so many pairs
+   on one mutex. Run alone it measures glibc, and by pif-schedule the library. */
 #include <pthread.h>
 #include <stdio.h>
 #include <stdlib.h>

@@ -23,7 +23,7 @@ FIRST_LINE = "pif-schedule 1"
 STRATEGIES = ("random", "pct", "pick", "stay")  # by the numbers of schedule.h
 
 # What ends a run without a verdict on the program.
-UNDECIDED = ("hang", "diverged", "limit", "unsupported", "no call")
+UNDECIDED = ("hang", "diverged", "limit", "unsupported", "no call", "unconfirmed")
 
 # The head of a file in which the library tells of a run, as told.c has it; its text is behind.
 HEAD = struct.Struct("<8Q")
@@ -52,7 +52,7 @@ LINE = re.compile(r"(\d+) t(\d+)\.(\d+) (?:> t(\d+)|end t(\d+)|(time)) of((?: t\
 
 
 class Choice(NamedTuple):
-    """A line of a schedule. `kind` is `go`, `end` or `time`; `can` are those who can go, `may_end` those who may stop."""
+    """A line of a schedule: `kind` is `go`, `end` or `time`, `can` are those who can go, `may_end` who may stop."""
 
     line: str
     chooser: int
@@ -102,8 +102,6 @@ class Run(NamedTuple):
     choices: list
     story: str
     is_story_cut: bool
-    forks: int
-    others: int
     out: bytes
     err: str
 
@@ -171,6 +169,7 @@ class Program:
         self.words = list(words)
         self.file = program_named(words[0])
         self.made = ""
+        self.forks = self.others = 0  # the most children of a run, and other processes that wanted to be scheduled
         self.room = tempfile.TemporaryDirectory(prefix="pif-schedule.", dir="/dev/shm" if os.access("/dev/shm", os.W_OK)
                                                 else None)
         self.folder = Path(self.room.name)
@@ -249,7 +248,8 @@ class Program:
     def told(self, name):
         with open(self.file_of(name), "rb") as file:
             takers, length, points, switches, forks, ended, is_full, _ = HEAD.unpack(file.read(HEAD.size))
-            return Told(takers, points, switches, forks, ended, bool(is_full), file.read(length).decode("ascii", "replace"))
+            text = file.read(length).decode("ascii", "replace")
+            return Told(takers, points, switches, forks, ended, bool(is_full), text)
 
     def run(self, asked, choices=()):
         """Runs the program once."""
@@ -266,8 +266,9 @@ class Program:
         made = [choice for choice in map(read_choice, lines) if choice]
         out = self.file_of("out").read_bytes()
         kind, reasons = verdict(asked, told, reasons, status, out)
-        return Run(kind, reasons, told.points, told.switches, made, story.text, story.is_full, told.forks,
-                   max(0, told.takers - 1), out, self.file_of("err").read_text("utf-8", "replace"))
+        self.forks, self.others = max(self.forks, told.forks), max(self.others, told.takers - 1)
+        return Run(kind, reasons, told.points, told.switches, made, story.text, story.is_full, out,
+                   self.file_of("err").read_text("utf-8", "replace"))
 
 
 def verdict(asked, told, reasons, status, out):
@@ -334,7 +335,7 @@ def read_schedule(path):
             raise Refused("%s is no schedule: its line %d is '%s'" % (path, number, line))
     missing = [word for word in ("program", "on", "strategy", "seed", "outcome") if word not in head]
     if missing or not words or head["strategy"] not in STRATEGIES or not head["seed"].isdigit() or head["on"] != "core":
-        raise Refused("%s is no schedule: %s" % (path, "it has no line '%s'" % missing[0] if missing else "a line of its "
-                                                 "head is wrong"))
+        why = "it has no line '%s'" % missing[0] if missing else "a line of its head is wrong"
+        raise Refused("%s is no schedule: %s" % (path, why))
     asked = Asked(strategy=head["strategy"], seed=int(head["seed"]), **kept)
     return Schedule(words, head["program"], asked, head["outcome"], reasons, choices)

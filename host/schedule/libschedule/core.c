@@ -69,8 +69,8 @@ static bool is_undone(const Thread *me)
     return is_due(me) || !closes_cycle(me) || (!me->is_timed && !has_deadline(me->wants, me));
 }
 
-/* A lock that would close a cycle is answered EDEADLK by the core, and glibc's waits. If no deadline can undo it that is
-   a deadlock. */
+/* A lock that would close a cycle is answered EDEADLK by the core, and glibc's waits. If no deadline can undo it that
+   is a deadlock. */
 int ask_for_lock(Thread *me, pif_request request)
 {
     bool is_timed = me->is_timed;

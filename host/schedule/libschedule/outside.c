@@ -1,5 +1,5 @@
-/* Calls of the kernel that wait: for a file, a signal, a process. Each is asked without waiting at every choice, so that
-   a pipe between two threads is part of the schedule. What comes from outside of the program is no part of it. */
+/* Calls of the kernel that wait: for a file, a signal, a process. Each is asked without waiting at every choice, so
+   that a pipe between two threads is part of the schedule. What comes from outside of the program is no part of it. */
 #define _GNU_SOURCE
 #include <errno.h>
 #include <fcntl.h>

@@ -35,7 +35,7 @@ typedef struct {
     uint64_t inherit;       /* each mutex is taken as one that inherits */
     uint64_t errors;        /* an error that POSIX names is answered, and no misuse */
     uint64_t each;          /* points with one choice have a line, too, as long as a thread may stop */
-    uint64_t loose;         /* choices are found by the thread and its own count, and those that don't fit are left out */
+    uint64_t loose;         /* choices are found by thread and its own count; those that don't fit are left out */
     uint64_t whole;         /* no choice may come behind those that were given */
     uint64_t story;         /* the events of the core are told */
 } Options;
@@ -133,7 +133,7 @@ void wait_in_core(Thread *);                /* its call of the core waits */
 void wait_until(Thread *, Condition *, const void *on, const char *how);
 void first_turn(Thread *);                  /* of a new thread */
 void last_turn(Thread *);                   /* of one that ends */
-void find_nothing(Thread *);                /* its call found nothing to do, as a loop may that waits for another thread */
+void find_nothing(Thread *);                /* its call found nothing to do, as in a loop that waits for others */
 
 /* strategies.c */
 typedef struct {
@@ -167,6 +167,7 @@ void set_timeout(Thread *, uint64_t microseconds);
 extern Thread threads[MOST_THREADS + 1]; /* by number */
 extern uint32_t thread_count;
 extern Threads living;
+extern uint32_t stopped_count; /* those that have stopped for good */
 bool begin_threads(void);
 Thread *this_thread(void);
 Thread *thread_named(pthread_t);

@@ -32,8 +32,8 @@ static int by_size(const void *left, const void *right)
     return (*a > *b) - (*a < *b);
 }
 
-/* PCT (Burckhardt et al., ASPLOS 2010): the thread of greatest rank goes, and at depth - 1 points that are drawn the one
-   that goes gets a rank below all others. */
+/* PCT (Burckhardt et al., ASPLOS 2010): the thread of greatest rank goes, and at depth - 1 points that are drawn the
+   one that goes gets a rank below all others. */
 void begin_strategy(void)
 {
     state = options.seed;
@@ -75,7 +75,7 @@ static bool has(const Threads *can, const Thread *thread)
     return false;
 }
 
-/* As SCHED_FIFO on one processor: the core's choice, if that thread can go. The core knows nothing of joins and sleeps. */
+/* As SCHED_FIFO on one processor: the core's choice, if that thread can go. The core knows nothing of sleeps. */
 static Thread *choose_by_priority(const Threads *can, Thread *present)
 {
     pif_number picked = pif_pick(&core);

@@ -3,6 +3,7 @@
 #include <errno.h>
 #include <limits.h>
 #include <sched.h>
+#include <stdlib.h>
 #include <string.h>
 
 #include "schedule.h"
@@ -10,6 +11,7 @@
 Thread threads[MOST_THREADS + 1];
 uint32_t thread_count;
 Threads living;
+uint32_t stopped_count;
 
 static __thread Thread *self __attribute__((tls_model("initial-exec")));
 static pthread_key_t key;
@@ -48,6 +50,7 @@ static void leave_the_living(Thread *thread)
 
 void stop_thread(Thread *thread)
 {
+    stopped_count++;
     thread->stopped = true;
     leave_the_living(thread);
 }
@@ -66,6 +69,8 @@ static void round_of_destructors(void *value)
     leave_the_living(me);
     if (living.count > 0)
         last_turn(me);
+    else if (stopped_count > 0) /* glibc would wait for those */
+        exit(0);
 }
 
 static void take_name(Thread *me)

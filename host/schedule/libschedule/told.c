@@ -83,7 +83,7 @@ void tell_exit(void) { run->ended = BY_EXIT; }
 
 static void put_formatted(Told *told, const char *format, va_list list)
 {
-    char line[MOST_OF_CHOICE];
+    static char line[MOST_OF_CHOICE];
     int size = vsnprintf(line, sizeof line, format, list);
 
     if (size > 0)

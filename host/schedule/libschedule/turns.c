@@ -17,7 +17,6 @@ static Threads can; /* at this choice */
 static char line[MOST_OF_CHOICE];
 static uint64_t points;
 static uint32_t idle; /* points, one behind another, at which nobody had anything to do */
-static uint32_t stopped;
 static pid_t ending; /* a thread that has ended, and that the kernel may still have */
 
 static long futex(_Atomic int *word, int what, int number)
@@ -70,7 +69,7 @@ static char *write_names(char *at, const char *before, const Threads *some)
 }
 
 /* Who may stop for good here: any thread but the first. */
-static bool may_stop(void) { return stopped < options.ends; }
+static bool may_stop(void) { return stopped_count < options.ends; }
 
 /* Up to what is chosen. */
 static char *begin_line(const Thread *me)
@@ -80,7 +79,7 @@ static char *begin_line(const Thread *me)
 
 static void end_line(char *at)
 {
-    Threads others;
+    static Threads others;
 
     at = write_names(at, " of", &can);
     if (!options.each || !may_stop())
@@ -166,7 +165,6 @@ static bool stops_one(Thread *me)
         return false;
     end_line(write_number(at, " end t", thread->number));
     note_choice(asked);
-    stopped++;
     stop_thread(thread);
     return true;
 }

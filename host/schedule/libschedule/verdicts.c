@@ -65,7 +65,7 @@ static bool is_in_cycle(const Thread *thread)
 /* `chain: t2 -> m2 -> t3 -> m1 -> t2` */
 static void tell_chain(const Thread *first)
 {
-    char line[MOST_OF_CHOICE];
+    static char line[MOST_OF_CHOICE];
     size_t size = (size_t)snprintf(line, sizeof line, "chain: t%u", first->number);
     const Thread *thread = first;
 
@@ -161,7 +161,7 @@ static void tell_threads(void)
 
 void stop(Verdict verdict, const char *format, ...)
 {
-    char reason[MOST_OF_CHOICE];
+    static char reason[MOST_OF_CHOICE]; /* the stack of a thread may be small */
     va_list list;
 
     va_start(list, format);
@@ -173,7 +173,7 @@ void stop(Verdict verdict, const char *format, ...)
 
 void misuse(const Thread *me, const char *format, ...)
 {
-    char reason[MOST_OF_REASON];
+    static char reason[MOST_OF_REASON];
     va_list list;
 
     va_start(list, format);

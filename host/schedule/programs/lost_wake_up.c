@@ -1,4 +1,5 @@
-/* A flag is set and signalled without the mutex, so that both may come between the test and the wait. Mended: with it. */
+/* A flag is set and signalled without the mutex, so that both may come between the test and the wait. Mended: with
+   it. */
 #include <stdatomic.h>
 
 #include "programs.h"

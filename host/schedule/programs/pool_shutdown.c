@@ -1,5 +1,5 @@
-/* A pool of two workers is told to stop without its mutex: a worker that is on its way to wait isn't woken. Mended: with
-   the mutex. */
+/* A pool of two workers is told to stop without its mutex: a worker that is on its way to wait isn't woken. Mended:
+   with the mutex. */
 #include <stdatomic.h>
 
 #include "programs.h"

@@ -1,4 +1,4 @@
-/* What the programs of this folder share. Each is a bug that real programs have, and with -DMENDED=1 its mended twin. */
+/* What the programs of this folder share. Each has a bug of real programs, and with -DMENDED=1 it is mended. */
 #ifndef PIF_PROGRAMS_H
 #define PIF_PROGRAMS_H
 

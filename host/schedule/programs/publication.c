@@ -1,5 +1,5 @@
-/* A value is said to be there before it is made, and the first look at that is without the mutex. Mended: after. Between
-   the two stands a call; without one no point would. */
+/* A value is said to be there before it is made, and the first look at that is without the mutex. Mended: after.
+   Between the two stands a call; without one no point would. */
 #include <assert.h>
 #include <stdatomic.h>
 
