@@ -1,5 +1,7 @@
 """What the tools of this folder share: programs are run by libschedule.so, and schedules are read and written."""
 
+from __future__ import annotations
+
 import ctypes
 import hashlib
 import json
@@ -48,7 +50,7 @@ class Told(NamedTuple):
     text: str
 
 
-LINE = re.compile(r"(\d+) t(\d+)\.(\d+) (?:> t(\d+)|end t(\d+)|(time)) of((?: t\d+)*)(?: or end((?: t\d+)+))?")
+LINE = re.compile(r"(\d+) t(\d+)\.(\d+) (?:> t(\d+)|end t(\d+)|(time)) of((?: t\d+)*)(?: or end((?: t\d+)+))? at .+")
 
 
 class Choice(NamedTuple):

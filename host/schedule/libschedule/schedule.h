@@ -100,8 +100,8 @@ void serve(void); /* returns in a process of its own for each run */
 /* asked.c: what the tool asks */
 typedef enum { CHOOSE_THREAD, CHOOSE_END, CHOOSE_TIME } Kind;
 
-/* A line `20 t1.5 > t2 of t1 t2`: at point 20, the fifth of t1's own, t2 goes, of those that can. In place of `> t2`
-   stands `end t2` if t2 stops for good, and `time` if the time moves. */
+/* A line `20 t1.5 > t2 of t1 t2 at sem_wait`: at point 20, the fifth of t1's own and in that call, t2 goes, of those
+   that can. In place of `> t2` stands `end t2` if t2 stops for good, and `time` if the time moves. */
 typedef struct {
     const char *line;
     uint32_t chooser, count, thread;

@@ -44,6 +44,7 @@ static void leave_the_living(Thread *thread)
     living.count--;
     memmove(&living.at[at], &living.at[at + 1], (living.count - at) * sizeof *living.at);
     thread->gone = true;
+    thread->call = "its end";
     pif_end(&core, thread->number);
     tell_event("end t%u = ended", thread->number);
 }

@@ -77,19 +77,24 @@ static char *begin_line(const Thread *me)
     return write_number(write_number(write_number(line, "", points), " t", me->number), ".", me->count);
 }
 
-static void end_line(char *at)
+static char *write_others(char *at)
 {
     static Threads others;
 
-    at = write_names(at, " of", &can);
-    if (!options.each || !may_stop())
-        return;
     others.count = 0;
     for (uint32_t i = 0; i < living.count; i++)
         if (living.at[i]->number > 1)
             others.at[others.count++] = living.at[i];
-    if (others.count > 0)
-        write_names(at, " or end", &others);
+    return others.count == 0 ? at : write_names(at, " or end", &others);
+}
+
+/* What there is to choose from, and where the thread is that has the turn. */
+static void end_line(const Thread *me, char *at)
+{
+    at = write_names(at, " of", &can);
+    if (options.each && may_stop())
+        at = write_others(at);
+    stpcpy(stpcpy(at, " at "), me->call);
 }
 
 /* The line of this choice is told. It has to be the one that is asked. */
@@ -136,7 +141,7 @@ static bool lets_time_pass(Thread *me)
     bool is_drawn = options.strategy != STAY && draw_below((uint32_t)options.time) == 0;
     if (asked == NULL && !is_drawn)
         return false;
-    end_line(stpcpy(at, " time"));
+    end_line(me, stpcpy(at, " time"));
     if (!move_to_deadline())
         return false;
     note_choice(asked);
@@ -163,7 +168,7 @@ static bool stops_one(Thread *me)
     Thread *thread = asked == NULL ? drawn_to_stop() : living_thread(asked->thread);
     if (thread == NULL || thread->number == 1)
         return false;
-    end_line(write_number(at, " end t", thread->number));
+    end_line(me, write_number(at, " end t", thread->number));
     note_choice(asked);
     stop_thread(thread);
     return true;
@@ -176,16 +181,16 @@ static Thread *choose_thread(Thread *me)
     Thread *next = asked == NULL ? NULL : thread_that_can(asked->thread);
 
     if (asked != NULL && next == NULL && !options.loose) {
-        end_line(at);
+        end_line(me, at);
         stop(DIVERGED, "the schedule has '%s', and at point %s that can't go", asked->line, line);
     }
     if (asked == NULL && can.count > 1) {
-        end_line(at);
+        end_line(me, at);
         expect_none();
     }
     if (next == NULL)
         next = choose_by_strategy(&can, me, points);
-    end_line(write_number(at, " > t", next->number));
+    end_line(me, write_number(at, " > t", next->number));
     note_choice(asked);
     return next;
 }
