@@ -271,10 +271,14 @@ static void give(Thread *thread)
    choices has the same addresses. The first thread stays until the process ends. */
 static void let_it_end(void)
 {
+    enum { LOOKS = 100, SHORT = 20000 };
+    struct timespec pause = {0, SHORT};
+
     if (ending == 0 || ending == getpid())
         return;
-    while (syscall(SYS_tgkill, getpid(), ending, 0) == 0)
-        syscall(SYS_sched_yield);
+    for (int looks = 0; syscall(SYS_tgkill, getpid(), ending, 0) == 0; looks++)
+        if (looks >= LOOKS)
+            syscall(SYS_nanosleep, &pause, NULL);
     ending = 0;
 }
 
