@@ -105,7 +105,7 @@ static void note_choice(const Choice *asked)
     tell_choice(line);
 }
 
-/* A choice is left, and the schedule has another one, or none. */
+/* The schedule has another choice than the one that is left here, or none. */
 static void expect_none(void)
 {
     const char *next = next_line();
@@ -114,6 +114,15 @@ static void expect_none(void)
         stop(DIVERGED, "the schedule has '%s', and this is point %s", next, line);
     if (options.whole)
         stop(DIVERGED, "the schedule has no choice for point %s", line);
+}
+
+/* What the schedule chooses can't be done here. The line is what is known up to the choice. */
+static void refuse(const Thread *me, char *at, const Choice *asked)
+{
+    if (options.loose)
+        return;
+    end_line(me, at);
+    stop(DIVERGED, "the schedule has '%s', which can't be done at point %s", asked->line, line);
 }
 
 static Thread *living_thread(uint32_t number)
@@ -141,9 +150,12 @@ static bool lets_time_pass(Thread *me)
     bool is_drawn = options.strategy != STAY && draw_below((uint32_t)options.time) == 0;
     if (asked == NULL && !is_drawn)
         return false;
-    end_line(me, stpcpy(at, " time"));
-    if (!move_to_deadline())
+    if (!move_to_deadline()) {
+        if (asked != NULL)
+            refuse(me, at, asked);
         return false;
+    }
+    end_line(me, stpcpy(at, " time"));
     note_choice(asked);
     return true;
 }
@@ -166,8 +178,11 @@ static bool stops_one(Thread *me)
     char *at = begin_line(me);
     const Choice *asked = asked_choice(CHOOSE_END, line, me);
     Thread *thread = asked == NULL ? drawn_to_stop() : living_thread(asked->thread);
-    if (thread == NULL || thread->number == 1)
+    if (thread == NULL || thread->number == 1) {
+        if (asked != NULL)
+            refuse(me, at, asked);
         return false;
+    }
     end_line(me, write_number(at, " end t", thread->number));
     note_choice(asked);
     stop_thread(thread);
@@ -180,10 +195,8 @@ static Thread *choose_thread(Thread *me)
     const Choice *asked = asked_choice(CHOOSE_THREAD, line, me);
     Thread *next = asked == NULL ? NULL : thread_that_can(asked->thread);
 
-    if (asked != NULL && next == NULL && !options.loose) {
-        end_line(me, at);
-        stop(DIVERGED, "the schedule has '%s', and at point %s that can't go", asked->line, line);
-    }
+    if (asked != NULL && next == NULL)
+        refuse(me, at, asked);
     if (asked == NULL && can.count > 1) {
         end_line(me, at);
         expect_none();
@@ -193,6 +206,17 @@ static Thread *choose_thread(Thread *me)
     end_line(me, write_number(at, " > t", next->number));
     note_choice(asked);
     return next;
+}
+
+/* Whether the schedule has a choice where there is none. */
+static bool has_choice_here(const Thread *me)
+{
+    const char *next = next_line();
+
+    if (next == NULL)
+        return false;
+    begin_line(me);
+    return strncmp(next, line, strlen(line)) == 0;
 }
 
 static void look_again(void)
@@ -250,7 +274,7 @@ static Thread *choose(Thread *me)
             help();
         else if (lets_time_pass(me) || stops_one(me))
             continue;
-        else if (can.count > 1 || (options.each && may_stop()))
+        else if (can.count > 1 || (options.each && may_stop()) || has_choice_here(me))
             return choose_thread(me);
         else
             return can.at[0];
