@@ -176,22 +176,31 @@ class Program:
                                                 else None)
         self.folder = Path(self.room.name)
         self.process = None
+        self.out = open(self.folder / "out", "ab", buffering=0)
+        self.err = open(self.folder / "err", "ab", buffering=0)
+        self.pipes = ()
+        self.rest = b""  # what the program said that wasn't read as a line yet
 
     def __enter__(self):
         try:
             self.start()
         except BaseException:
-            self.room.cleanup()
+            self.stop()
             raise
         return self
 
     def __exit__(self, *_):
-        os.close(self.to_program)
-        os.close(self.from_program)
-        self.process.kill()
-        self.process.wait()
-        self.out.close()
-        self.err.close()
+        self.stop()
+
+    def stop(self):
+        """Ends the program, with a run that goes on, and removes the folder."""
+        if self.process is not None:
+            self.process.kill()
+            self.process.wait()
+        for end in self.pipes:
+            os.close(end)
+        for file in (self.out, self.err):
+            file.close()
         self.room.cleanup()
 
     def file_of(self, name):
@@ -204,10 +213,9 @@ class Program:
         return " ".join(filter(None, [str(link), os.environ.get("LD_PRELOAD")]))
 
     def start(self):
-        self.out = open(self.file_of("out"), "ab", buffering=0)
-        self.err = open(self.file_of("err"), "ab", buffering=0)
         read_end, self.to_program = os.pipe()
         self.from_program, write_end = os.pipe()
+        self.pipes = self.to_program, self.from_program
         environment = {**os.environ, "LD_PRELOAD": self.preloaded(), "PIF_SCHEDULE": str(self.folder),
                        "PIF_SCHEDULE_SERVER": "%d,%d" % (read_end, write_end)}
         self.process = subprocess.Popen(
@@ -215,7 +223,6 @@ class Program:
             stdout=self.out, stderr=self.err, pass_fds=(read_end, write_end))
         os.close(read_end)
         os.close(write_end)
-        self.rest = b""
         self.made = self.answer("ready", 20)
         if self.made is None:
             raise Refused("libschedule.so isn't loaded by %s: it is linked statically, has other rights than yours, or "

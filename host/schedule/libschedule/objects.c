@@ -191,6 +191,17 @@ Variable *variable_at(const Thread *me, pthread_cond_t *variable)
     return present;
 }
 
+/* Whether a thread waits that wasn't woken. One that was woken may still be inside of its wait. */
+bool is_waited_on(const Variable *variable)
+{
+    for (uint32_t i = 0; variable->waiting > 0 && i < living.count; i++) {
+        pif_doing doing = pif_status(&core, living.at[i]->number);
+        if (doing.state == PIF_PARKED && doing.waits_for == variable->number)
+            return true;
+    }
+    return false;
+}
+
 /* A number that is bound to this mutex, and that no variable has now. */
 static uint32_t take_variable(uint32_t mutex)
 {
@@ -211,7 +222,7 @@ void bind_variable(const Thread *me, Variable *variable, uint32_t mutex)
 {
     if (variable->number != 0 && variable->mutex == mutex)
         return;
-    if (variable->waiting != 0)
+    if (is_waited_on(variable))
         misuse(me, "waits on c%u with m%u, and another thread waits on it with m%u", variable->number, mutex,
                variable->mutex);
     if (variable->number != 0)
@@ -227,7 +238,7 @@ void forget_variable(const Thread *me, pthread_cond_t *variable)
 
     if (present == NULL)
         return;
-    if (present->waiting != 0)
+    if (is_waited_on(present))
         misuse(me, "destroys c%u%s, on which a thread waits", present->number, name_of_variable(present->number));
     if (present->number != 0)
         variable_of[present->number] = NULL;

@@ -188,6 +188,7 @@ typedef struct {
 
 uint32_t number_of_mutex(const Thread *, pthread_mutex_t *);
 bool is_plain(uint32_t mutex); /* POSIX doesn't say what a thread is answered that unlocks it and doesn't hold it */
+bool is_waited_on(const Variable *);
 Variable *variable_at(const Thread *, pthread_cond_t *);
 void bind_variable(const Thread *, Variable *, uint32_t mutex);
 const Variable *variable_numbered(uint32_t);

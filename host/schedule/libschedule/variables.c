@@ -111,7 +111,7 @@ static int use(Thread *me, pthread_cond_t *variable, bool is_broadcast)
     point(me);
     Variable *used = variable_at(me, variable);
     int answer = 0;
-    used->for_nobody += used->waiting == 0;
+    used->for_nobody += !is_waited_on(used);
     if (used->number != 0)
         answer = ask(me, is_broadcast ? pif_broadcast(used->number) : pif_signal(used->number));
     leave(me);
