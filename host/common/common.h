@@ -56,8 +56,23 @@ bool hold_at(Table *, uintptr_t address, void *);         /* false: there is no 
 bool replace_at(Table *, uintptr_t address, void *old, void *new); /* nothing changes if another value stands there */
 void forget_at(Table *, uintptr_t address);
 
+/* maps.c: what is mapped in this process */
+typedef struct {
+    uint64_t device, file, offset; /* of the address: in the file, or in what is shared without one */
+    bool is_shared;
+    bool is_segment; /* of System V: its number is none of a file's */
+} Mapping;
+
+char *text_of_maps(size_t *took);        /* /proc/self/maps; NULL if it can't be read. munmap it, with what it took */
+uintptr_t hex_of(const char **text);     /* the number in front, which is passed over */
+bool find_mapping(uintptr_t address, Mapping *); /* false: there is none, or it can't be read */
+
 /* symbols.c: names of addresses, as `mutex+0x60 in program`; NULL if there is none */
+typedef struct Names Names;
+
 void read_maps(void);
+Names *names_by(char *maps); /* of another process, by the text of its maps, which is changed; they are used then */
+void use_names(Names *);
 const char *name_of_object(uintptr_t address);
 const char *name_of_call(uintptr_t returns_to);
 

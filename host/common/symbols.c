@@ -12,7 +12,7 @@
 
 #include "common.h"
 
-enum { MOST_FILES = 1024, MOST_HEADERS = 64, LEAST_OF_MAPS = 1 << 16, MOST_OF_MAPS = 1 << 26, SLOTS = 4096 };
+enum { MOST_FILES = 1024, MOST_HEADERS = 64, SLOTS = 4096 };
 enum { MOST_OF_SYMBOL = 60, MOST_OF_BASE = 30 };
 
 /* A file of code, from where it is mapped first. */
@@ -34,50 +34,14 @@ typedef struct {
     const char *name;
 } Known;
 
-static File *files;
-static int file_count;
-static Known known_objects[SLOTS], known_calls[SLOTS];
+struct Names {
+    File *files;
+    int count;
+    Known objects[SLOTS], calls[SLOTS];
+};
 
-static size_t read_whole(int file, char *bytes, size_t room)
-{
-    size_t size = 0;
-    ssize_t more;
-
-    while (size < room && (more = read(file, bytes + size, room - size)) > 0)
-        size += (size_t)more;
-    return size;
-}
-
-/* /proc/self/maps, with a 0 behind it; NULL if it can't be read. */
-static char *text_of_maps(void)
-{
-    for (size_t room = LEAST_OF_MAPS; room <= MOST_OF_MAPS; room *= 2) {
-        int file = open("/proc/self/maps", O_RDONLY | O_CLOEXEC);
-        char *text = file < 0 ? NULL : map_memory(room);
-        size_t size = text == NULL ? room : read_whole(file, text, room - 1);
-        if (file >= 0)
-            close(file);
-        if (text == NULL || size < room - 1)
-            return text;
-        munmap(text, room);
-    }
-    return NULL;
-}
-
-static uintptr_t number_of(const char **text)
-{
-    uintptr_t number = 0;
-
-    for (;; (*text)++) {
-        char digit = **text;
-        if (digit >= '0' && digit <= '9')
-            number = number * 16 + (uintptr_t)(digit - '0');
-        else if (digit >= 'a' && digit <= 'f')
-            number = number * 16 + (uintptr_t)(digit - 'a') + 10;
-        else
-            return number;
-    }
-}
+static Names own;
+static Names *names = &own;
 
 static bool read_at(int file, void *into, size_t size, off_t at)
 {
@@ -114,38 +78,39 @@ static bool read_headers(File *of, int file, uintptr_t first)
 static void add_file(const char *path, uintptr_t first)
 {
     struct stat present;
-    File *added = &files[file_count];
+    File *added = &names->files[names->count];
 
-    if (file_count == MOST_FILES || stat(path, &present) != 0 || !S_ISREG(present.st_mode))
+    if (names->count == MOST_FILES || stat(path, &present) != 0 || !S_ISREG(present.st_mode))
         return;
     int file = open(path, O_RDONLY | O_CLOEXEC);
     if (file < 0)
         return;
     added->path = path;
-    file_count += read_headers(added, file, first);
+    names->count += read_headers(added, file, first);
     close(file);
 }
 
 /* A line is `FIRST-LAST RIGHTS OFFSET DEVICE INODE  PATH`. */
 static void read_line(const char *line)
 {
-    uintptr_t first = number_of(&line);
+    uintptr_t first = hex_of(&line);
     const char *offset = strchr(line, ' ');
 
     if (offset == NULL || (offset = strchr(offset + 1, ' ')) == NULL)
         return;
     offset++;
     const char *path = strchr(offset, '/');
-    if (number_of(&offset) == 0 && *offset == ' ' && path != NULL)
+    if (hex_of(&offset) == 0 && *offset == ' ' && path != NULL)
         add_file(path, first);
 }
 
-void read_maps(void)
+/* Its lines end at a 0 then. */
+static void read_text(char *line)
 {
-    char *line = text_of_maps(), *end;
+    char *end;
 
-    files = line == NULL ? NULL : map_memory(MOST_FILES * sizeof *files);
-    if (files == NULL)
+    names->files = line == NULL ? NULL : map_memory(MOST_FILES * sizeof *names->files);
+    if (names->files == NULL)
         return;
     while ((end = strchr(line, '\n')) != NULL) {
         *end = '\0';
@@ -153,6 +118,26 @@ void read_maps(void)
         line = end + 1;
     }
 }
+
+void read_maps(void)
+{
+    size_t room;
+
+    read_text(text_of_maps(&room));
+}
+
+Names *names_by(char *maps)
+{
+    Names *made = map_memory(sizeof *made);
+
+    if (made != NULL) {
+        names = made;
+        read_text(maps);
+    }
+    return made;
+}
+
+void use_names(Names *of) { names = of != NULL ? of : &own; }
 
 static bool is_loaded(const File *file, uintptr_t address)
 {
@@ -166,9 +151,9 @@ static bool is_loaded(const File *file, uintptr_t address)
 
 static File *file_of(uintptr_t address)
 {
-    for (int i = 0; i < file_count; i++)
-        if (is_loaded(&files[i], address))
-            return &files[i];
+    for (int i = 0; i < names->count; i++)
+        if (is_loaded(&names->files[i], address))
+            return &names->files[i];
     return NULL;
 }
 
@@ -281,7 +266,7 @@ static const char *known_name(Known known[SLOTS], uintptr_t inside, uintptr_t sh
     return slot->name;
 }
 
-const char *name_of_object(uintptr_t address) { return known_name(known_objects, address, address); }
+const char *name_of_object(uintptr_t address) { return known_name(names->objects, address, address); }
 
 /* The call stands before the address to which it returns, which may be behind the function's end. */
-const char *name_of_call(uintptr_t returns_to) { return known_name(known_calls, returns_to - 1, returns_to); }
+const char *name_of_call(uintptr_t returns_to) { return known_name(names->calls, returns_to - 1, returns_to); }

@@ -42,10 +42,17 @@ def preloaded(library):
     return str(link)
 
 
-def environment(history, besides=None):
+def environment(history, besides=None, variable="RECORD_FILE"):
     """The variables with which a program is recorded. What it preloads itself comes after the recorder."""
     libraries = " ".join(filter(None, [preloaded(LIBRARY), os.environ.get("LD_PRELOAD")]))
-    return {**os.environ, "RECORD_FILE": str(history), "LD_PRELOAD": libraries, **(besides or {})}
+    return {**os.environ, variable: str(history), "LD_PRELOAD": libraries, **(besides or {})}
+
+
+def merge(shared, history):
+    """Writes what all processes of a run have recorded as one history, if that is anything."""
+    status = subprocess.run([HERE / "merge", shared, history]).returncode
+    if status not in (LEGAL, UNREAD):
+        raise OSError(0, "it cannot be written as a history", str(shared))
 
 
 def with_time(words, seconds, *options):

@@ -16,10 +16,13 @@ typedef struct {
 } Feature;
 
 extern const Feature mutex_features[], variable_features[], thread_features[], left_out_features[], end_features[],
-    handler_features[], difference_features[], passed_features[];
+    handler_features[], difference_features[], passed_features[], process_features[];
 
 /* Adds to CLOCK_MONOTONIC, as the recorder reads it. */
 extern time_t skipped_seconds;
+
+/* Then /proc/self/maps can't be opened. */
+extern bool hides_maps;
 
 void make_mutex(pthread_mutex_t *, int type, bool is_robust, int protocol);
 void make_inheriting(pthread_mutex_t *);

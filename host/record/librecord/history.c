@@ -61,7 +61,7 @@ static void collect_thread(History *history, Thread *thread)
     uint32_t used = atomic_load(&thread->used);
     Record *records = atomic_load(&thread->records);
 
-    for (uint32_t i = 0; i < used && i < most_records; i++) {
+    for (uint32_t i = 0; i < used && i < thread->room; i++) {
         uint64_t begin = atomic_load_explicit(&records[i].begin_place, memory_order_acquire);
         uint64_t answer = atomic_load_explicit(&records[i].answer_place, memory_order_acquire);
         if (begin != 0 && begin < history->cut)
@@ -74,13 +74,13 @@ static void collect_thread(History *history, Thread *thread)
 /* What has a place and isn't there yet is of a thread that hasn't gone on: its call hasn't begun, or it stays open. */
 static bool collect(History *history)
 {
-    uint64_t last = atomic_fetch_add(&next_place, 1), lost = atomic_load(&lost_place);
+    uint64_t last = atomic_fetch_add(&run->next_place, 1) + 1, lost = lost_place();
 
     history->cut = lost < last ? lost : last;
     history->at = map_memory((size_t)history->cut * sizeof *history->at);
     if (history->at == NULL)
         return false;
-    for (Thread *thread = atomic_load(&all_threads); thread != NULL; thread = thread->next)
+    for (Thread *thread = atomic_load(&run->threads); thread != NULL; thread = thread->next)
         collect_thread(history, thread);
     return true;
 }
@@ -112,22 +112,43 @@ static void note_place(Record *record, uint64_t place)
     else if (record->what == THREAD_DYING)
         record->named->dying_place = place;
     else if (record->what == THREAD_ENDED)
-        record->named->ended_place = place;
-    else {
+        record->named->ended_place = record->named->ended_place == 0 ? place : record->named->ended_place;
+    else if (record->what == THREAD_ALIVE && atomic_load(&record->is_alive))
+        record->named->last_place = place;
+    else if (is_call(record)) {
         record->thread->last_place = place;
         record->thread->open = is_begin(record, place) ? record : NULL;
     }
 }
 
+/* Of a shared run: whether the thread's process may have ended before the last line of another one. */
+static bool may_be_survived(const Thread *thread)
+{
+    for (const Process *other = atomic_load(&run->processes); other != NULL; other = other->next)
+        if (thread->process != NULL && other != thread->process && other->last_place > thread->last_place)
+            return true;
+    return false;
+}
+
 /* `dying` stands at its stamp, or behind a call that came later. Who was joined without a stamp left by other ways, and
-   was alive at its last line. A thread with a call open isn't dying, unless it was joined. */
+   was alive at its last line. A thread with a call open isn't dying, unless it was joined, or its process may have been
+   killed. */
 static void place_death(Thread *thread)
 {
-    bool may_die = thread->dying_place != 0 || thread->ended_place != 0;
+    bool is_survived = may_be_survived(thread);
+    bool may_die = thread->dying_place != 0 || thread->ended_place != 0 || is_survived;
 
-    if (may_die && thread->last_place > thread->dying_place)
-        thread->dying_place = thread->open != NULL && thread->ended_place == 0 ? 0 : thread->last_place;
+    if (may_die && thread->last_place > thread->dying_place) {
+        bool is_inside = thread->open != NULL && thread->ended_place == 0 && !is_survived;
+        thread->dying_place = is_inside ? 0 : thread->last_place;
+    }
     thread->open = NULL;
+}
+
+static void note_process(Thread *thread)
+{
+    if (thread->process != NULL && thread->last_place > thread->process->last_place)
+        thread->process->last_place = thread->last_place;
 }
 
 static void note_threads(History *history)
@@ -135,12 +156,14 @@ static void note_threads(History *history)
     for (uint64_t place = 1; place < history->cut; place++)
         if (history->at[place] != NULL)
             note_place(history->at[place], place);
-    for (Thread *thread = atomic_load(&all_threads); thread != NULL; thread = thread->next)
+    for (Thread *thread = atomic_load(&run->threads); thread != NULL; thread = thread->next)
+        note_process(thread);
+    for (Thread *thread = atomic_load(&run->threads); thread != NULL; thread = thread->next)
         place_death(thread);
 }
 
-/* Whether the history could be opened. */
-static bool write_text(History *history)
+/* Whether it is written. */
+static bool write_text(History *history, bool *is_opened)
 {
     int why = history->no_memory ? ENOMEM : open_text(history_file);
 
@@ -149,14 +172,15 @@ static bool write_text(History *history)
         say_error("RECORD_FILE cannot be opened", history_file, why);
         return false;
     }
+    *is_opened = true;
     write_lines(history);
     why = close_text(history_file);
     if (why != 0)
         say_error("RECORD_FILE cannot be written", history_file, why);
-    return true;
+    return why == 0;
 }
 
-static void make_history(void)
+static bool make_history(void)
 {
     History history;
 
@@ -164,16 +188,19 @@ static void make_history(void)
     if (!collect(&history) || !make_clock(&history)) {
         leave_file(history_file);
         say("no memory to write the history", 0, NULL);
-        return;
+        return false;
     }
     cut_by_time(&history);
     note_threads(&history);
     leave_out_cancelled(&history);
     number_all(&history);
     count_missed(&history);
-    read_maps();
-    if (write_text(&history))
+    if (!is_shared_run())
+        read_maps();
+    bool is_opened = false, is_written = write_text(&history, &is_opened);
+    if (is_opened)
         say_left_out(&history);
+    return is_written;
 }
 
 void say_no_history(void)
@@ -185,8 +212,9 @@ void say_no_history(void)
 }
 
 /* Once. A second thread waits for the first, which no signal interrupts. */
-void write_history(void)
+bool write_history(void)
 {
+    static bool is_good;
     int expected = NOT_WRITTEN;
     sigset_t all, before;
 
@@ -194,10 +222,11 @@ void write_history(void)
     pthread_sigmask(SIG_BLOCK, &all, &before);
     if (atomic_compare_exchange_strong(&stage, &expected, IS_BEING_WRITTEN)) {
         atomic_store(&recording, false);
-        make_history();
+        is_good = make_history();
         atomic_store(&stage, WRITTEN);
     }
     while (atomic_load(&stage) != WRITTEN)
         rest();
     pthread_sigmask(SIG_SETMASK, &before, NULL);
+    return is_good;
 }

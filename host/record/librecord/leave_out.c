@@ -44,7 +44,7 @@ static uint64_t cancelled_threads(void)
 {
     uint64_t number = 0;
 
-    for (Thread *thread = atomic_load(&all_threads); thread != NULL; thread = thread->next)
+    for (Thread *thread = atomic_load(&run->threads); thread != NULL; thread = thread->next)
         number += atomic_load(&thread->cancelled);
     return number;
 }
@@ -83,6 +83,8 @@ void say_left_out(const History *history)
 
     say_some(left_out(PROTECTED), "left out: mutexes with PTHREAD_PRIO_PROTECT: ");
     say_some(left_out(SHARED), "left out: mutexes and variables shared between processes: ");
+    say_some(left_out(UNIDENTIFIED), "left out: shared mutexes and variables whose memory can't be identified: ");
+    say_some(left_out(HELD_AT_FORK), "left out: copies of mutexes that were held when a process was forked: ");
     say_some(counted(C11_OBJECTS), "left out: mutexes and variables of C11 (mtx_t, cnd_t): ");
     say_some(cancelled_threads(), "left out: threads that were cancelled inside a call: ");
     say_some(left_out(WITH_CANCELLED), "left out: mutexes and variables that such threads used: ");
@@ -98,8 +100,9 @@ void say_left_out(const History *history)
     say_some(history->missed, "missed: calls on mutexes, since a thread got one that it had: ");
     say_some(history->found_free, "missed: calls on mutexes, since a thread found one free that another one had: ");
     tell_passed(history, say_line);
-    if (atomic_load(&lost_place) <= history->cut)
-        say("cut where a thread had more records than RECORD_MAX, or memory was short: ", most_records, "");
+    if (lost_place() <= history->cut)
+        say("cut where a thread had more records than RECORD_MAX, or memory was short: ",
+            is_shared_run() ? atomic_load(&run->most_records) : most_records, "");
     if (history->is_late)
         say("cut after 4294967294 microseconds", 0, NULL);
 }

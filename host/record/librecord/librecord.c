@@ -23,7 +23,6 @@ static _Atomic int readiness;
 static __thread bool is_starting; /* then an allocation may lock a mutex of the program's */
 static _Atomic bool is_refused; /* the file can't be opened */
 static _Atomic bool taken; /* a call is recorded, so this is the program whose history is written */
-static _Atomic uint64_t counts[COUNTS];
 static pid_t process;
 
 /* Lets any other thread run, whatever the priorities are. */
@@ -34,14 +33,14 @@ void rest(void)
     nanosleep(&pause, NULL);
 }
 
-void count(Count what) { atomic_fetch_add(&counts[what], 1); }
+void count(Count what) { atomic_fetch_add(&run->counts[what], 1); }
 
-uint64_t counted(Count what) { return atomic_load(&counts[what]); }
+uint64_t counted(Count what) { return atomic_load(&run->counts[what]); }
 
 static void forget_counts(void)
 {
     for (Count what = 0; what < COUNTS; what++)
-        atomic_store(&counts[what], 0);
+        atomic_store(&run->counts[what], 0);
     forget_reasons();
     forget_passed();
 }
@@ -69,11 +68,20 @@ static void find_calls(void)
     *(void **)&real.setschedprio = below("pthread_setschedprio");
     *(void **)&real.setschedparam = below("pthread_setschedparam");
     find_others();
+    find_waits();
+    find_maps();
 }
 
-/* Once a call of this process is recorded, its children record nothing. */
+/* Once a call of this process is recorded, its children record nothing, but in a shared run. */
 static void in_child(void)
 {
+    if (is_shared_run()) {
+        forget_process();
+        forget_thread();
+        atomic_store(&taken, false);
+        is_forked = true;
+        return;
+    }
     if (atomic_load(&taken))
         atomic_store(&recording, false);
     else
@@ -134,12 +142,27 @@ static void read_environment(void)
         say("nothing is recorded: the path of RECORD_FILE is too long", 0, NULL);
 }
 
+/* Whether there is something to write to. */
+static bool has_target(void)
+{
+    const char *shared = getenv("RECORD_SHARED");
+
+    if (shared == NULL || shared[0] == '\0')
+        return history_file != NULL;
+    int why = join_run(shared);
+    if (why == EILSEQ)
+        say_error("nothing is recorded: RECORD_SHARED is no recording", shared, 0);
+    else if (why != 0)
+        say_error("nothing is recorded: RECORD_SHARED cannot be used", shared, why);
+    return why == 0;
+}
+
 static void start(void)
 {
     find_calls();
     read_environment();
     process = getpid();
-    if (history_file == NULL)
+    if (!has_target())
         return;
     if (make_key() && pthread_atfork(NULL, NULL, in_child) == 0)
         atomic_store(&recording, true);
@@ -210,6 +233,12 @@ void take_the_file(void)
 
     if (atomic_load_explicit(&taken, memory_order_relaxed) || atomic_exchange(&taken, true))
         return;
+    if (is_shared_run()) {
+        atomic_store(&run->has_call, true);
+        atomic_store(&run->most_records, most_records);
+        end_older();
+        return;
+    }
     for (char **entry = environ; entry != NULL && *entry != NULL; entry++)
         if (strncmp(*entry, "RECORD_FILE=", 12) == 0)
             (*entry)[0] = '_';
@@ -220,6 +249,10 @@ void take_the_file(void)
 
 __attribute__((destructor)) static void end_of_program(void)
 {
+    if (is_shared_run()) {
+        end_process();
+        return;
+    }
     if (history_file == NULL || getpid() != process || atomic_load(&is_refused))
         return;
     if (atomic_load(&taken))

@@ -62,11 +62,11 @@ static bool is_use(const Record *record) { return record->what == CALL_SIGNAL ||
 /* A signal that is under way when its variable is bound anew may be one of the new variable: there is one of each. */
 static void bind_anew(Object *object)
 {
-    for (Thread *thread = atomic_load(&all_threads); thread != NULL; thread = thread->next)
+    for (Thread *thread = atomic_load(&run->threads); thread != NULL; thread = thread->next)
         if (thread->open != NULL && is_use(thread->open) && thread->open->object == object)
             write_answer(thread, 0);
     object->variable = variable_of(object)->next;
-    for (Thread *thread = atomic_load(&all_threads); thread != NULL; thread = thread->next)
+    for (Thread *thread = atomic_load(&run->threads); thread != NULL; thread = thread->next)
         if (thread->open != NULL && is_use(thread->open) && thread->open->object == object)
             write_use(thread->open);
 }
@@ -143,7 +143,7 @@ static void write_call(History *history, Record *record, uint64_t place)
     record->thread->open = NULL;
 }
 
-static void write_added(const Thread *thread)
+static void write_added(Thread *thread)
 {
     put_text("thread ");
     put_number((uint64_t)atomic_load(&thread->priority));
@@ -161,14 +161,15 @@ static void write_death(const char *what, const Thread *thread)
 
 static void write_record(History *history, Record *record, uint64_t place)
 {
-    const Thread *of = record->what == THREAD_ADDED ? record->named : record->thread;
+    bool is_of_named = record->what == THREAD_ADDED || record->what == THREAD_ALIVE;
+    const Thread *of = is_of_named ? record->named : record->thread;
 
     pass_time(history, record, place);
     if (is_call(record) && is_written(record))
         write_call(history, record, place);
     else if (record->what == THREAD_ADDED && record->named->number != 0)
         write_added(record->named);
-    else if (record->what == THREAD_ENDED)
+    else if (record->what == THREAD_ENDED && record->named->ended_place == place)
         write_death("end ", record->named);
     if (of->dying_place == place)
         write_death("dying ", of);

@@ -5,13 +5,8 @@
 
 #include "record.h"
 
-enum { SHARDS = 64, PAGE_BITS = 12, MOST_OF_ITEM = 100 };
+enum { PAGE_BITS = 12, MOST_OF_ITEM = 100 };
 
-typedef struct {
-    _Alignas(64) _Atomic uint64_t of[KINDS_PASSED];
-} Shard;
-
-static Shard shards[SHARDS];
 static __thread char of_this_thread __attribute__((tls_model("initial-exec")));
 
 /* What is told of one, of several, and in both cases behind that. */
@@ -22,6 +17,8 @@ static const struct {
     [OF_THEIR_VARIABLES] = {"call", "calls", " on condition variables of mutexes that aren't recorded"},
     [OF_PROTECTED] = {"call", "calls", " on mutexes with PTHREAD_PRIO_PROTECT"},
     [OF_SHARED] = {"call", "calls", " on objects shared between processes"},
+    [OF_UNIDENTIFIED] = {"call", "calls", " on shared objects whose memory can't be identified"},
+    [OF_HELD_AT_FORK] = {"call", "calls", " on copies of mutexes that were held at a fork"},
     [OF_CANCELLED] = {"call", "calls", " of cancelled threads or on what they used"},
     [OF_CALLS_IN_CALLS] = {"call", "calls", " inside other calls or on what was used there"},
     [OF_LEFT_OUT] = {"call", "calls", " on what was used with something left out"},
@@ -41,7 +38,8 @@ static const struct {
 };
 
 static const Passed kinds_left_out[REASONS] = {
-    [PROTECTED] = OF_PROTECTED,     [SHARED] = OF_SHARED,          [WITH_CANCELLED] = OF_CANCELLED,
+    [PROTECTED] = OF_PROTECTED,     [SHARED] = OF_SHARED,          [UNIDENTIFIED] = OF_UNIDENTIFIED,
+    [HELD_AT_FORK] = OF_HELD_AT_FORK, [WITH_CANCELLED] = OF_CANCELLED,
     [IN_CALLS] = OF_CALLS_IN_CALLS, [WITH_LEFT_OUT] = OF_LEFT_OUT, [OF_OTHERS] = OF_THEIR_VARIABLES,
 };
 
@@ -49,7 +47,7 @@ static Shard *this_shard(void)
 {
     uint32_t page = (uint32_t)((uintptr_t)&of_this_thread >> PAGE_BITS);
 
-    return &shards[page * 2654435761u >> 26];
+    return &run->shards[page * 2654435761u >> 26];
 }
 
 void pass_by(Passed what)
@@ -64,7 +62,7 @@ void forget_passed(void)
 {
     for (size_t i = 0; i < SHARDS; i++)
         for (Passed what = 0; what < KINDS_PASSED; what++)
-            atomic_store_explicit(&shards[i].of[what], 0, memory_order_relaxed);
+            atomic_store_explicit(&run->shards[i].of[what], 0, memory_order_relaxed);
 }
 
 /* Of a call that has a record and no lines: why. KINDS_PASSED, if nothing happened by it. */
@@ -93,7 +91,7 @@ static void count_all(const History *history, uint64_t numbers[KINDS_PASSED + 1]
 {
     for (size_t i = 0; i < SHARDS; i++)
         for (Passed what = 0; what < KINDS_PASSED; what++)
-            numbers[what] += atomic_load_explicit(&shards[i].of[what], memory_order_relaxed);
+            numbers[what] += atomic_load_explicit(&run->shards[i].of[what], memory_order_relaxed);
     count_records(history, numbers);
     numbers[OF_PRIORITIES] += counted(FOREIGN_PRIORITIES) + counted(UNKNOWN_THREADS) + counted(PRIORITIES_IN_CALLS);
     numbers[OF_MISSED] += history->missed + history->found_free;

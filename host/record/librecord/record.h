@@ -2,6 +2,8 @@
 #ifndef PIF_RECORD_LIBRARY_H
 #define PIF_RECORD_LIBRARY_H
 
+#include <sys/types.h>
+
 #include "../../common/common.h"
 
 typedef enum {
@@ -18,13 +20,16 @@ typedef enum {
     THREAD_ADDED,
     THREAD_DYING,
     THREAD_ENDED,
+    THREAD_ALIVE, /* of a shared run: it was alive here, if it is said so */
 } What;
 
 /* Why a mutex or a variable is left out, with all calls on it. */
 typedef enum {
     KEPT,
     PROTECTED,      /* PTHREAD_PRIO_PROTECT */
-    SHARED,         /* between processes, or made by another one */
+    SHARED,         /* between processes, or made by one that isn't recorded */
+    UNIDENTIFIED,   /* likewise, and of a shared run: where its memory is from isn't known */
+    HELD_AT_FORK,   /* of a shared run: the child's copy of a mutex that its parent had */
     WITH_CANCELLED, /* a thread that was cancelled inside a call used it */
     IN_CALLS,       /* a call on it came inside another call of the same thread */
     WITH_LEFT_OUT,  /* it was used together with one that is left out */
@@ -47,6 +52,8 @@ typedef enum {
     OF_THEIR_VARIABLES, /* signals and broadcasts */
     OF_PROTECTED,
     OF_SHARED,
+    OF_UNIDENTIFIED,
+    OF_HELD_AT_FORK,
     OF_CANCELLED,
     OF_CALLS_IN_CALLS,
     OF_LEFT_OUT,
@@ -66,6 +73,30 @@ typedef enum {
     KINDS_PASSED,
 } Passed;
 
+enum { MOST_OF_NAME = 16, MOST_OF_MARK = 16 };
+
+/* A recorded process of a shared run, from its first record, or from its fork on, to its end or its `execve`. */
+typedef struct Process {
+    struct Process *next;
+    pid_t number, parent;
+    uint64_t space;       /* the namespace of these numbers; 0: it isn't known */
+    _Atomic bool ended;   /* somebody has seen it */
+    _Atomic(char *) maps; /* what was mapped; NULL: it isn't known */
+    char name[MOST_OF_NAME];
+
+    /* while the history is written */
+    Names *names;
+    uint64_t last_place; /* of all its threads */
+} Process;
+
+/* Where a mutex or variable of a shared run is that several processes may use. */
+typedef struct Place {
+    struct Place *next;
+    uint64_t device, file, offset;
+    bool is_segment, is_mutex;
+    _Atomic(struct Object *) holds; /* NULL: nobody who is recorded has initialised it */
+} Place;
+
 /* A condition variable as the history has it: bound to one mutex. */
 typedef struct Variable {
     struct Object *object, *mutex;
@@ -79,6 +110,8 @@ typedef struct Object {
     int kind;        /* of a mutex: bits of glibc's __kind */
     clockid_t clock; /* of a variable: that of pthread_cond_timedwait */
     _Atomic(Reason) left_out;
+    Place *place;     /* NULL: it is of one process */
+    Process *process; /* of a shared run: which made it */
     uintptr_t address;
     uintptr_t first_used; /* where a call returns to that used it first; 0: it isn't known */
 
@@ -112,13 +145,14 @@ typedef struct {
     bool found_free;       /* of a lock: its mutex was free between the begin's stamp and the real call */
     int16_t answer;
     bool bad_time; /* the timespec is none, or its clock: the call is a lock or wait if it isn't answered EINVAL */
+    _Atomic bool is_alive;  /* of THREAD_ALIVE: it was, when this was stamped */
     bool takes_from_others; /* while the history is written: it is one of its mutex's takers */
 } Record;
 
-enum { MOST_OF_NAME = 16 };
-
 typedef struct Thread {
     struct Thread *next;
+    Process *process; /* NULL: the run isn't shared */
+    uint32_t room;    /* for so many records */
     _Atomic(Record *) records;
     _Atomic(uintptr_t *) callers; /* with RECORD_WHERE: for each record where its call returns to */
     _Atomic uint32_t used; /* of its records; a signal's handler may take some between two instructions */
@@ -141,6 +175,28 @@ typedef struct Thread {
     uint64_t deadline; /* of the open call; 0: none that isn't reached */
     uint32_t waiting_at;
 } Thread;
+
+/* Counters that few threads use at once. */
+typedef struct {
+    _Alignas(64) _Atomic uint64_t of[KINDS_PASSED];
+} Shard;
+
+enum { SHARDS = 64, SLOTS_OF_PLACES = 4096 };
+
+/* What all recorded processes write, or this one alone. All is 0 at first. */
+typedef struct {
+    char mark[MOST_OF_MARK];
+    _Atomic uint64_t taken; /* bytes behind it */
+    _Atomic bool has_call;
+    _Atomic uint32_t most_records; /* of the process that came last */
+    _Alignas(64) _Atomic uint64_t next_place; /* so many are taken */
+    _Alignas(64) _Atomic uint64_t lost_place; /* the first record for which there was no room; 0: there was for all */
+    _Atomic(Thread *) threads;
+    _Atomic(Process *) processes;
+    _Atomic(Place *) places[SLOTS_OF_PLACES];
+    _Atomic uint64_t counts[COUNTS], reasons[REASONS];
+    Shard shards[SHARDS];
+} Run;
 
 /* The calls of the library below this one. */
 typedef struct {
@@ -178,6 +234,27 @@ void rest(void);
 void count(Count);
 uint64_t counted(Count);
 
+/* run.c: 0, or the number of an error */
+extern Run *run;
+int join_run(const char *file);
+int read_run(const char *file);
+bool is_shared_run(void);
+void *take_of_run(size_t size);
+bool make_present(const void *memory, size_t size); /* false: there is none */
+
+/* processes.c */
+void find_waits(void);
+Process *present_process(void); /* NULL: it has no record yet, or the run isn't shared */
+Process *the_process(void);
+void forget_process(void);
+void end_older(void);   /* says the end of what had this process's number before */
+void end_process(void); /* before its own end */
+
+/* shared.c */
+typedef enum { OWN_MEMORY, SHARED_MEMORY, UNKNOWN_MEMORY } Memory;
+void find_maps(void);
+Memory memory_at(Table *, uintptr_t address, Place **);
+
 /* others.c */
 void find_others(void);
 
@@ -188,18 +265,20 @@ void forget_passed(void);
 
 /* objects.c: what is at which address. If there is no memory nothing is recorded any more */
 extern Table mutexes, variables, threads;
+extern bool is_forked; /* of a shared run: this process is a fork, with copies of what its parent had */
 bool hold_object(Table *, uintptr_t address, void *);
 bool replace_object(Table *, uintptr_t address, void *old, void *new);
 bool is_wanted(int kind);
 Object *new_object(Reason, uintptr_t address, uintptr_t first_used);
 Object *recorded_mutex(pthread_mutex_t *, uintptr_t caller); /* counts the call if it is NULL */
 Object *recorded_variable(pthread_cond_t *, uintptr_t caller);
+bool is_shared_variable(const pthread_cond_t *); /* of a shared run */
 bool leave_out(Object *, Reason);
 uint64_t left_out(Reason);
 void forget_reasons(void);
 
 /* stamps.c */
-extern _Atomic uint64_t next_place, lost_place;
+uint64_t lost_place(void); /* UINT64_MAX: there was room for all */
 uint64_t now(void);
 void stop_recording(void);
 Record *new_record(Thread *, What);
@@ -212,8 +291,9 @@ void answer_call(Record *, int answer);
 void leave_call(void *record);
 
 /* threads.c */
-extern _Atomic(Thread *) all_threads;
 Thread *this_thread(void);
+Record *record_of(Thread *maker, What, Thread *);
+void forget_thread(void); /* in a child: its thread is a new one */
 bool make_key(void);
 
 /* history.c */
@@ -234,7 +314,7 @@ typedef struct {
     uint64_t found_free; /* answers that a thread got what it found free, and another one owns by all that was seen */
 } History;
 
-void write_history(void);
+bool write_history(void); /* whether it is written */
 void say_no_history(void); /* what was left out, where nothing else was called */
 bool is_call(const Record *);
 bool is_begin(const Record *, uint64_t place);
@@ -257,7 +337,8 @@ void write_lines(History *);
 
 /* names.c: the comments that say who is who */
 void note_name(Thread *); /* by itself */
-void write_name_of_thread(const Thread *);
+void read_name(Thread *); /* of this process, and it hasn't ended */
+void write_name_of_thread(Thread *);
 void write_name_of_object(char letter, uint32_t number, const Object *);
 void write_caller(const Record *);
 
@@ -277,6 +358,6 @@ void put_name(char letter, uint32_t number);
 void begin_comment(void); /* up to the line's end; it is cut if the line is full */
 void end_line(void);
 void say(const char *before, uint64_t number, const char *behind);
-void say_error(const char *what, const char *file, int error);
+void say_error(const char *what, const char *file, int error); /* 0: the words say it all */
 
 #endif

@@ -7,18 +7,24 @@
 
 /* A place that no deadline, and no difference of two times, reaches. */
 enum { FAR_SECONDS = 1000000000 };
+enum { BLOCK = 1024 };
 
-_Atomic uint64_t next_place = 1, lost_place = UINT64_MAX;
+uint64_t lost_place(void)
+{
+    uint64_t place = atomic_load(&run->lost_place);
+
+    return place == 0 ? UINT64_MAX : place;
+}
 
 /* Takes a place; nothing before is done after it, nor anything behind before it. A locked addition is a whole fence on
    x86-64. */
 static uint64_t take_place(void)
 {
 #ifdef __x86_64__
-    return atomic_fetch_add(&next_place, 1);
+    return atomic_fetch_add(&run->next_place, 1) + 1;
 #else
     atomic_thread_fence(memory_order_seq_cst);
-    uint64_t place = atomic_fetch_add(&next_place, 1);
+    uint64_t place = atomic_fetch_add(&run->next_place, 1) + 1;
     atomic_thread_fence(memory_order_seq_cst);
     return place;
 #endif
@@ -35,16 +41,16 @@ uint64_t now(void)
 /* From the first record that finds no room on, nothing is recorded: the history ends before it. */
 void stop_recording(void)
 {
-    uint64_t place = atomic_fetch_add(&next_place, 1), present = atomic_load(&lost_place);
+    uint64_t place = atomic_fetch_add(&run->next_place, 1) + 1, present = atomic_load(&run->lost_place);
 
-    while (place < present && !atomic_compare_exchange_weak(&lost_place, &present, place))
+    while ((present == 0 || place < present) && !atomic_compare_exchange_weak(&run->lost_place, &present, place))
         ;
     atomic_store(&recording, false);
 }
 
 static bool make_callers(Thread *thread)
 {
-    uintptr_t *present = NULL, *mapped = map_memory((size_t)most_records * sizeof *mapped);
+    uintptr_t *present = NULL, *mapped = take_of_run((size_t)thread->room * sizeof *mapped);
 
     if (mapped != NULL)
         atomic_compare_exchange_strong(&thread->callers, &present, mapped);
@@ -60,7 +66,7 @@ static Record *records_of(Thread *thread)
         return present;
     if (records_where && !make_callers(thread))
         return NULL;
-    Record *mapped = map_memory((size_t)most_records * sizeof *mapped);
+    Record *mapped = take_of_run((size_t)thread->room * sizeof *mapped);
     if (mapped != NULL && !atomic_compare_exchange_strong(&thread->records, &present, mapped))
         return present;
     return mapped;
@@ -80,15 +86,28 @@ uintptr_t caller_of(const Record *record)
     return callers == NULL ? 0 : callers[record - atomic_load(&record->thread->records)];
 }
 
+/* Of a shared run: that the records are there up to behind the next block. So those of a signal's handler are, too. */
+static bool are_present(const Thread *thread, uint32_t at)
+{
+    uint32_t blocks = at == 0 ? 2 : 1, first = at == 0 ? 0 : at + BLOCK;
+    uintptr_t *callers = atomic_load(&thread->callers);
+
+    if (at % BLOCK != 0 || first >= thread->room)
+        return true;
+    uint32_t count = thread->room - first < blocks * BLOCK ? thread->room - first : blocks * BLOCK;
+    return make_present(atomic_load(&thread->records) + first, count * sizeof(Record))
+           && (callers == NULL || make_present(callers + first, count * sizeof *callers));
+}
+
 /* It isn't seen by who writes the history before it is stamped. */
 Record *new_record(Thread *thread, What what)
 {
     Record *records = records_of(thread);
-    uint32_t at = most_records;
+    uint32_t at = thread->room;
 
-    if (records != NULL && atomic_load_explicit(&thread->used, memory_order_relaxed) < most_records)
+    if (records != NULL && atomic_load_explicit(&thread->used, memory_order_relaxed) < thread->room)
         at = atomic_fetch_add_explicit(&thread->used, 1, memory_order_relaxed);
-    if (at >= most_records) {
+    if (at >= thread->room || !are_present(thread, at)) {
         stop_recording();
         return NULL;
     }

@@ -103,7 +103,8 @@ void say(const char *before, uint64_t number, const char *behind)
 
 void say_error(const char *what, const char *file, int error)
 {
-    const char *why = strerrordesc_np(error);
+    const char *known = strerrordesc_np(error), *why = known == NULL ? "?" : known;
 
-    say_parts((const char *const[]){"librecord: ", what, ": ", file, ": ", why == NULL ? "?" : why, "\n", NULL});
+    say_parts((const char *const[]){"librecord: ", what, ": ", file, error == 0 ? "" : ": ", error == 0 ? "" : why, "\n",
+                                    NULL});
 }

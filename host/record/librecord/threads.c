@@ -8,8 +8,6 @@
 
 #include "record.h"
 
-_Atomic(Thread *) all_threads;
-
 static __thread _Atomic(Thread *) self __attribute__((tls_model("initial-exec")));
 static pthread_key_t key;
 
@@ -25,29 +23,32 @@ static int present_priority(void)
 
 static Thread *new_thread(int priority)
 {
-    Thread *thread = take_memory(sizeof *thread);
+    Process *process = the_process();
+    Thread *thread = take_of_run(sizeof *thread);
 
     if (thread == NULL) {
         stop_recording();
         return NULL;
     }
     atomic_store(&thread->priority, priority);
-    thread->next = atomic_load(&all_threads);
-    while (!atomic_compare_exchange_weak(&all_threads, &thread->next, thread))
+    thread->process = process;
+    thread->room = most_records;
+    thread->next = atomic_load(&run->threads);
+    while (!atomic_compare_exchange_weak(&run->threads, &thread->next, thread))
         ;
     return thread;
 }
 
 /* A record of what befalls a thread, made by this one. */
-static bool record_of(Thread *maker, What what, Thread *thread)
+Record *record_of(Thread *maker, What what, Thread *thread)
 {
     Record *record = new_record(maker, what);
 
     if (record == NULL)
-        return false;
+        return NULL;
     record->named = thread;
     stamp_begin(record);
-    return true;
+    return record;
 }
 
 /* The thread's own first steps. It is the only one that has this pthread_t now. Its priority is what it finds, unless
@@ -113,6 +114,21 @@ static void round_of_destructors(void *value)
         record_of(thread, THREAD_DYING, thread);
 }
 
+/* The parent's is none of the child's. */
+void forget_thread(void)
+{
+    atomic_store(&self, NULL);
+    pthread_setspecific(key, NULL);
+}
+
+/* What was found is of this process, and no copy that a child has of its parent's. */
+static Thread *thread_at(pthread_t name)
+{
+    Thread *found = held_at(&threads, (uintptr_t)name);
+
+    return found != NULL && found->process == present_process() ? found : NULL;
+}
+
 bool make_key(void) { return pthread_key_create(&key, round_of_destructors) == 0; }
 
 static void *run_thread(void *value)
@@ -127,13 +143,14 @@ static Thread *add_thread(const pthread_attr_t *attributes, void *(*start)(void 
 {
     if (!atomic_load(&recording))
         return NULL;
-    Thread *maker = this_thread(), *added = maker == NULL ? NULL : new_thread(priority_by(attributes, present_priority()));
+    Thread *maker = this_thread();
+    Thread *added = maker == NULL ? NULL : new_thread(priority_by(attributes, present_priority()));
     if (added == NULL)
         return NULL;
     added->start = start;
     added->argument = argument;
     prctl(PR_GET_NAME, added->inherited);
-    return record_of(maker, THREAD_ADDED, added) ? added : NULL;
+    return record_of(maker, THREAD_ADDED, added) != NULL ? added : NULL;
 }
 
 /* For those that name the thread before it runs. Where it runs already it has done so, and may have ended since. */
@@ -163,7 +180,7 @@ int pthread_create(pthread_t *name, const pthread_attr_t *attributes, void *(*st
 int pthread_join(pthread_t name, void **result)
 {
     be_ready();
-    Thread *ended = held_at(&threads, (uintptr_t)name);
+    Thread *ended = thread_at(name);
     int answer = real.join(name, result);
     if (answer != 0 || ended == NULL || !atomic_load(&recording))
         return answer;
@@ -190,7 +207,7 @@ static Thread *named_thread(pthread_t name, bool is_of_real_time)
 {
     if (!atomic_load(&recording))
         return NULL;
-    Thread *named = pthread_equal(name, pthread_self()) ? this_thread() : held_at(&threads, (uintptr_t)name);
+    Thread *named = pthread_equal(name, pthread_self()) ? this_thread() : thread_at(name);
     if (named == NULL)
         count(UNKNOWN_THREADS);
     else if (!is_of_real_time)

@@ -6,7 +6,7 @@ bool make_clock(History *history)
 {
     size_t number = 0;
 
-    for (Thread *thread = atomic_load(&all_threads); thread != NULL; thread = thread->next)
+    for (Thread *thread = atomic_load(&run->threads); thread != NULL; thread = thread->next)
         number++;
     history->waiting = map_memory((number + 1) * sizeof(Thread *));
     history->least_deadline = UINT64_MAX;

@@ -7,7 +7,8 @@ static void forget_variable(pthread_cond_t *variable, uintptr_t caller)
 {
     Object *present = held_at(&variables, (uintptr_t)variable);
 
-    if (!atomic_load(&recording) || (present != NULL && atomic_load(&present->left_out) != KEPT))
+    bool is_left_out = present != NULL && atomic_load(&present->left_out) != KEPT;
+    if (!atomic_load(&recording) || is_shared_variable(variable) || is_left_out)
         return;
     Object *other = new_object(OF_OTHERS, (uintptr_t)variable, caller);
     if (other == NULL)

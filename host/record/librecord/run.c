@@ -1,0 +1,133 @@
+/* What is recorded of a run: in this process's own memory, or, with RECORD_SHARED, in a file that all processes of the
+   run map at the same address. There a pointer means the same to each of them, and a process that is killed loses
+   nothing that it published. A file of zeros is an empty run, so that nobody has to make it before another one. */
+#define _GNU_SOURCE
+#include <errno.h>
+#include <fcntl.h>
+#include <string.h>
+#include <sys/mman.h>
+#include <sys/resource.h>
+#include <sys/stat.h>
+#include <unistd.h>
+
+#include "record.h"
+
+#ifndef MADV_POPULATE_WRITE
+#define MADV_POPULATE_WRITE 23
+#endif
+
+enum { LARGE = 1 << 20, LINE = 64, PAGE = 4096 };
+
+/* The file is sparse. Neither loaders nor sanitizers put anything at this address. */
+static const uint64_t size_of_run = (uint64_t)1 << 36;
+static const uintptr_t address_of_run = (uintptr_t)0x200000000000;
+static const char mark_of_run[MOST_OF_MARK] = "pif recording 1";
+
+static Run own;
+Run *run = &own;
+
+bool is_shared_run(void) { return run != &own; }
+
+static void *map_run(int file, int rights, int way)
+{
+    void *wanted = (void *)address_of_run;
+    void *mapped = mmap(wanted, size_of_run, rights, way | MAP_FIXED_NOREPLACE | MAP_NORESERVE, file, 0);
+
+    if (mapped == wanted || mapped == MAP_FAILED)
+        return mapped;
+    munmap(mapped, size_of_run); /* an older Linux takes the address as a hint */
+    errno = EEXIST;
+    return MAP_FAILED;
+}
+
+/* Else a signal would end the program. */
+static bool may_be_large(void)
+{
+    struct rlimit most;
+
+    return getrlimit(RLIMIT_FSIZE, &most) == 0 && most.rlim_cur >= size_of_run;
+}
+
+/* 0, or the number of an error; EILSEQ: the file is something else. */
+static int map_file_of_run(int file, int way)
+{
+    struct stat present;
+
+    if (fstat(file, &present) != 0)
+        return errno;
+    if (!S_ISREG(present.st_mode) || (present.st_size != 0 && (uint64_t)present.st_size != size_of_run))
+        return EILSEQ;
+    if (present.st_size == 0 && way == MAP_PRIVATE)
+        return ENODATA;
+    if (present.st_size == 0 && (!may_be_large() || ftruncate(file, (off_t)size_of_run) != 0))
+        return may_be_large() ? errno : EFBIG;
+    Run *mapped = map_run(file, PROT_READ | PROT_WRITE, way);
+    if (mapped == MAP_FAILED)
+        return errno;
+    if (mapped->mark[0] != '\0' && memcmp(mapped->mark, mark_of_run, sizeof mark_of_run) != 0) {
+        munmap(mapped, size_of_run);
+        return EILSEQ;
+    }
+    run = mapped;
+    return 0;
+}
+
+int join_run(const char *name)
+{
+    int file = open(name, O_RDWR | O_CREAT | O_CLOEXEC, 0666);
+
+    if (file < 0)
+        return errno;
+    int why = map_file_of_run(file, MAP_SHARED);
+    if (why == 0 && !make_present(run, sizeof *run))
+        why = ENOSPC;
+    if (why == 0)
+        memcpy(run->mark, mark_of_run, sizeof mark_of_run);
+    else
+        run = &own;
+    close(file);
+    return why;
+}
+
+/* To be written as a history, which leaves the file as it is. */
+int read_run(const char *name)
+{
+    int file = open(name, O_RDONLY | O_CLOEXEC);
+
+    if (file < 0)
+        return errno;
+    int why = map_file_of_run(file, MAP_PRIVATE);
+    close(file);
+    return why;
+}
+
+/* A write to a page of a file ends the program by SIGBUS, if the file system is full. So pages are asked for first.
+   An older Linux than 5.14 doesn't know how. */
+bool make_present(const void *memory, size_t size)
+{
+    uintptr_t first = (uintptr_t)memory & ~(uintptr_t)(PAGE - 1), end = (uintptr_t)memory + size;
+    int number = errno;
+
+    if (!is_shared_run())
+        return true;
+    bool is_present = madvise((void *)first, end - first, MADV_POPULATE_WRITE) == 0 || errno == EINVAL;
+    errno = number;
+    return is_present;
+}
+
+/* Zeroed; NULL if there is none. What is large isn't present yet. */
+void *take_of_run(size_t size)
+{
+    uint64_t first = (sizeof *run + LINE - 1) / LINE * LINE;
+
+    if (!is_shared_run())
+        return size >= LARGE ? map_memory(size) : take_memory(size);
+    size = (size + LINE - 1) / LINE * LINE;
+    if (atomic_load(&run->taken) > size_of_run - first - size)
+        return NULL;
+    uint64_t before = atomic_fetch_add(&run->taken, size);
+    if (before > size_of_run - first - size)
+        return NULL;
+    unsigned char *taken = (unsigned char *)run + first + before;
+    return size >= LARGE || make_present(taken, size) ? taken : NULL;
+}
