@@ -12,6 +12,7 @@
 #define _GNU_SOURCE
 #include <errno.h>
 #include <fcntl.h>
+#include <limits.h>
 #include <signal.h>
 #include <stdlib.h>
 #include <string.h>
@@ -114,7 +115,7 @@ static void stamp_ends(Process *ended)
     Thread *maker = atomic_exchange(&ended->ended, true) ? NULL : this_thread();
 
     for (Thread *thread = atomic_load(&run->threads); maker != NULL && thread != NULL; thread = thread->next)
-        if (thread->process == ended)
+        if (thread->process == ended && !atomic_load(&thread->joined))
             record_of(maker, THREAD_ENDED, thread);
     errno = number;
 }
@@ -158,6 +159,13 @@ static bool is_alive(const Thread *thread)
     return (flags_in(stat) & IS_EXITING) == 0;
 }
 
+/* Of what has ended in view nothing is asked: Linux may have given its number to another thread. */
+static bool may_be_alive(const Thread *thread)
+{
+    return atomic_load(&thread->started) && !atomic_load(&thread->joined)
+           && atomic_load(&thread->rounds) < PTHREAD_DESTRUCTOR_ITERATIONS;
+}
+
 /* The stamp comes before the look. */
 static void stamp_alive(const Process *of)
 {
@@ -165,7 +173,7 @@ static void stamp_alive(const Process *of)
     Thread *maker = this_thread();
 
     for (Thread *thread = atomic_load(&run->threads); maker != NULL && thread != NULL; thread = thread->next) {
-        bool is_asked = thread->process == of && atomic_load(&thread->started);
+        bool is_asked = thread->process == of && may_be_alive(thread);
         Record *record = is_asked ? record_of(maker, THREAD_ALIVE, thread) : NULL;
         if (record != NULL)
             atomic_store(&record->is_alive, is_alive(thread));

@@ -160,7 +160,8 @@ typedef struct Thread {
     _Atomic bool started, never_started, cancelled;
     _Atomic bool is_set; /* a call gives it a priority */
     _Atomic bool in_call;
-    int rounds; /* of the keys' destructors */
+    _Atomic bool joined;
+    _Atomic int rounds; /* of the keys' destructors */
     pid_t number_of_kernel;
     char name[MOST_OF_NAME], inherited[MOST_OF_NAME]; /* the kernel's for it: at its end, and at first */
     void *(*start)(void *);

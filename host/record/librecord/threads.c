@@ -108,7 +108,7 @@ static void round_of_destructors(void *value)
         atomic_store(&thread->in_call, false);
     }
     note_name(thread);
-    if (++thread->rounds < PTHREAD_DESTRUCTOR_ITERATIONS)
+    if (atomic_fetch_add(&thread->rounds, 1) + 1 < PTHREAD_DESTRUCTOR_ITERATIONS)
         pthread_setspecific(key, thread);
     else
         record_of(thread, THREAD_DYING, thread);
@@ -184,6 +184,7 @@ int pthread_join(pthread_t name, void **result)
     int answer = real.join(name, result);
     if (answer != 0 || ended == NULL || !atomic_load(&recording))
         return answer;
+    atomic_store(&ended->joined, true);
     replace_object(&threads, (uintptr_t)name, ended, NULL);
     Thread *joiner = this_thread();
     if (joiner != NULL)
