@@ -77,16 +77,18 @@ def test_cut(kit, place, is_stored):
 def test_refused(kit, place, _):
     """The program goes on, and says why it isn't recorded. What can't be merged is said, too."""
     shared = place / "shared"
+    names = names_of(kit, place)
+    preload = "LD_PRELOAD=" + names.pop("LD_PRELOAD")
     for before, text, why in (
         (["prlimit", "--fsize=64"], None, "cannot be used: %s: File too large" % shared),
         ([], "thread 1\n", "is no recording: %s" % shared),
     ):
         if text is not None:
             shared.write_text(text)
-        done = kit.run([*before, kit.FEATURES, "kinds"], env=names_of(kit, place))
+        done = kit.run([*before, "env", preload, kit.FEATURES, "kinds"], env=names)
         said = kit.said_by_recorder(done)
         kit.demand(done.returncode == 0, "status %d" % done.returncode)
-        kit.demand(set(said) == {"nothing is recorded: RECORD_SHARED " + why}, "it says %s" % said)
+        kit.demand(said == ["nothing is recorded: RECORD_SHARED " + why], "it says %s" % said)
     kit.demand(merge(kit, place).returncode == 1, "another file is merged")
     shared.write_text("")
     kit.demand(merge(kit, place).returncode == 3, "an empty file is merged")
