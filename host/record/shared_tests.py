@@ -11,12 +11,12 @@ HELD_AT_FORK = "left out: copies of mutexes that were held when a process was fo
 
 # name, what the recorder says, what it says isn't seen, and how the history is compared.
 FEATURES = [
-    ("one_is_killed", [], ["3 calls on semaphores"], ""),
+    ("one_is_killed", [], ["2 calls on semaphores"], ""),
     ("killed_in_a_lock", [], ["2 calls on semaphores"], ""),
     ("one_exits", [], [], ""),
     ("end_unseen", [], [], ""),
     ("variable_of_two", [], ["2 calls on semaphores"], "each thread"),
-    ("by_name", [], ["3 calls on semaphores"], ""),
+    ("by_name", [], ["2 calls on semaphores"], ""),
     ("replaced", [], [], ""),
     ("copy_in_child", [], [], ""),
     ("held_at_fork", [HELD_AT_FORK + "1"], ["1 call on copies of mutexes that were held at a fork"], ""),

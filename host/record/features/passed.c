@@ -159,11 +159,13 @@ static void *work(void *mutex)
     return NULL;
 }
 
+/* It stays until the program ends, and is told by the name of this function. */
 static void *lock_twice(void *mutex)
 {
     lock_and_unlock(mutex);
     sem_post(&is_held);
-    until(&may_end);
+    for (;;)
+        pause();
     return NULL;
 }
 

@@ -14,7 +14,7 @@
 typedef struct {
     pthread_mutex_t robust, plain;
     pthread_cond_t variable;
-    sem_t is_held, may_go_on;
+    sem_t is_held;
 } Shared;
 
 static pthread_mutex_t own;
@@ -50,7 +50,6 @@ static void make_all(Shared *shared)
     pthread_condattr_setpshared(&attributes, PTHREAD_PROCESS_SHARED);
     pthread_cond_init(&shared->variable, &attributes);
     sem_init(&shared->is_held, 1, 0);
-    sem_init(&shared->may_go_on, 1, 0);
 }
 
 static pid_t start_child(void (*body)(Shared *), Shared *shared)
@@ -68,7 +67,8 @@ static void hold_robust(Shared *shared)
 {
     pthread_mutex_lock(&shared->robust);
     sem_post(&shared->is_held);
-    until(&shared->may_go_on);
+    for (;;)
+        pause();
 }
 
 /* Takes what the dead had, and makes it consistent. */
