@@ -32,12 +32,18 @@ PARTS = ("proof", "tests", "edits")
 MEASURED = re.compile(r"(\w+) (proof|tests|edits): ([0-9.]+) s$")
 # The names that crates had before they were named by layers; several were merged into one.
 RENAMED = {
-    "pif_posix_model": ["pif_posix_model", "pif_alike_model", "pif_independence_model"],
+    "pif_posix_steps": ["pif_posix_model", "pif_alike_model", "pif_independence_model"],
     "pif_posix": ["pif_posix", "pif_posix_rules"],
-    "pif_history_model": ["pif_history_model", "pif_allow_model"],
-    "pif_history_machine": ["pif_history_machine", "pif_allow_machine"],
+    "pif_history_model": [
+        "pif_history_model",
+        "pif_allow_model",
+        "pif_reduction_model",
+        "pif_known_model",
+        "pif_wakeups_model",
+        "pif_lazy_model",
+    ],
+    "pif_history_machine": ["pif_history_machine", "pif_history_lines", "pif_allow_machine"],
     "pif_history": ["pif_history", "pif_history_scene", "pif_history_exact", "pif_allow"],
-    "pif_reduction_model": ["pif_known_model", "pif_wakeups_model", "pif_lazy_model"],
     "pif_explore_model": ["pif_explore_model", "pif_explore_reduced_model", "pif_explore_uses_model"],
     "pif_model_lemmas": ["pif_chains"],
     "pif_model_simulation": ["pif_simulation", "pif_calls"],
@@ -46,8 +52,10 @@ RENAMED = {
     "pif_kernel": ["pif_kernel", "pif_kernel_chains", "pif_kernel_steps", "pif_kernel_refusals"],
     "pif_chains_linked": ["pif_linked"],
     "pif_core_callers": ["pif_uses"],
+    "pif_text": ["pif_text", "pif_text_json"],
     "pif_text_errors": ["pif_slips"],
     "pif_text_core": ["pif_text_core", "pif_show", "pif_waiting"],
+    "pif_script_model": ["pif_script_model", "pif_story_model", "pif_watch"],
     "pif_script": ["pif_reading"],
     "pif_story": ["pif_story_texts"],
     "pif_job_run": ["pif_job_run", "pif_job_trace", "pif_scripts", "pif_job_show", "pif_shows"],

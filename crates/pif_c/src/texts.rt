@@ -2,7 +2,7 @@ ghost use Rattle.std.specs.Prelude.{◌≡◌, ℕ, List, None, Result, true};
 ghost use Rattle.pif_script_model.specs.Running.{RunsTo};
 ghost use Rattle.pif_script_model.specs.Traces.{ReplaysTo};
 ghost use Rattle.pif_script_model.specs.declared.faults.CliFault.{CliFault};
-ghost use Rattle.pif_story_model.specs.Checks.{TellsTo, check_telling};
+ghost use Rattle.pif_script_model.specs.Checks.{TellsTo, check_telling};
 ghost use Rattle.pif_job_judge.specs.declared.faults.JudgeFault.{JudgeFault};
 ghost use Rattle.pif_rules_model.specs.Sets.{no_rules};
 ghost use Rattle.pif_c.specs.Texts.{fault_number, ended_number, judged_number, form_of, JudgesAlone, Wholly, HandsOut, IsHandedOut};

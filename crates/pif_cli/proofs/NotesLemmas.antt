@@ -2,8 +2,8 @@
 use Rattle.std.proofs.Common.{◌≡◌, ℕ, List, Option, Ok, Err, subst}
 use Rattle.pif_script_model.specs.declared.faults.CliFault.{CliFault}
 use Rattle.pif_script_model.specs.Running.{RunsTo}
-use Rattle.pif_story_model.specs.Checks.{Telling, TellsTo, check_telling}
-use Rattle.pif_story_model.specs.Showing.{ShowsStoryTo}
+use Rattle.pif_script_model.specs.Checks.{Telling, TellsTo, check_telling}
+use Rattle.pif_script_model.specs.StoryShowing.{ShowsStoryTo}
 use Rattle.pif_story.specs.declared.missing.Note.{Note}
 use Rattle.pif_story.specs.Notes.{ShowsNoting, TellsNoting}
 use Rattle.pif_job_run.specs.Noting.{RunsNoting}

@@ -11,8 +11,8 @@ use Rattle.pif_script_model.specs.Migrating.{MigratesTo}
 use Rattle.pif_script_model.specs.Running.{RunsTo}
 use Rattle.pif_script_model.specs.Traces.{ReplaysTo}
 use Rattle.pif_script_model.specs.Runs.{WritesPart}
-use Rattle.pif_story_model.specs.Showing.{ShowsStoryTo, TracesStoryTo}
-use Rattle.pif_story_model.specs.Checks.{TellsTo, check_telling, fill_telling, strict_telling, titled_telling}
+use Rattle.pif_script_model.specs.StoryShowing.{ShowsStoryTo, TracesStoryTo}
+use Rattle.pif_script_model.specs.Checks.{TellsTo, check_telling, fill_telling, strict_telling, titled_telling}
 use Rattle.pif_story.specs.declared.missing.Note.{Note}
 use Rattle.pif_story.specs.Notes.{ShowsNoting, TellsNoting, notes_text}
 use Rattle.pif_job_draw.specs.Pictures.{DrawsTo, PicturesTo}

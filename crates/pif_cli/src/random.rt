@@ -5,7 +5,7 @@ use pif_cli_messages::JobFault;
 use pif_cli_words::Recipe;
 use pif_job_random::random_script;
 use pif_script::{CliFault, write_whole};
-use pif_watch::WatchSteps;
+use pif_script_model::WatchSteps;
 use std::alloc::Global;
 use std::io::Write;
 

@@ -1,8 +1,8 @@
 //! What is told of a job beside what it writes, and the jobs that have notes.
 ghost use Rattle.std.specs.Prelude.{◌≡◌, [], Ok, OnOk};
 ghost use Rattle.pif_script_model.specs.Running.{RunsTo};
-ghost use Rattle.pif_story_model.specs.Checks.{TellsTo, check_telling};
-ghost use Rattle.pif_story_model.specs.Showing.{ShowsStoryTo};
+ghost use Rattle.pif_script_model.specs.Checks.{TellsTo, check_telling};
+ghost use Rattle.pif_script_model.specs.StoryShowing.{ShowsStoryTo};
 ghost use Rattle.pif_story.specs.Notes.{ShowsNoting, TellsNoting};
 ghost use Rattle.pif_job_run.specs.Noting.{RunsNoting};
 ghost use Rattle.pif_cli.specs.Names.{shown_name};

@@ -1,7 +1,7 @@
 use crate::messages::Message;
 use pif_reach::Watch as WatchStates;
+use pif_script_model::WatchSteps;
 use pif_search::Watch;
-use pif_watch::WatchSteps;
 use std::fmt::{Display, Write as _};
 use std::io::Write;
 use std::time::{Clock, Instant};

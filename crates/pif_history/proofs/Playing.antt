@@ -5,10 +5,10 @@ use Rattle.std.proofs.lemmas.List.{reverse-append, take_more}
 use Rattle.pif_types.specs.Bounds.{Bounds}
 use Rattle.pif_model.specs.declared.events.Entry.{Entry}
 use Rattle.pif_model.specs.Posix.{World}
-use Rattle.pif_posix_model.specs.Once.{MovesOnce}
-use Rattle.pif_posix_model.specs.Doing.{entered}
-use Rattle.pif_posix_model.proofs.DoingLists.{in_one_from}
-use Rattle.pif_posix_model.proofs.DoingEntries.{entered_to}
+use Rattle.pif_posix_steps.specs.Once.{MovesOnce}
+use Rattle.pif_posix_steps.specs.Doing.{entered}
+use Rattle.pif_posix_steps.proofs.DoingLists.{in_one_from}
+use Rattle.pif_posix_steps.proofs.DoingEntries.{entered_to}
 use Rattle.pif_rules_model.specs.declared.rules.Rules.{Rules}
 use Rattle.pif_rules_model.specs.Rules.{Wide, WideMoves, WideEnters, end_of}
 use Rattle.pif_rules_model.specs.Rules.WideMoves.{plain}

@@ -9,8 +9,7 @@ ghost use Rattle.pif_history_model.specs.Listed.{entry_for};
 ghost use Rattle.pif_history_model.specs.Searched.{Advances};
 
 use crate::scene::Scene;
-use pif_history_lines::{Later, is_line_among};
-use pif_history_machine::{HistoryMachine, Position, entry_of, is_seen};
+use pif_history_machine::{HistoryMachine, Later, Position, entry_of, is_line_among, is_seen};
 use pif_history_model::{HistoryLimits, Label, Line};
 use pif_model::{Entry, Event};
 use pif_posix::Wide;

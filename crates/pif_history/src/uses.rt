@@ -1,7 +1,7 @@
 //! Whom a use of a variable wakes: what a guide looks at in front of a line.
 use crate::needs::Need;
 use crate::scene::Scene;
-use pif_history_lines::Role;
+use pif_history_machine::Role;
 use pif_search::{Stop, push};
 use std::alloc::Global;
 

@@ -9,7 +9,7 @@ use Rattle.pif_model.specs.declared.events.Entry.{Entry}
 use Rattle.pif_model.specs.declared.events.Entry.TheVariants as entry
 use Rattle.pif_model.specs.Posix.{World, IsRun}
 use Rattle.pif_model.specs.Posix.IsRun.{next}
-use Rattle.pif_posix_model.specs.Once as once
+use Rattle.pif_posix_steps.specs.Once as once
 use Rattle.pif_history_model.specs.declared.lines.Line.{Line}
 use Rattle.pif_history_model.specs.Lines.{line_of, is_among}
 use Rattle.pif_history_model.specs.Shown.{is_hidden, GoesOn}

@@ -16,9 +16,9 @@ use Rattle.pif_model.specs.Posix.Step.{thread_added, mutex_added, cond_added, re
 use Rattle.pif_model_lemmas.proofs.Following.{reaches_here}
 use Rattle.pif_model_lemmas.proofs.Greatest.{effective_most, effective_above}
 use Rattle.pif_model_simulation.proofs.runs.Worlds.{call_of}
-use Rattle.pif_posix_model.specs.Once as once
-use Rattle.pif_posix_model.specs.Once.{Enters, MovesOnce}
-use Rattle.pif_posix_model.specs.Once.Enters.{answered as enters_answered, other}
+use Rattle.pif_posix_steps.specs.Once as once
+use Rattle.pif_posix_steps.specs.Once.{Enters, MovesOnce}
+use Rattle.pif_posix_steps.specs.Once.Enters.{answered as enters_answered, other}
 use Rattle.pif_history_model.specs.declared.lines.Line.{Line}
 use Rattle.pif_history_model.specs.Lines.{line_of}
 use Rattle.pif_history_model.specs.Queues.{asks_plainly, may_be_base, tells_of_no_waiters}

@@ -6,7 +6,7 @@ use Rattle.pif_model.specs.Posix.{Progress, Call, Thread, Mutex, World, nobody, 
 use Rattle.pif_model_lemmas.proofs.Places.{kept_at}
 use Rattle.pif_model_lemmas.proofs.Waiting.{by_test}
 use Rattle.pif_model_simulation.proofs.runs.Worlds.{call_of, living-with_thread}
-use Rattle.pif_posix_model.specs.Once.{MovesOnce}
+use Rattle.pif_posix_steps.specs.Once.{MovesOnce}
 use Rattle.pif_history_model.proofs.Moving.{IsKept, kept_move, kept_Releases}
 
 pub record Keeps (w v : World) : Type 0 where

@@ -11,8 +11,8 @@ use Rattle.pif_model.specs.Graph.{is_priority}
 use Rattle.pif_model.specs.Posix.{World, Step, is_living, rests, effective_of}
 use Rattle.pif_model.specs.Posix.Step.{thread_added, mutex_added, cond_added, refused, begun, went, waits, answered, ended, ticked}
 use Rattle.pif_model_lemmas.proofs.kernel.Settled.{priority-from_range}
-use Rattle.pif_posix_model.specs.Once.{Enters}
-use Rattle.pif_posix_model.specs.Once.Enters.{answered as by_answer, other}
+use Rattle.pif_posix_steps.specs.Once.{Enters}
+use Rattle.pif_posix_steps.specs.Once.Enters.{answered as by_answer, other}
 use Rattle.pif_rules_model.specs.Rules.{end_of}
 use Rattle.pif_history_model.specs.declared.lines.Line.{Line}
 use Rattle.pif_history_model.specs.declared.lines.Line.TheVariants.{Thread, Mutex, Cond, Begin, Answer, Dying, End, Tick, Rests, Prio}

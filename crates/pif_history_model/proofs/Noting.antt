@@ -13,9 +13,9 @@ use Rattle.pif_model.specs.Posix.{World, Thread, Call, Progress, nobody, thread_
 use Rattle.pif_model.specs.World.Progress.{Fresh, Waiting, Stuck, Leaving, Has, Checked, Enlisted, Blocked, Reacquiring, Used}
 use Rattle.pif_model.specs.Posix.Effect.{lock, try_lock, unlock, consistent, set_prio, check_wait, enlist, give_up, lock_again, use_variable, choose, leave}
 use Rattle.pif_model_lemmas.proofs.Waiting.{by_test}
-use Rattle.pif_posix_model.specs.Once.{MovesOnce, Acts}
-use Rattle.pif_posix_model.specs.Once.Acts.{effect, expires, notes}
-use Rattle.pif_posix_model.proofs.AlikeMoves.{other}
+use Rattle.pif_posix_steps.specs.Once.{MovesOnce, Acts}
+use Rattle.pif_posix_steps.specs.Once.Acts.{effect, expires, notes}
+use Rattle.pif_posix_steps.proofs.AlikeMoves.{other}
 use Rattle.pif_search.specs.Runs.{Runs, shown}
 use Rattle.pif_history_model.specs.declared.labels.Label.{Label}
 use Rattle.pif_history_model.specs.declared.labels.Label.TheVariants.{Moves}

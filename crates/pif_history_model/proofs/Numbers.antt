@@ -7,7 +7,7 @@ use Rattle.std.proofs.lemmas.List.Elements.{All-nil, All-cons, All-push, All-wea
 use Rattle.std.proofs.lemmas.List.Kept.{AllPairs-cons}
 use Rattle.std.proofs.lemmas.List.Quantifiers.{all_pairs_push}
 use Rattle.pif_types.specs.Bounds.{Bounds}
-use Rattle.pif_posix_model.proofs.DoingLists.{among_is, among_from, in_one, not_in_none}
+use Rattle.pif_posix_steps.proofs.DoingLists.{among_is, among_from, in_one, not_in_none}
 use Rattle.pif_rules_model.specs.declared.rules.Rules.{Rules}
 use Rattle.pif_search.specs.Verdicts.{IsSelection, CanFollow, AreNext}
 use Rattle.pif_history_model.proofs.Selections.{IsSelection-pairs, IsSelection-sound, IsSelection-complete}

@@ -17,9 +17,9 @@ use Rattle.pif_model_lemmas.proofs.Numbers.{within, from_within}
 use Rattle.pif_model_lemmas.proofs.kernel.Settled.{priority-from_range}
 use Rattle.pif_model_simulation.proofs.Shown.{go_allowed}
 use Rattle.pif_model_simulation.proofs.runs.Worlds.{call_of, push_same, push_other, living-with_thread, call-with_thread_other, is_thread-with_thread, begin_allowed, end_allowed}
-use Rattle.pif_posix_model.specs.Once as once
-use Rattle.pif_posix_model.specs.Once.{Enters, Answers}
-use Rattle.pif_posix_model.specs.Once.Enters.{answered as enters_answered, other}
+use Rattle.pif_posix_steps.specs.Once as once
+use Rattle.pif_posix_steps.specs.Once.{Enters, Answers}
+use Rattle.pif_posix_steps.specs.Once.Enters.{answered as enters_answered, other}
 use Rattle.pif_search.specs.Runs.{Runs}
 use Rattle.pif_history_model.specs.declared.lines.Line.{Line}
 use Rattle.pif_history_model.specs.declared.lines.Line.TheVariants as line

@@ -35,8 +35,8 @@ use Rattle.pif_model_simulation.proofs.runs.Worlds.{call_of, owner_of, call-with
 use Rattle.pif_model_simulation.proofs.runs.Holding.{IsWaiting, same_progress}
 use Rattle.pif_model_simulation.proofs.runs.AllHolding.{caller_lives, caller_is_thread, owned_is_mutex, holder_is_owner}
 use Rattle.pif_model_simulation.proofs.runs.Holders.{IsHeld-IsRun, due_counts}
-use Rattle.pif_posix_model.specs.Once.{MovesOnce, Acts}
-use Rattle.pif_posix_model.specs.Once.Acts.{effect, expires, notes}
+use Rattle.pif_posix_steps.specs.Once.{MovesOnce, Acts}
+use Rattle.pif_posix_steps.specs.Once.Acts.{effect, expires, notes}
 use Rattle.pif_search.specs.Runs.{Runs, shown}
 use Rattle.pif_history_model.specs.declared.labels.Label.{Label}
 use Rattle.pif_history_model.specs.declared.labels.Label.TheVariants.{Moves}

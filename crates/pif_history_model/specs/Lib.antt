@@ -9,3 +9,8 @@ pub mod Queues
 pub mod Notes
 pub mod Listed
 pub mod Numbers
+pub mod Known
+pub mod Tested
+pub mod AtOnce
+pub mod Wakeups
+pub mod Lazy

@@ -22,7 +22,7 @@ use Rattle.pif_text_model.proofs.Numerals.{number_decimal}
 use Rattle.pif_text_model.proofs.ReadBack.{command_back}
 use Rattle.pif_text_model.proofs.Written.{command_in-written}
 use Rattle.pif_text_model.proofs.Yields.{Yields, bind_yields, if_yields, map_yields, number-small, thread-small}
-use Rattle.pif_story_model.specs.Lines.{is_passed}
+use Rattle.pif_script_model.specs.Lines.{is_passed}
 use Rattle.pif_history_model.specs.declared.lines.Line.{Line}
 use Rattle.pif_history_model.specs.declared.lines.Line.TheVariants as line
 use Rattle.pif_history_text.specs.declared.said.Said.{Said}

@@ -10,7 +10,7 @@ use Rattle.pif_text_model.specs.declared.replies.Cause.{Cause}
 use Rattle.pif_text_model.specs.declared.replies.Cause.TheVariants.{Long}
 use Rattle.pif_script_model.specs.declared.faults.CliFault.{CliFault}
 use Rattle.pif_script_model.specs.declared.faults.CliFault.TheVariants.{Differs, NoMemory, Read, Script, Write}
-use Rattle.pif_story_model.specs.Lines.{lines}
+use Rattle.pif_script_model.specs.Lines.{lines}
 use Rattle.pif_history_text.specs.Lines.{is_long}
 use Rattle.pif_history_text.specs.Histories.{Heard, after_line, at_end, cut_off, goes_behind, heard_from, history_of, most_bytes, next_number, numbered, unheard}
 use Rattle.pif_history_text.specs.Reading.{Brings, Closes, Comes, Gives, HasNoFeed, HasRead, IsCutOff, Place, ReadsHistory, TakesPart, goes_on, start, with_heard}

@@ -4,7 +4,7 @@ use Rattle.std.specs.List.{slice_split, onto_first}
 use Rattle.std.specs.Str.Lines.{strip_carriage_return}
 use Rattle.std.proofs.lemmas.Bool.Decides.{nat_tests}
 use Rattle.std.proofs.lemmas.List.Splits.{slice_split-cons_yes, slice_split-cons_no}
-use Rattle.pif_story_model.specs.Lines.{lines, without_mark}
+use Rattle.pif_script_model.specs.Lines.{lines, without_mark}
 use Rattle.pif_text_model.specs.Words.{words}
 use Rattle.pif_history_text.specs.Lines.{is_long, line_of_words, text_of_line}
 use Rattle.pif_history_text.specs.Reading.{HasNoFeed}

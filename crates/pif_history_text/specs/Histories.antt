@@ -3,8 +3,8 @@ use Rattle.std.specs.Prelude.{ℕ, ◌+◌, ◌==◌, ◌||◌, nat_le, Bool, tr
 use Rattle.pif_types.specs.Bounds.{Bounds}
 use Rattle.pif_text_model.specs.declared.replies.Cause.{Cause}
 use Rattle.pif_text_model.specs.declared.replies.Cause.TheVariants.{Size, Long, Command, Limits as OutOfRange}
-use Rattle.pif_story_model.specs.Lines.{lines}
-use Rattle.pif_story_model.specs.Verdicts.{Fault}
+use Rattle.pif_script_model.specs.Lines.{lines}
+use Rattle.pif_script_model.specs.Verdicts.{Fault}
 use Rattle.std.specs.List.{list_any}
 use Rattle.pif_rules_model.specs.declared.rules.Rules.{Rules}
 use Rattle.pif_rules_model.specs.Sets.{no_rules}

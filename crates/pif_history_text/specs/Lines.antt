@@ -13,7 +13,7 @@ use Rattle.pif_text_model.specs.Commands.{command_in}
 use Rattle.pif_text_model.specs.Errors.{error_named}
 use Rattle.pif_text_model.specs.Numbers.{number_in, thread_in}
 use Rattle.pif_text_model.specs.Words.{words}
-use Rattle.pif_story_model.specs.Lines.{is_passed, without_mark}
+use Rattle.pif_script_model.specs.Lines.{is_passed, without_mark}
 use Rattle.pif_history_model.specs.declared.lines.Line.{Line}
 use Rattle.pif_history_model.specs.declared.lines.Line.TheVariants as line
 use Rattle.pif_history_text.specs.Allowed.{allowed_in}

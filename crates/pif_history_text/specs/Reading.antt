@@ -1,8 +1,8 @@
 -- What reading a history does: by the bytes that the reader gave, the history of them.
 use Rattle.std.specs.Prelude.{ℕ, ◌≡◌, ◌≢◌, ◌+◌, ◌<◌, ◌≤◌, ◌⊎◌, Bool, List, [], ◌++◌, length, take, slice_index, Option, Result, Ok, Err}
 use Rattle.std.specs.Io.KnownBytes.{Consumes, IsAtEnd, Keeps}
-use Rattle.pif_story_model.specs.Lines.{lines}
-use Rattle.pif_story_model.specs.Verdicts.{Fault}
+use Rattle.pif_script_model.specs.Lines.{lines}
+use Rattle.pif_script_model.specs.Verdicts.{Fault}
 use Rattle.pif_text_model.specs.declared.replies.Cause.{Cause}
 use Rattle.pif_script_model.specs.declared.faults.CliFault.{CliFault}
 use Rattle.pif_script_model.specs.declared.faults.CliFault.TheVariants.{Differs, NoMemory, Read, Script, Write}

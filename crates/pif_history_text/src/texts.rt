@@ -1,5 +1,5 @@
 ghost use Rattle.std.specs.Prelude.{◌≡◌};
-ghost use Rattle.pif_story_model.specs.Lines.{is_passed, without_mark};
+ghost use Rattle.pif_script_model.specs.Lines.{is_passed, without_mark};
 ghost use Rattle.pif_history_text.specs.Lines.{text_of_line};
 
 use pif_text::without_return;
@@ -8,7 +8,7 @@ use pif_text::without_return;
 pub const MOST_TEXT: usize = 120;
 
 /// A text without a byte order mark at its front.
-#[tactic(auto, unfolding(pif_story_model::specs::Lines::without_mark))]
+#[tactic(auto, unfolding(pif_script_model::specs::Lines::without_mark))]
 fn without_mark(text: &[u8]) -> &[u8]
     ensures { result.now ≡ without_mark text.now }
 {

@@ -2,7 +2,7 @@
 use Rattle.std.proofs.Common.{◌≡◌, ◌∙◌, ℕ, List, ◌∷◌, ◌++◌, Option, refl, ap, append_assoc}
 use Rattle.std.specs.Prelude.{codes, decimal}
 use Rattle.pif_model.specs.World.{World, mutex_at}
-use Rattle.pif_text_json.specs.Json.{name_or_null, name_text, quoted}
+use Rattle.pif_text.specs.Json.{name_or_null, name_text, quoted}
 use Rattle.pif_history_told.specs.StateObjects.{health_word, holds_of, mutex_object, owner_of}
 
 abbrev member : (name value : List ℕ) → List ℕ

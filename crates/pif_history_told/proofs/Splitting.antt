@@ -4,7 +4,7 @@ use Rattle.std.proofs.lemmas.List.Elements.{Contains-push}
 use Rattle.pif_types.specs.Bounds.{Bounds}
 use Rattle.pif_model.specs.Posix.{World}
 use Rattle.pif_model.specs.declared.events.Entry.{Entry}
-use Rattle.pif_posix_model.proofs.DoingLists.{in_filter_from, in_first, in_map_from, in_rest}
+use Rattle.pif_posix_steps.proofs.DoingLists.{in_filter_from, in_first, in_map_from, in_rest}
 use Rattle.pif_rules_model.specs.declared.rules.Rule.{Rule}
 use Rattle.pif_rules_model.specs.declared.rules.Rule.TheVariants.{Steal, AnyWaiter, Spurious, Recursion, OwnErrorcheck, AnyConsistent, HeldWait, LostSignal, Revives, Barge, CycleWaits, CycleRefused, TimeoutConsumes, EndsApart, StaysLocked, Rebinds, MoreUses, RefusesSetprio, ConsistentByAny, CutUnlock}
 use Rattle.pif_rules_model.specs.declared.rules.Rules.{Rules}

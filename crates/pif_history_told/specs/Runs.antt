@@ -10,7 +10,7 @@ use Rattle.pif_history_model.specs.Searched.{Configuration, start_of}
 use Rattle.pif_rules.specs.Sets.{names_of}
 use Rattle.pif_history_told.specs.Steps.{IsStepBy}
 use Rattle.pif_history_text.specs.Texts.{line_text}
-use Rattle.pif_text_json.specs.Json.{bool_text, name_text, quoted}
+use Rattle.pif_text.specs.Json.{bool_text, name_text, quoted}
 use Rattle.pif_history_told.specs.StateObjects.{change_members, thread_letter}
 
 -- How a run is told so far.

@@ -8,7 +8,7 @@ use Rattle.pif_model.specs.World.Health.{Fine, Inconsistent, Unusable}
 use Rattle.pif_text_model.specs.Replies.{health_text}
 use Rattle.pif_history_model.specs.declared.lines.Line.TheVariants.{Begin}
 use Rattle.pif_history_text.specs.Texts.{line_text}
-use Rattle.pif_text_json.specs.Json.{bool_text, name_or_null, name_text, numbers, quoted, separated}
+use Rattle.pif_text.specs.Json.{bool_text, name_or_null, name_text, numbers, quoted, separated}
 
 -- The letters of the names of threads, mutexes and condition variables.
 abbrev pub thread_letter : ℕ

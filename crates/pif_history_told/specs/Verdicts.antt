@@ -5,7 +5,7 @@ use Rattle.pif_history_model.specs.declared.lines.Line.{Line}
 use Rattle.pif_history_model.specs.declared.lines.Line.TheVariants.{Begin}
 use Rattle.pif_history_text.specs.Texts.{line_text}
 use Rattle.pif_history_text.specs.Verdicts.{line_refusal_word}
-use Rattle.pif_text_json.specs.Json.{quoted}
+use Rattle.pif_text.specs.Json.{quoted}
 use Rattle.pif_history_told.specs.declared.verdicts.Began.{Began}
 use Rattle.pif_history_told.specs.declared.verdicts.Known.{Known}
 use Rattle.pif_history_told.specs.declared.verdicts.Unfound.{Unfound}

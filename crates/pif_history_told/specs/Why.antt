@@ -3,7 +3,7 @@ use Rattle.std.specs.Prelude.{ℕ, ◌≡◌, ◌≤◌, ◌-◌, ◌==◌, Bool
 use Rattle.pif_history_model.specs.declared.lines.Line.{Line}
 use Rattle.pif_history_model.specs.declared.lines.Line.TheVariants.{Answer, Begin, Prio}
 use Rattle.pif_history_model.specs.Verdicts.{ArePossibleAnswers, ArePossiblePriorities}
-use Rattle.pif_history_lines.specs.Verdicts.{IsRefusalThere}
+use Rattle.pif_history_machine.specs.Verdicts.{IsRefusalThere}
 use Rattle.pif_history_text.specs.Histories.{Heard, limits_of}
 use Rattle.pif_history_told.specs.declared.verdicts.Began.{Began}
 use Rattle.pif_history_told.specs.declared.verdicts.Known.{Known}

@@ -6,7 +6,7 @@ use crate::state_objects::{
 };
 use pif_posix::State;
 use pif_search::Stop;
-use pif_text_json::{Listed, append_array};
+use pif_text::{Listed, append_array};
 use pif_types::Tid;
 use std::alloc::AllocError;
 

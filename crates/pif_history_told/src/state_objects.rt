@@ -4,8 +4,7 @@ ghost use Rattle.pif_history_told.specs.StateObjects.{cond_object, health_word, 
 
 use crate::calls::{call_members, is_same_call};
 use pif_posix::State;
-use pif_text::health_word;
-use pif_text_json::{Member, append_members, append_object};
+use pif_text::{Member, append_members, append_object, health_word};
 use pif_types::{Health, Tid};
 use std::alloc::AllocError;
 

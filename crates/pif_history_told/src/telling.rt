@@ -7,7 +7,7 @@ ghost use Rattle.pif_history_told.specs.Why.{open_of, said_of};
 ghost use Rattle.pif_history_told.specs.WhyTexts.{began_text, known_text, unfound_line, unfound_text, why_text};
 
 use crate::verdicts::{Began, Known, Unfound};
-use pif_history_lines::thread_of;
+use pif_history_machine::thread_of;
 use pif_history_model::Line;
 use pif_history_text::{
     History, push_began, push_found, push_legal, push_possible, push_possible_undecided,

@@ -7,7 +7,7 @@ use crate::sets::added;
 use pif_rules::{Rule, name_of};
 use pif_rules_model::Rules;
 use pif_search::Stop;
-use pif_text_json::append_decimal;
+use pif_text::append_decimal;
 use std::alloc::Global;
 
 /// From so many holds on the machine refuses a lock without a rule.

@@ -4,8 +4,7 @@ ghost use Rattle.pif_history_told.specs.Verdicts.{began_member, found_member, il
 
 use pif_history_model::{Line, LineRefusal};
 use pif_history_text::{line_text, refusal_word};
-use pif_text::Text;
-use pif_text_json::{Member, append_decimal, append_members, append_object};
+use pif_text::{Member, Text, append_decimal, append_members, append_object};
 use pif_types::{Request, Tid};
 use std::alloc::AllocError;
 

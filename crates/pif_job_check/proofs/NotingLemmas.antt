@@ -4,7 +4,7 @@ use Rattle.std.specs.Io.KnownBytes.{Appends}
 use Rattle.pif_script_model.specs.declared.faults.CliFault.{CliFault}
 use Rattle.pif_script_model.specs.declared.faults.CliFault.TheVariants.{Read, Write, NoMemory, Script, Differs}
 use Rattle.pif_script_model.specs.Migrating.{ReadsTo}
-use Rattle.pif_story_model.specs.Checks.{Telling, TellsTo, WritesTelling, check_telling, checked_telling}
+use Rattle.pif_script_model.specs.Checks.{Telling, TellsTo, WritesTelling, check_telling, checked_telling}
 use Rattle.pif_story.specs.declared.missing.Note.{Note}
 use Rattle.pif_story.specs.Notes.{TellsNoting, story_notes}
 

@@ -9,9 +9,9 @@ use Rattle.pif_script_model.specs.declared.ending.OpenFault.{OpenFault}
 use Rattle.pif_script_model.specs.declared.faults.CliFault.{CliFault}
 use Rattle.pif_script_model.specs.declared.faults.CliFault.TheVariants.{Differs, NoMemory, Read, Script, Write}
 use Rattle.pif_script_model.specs.Running.{Answer, Makes}
-use Rattle.pif_story_model.specs.declared.rows.AnsweredRow.{AnsweredRow}
-use Rattle.pif_story_model.specs.Checks.{fill_telling}
-use Rattle.pif_story_model.specs.Rows.{Asked, asked_in, words_outcome}
+use Rattle.pif_script_model.specs.declared.rows.AnsweredRow.{AnsweredRow}
+use Rattle.pif_script_model.specs.Checks.{fill_telling}
+use Rattle.pif_script_model.specs.Rows.{Asked, asked_in, words_outcome}
 
 -- filling in ends so, or fails so:
 --   a fault: it is that of filling it in

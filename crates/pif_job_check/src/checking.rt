@@ -1,18 +1,18 @@
 ghost use Rattle.std.specs.Prelude.{◌≡◌, ◌≤◌, ◌∷◌, [], true, false, Err, Ok, IfErr, IfOk, length, option_copied};
-ghost use Rattle.pif_story_model.specs.Checks.{IsUntold, OkExactly, StrictExactly, TellsTo, WritesTelling, check_end, check_telling, checked_telling, fill_telling, flaws_beside, flaws_telling, script_fault, strict_telling, title_telling, titled_telling};
-ghost use Rattle.pif_story_model.specs.Lines.{lines, lines_behind, plain_lines};
-ghost use Rattle.pif_story_model.specs.Stories.{count_in, script_of};
-ghost use Rattle.pif_story_model.specs.Verdicts.{faulty, flaws_of};
+ghost use Rattle.pif_script_model.specs.Checks.{IsUntold, OkExactly, StrictExactly, TellsTo, WritesTelling, check_end, check_telling, checked_telling, fill_telling, flaws_beside, flaws_telling, script_fault, strict_telling, title_telling, titled_telling};
+ghost use Rattle.pif_script_model.specs.Lines.{lines, lines_behind, plain_lines};
+ghost use Rattle.pif_script_model.specs.Stories.{count_in, script_of};
+ghost use Rattle.pif_script_model.specs.Verdicts.{faulty, flaws_of};
 ghost use Rattle.pif_story.specs.Notes.{TellsNoting, story_notes};
 ghost use Rattle.pif_text_model.specs.declared.replies.Cause.TheVariants.{Size};
 
 use pif_script::{CliFault, Notice, read_all, write_whole};
 use pif_script_core::run_story;
+use pif_script_model::Flaw;
 use pif_story::{
     MOST, Notes, compare, count_commands, filled_text, line_at_end, notes_beside, plain_story,
     script_of, titled_story, verdict_text,
 };
-use pif_story_model::Flaw;
 use pif_text::Cause;
 use std::alloc::{AllocError, Global};
 use std::io::{Read, Write};
@@ -101,7 +101,7 @@ fn too_large<'a>(alloc: Global, line: u64) -> Result<Vec<Flaw<'a>>, AllocError>
 /// # Errors
 ///
 /// A growth of memory was refused.
-#[tactic(auto, unfolding(pif_story_model::specs::Checks::flaws_beside))]
+#[tactic(auto, unfolding(pif_script_model::specs::Checks::flaws_beside))]
 fn judge<'a>(
     alloc: Global,
     strict: bool,
@@ -122,7 +122,7 @@ fn judge<'a>(
 }
 
 /// What a check tells of a story of this name, and the notes on it.
-#[tactic(auto, unfolding(pif_story_model::specs::Checks::checked_telling, pif_story_model::specs::Checks::story_flaws, pif_story_model::specs::Stories::script_of, pif_story::specs::Notes::story_notes))]
+#[tactic(auto, unfolding(pif_script_model::specs::Checks::checked_telling, pif_script_model::specs::Checks::story_flaws, pif_script_model::specs::Stories::script_of, pif_story::specs::Notes::story_notes))]
 fn check_text(
     alloc: Global,
     strict: bool,
@@ -146,7 +146,7 @@ fn check_text(
 }
 
 /// What is told of a story of this name that is filled in.
-#[tactic(auto, unfolding(pif_story_model::specs::Checks::fill_telling, pif_story_model::specs::Stories::script_of))]
+#[tactic(auto, unfolding(pif_script_model::specs::Checks::fill_telling, pif_script_model::specs::Stories::script_of))]
 fn fill_text(
     alloc: Global,
     name: &[u8],
@@ -309,7 +309,7 @@ fn title(alloc: Global, name: &[u8], telling: Telling) -> Result<Telling, CliFau
 }
 
 /// What is told of a story of this name that is filled in as one of several.
-#[tactic(auto, unfolding(pif_story_model::specs::Checks::titled_telling))]
+#[tactic(auto, unfolding(pif_script_model::specs::Checks::titled_telling))]
 fn fill_titled(
     alloc: Global,
     name: &[u8],

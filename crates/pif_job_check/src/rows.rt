@@ -1,21 +1,21 @@
 ghost use Rattle.std.specs.Prelude.{◌≡◌, ◌≤◌, ◌<◌, ◌∷◌, [], ◌++◌, IfOk, OnOk, length, take};
 ghost use Rattle.pif_text_model.specs.Commands.{command_in};
-ghost use Rattle.pif_story_model.specs.Lines.{lines, plain_lines};
-ghost use Rattle.pif_story_model.specs.Rows.{AreRowsOf, filling_end, line_outcome, size_fault};
-ghost use Rattle.pif_story_model.specs.Stories.{rows_from, rows_of};
+ghost use Rattle.pif_script_model.specs.Lines.{lines, plain_lines};
+ghost use Rattle.pif_script_model.specs.Rows.{AreRowsOf, filling_end, line_outcome, size_fault};
+ghost use Rattle.pif_script_model.specs.Stories.{rows_from, rows_of};
 ghost use Rattle.pif_job_check.specs.Rows.{EndsSo, FillsRows, IsHeard, IsRun};
 
 use pif_core::Core;
 use pif_script::{CliFault, Ending, MOST_LINE, Notice, OpenFault};
 use pif_script_core::do_command;
+use pif_script_model::AnsweredRow;
 use pif_story::{MOST, line_at_end, row_of, split_line};
-use pif_story_model::AnsweredRow;
 use pif_text::{Cause, Command, Reply, command_of};
 use std::alloc::{AllocError, Global};
 
 /// Why a line of a script is a fault behind so many bytes, whatever it asks for: the script is too large with it, or it
 /// is too long. These are its bytes before the LF.
-#[tactic(auto, unfolding(pif_story_model::specs::Rows::size_fault))]
+#[tactic(auto, unfolding(pif_script_model::specs::Rows::size_fault))]
 fn size_fault(taken: usize, words: &[u8]) -> Option<Cause>
     requires { taken ≤ 16777216 }
     ensures { result ≡ size_fault taken words.now }
@@ -104,7 +104,7 @@ fn add_row<'a>(
 /// # Errors
 ///
 /// Those of `fill_rows`.
-#[tactic(auto, using(pif_story_model::proofs::StoriesLemmas::rows_from_passed))]
+#[tactic(auto, using(pif_script_model::proofs::StoriesLemmas::rows_from_passed))]
 fn run_rows<'a>(
     alloc: Global,
     plain: &'a [u8],

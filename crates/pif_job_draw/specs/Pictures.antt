@@ -8,7 +8,7 @@ use Rattle.pif_script_model.specs.declared.pictures.Picture.{Picture}
 use Rattle.pif_script_model.specs.declared.pictures.Picture.TheVariants.{States, Graph}
 use Rattle.pif_script_model.specs.Migrating.{IsAllRead}
 use Rattle.pif_script_model.specs.Runs.{WritesPart}
-use Rattle.pif_story_model.specs.Checks.{fill_telling}
+use Rattle.pif_script_model.specs.Checks.{fill_telling}
 use Rattle.pif_story_states.specs.Stories.{graph_text}
 use Rattle.pif_story_states.specs.States.{states_text}
 

@@ -1,18 +1,17 @@
 ghost use Rattle.std.specs.Prelude.{◌≡◌, IfOk, OnOk, true};
-ghost use Rattle.pif_story_model.specs.Rows.{AreRowsOf};
-ghost use Rattle.pif_story_model.specs.Stories.{rows_of};
+ghost use Rattle.pif_script_model.specs.Rows.{AreRowsOf};
+ghost use Rattle.pif_script_model.specs.Stories.{rows_of};
 ghost use Rattle.pif_job_draw.specs.Pictures.{DrawsTo, FillsOrLarge, IsDrawn};
 
 use crate::pages::page_of;
 use crate::texts::{drawing_text, states_text};
 use pif_job_check::fill_rows;
 use pif_script::{CliFault, Notice, read_all, write_whole};
+use pif_script_model::{AnsweredRow, Part, WatchSteps};
 use pif_story::plain_story;
 use pif_story_drawing::Span;
-use pif_story_model::AnsweredRow;
 use pif_text::Cause;
 use pif_types::NoMemory;
-use pif_watch::{Part, WatchSteps};
 use std::alloc::Global;
 use std::io::{Read, Write};
 

@@ -3,8 +3,7 @@ ghost use Rattle.pif_job_draw.specs.Pictures.{PicturesTo};
 
 use crate::texts::picture_text;
 use pif_script::{CliFault, Notice, read_all, write_whole};
-use pif_script_model::Picture;
-use pif_watch::WatchSteps;
+use pif_script_model::{Picture, WatchSteps};
 use std::alloc::Global;
 use std::io::{Read, Write};
 

@@ -1,20 +1,18 @@
 ghost use Rattle.std.specs.Prelude.{◌≡◌, IfOk, OnOk};
 ghost use Rattle.pif_script_model.specs.declared.pictures.Picture.{Picture};
 ghost use Rattle.pif_job_check.specs.Rows.{FillsRows};
-ghost use Rattle.pif_story_model.specs.Rows.{AreRowsOf};
-ghost use Rattle.pif_story_model.specs.Stories.{rows_of};
+ghost use Rattle.pif_script_model.specs.Rows.{AreRowsOf};
+ghost use Rattle.pif_script_model.specs.Stories.{rows_of};
 ghost use Rattle.pif_job_draw.specs.Pictures.{IsPictureOf};
 ghost use Rattle.pif_story_states.specs.States.{states_text};
 
 use pif_job_check::fill_rows;
 use pif_script::{CliFault, Notice};
-use pif_script_model::Picture;
+use pif_script_model::{AnsweredRow, Picture, WatchSteps};
 use pif_story::{names_in, plain_story};
 use pif_story_drawing::{Span, drawing_of};
-use pif_story_model::AnsweredRow;
 use pif_story_states::{graph_of, states_of};
 use pif_types::NoMemory;
-use pif_watch::WatchSteps;
 use std::alloc::Global;
 
 /// The states behind the commands of a story without a fault, which are these, as lines of JSON. `watch` is told how far

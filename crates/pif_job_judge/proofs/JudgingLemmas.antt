@@ -9,9 +9,9 @@ use Rattle.pif_history_model.specs.declared.lines.Line.TheVariants.{Answer, Prio
 use Rattle.pif_history_model.specs.declared.refusals.LineRefusal.{LineRefusal}
 use Rattle.pif_history_model.specs.Lines.{thread_of}
 use Rattle.pif_history_model.specs.Verdicts.{ArePossibleAnswers, ArePossiblePriorities}
-use Rattle.pif_history_lines.specs.declared.verdicts.Verdict.{Verdict}
-use Rattle.pif_history_lines.specs.declared.verdicts.Verdict.TheVariants.{Illegal, Undecided}
-use Rattle.pif_history_lines.specs.Verdicts.{IsVerdictOf, IsRefusalThere}
+use Rattle.pif_history_machine.specs.declared.verdicts.Verdict.{Verdict}
+use Rattle.pif_history_machine.specs.declared.verdicts.Verdict.TheVariants.{Illegal, Undecided}
+use Rattle.pif_history_machine.specs.Verdicts.{IsVerdictOf, IsRefusalThere}
 use Rattle.pif_history_text.specs.Histories.{Heard, limits_of}
 use Rattle.pif_history_text.specs.Verdicts.{illegal_line, legal_line, undecided_line}
 use Rattle.pif_history_told.specs.Pages.{IsPageOf}

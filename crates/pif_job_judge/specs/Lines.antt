@@ -4,10 +4,10 @@ use Rattle.pif_script_model.specs.declared.faults.CliFault.TheVariants.{Differs}
 use Rattle.pif_types.specs.Bounds.{Bounds}
 use Rattle.pif_history_model.specs.declared.labels.Label.{Label}
 use Rattle.pif_history_model.specs.declared.lines.Line.{Line}
-use Rattle.pif_history_lines.specs.declared.verdicts.Verdict.{Verdict}
-use Rattle.pif_history_lines.specs.declared.verdicts.Verdict.TheVariants.{Legal, Illegal, Undecided}
+use Rattle.pif_history_machine.specs.declared.verdicts.Verdict.{Verdict}
+use Rattle.pif_history_machine.specs.declared.verdicts.Verdict.TheVariants.{Legal, Illegal, Undecided}
 use Rattle.pif_rules_model.specs.declared.rules.Rules.{Rules}
-use Rattle.pif_history_lines.specs.Verdicts.{IsVerdictOf}
+use Rattle.pif_history_machine.specs.Verdicts.{IsVerdictOf}
 use Rattle.pif_history_model.specs.Lines.{thread_of}
 use Rattle.pif_history_model.specs.Searched.{Configuration}
 use Rattle.pif_history_text.specs.Histories.{Heard, limits_of}

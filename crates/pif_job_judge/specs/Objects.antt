@@ -6,9 +6,9 @@ use Rattle.pif_history_model.specs.declared.lines.Line.{Line}
 use Rattle.pif_history_model.specs.Lines.{thread_of}
 use Rattle.pif_history_model.specs.Searched.{Configuration}
 use Rattle.pif_history_model.specs.Verdicts.{IsLegal}
-use Rattle.pif_history_lines.specs.declared.verdicts.Verdict.{Verdict}
-use Rattle.pif_history_lines.specs.declared.verdicts.Verdict.TheVariants.{Legal, Illegal, Undecided}
-use Rattle.pif_history_lines.specs.Verdicts.{IsVerdictOf}
+use Rattle.pif_history_machine.specs.declared.verdicts.Verdict.{Verdict}
+use Rattle.pif_history_machine.specs.declared.verdicts.Verdict.TheVariants.{Legal, Illegal, Undecided}
+use Rattle.pif_history_machine.specs.Verdicts.{IsVerdictOf}
 use Rattle.pif_history_text.specs.Histories.{Heard, limits_of}
 use Rattle.pif_history_told.specs.declared.verdicts.Began.{Began}
 use Rattle.pif_history_told.specs.declared.verdicts.Known.{Known}

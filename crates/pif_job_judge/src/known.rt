@@ -1,11 +1,11 @@
 ghost use Rattle.std.specs.Prelude.{◌≡◌, ◌≤◌, IfErr, IfOk, None, take, vec_len};
-ghost use Rattle.pif_history_lines.specs.Verdicts.{IsRefusalThere};
+ghost use Rattle.pif_history_machine.specs.Verdicts.{IsRefusalThere};
 ghost use Rattle.pif_history_text.specs.Histories.{limits_of};
 ghost use Rattle.pif_history_text.specs.Reading.{heard_of};
 ghost use Rattle.pif_history_told.specs.Why.{IsKnown};
 
 use pif_history::{possible_answers, possible_priorities};
-use pif_history_lines::refusal;
+use pif_history_machine::refusal;
 use pif_history_model::Line;
 use pif_history_text::History;
 use pif_history_told::Known;

@@ -1,5 +1,5 @@
 ghost use Rattle.std.specs.Prelude.{◌≡◌, ◌≤◌, IfErr, IfOk, OnOk, vec_len};
-ghost use Rattle.pif_history_lines.specs.Verdicts.{IsVerdictOf};
+ghost use Rattle.pif_history_machine.specs.Verdicts.{IsVerdictOf};
 ghost use Rattle.pif_history_told.specs.Ways.{IsRun};
 ghost use Rattle.pif_history_text.specs.Histories.{limits_of};
 ghost use Rattle.pif_history_text.specs.Reading.{IsPaired, heard_of};
@@ -9,7 +9,7 @@ use crate::faults::JudgeFault;
 use crate::forms::{Form, Judging};
 use crate::known::known_of;
 use crate::unfound::unfound_at;
-use pif_history_lines::Verdict;
+use pif_history_machine::Verdict;
 use pif_history_model::{HistoryLimits, Label};
 use pif_history_text::{History, push_illegal, push_undecided};
 use pif_history_told::{

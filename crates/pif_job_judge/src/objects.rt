@@ -1,6 +1,6 @@
 ghost use Rattle.std.specs.Prelude.{◌≡◌, ◌≤◌, ◌-◌, Err, IfErr, IfOk, Ok, OnOk, vec_len};
-ghost use Rattle.pif_history_lines.specs.declared.verdicts.Verdict.TheVariants.{Illegal, Undecided};
-ghost use Rattle.pif_history_lines.specs.Verdicts.{IsVerdictOf};
+ghost use Rattle.pif_history_machine.specs.declared.verdicts.Verdict.TheVariants.{Illegal, Undecided};
+ghost use Rattle.pif_history_machine.specs.Verdicts.{IsVerdictOf};
 ghost use Rattle.pif_history_model.specs.Verdicts.{IsLegal};
 ghost use Rattle.pif_history_told.specs.Ways.{IsRun};
 ghost use Rattle.pif_history_text.specs.Histories.{limits_of};
@@ -12,7 +12,7 @@ use crate::forms::{Form, Judging};
 use crate::known::known_of;
 use crate::unfound::unfound_at;
 use pif_history::judge_lines;
-use pif_history_lines::Verdict;
+use pif_history_machine::Verdict;
 use pif_history_model::Label;
 use pif_history_text::History;
 use pif_history_told::{

@@ -12,7 +12,7 @@ use crate::forms::Judging;
 use crate::judging::Numbered;
 use crate::search::{Needed, least};
 use pif_history::judge_lines;
-use pif_history_lines::Verdict;
+use pif_history_machine::Verdict;
 use pif_history_model::{HistoryLimits, Label, Line};
 use pif_history_text::History;
 use pif_history_told::{number_at, push_needed, rules_of_run};
@@ -20,7 +20,7 @@ use pif_rules::{both, is_any, no_rules, posix_rules, push_names};
 use pif_rules_model::Rules;
 use pif_script_model::CliFault;
 use pif_search::{Stop, Watch};
-use pif_text_json::append_decimal;
+use pif_text::append_decimal;
 use std::alloc::Global;
 
 /// What POSIX says of the lines of a history that weren't found to be legal with the rules that hold.

@@ -1,10 +1,10 @@
 ghost use Rattle.std.specs.Prelude.{◌≡◌, IfOk};
 ghost use Rattle.pif_job_judge.specs.LeastRules.{IsFirst, IsLeast, IsLegalSomehow};
-ghost use Rattle.pif_history_lines.specs.Verdicts.{IsVerdictOf};
+ghost use Rattle.pif_history_machine.specs.Verdicts.{IsVerdictOf};
 ghost use Rattle.pif_rules.specs.Sets.{both};
 
 use pif_history::judge_lines;
-use pif_history_lines::Verdict;
+use pif_history_machine::Verdict;
 use pif_history_model::{HistoryLimits, Line};
 use pif_history_told::{added, sets_of_size};
 use pif_rules::both;

@@ -4,7 +4,7 @@ ghost use Rattle.pif_history_told.specs.Why.{IsUnfound};
 
 use crate::judging::Numbered;
 use pif_history::find_run;
-use pif_history_lines::{answers_of, numbers_of, priorities_of};
+use pif_history_machine::{answers_of, numbers_of, priorities_of};
 use pif_history_model::{Label, Line};
 use pif_history_text::History;
 use pif_history_told::{Unfound, number_at, unfound_of};

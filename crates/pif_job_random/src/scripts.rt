@@ -6,9 +6,9 @@ use crate::Shape;
 use crate::laws::commands_have_no_fault;
 use crate::player::Player;
 use crate::written::see_written;
+use pif_script_model::WatchSteps;
 use pif_text::{Command, Text, command_text};
 use pif_types::NoMemory;
-use pif_watch::WatchSteps;
 use std::alloc::Global;
 
 /// A random script of so many lines, each a command, the same for the same seed, lines and shape. Which commands it has

@@ -5,9 +5,9 @@ use Rattle.std.proofs.lemmas.Bool.{and_parts}
 use Rattle.std.proofs.lemmas.Bool.Decides.{nat_tests}
 use Rattle.std.proofs.lemmas.List.{map-append}
 use Rattle.std.proofs.lemmas.Str.{IsUtf8-from_ascii}
-use Rattle.pif_story_model.specs.Lines.{lines}
+use Rattle.pif_script_model.specs.Lines.{lines}
 use Rattle.pif_story.specs.Names.{first_name, is_name, is_name_byte, name_by, name_of, naming_by, naming_in, thread_named}
-use Rattle.pif_text_json.specs.Json.{numbers}
+use Rattle.pif_text.specs.Json.{numbers}
 use Rattle.pif_text_model.specs.Words.{words}
 use Rattle.pif_job_run.specs.Shows.{person_name, person_names}
 

@@ -25,9 +25,9 @@ use Rattle.pif_script_model.specs.Scripts.{Answered, FirstMeaning, Meaning, Scan
 use Rattle.pif_script_model.proofs.DifferenceLemmas.{RunsTo-from}
 use Rattle.pif_script_model.proofs.ScriptLemmas.{by_cases, reading_of-err, reading_of-nil, reading_of-ok}
 use Rattle.pif_script_model.proofs.UnderLemmas.{EndsAfter_under, first_under, later_under, scan_under}
-use Rattle.pif_story_model.specs.Lines.{lines}
-use Rattle.pif_story_model.specs.Rows.{words_outcome}
-use Rattle.pif_story_model.proofs.OkLemmas.{line-first}
+use Rattle.pif_script_model.specs.Lines.{lines}
+use Rattle.pif_script_model.specs.Rows.{words_outcome}
+use Rattle.pif_script_model.proofs.OkLemmas.{line-first}
 use Rattle.pif_story.specs.declared.missing.Known.{Known}
 use Rattle.pif_story.specs.declared.missing.Missing.{Missing}
 use Rattle.pif_story.specs.declared.missing.Note.{Note}

@@ -5,8 +5,8 @@ use Rattle.std.proofs.KnownBytes.{Keeps-refl}
 use Rattle.pif_script_model.specs.declared.faults.CliFault.{CliFault}
 use Rattle.pif_script_model.specs.declared.faults.CliFault.TheVariants.{Read, Write, NoMemory, Script, Differs}
 use Rattle.pif_script_model.specs.Migrating.{FailsToRead, IsAllRead, ReadsTo}
-use Rattle.pif_story_model.specs.Checks.{IsUntold}
-use Rattle.pif_story_model.specs.Showing.{LeavesScript, LeavesScriptTo, ShowsStoryTo}
+use Rattle.pif_script_model.specs.Checks.{IsUntold}
+use Rattle.pif_script_model.specs.StoryShowing.{LeavesScript, LeavesScriptTo, ShowsStoryTo}
 use Rattle.pif_story.specs.declared.missing.Note.{Note}
 use Rattle.pif_story.specs.Notes.{Shows, ShowsNoting, story_notes}
 

@@ -12,8 +12,8 @@ use Rattle.pif_script_model.specs.declared.ending.Ending.TheVariants.{Fault}
 use Rattle.pif_script_model.specs.Running.{Answer, answer_or_fault, command_answer, first_answer, made_by, script}
 use Rattle.pif_script_model.specs.Runs.{EndsAfter, end_line}
 use Rattle.pif_script_model.specs.Scripts.{FirstMeaning, Hearing, Meaning, start}
-use Rattle.pif_story_model.specs.Lines.{lines}
-use Rattle.pif_story_model.specs.Rows.{words_outcome}
+use Rattle.pif_script_model.specs.Lines.{lines}
+use Rattle.pif_script_model.specs.Rows.{words_outcome}
 use Rattle.pif_story.specs.declared.missing.Known.{Known}
 use Rattle.pif_story.specs.declared.missing.Note.{Note}
 use Rattle.pif_story.specs.Notes.{known_behind, note_at, noted, nothing_known, one_more, row_known, with_found, with_notes, words_noted}

@@ -7,10 +7,10 @@ use Rattle.pif_text_model.specs.declared.replies.Cause.{Cause}
 use Rattle.pif_text_model.specs.declared.replies.Cause.TheVariants as cause
 use Rattle.pif_text_model.specs.Commands.{command_in}
 use Rattle.pif_text_model.specs.Replies.{named_text}
-use Rattle.pif_story_model.specs.Stories.{script_of}
-use Rattle.pif_story_model.specs.Verdicts.{printable}
+use Rattle.pif_script_model.specs.Stories.{script_of}
+use Rattle.pif_script_model.specs.Verdicts.{printable}
 use Rattle.pif_story.specs.Names.{name_of, names_in}
-use Rattle.pif_text_json.specs.Json.{numbers}
+use Rattle.pif_text.specs.Json.{numbers}
 use Rattle.pif_script_model.specs.declared.details.Detail.{Detail}
 use Rattle.pif_script_model.specs.declared.details.Detail.TheVariants.{All, Changes}
 use Rattle.pif_script_model.specs.declared.ending.Ending.TheVariants.{Fault}

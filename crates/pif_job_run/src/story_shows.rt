@@ -1,7 +1,7 @@
 ghost use Rattle.std.specs.Prelude.{◌≡◌, ◌≤◌, List, Option, Some, Ok, Err, IfErr, IfOk, OnOk, map, ℕ};
 ghost use Rattle.std.specs.Io.KnownBytes.{Appends};
-ghost use Rattle.pif_story_model.specs.Showing.{ShowsStoryTo};
-ghost use Rattle.pif_story_model.specs.Stories.{script_of};
+ghost use Rattle.pif_script_model.specs.StoryShowing.{ShowsStoryTo};
+ghost use Rattle.pif_script_model.specs.Stories.{script_of};
 ghost use Rattle.pif_story.specs.Notes.{ShowsNoting};
 ghost use Rattle.pif_job_run.specs.Shows.{WritesStory, person_name, person_names, shown_text};
 

@@ -1,4 +1,4 @@
-ghost use Rattle.pif_story_model.specs.Showing.{TracesStoryTo};
+ghost use Rattle.pif_script_model.specs.StoryShowing.{TracesStoryTo};
 
 use crate::script_traces::trace_noting;
 use pif_script::{CliFault, Notice};

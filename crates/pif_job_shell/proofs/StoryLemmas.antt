@@ -1,6 +1,6 @@
 -- A script that is filled in.
 use Rattle.std.proofs.Common.{◌≡◌, ℕ, ◌≤◌, List, [], ◌++◌, Some, Ok, length, length-append, append-nil, inl, inr, sym, ap, ◌∙◌, arith}
-use Rattle.pif_story_model.specs.Checks.{TellsTo, fill_telling}
+use Rattle.pif_script_model.specs.Checks.{TellsTo, fill_telling}
 
 -- a script that was filled in, from memory to memory
 pub story_filled : (script left out : List ℕ) (x : Unit {0}) → length script ≤ 16777216

@@ -4,7 +4,7 @@ use Rattle.std.specs.Prelude.{is_some}
 use Rattle.pif_types.specs.declared.errors.Refusal.{Refusal}
 use Rattle.pif_model.specs.declared.events.Event.{Event}
 use Rattle.pif_model.specs.Posix.{World, refusal_of}
-use Rattle.pif_posix_model.specs.Doing.{is_allowed}
+use Rattle.pif_posix_steps.specs.Doing.{is_allowed}
 
 allowed_by : (w : World) (x : Event) (o : Option Refusal) (b : Bool) → o ≡ refusal_of w x → is_some o ≡ b → is_allowed w x ≡ (if b then false else true)
 allowed_by w x o b e f = ap (λ (r : Option Refusal). if is_some r then false else true) (sym e) ∙ ap (λ (c : Bool). if c then false else true) f

@@ -6,8 +6,8 @@ use Rattle.std.proofs.lemmas.List.Elements.{filter_agree}
 use Rattle.std.proofs.lemmas.Bool.{ne_eqb, eq-eqb}
 use Rattle.pif_model.specs.Posix.{World, all_unblocked, with_call_by, after_unblocking, blocked_below, effective_of, is_blocked_on, is_found, is_still_blocked, thread_at, with_progress}
 use Rattle.pif_model.specs.World.Progress.{Has}
-use Rattle.pif_posix_model.specs.Doing.{selections, all_blocked, found_left, none_is_above, candidates, woken, signalled, broadcast}
-use Rattle.pif_posix_model.proofs.DoingCases.{choose_then, choose_else}
+use Rattle.pif_posix_steps.specs.Doing.{selections, all_blocked, found_left, none_is_above, candidates, woken, signalled, broadcast}
+use Rattle.pif_posix_steps.proofs.DoingCases.{choose_then, choose_else}
 use Rattle.pif_posix.specs.Choices.{wakings}
 
 -- WHO IS BLOCKED

@@ -9,8 +9,8 @@ use Rattle.pif_model.specs.Deadlines.{plain, timer_of}
 use Rattle.pif_model.specs.World.Progress.{Fresh}
 use Rattle.std.proofs.lemmas.List.{set-set}
 use Rattle.pif_model.specs.Posix.{World, Thread, Memory, thread_at, nobody, rests, sleeps, with_thread, begun_memory, begun_thread}
-use Rattle.pif_posix_model.specs.Doing.{is_allowed, is_answered, closed, answered, begun, ticked}
-use Rattle.pif_posix_model.proofs.DoingCases.{choose_then, choose_else}
+use Rattle.pif_posix_steps.specs.Doing.{is_allowed, is_answered, closed, answered, begun, ticked}
+use Rattle.pif_posix_steps.proofs.DoingCases.{choose_then, choose_else}
 
 -- THE NEXT NUMBER WITHIN A LIMIT
 

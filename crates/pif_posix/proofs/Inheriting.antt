@@ -3,7 +3,7 @@ use Rattle.std.proofs.Common.{ℕ, zero, suc, ◌≡◌, ◌≢◌, ◌-◌, ◌
 use Rattle.std.proofs.Math.Numerals.{sub-one}
 use Rattle.std.specs.List.{flat_map}
 use Rattle.pif_model.specs.Posix.{World}
-use Rattle.pif_posix_model.specs.Doing.{robust_of, inherited, passed_on_by_death}
+use Rattle.pif_posix_steps.specs.Doing.{robust_of, inherited, passed_on_by_death}
 use Rattle.pif_rules_model.specs.declared.rules.Rules.{Rules}
 use Rattle.pif_rules_model.specs.Ruled.{one_if, passed_by_death, released_by}
 

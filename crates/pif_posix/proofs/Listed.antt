@@ -3,7 +3,7 @@ use Rattle.std.proofs.Common.{ℕ, ◌≡◌, List}
 use Rattle.std.specs.List.{All, Contains}
 use Rattle.pif_types.specs.Bounds.{Bounds}
 use Rattle.pif_model.specs.declared.events.Entry.{Entry}
-use Rattle.pif_posix_model.proofs.AllResults.{no_other, each}
+use Rattle.pif_posix_steps.proofs.AllResults.{no_other, each}
 use Rattle.pif_rules_model.specs.declared.rules.Rules.{Rules}
 use Rattle.pif_rules_model.specs.Rules.{Wide, WideMoves, WideEnters, WideEndsApart}
 use Rattle.pif_rules_model.specs.Ruled.{widely_moved, widely_entered, ended_apart}

@@ -4,7 +4,7 @@ use Rattle.std.specs.List.{filter, flat_map}
 use Rattle.std.proofs.lemmas.List.{take_more, take_all, drop_all, drop_more, map_more, map-append, length-map, length-take-le, get_or_at, set_at}
 use Rattle.std.proofs.lemmas.List.Elements.{filter-append}
 use Rattle.std.proofs.lemmas.Grind.{flat_map-append}
-use Rattle.pif_posix_model.specs.Doing.{passing}
+use Rattle.pif_posix_steps.specs.Doing.{passing}
 
 -- a loop that changes each item has changed all
 pub all_changed : {A : Type 0} (f : A → A) (xs ys : List A) (i : ℕ) → length xs ≤ i → ys ≡ map f (take i xs) ++ drop i xs → ys ≡ map f xs

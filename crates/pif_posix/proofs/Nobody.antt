@@ -10,12 +10,12 @@ use Rattle.pif_model.specs.declared.events.Entry.TheVariants.{Thread as AddThrea
 use Rattle.pif_model.specs.World.{variable_of}
 use Rattle.pif_model.specs.Posix.{World, is_use, is_still_blocked, with_progress, all_unblocked}
 use Rattle.pif_model.specs.World.Progress.{Has}
-use Rattle.pif_posix_model.specs.Doing.{signalled, broadcast, chosen, all_blocked, selections, woken, none_is_above, moved, entered}
+use Rattle.pif_posix_steps.specs.Doing.{signalled, broadcast, chosen, all_blocked, selections, woken, none_is_above, moved, entered}
 use Rattle.pif_posix.specs.Results.{if_done, entered_in_place}
-use Rattle.pif_posix_model.specs.Once.{MovesOnce, Enters}
-use Rattle.pif_posix_model.proofs.DoingLists.{in_one_from}
-use Rattle.pif_posix_model.proofs.DoingMoves.{moved_to}
-use Rattle.pif_posix_model.proofs.DoingEntries.{entered_to}
+use Rattle.pif_posix_steps.specs.Once.{MovesOnce, Enters}
+use Rattle.pif_posix_steps.proofs.DoingLists.{in_one_from}
+use Rattle.pif_posix_steps.proofs.DoingMoves.{moved_to}
+use Rattle.pif_posix_steps.proofs.DoingEntries.{entered_to}
 
 none_left : {A : Type 0} (xs : List A) → length xs ≡ 0 → xs ≡ []
 none_left [] e = refl

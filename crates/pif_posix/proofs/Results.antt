@@ -2,8 +2,8 @@
 use Rattle.std.proofs.Common.{◌≡◌, ap, Bool, Option}
 use Rattle.std.specs.Prelude.{option_to_list}
 use Rattle.pif_model.specs.Posix.{World}
-use Rattle.pif_posix_model.specs.Doing.{Does}
-use Rattle.pif_posix_model.specs.Doing.Does.{did, did_not}
+use Rattle.pif_posix_steps.specs.Doing.{Does}
+use Rattle.pif_posix_steps.specs.Doing.Does.{did, did_not}
 use Rattle.pif_posix.specs.Results.{if_done}
 
 -- by a rule with one result at most

@@ -7,7 +7,7 @@ use Rattle.pif_model.specs.declared.events.Seen.{Seen}
 use Rattle.pif_model.specs.declared.events.Entry.{Entry}
 use Rattle.pif_model.specs.declared.events.Entry.TheVariants.{Step}
 use Rattle.pif_model.specs.World.{World}
-use Rattle.pif_posix_model.specs.Doing.{happened, entered}
+use Rattle.pif_posix_steps.specs.Doing.{happened, entered}
 
 -- the state, if it did
 abbrev pub if_done : Bool → World → List World

@@ -1,7 +1,7 @@
 ghost use Rattle.std.specs.Prelude.{◌≡◌, ◌≢◌, ◌<◌, Some, ℕ, [], ◌∷◌, false, length, option_to_list, if◌then◌else◌, IfOk};
 ghost use Rattle.pif_model.specs.Posix.{thread_at, is_due};
 ghost use Rattle.pif_model.specs.World.Progress.{Blocked, Used};
-ghost use Rattle.pif_posix_model.specs.Doing.{first_effects, wait_effects, later_effects, expired_by, may_be_noted, noted, acted};
+ghost use Rattle.pif_posix_steps.specs.Doing.{first_effects, wait_effects, later_effects, expired_by, may_be_noted, noted, acted};
 ghost use Rattle.pif_posix.specs.Results.{if_done};
 ghost use Rattle.pif_posix.specs.Shapes.{call_of, progress_of};
 

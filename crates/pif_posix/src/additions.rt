@@ -2,12 +2,12 @@ ghost use Rattle.std.specs.Prelude.{◌≡◌, ◌==◌, ◌++◌, ◌∷◌, []
 ghost use Rattle.pif_model.specs.World.{empty_world, no_memory};
 ghost use Rattle.pif_model.specs.Deadlines.{no_timer};
 ghost use Rattle.pif_model.specs.Posix.{new_mutex, new_variable};
-ghost use Rattle.pif_posix_model.specs.Doing.{thread_added, mutex_added, variable_added, ticked, Does};
+ghost use Rattle.pif_posix_steps.specs.Doing.{thread_added, mutex_added, variable_added, ticked, Does};
 
 use crate::parts::{Lockable, Signalled, Task};
 use crate::state::State;
 use pif_model::Timer;
-use pif_posix_model::HistoryLimits;
+use pif_posix_steps::HistoryLimits;
 use pif_search::{Stop, one, push};
 use pif_types::{CondId, Health, Kind, MutexId, Prio, Tid};
 use std::alloc::Global;

@@ -2,7 +2,7 @@ ghost use Rattle.std.specs.Prelude.{◌≡◌, ◌<◌, ◌+◌, ℕ, Some, leng
 ghost use Rattle.pif_model.specs.World.Progress.{Fresh};
 ghost use Rattle.pif_model.specs.Deadlines.{plain, timer_of};
 ghost use Rattle.pif_model.specs.Posix.{with_thread, thread_at, begun_memory};
-ghost use Rattle.pif_posix_model.specs.Doing.{begun, answered, is_answered, Does};
+ghost use Rattle.pif_posix_steps.specs.Doing.{begun, answered, is_answered, Does};
 
 use crate::parts::Task;
 use crate::progress::{Call, Progress};

@@ -1,7 +1,7 @@
 ghost use Rattle.std.specs.Prelude.{◌≡◌, ◌<◌, ◌++◌, ◌==◌, ℕ, false, length, map, drop, nat_le, if◌then◌else◌, IfOk, OnOk};
 ghost use Rattle.std.specs.List.{filter, list_all, list_any};
 ghost use Rattle.pif_model.specs.Posix.{blocked_below, is_still_blocked, effective_of, with_call_by, after_unblocking};
-ghost use Rattle.pif_posix_model.specs.Doing.{signalled, broadcast, chosen, all_blocked, found_left, woken};
+ghost use Rattle.pif_posix_steps.specs.Doing.{signalled, broadcast, chosen, all_blocked, found_left, woken};
 ghost use Rattle.pif_posix.specs.Choices.{wakings};
 
 use crate::progress::Progress;

@@ -2,7 +2,7 @@ ghost use Rattle.std.specs.Prelude.{◌≡◌, ◌==◌, ◌<◌, ◌++◌, ℕ,
 ghost use Rattle.std.specs.List.{list_all};
 ghost use Rattle.pif_model.specs.Graph.{waited_by};
 ghost use Rattle.pif_model.specs.Posix.{after_end, after_owner_death, with_no_owner};
-ghost use Rattle.pif_posix_model.specs.Doing.{owns_robust, robust_of, passed_on_by_death, inherited, inherited_below, is_orderly, all_inherited, ended};
+ghost use Rattle.pif_posix_steps.specs.Doing.{owns_robust, robust_of, passed_on_by_death, inherited, inherited_below, is_orderly, all_inherited, ended};
 
 use crate::state::State;
 use crate::waiting::waited;

@@ -1,12 +1,12 @@
 ghost use Rattle.std.specs.Prelude.{◌≡◌, All, Contains, IfOk};
 ghost use Rattle.pif_model.specs.Posix.{World};
-ghost use Rattle.pif_posix_model.specs.Once.{Enters};
-ghost use Rattle.pif_posix_model.specs.Doing.{entered};
+ghost use Rattle.pif_posix_steps.specs.Once.{Enters};
+ghost use Rattle.pif_posix_steps.specs.Doing.{entered};
 ghost use Rattle.pif_posix.specs.Results.{if_done, entered_in_place};
 
 use crate::state::State;
 use pif_model::{Entry, Event, Seen};
-use pif_posix_model::HistoryLimits;
+use pif_posix_steps::HistoryLimits;
 use pif_search::{Stop, one};
 use pif_types::Request;
 use std::alloc::Global;

@@ -1,6 +1,6 @@
 ghost use Rattle.std.specs.Prelude.{◌≡◌, ◌<◌, ℕ, length, IfOk, OnOk};
 ghost use Rattle.pif_model.specs.Posix.{taken, mutex_at};
-ghost use Rattle.pif_posix_model.specs.Doing.{locked, locked_more, tried, passed_on, released, unlocked, given_up, left, made_consistent, Does};
+ghost use Rattle.pif_posix_steps.specs.Doing.{locked, locked_more, tried, passed_on, released, unlocked, given_up, left, made_consistent, Does};
 ghost use Rattle.pif_posix.specs.Shapes.{progress_of};
 
 use crate::progress::Progress;

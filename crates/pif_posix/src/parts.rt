@@ -2,7 +2,7 @@ ghost use Rattle.std.specs.Prelude.{◌≡◌, if◌then◌else◌, false};
 ghost use Rattle.pif_model.specs.World.{is_call_blocked, sleeps, at_progress};
 ghost use Rattle.pif_model.specs.Posix.{after_use, is_newly_blocked, is_counting};
 ghost use Rattle.pif_model.specs.Deadlines.{ran_out, is_reached};
-ghost use Rattle.pif_posix_model.specs.Doing.{after_waking};
+ghost use Rattle.pif_posix_steps.specs.Doing.{after_waking};
 ghost use Rattle.pif_posix.specs.Shapes.{health_of, progress_of, call_of};
 
 use crate::progress::{Call, Progress};

@@ -1,8 +1,8 @@
 //! One step in place, if there is no choice: what a player does that keeps one state.
 ghost use Rattle.std.specs.Prelude.{◌≡◌, ◌<◌, ◌∷◌, [], true, Some, ℕ, length, IfOk};
 ghost use Rattle.pif_model.specs.Posix.{thread_at};
-ghost use Rattle.pif_posix_model.specs.Once.{MovesOnce, Enters};
-ghost use Rattle.pif_posix_model.specs.Doing.{acted, moved, chosen, entered};
+ghost use Rattle.pif_posix_steps.specs.Once.{MovesOnce, Enters};
+ghost use Rattle.pif_posix_steps.specs.Doing.{acted, moved, chosen, entered};
 ghost use Rattle.pif_posix.specs.Results.{if_done, happened_in_place, entered_in_place};
 ghost use Rattle.pif_posix.specs.Shapes.{call_of};
 
@@ -10,7 +10,7 @@ use crate::progress::{Call, Progress};
 use crate::requests::{is_use, variable_of};
 use crate::state::State;
 use pif_model::{Entry, Event, Seen};
-use pif_posix_model::HistoryLimits;
+use pif_posix_steps::HistoryLimits;
 use pif_search::Stop;
 use pif_types::Request;
 use std::alloc::Global;

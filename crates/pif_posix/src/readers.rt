@@ -1,7 +1,7 @@
 ghost use Rattle.std.specs.Prelude.{◌≡◌, length, map, IfOk};
 ghost use Rattle.pif_model.specs.Graph.{waited_by};
 ghost use Rattle.pif_model.specs.World.{Variable};
-ghost use Rattle.pif_posix_model.specs.Doing.{all_blocked};
+ghost use Rattle.pif_posix_steps.specs.Doing.{all_blocked};
 
 use crate::parts::Signalled;
 use crate::state::State;

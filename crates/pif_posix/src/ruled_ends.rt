@@ -1,7 +1,7 @@
 ghost use Rattle.std.specs.Prelude.{◌≡◌, ◌<◌, ◌++◌, ◌∷◌, [], ℕ, length, map, IfOk, OnOk};
 ghost use Rattle.std.specs.List.{flat_map};
 ghost use Rattle.pif_model.specs.Posix.{after_end};
-ghost use Rattle.pif_posix_model.specs.Doing.{robust_of};
+ghost use Rattle.pif_posix_steps.specs.Doing.{robust_of};
 ghost use Rattle.pif_rules_model.specs.Ruled.{one_if, may_revive, revived_if, found_by, passed_by_death, released_by, all_released, ended_found, ended_by, left_apart, passed_apart};
 
 use crate::State;

@@ -5,7 +5,7 @@ ghost use Rattle.pif_rules_model.specs.Ruled.{widely_ended, widely_entered};
 use crate::ruled_ends::ended_by;
 use crate::wide::Wide;
 use pif_model::{Entry, Event, Seen};
-use pif_posix_model::HistoryLimits;
+use pif_posix_steps::HistoryLimits;
 use pif_rules_model::Rules;
 use pif_search::Stop;
 use std::alloc::Global;

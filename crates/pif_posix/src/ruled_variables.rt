@@ -1,5 +1,5 @@
 ghost use Rattle.std.specs.Prelude.{◌≡◌, ◌<◌, ℕ, length, map, IfOk};
-ghost use Rattle.pif_posix_model.specs.Doing.{all_blocked};
+ghost use Rattle.pif_posix_steps.specs.Doing.{all_blocked};
 ghost use Rattle.pif_rules_model.specs.Rules.{bound_to};
 ghost use Rattle.pif_rules_model.specs.Ruled.{is_some_of, consumed_with, signallers, signal_consumed, bound_anew, used_by};
 

@@ -1,6 +1,6 @@
 ghost use Rattle.std.specs.Prelude.{◌≡◌, ◌<◌, ℕ, length, IfOk, OnOk};
 ghost use Rattle.pif_model.specs.Posix.{thread_at};
-ghost use Rattle.pif_posix_model.specs.Doing.{priority_set, wait_checked, variable_used, expired_by, Does};
+ghost use Rattle.pif_posix_steps.specs.Doing.{priority_set, wait_checked, variable_used, expired_by, Does};
 
 use crate::progress::Progress;
 use crate::state::State;

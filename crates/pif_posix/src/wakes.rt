@@ -2,7 +2,7 @@ ghost use Rattle.std.specs.Prelude.{◌≡◌, ◌<◌, ℕ, false, length, map,
 ghost use Rattle.pif_model.specs.World.{mutex_at, with_progress};
 ghost use Rattle.pif_model.specs.World.Progress.{Blocked};
 ghost use Rattle.pif_model.specs.Posix.{with_one_hold_less};
-ghost use Rattle.pif_posix_model.specs.Doing.{woken};
+ghost use Rattle.pif_posix_steps.specs.Doing.{woken};
 ghost use Rattle.pif_rules_model.specs.Ruled.{any_woken, woken_by_itself, waiting_held};
 
 use crate::next::{blocked_on, signalled_next, waited_next};

@@ -8,13 +8,13 @@ use Rattle.pif_model.specs.declared.events.Entry.{Entry}
 use Rattle.pif_model.specs.Posix.{World, IsOwner, IsNotStalled, Passes, Releases, is_living, mutex_at, after_end, after_owner_death, with_no_owner}
 use Rattle.pif_model.specs.Posix.Releases.{none_left as none_owned, one_more as one_passes}
 use Rattle.pif_model_lemmas.proofs.Waiting.{names}
-use Rattle.pif_posix_model.specs.Doing.{entered, is_allowed, robust_of, passed_on, all_inherited}
-use Rattle.pif_posix_model.proofs.DoingCases.{choose_then, choose_else}
-use Rattle.pif_posix_model.proofs.DoingLists.{in_first, in_rest, in_cases, in_one, in_one_from, in_then, in_then_from, in_else, in_else_from, in_map, in_map_from, in_flat_map, in_flat_map_from}
-use Rattle.pif_posix_model.proofs.DoingReleases.{passed_from, passed_to}
-use Rattle.pif_posix_model.proofs.DoingMoves.{allowed_from, allowed_to, end_is_of_somebody}
-use Rattle.pif_posix_model.proofs.DoingEnds.{robust_of_to, robust_of_from, owns_none_to, owns_none_from, stays_unnamed, new_owner, one_robust_less, all_inherited_from, all_inherited_to, unnamed_at_end}
-use Rattle.pif_posix_model.proofs.DoingEntries.{entered_from, entered_to}
+use Rattle.pif_posix_steps.specs.Doing.{entered, is_allowed, robust_of, passed_on, all_inherited}
+use Rattle.pif_posix_steps.proofs.DoingCases.{choose_then, choose_else}
+use Rattle.pif_posix_steps.proofs.DoingLists.{in_first, in_rest, in_cases, in_one, in_one_from, in_then, in_then_from, in_else, in_else_from, in_map, in_map_from, in_flat_map, in_flat_map_from}
+use Rattle.pif_posix_steps.proofs.DoingReleases.{passed_from, passed_to}
+use Rattle.pif_posix_steps.proofs.DoingMoves.{allowed_from, allowed_to, end_is_of_somebody}
+use Rattle.pif_posix_steps.proofs.DoingEnds.{robust_of_to, robust_of_from, owns_none_to, owns_none_from, stays_unnamed, new_owner, one_robust_less, all_inherited_from, all_inherited_to, unnamed_at_end}
+use Rattle.pif_posix_steps.proofs.DoingEntries.{entered_from, entered_to}
 use Rattle.pif_rules_model.specs.declared.rules.Rules.{Rules}
 use Rattle.pif_rules_model.specs.Rules.{Wide, MayRevive, FindsHealth, PassesBy, ReleasesBy, EndsBy, EndsApartBy, PassesApart, HasReleased, WideEnters, WideEndsApart, of_call, unlocked_next_by, is_unusable, revived, has_ended_apart, end_of}
 use Rattle.pif_rules_model.specs.Rules.MayRevive.{revives, cut}

@@ -1,7 +1,7 @@
 -- What is in lists that are there if something else is.
 use Rattle.std.proofs.Common.{◌≡◌, Bool, true, false, List, [], ◌∷◌, Option, Some, None, refl, sym, subst, Contains}
 use Rattle.std.proofs.lemmas.Bool.{both_ways}
-use Rattle.pif_posix_model.proofs.DoingLists.{not_in_none, in_first, in_one, in_one_from}
+use Rattle.pif_posix_steps.proofs.DoingLists.{not_in_none, in_first, in_one, in_one_from}
 use Rattle.pif_rules_model.specs.Ruled.{listed_of, one_if, is_some_of}
 
 module _ {A B : Type 0} where

@@ -11,10 +11,10 @@ use Rattle.pif_model.specs.World.{Health, is_living, leads_to, is_orphaned, is_b
 use Rattle.pif_model.specs.World.Health.{Fine, Inconsistent, Unusable}
 use Rattle.pif_model.specs.World.Progress.{Waiting, Has, Blocked, Used}
 use Rattle.pif_model.specs.Posix.{World, IsHeldByAnother, is_due, mutex_at, variable_at, effective_of, with_progress, with_call_by, with_health, with_no_owner, with_one_hold_more, with_one_hold_less, with_waiter, without_waiter, after_unblocking, taken}
-use Rattle.pif_posix_model.specs.Doing.{all_blocked, woken, passing}
-use Rattle.pif_posix_model.proofs.DoingCases.{choose_then, choose_else}
-use Rattle.pif_posix_model.proofs.DoingLists.{not_in_none, in_first, in_rest, in_cases, in_one, in_one_from, in_then, in_then_from, in_else, in_else_from, in_map, in_map_from, passing_to, passing_from}
-use Rattle.pif_posix_model.proofs.DoingChoices.{all_blocked_to, all_blocked_from}
+use Rattle.pif_posix_steps.specs.Doing.{all_blocked, woken, passing}
+use Rattle.pif_posix_steps.proofs.DoingCases.{choose_then, choose_else}
+use Rattle.pif_posix_steps.proofs.DoingLists.{not_in_none, in_first, in_rest, in_cases, in_one, in_one_from, in_then, in_then_from, in_else, in_else_from, in_map, in_map_from, passing_to, passing_from}
+use Rattle.pif_posix_steps.proofs.DoingChoices.{all_blocked_to, all_blocked_from}
 use Rattle.pif_rules_model.specs.declared.rules.HoldLimits.{HoldLimits}
 use Rattle.pif_rules_model.specs.Rules.{Wide, of_call, locked_next_by, locked_first_by, got_by, waited_for_by, tried_next_by, mended_next_by, given_next_by, waited_next_by, used_next_by, signalled_next_by, signalling_by, blocked_by, set_next_by, stolen, is_recursive, is_errorcheck, never_goes_on, bound_to, used_uncounted, Steals, WakesAny, WakesItself, LocksBeyond, LocksWithin, TriesOwn, Frees, TakesFree, Barges, WaitsInCycle, LeadsToNoEnd, IsHopeless, RefusesCycle, ConsumesSignal, WaitsHolding, BindsAnew, UsesUncounted, LosesSignal, MakesConsistentByAny, IsRefusedFree, MakesAnyConsistent, RefusesPriority}
 use Rattle.pif_rules_model.specs.Rules.Barges.{frees, takes}

@@ -3,9 +3,9 @@ use Rattle.std.proofs.Common.{ℕ, List, [], map, refl, sym, subst, inl, inr, ar
 use Rattle.std.proofs.lemmas.List.Elements.{Contains-append_left, Contains-append_right, Contains-append_cases}
 use Rattle.pif_model.specs.declared.events.Event.TheVariants.{Go}
 use Rattle.pif_model.specs.Posix.{World}
-use Rattle.pif_posix_model.specs.Doing.{moved, is_allowed}
-use Rattle.pif_posix_model.proofs.DoingLists.{not_in_none, in_then, in_then_from, in_map, in_map_from, in_flat_map, in_flat_map_from}
-use Rattle.pif_posix_model.proofs.DoingMoves.{moved_from, moved_to, allowed_from, allowed_to}
+use Rattle.pif_posix_steps.specs.Doing.{moved, is_allowed}
+use Rattle.pif_posix_steps.proofs.DoingLists.{not_in_none, in_then, in_then_from, in_map, in_map_from, in_flat_map, in_flat_map_from}
+use Rattle.pif_posix_steps.proofs.DoingMoves.{moved_from, moved_to, allowed_from, allowed_to}
 use Rattle.pif_rules_model.specs.declared.rules.Rule.{Rule}
 use Rattle.pif_rules_model.specs.declared.rules.Rule.TheVariants.{Steal, AnyWaiter, Spurious, Recursion, OwnErrorcheck, AnyConsistent, HeldWait, LostSignal, Revives, Barge, CycleWaits, CycleRefused, TimeoutConsumes, EndsApart, StaysLocked, Rebinds, MoreUses, RefusesSetprio, ConsistentByAny, CutUnlock}
 use Rattle.pif_rules_model.specs.declared.rules.Rules.{Rules}

@@ -10,10 +10,10 @@ use Rattle.pif_model.specs.declared.events.Entry.{Entry}
 use Rattle.pif_model.specs.declared.events.Entry.TheVariants.{Thread as AddThread, Mutex as AddMutex, Cond as AddCond, Step as Happened}
 use Rattle.pif_model.specs.Posix.{World, Ends, after_end, after_owner_death}
 use Rattle.pif_model.specs.Posix.Step.{ended as ends}
-use Rattle.pif_posix_model.specs.Once.{MovesOnce, Enters}
-use Rattle.pif_posix_model.specs.Once.Enters.{other as entered}
-use Rattle.pif_posix_model.proofs.DoingEnds.{ended_to}
-use Rattle.pif_posix_model.proofs.DoingEntries.{entered_from}
+use Rattle.pif_posix_steps.specs.Once.{MovesOnce, Enters}
+use Rattle.pif_posix_steps.specs.Once.Enters.{other as entered}
+use Rattle.pif_posix_steps.proofs.DoingEnds.{ended_to}
+use Rattle.pif_posix_steps.proofs.DoingEntries.{entered_from}
 use Rattle.pif_rules_model.specs.declared.rules.HoldLimits.{HoldLimits}
 use Rattle.pif_rules_model.specs.declared.rules.Rule.{Rule}
 use Rattle.pif_rules_model.specs.declared.rules.Rule.TheVariants.{Steal, AnyWaiter, Spurious, Recursion, OwnErrorcheck, AnyConsistent, HeldWait, LostSignal, Revives, Barge, CycleWaits, CycleRefused, TimeoutConsumes, EndsApart, StaysLocked, Rebinds, MoreUses, RefusesSetprio, ConsistentByAny, CutUnlock}

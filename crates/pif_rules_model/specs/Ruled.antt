@@ -13,7 +13,7 @@ use Rattle.pif_model.specs.World.{Health, Progress, is_living, leads_to, is_orph
 use Rattle.pif_model.specs.World.Health.{Fine, Inconsistent, Unusable}
 use Rattle.pif_model.specs.World.Progress.{Waiting, Has, Blocked, Reacquiring, Used}
 use Rattle.pif_model.specs.Posix.{World, is_due, effective_of, mutex_at, variable_at, with_progress, with_call_by, with_health, with_no_owner, with_one_hold_more, with_one_hold_less, with_waiter, without_waiter, after_unblocking, after_timeout, after_end, after_owner_death, taken}
-use Rattle.pif_posix_model.specs.Doing.{all_blocked, woken, moved, entered, is_allowed, robust_of, passed_on, passing, all_inherited}
+use Rattle.pif_posix_steps.specs.Doing.{all_blocked, woken, moved, entered, is_allowed, robust_of, passed_on, passing, all_inherited}
 use Rattle.pif_rules_model.specs.declared.rules.HoldLimits.{HoldLimits}
 use Rattle.pif_rules_model.specs.declared.rules.Rule.{Rule}
 use Rattle.pif_rules_model.specs.declared.rules.Rule.TheVariants.{Steal, AnyWaiter, Spurious, Recursion, OwnErrorcheck, AnyConsistent, HeldWait, LostSignal, Barge, CycleWaits, CycleRefused, TimeoutConsumes, Rebinds, MoreUses, RefusesSetprio, ConsistentByAny}

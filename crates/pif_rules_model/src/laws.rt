@@ -2,7 +2,7 @@ ghost use Rattle.std.specs.Prelude.{◌≡◌, ℕ, true, Contains};
 ghost use Rattle.pif_types.specs.Bounds.{Bounds};
 ghost use Rattle.pif_model.specs.declared.events.Entry.{Entry};
 ghost use Rattle.pif_model.specs.Posix.{World};
-ghost use Rattle.pif_posix_model.specs.Once.{MovesOnce, Enters};
+ghost use Rattle.pif_posix_steps.specs.Once.{MovesOnce, Enters};
 ghost use Rattle.pif_rules_model.specs.declared.rules.Rules.{Rules};
 ghost use Rattle.pif_rules_model.specs.Sets.{AreAmong, no_rules};
 ghost use Rattle.pif_rules_model.specs.Rules.{Wide, WideMoves, WideEnters, WideEndsApart, HasReleased};

@@ -1,7 +1,7 @@
 ghost use Rattle.std.specs.Prelude.{◌≡◌, IfErr, IfOk};
-ghost use Rattle.pif_story_model.specs.Checks.{IsUntold, script_fault, text_of_run};
-ghost use Rattle.pif_story_model.specs.Lines.{lines};
-ghost use Rattle.pif_story_model.specs.Stories.{rows_from, script_by};
+ghost use Rattle.pif_script_model.specs.Checks.{IsUntold, script_fault, text_of_run};
+ghost use Rattle.pif_script_model.specs.Lines.{lines};
+ghost use Rattle.pif_script_model.specs.Stories.{rows_from, script_by};
 ghost use Rattle.pif_story.specs.Notes.{story_notes};
 
 use crate::runs::run;
@@ -41,7 +41,7 @@ pub fn run_story(alloc: Global, plain: &[u8]) -> Result<Ran, CliFault>
 /// # Errors
 ///
 /// `NoMemory`.
-#[tactic(auto, unfolding(pif_story::specs::Notes::story_notes, pif_story_model::specs::Stories::script_of))]
+#[tactic(auto, unfolding(pif_story::specs::Notes::story_notes, pif_script_model::specs::Stories::script_of))]
 pub fn story_notes(alloc: Global, story: &[u8]) -> Result<Notes, CliFault>
     ensures notes { IfOk result (λ notes. notes.items ≡ story_notes story.now) }
     ensures failed { IfErr result IsUntold }

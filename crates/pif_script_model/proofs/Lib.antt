@@ -17,3 +17,16 @@ pub mod WrittenLemmas
 pub mod ShowingLemmas
 pub mod MigrateLemmas
 pub mod CommandLemmas
+pub mod AnswerLines
+pub mod AnswerTexts
+pub mod AnswersLemmas
+pub mod ChecksLemmas
+pub mod ComparingLemmas
+pub mod FillingLemmas
+pub mod LinesLemmas
+pub mod OkLemmas
+pub mod OrderLemmas
+pub mod PlainLemmas
+pub mod RowLemmas
+pub mod StoryRunningLemmas
+pub mod StoriesLemmas

@@ -7,3 +7,12 @@ pub mod Scripts
 pub mod Showing
 pub mod Traces
 pub mod Transcripts
+pub mod Answers
+pub mod Checks
+pub mod Comparing
+pub mod Filling
+pub mod Lines
+pub mod Rows
+pub mod StoryShowing
+pub mod Stories
+pub mod Verdicts

@@ -1,9 +1,9 @@
 -- The flaws behind the last command.
 use Rattle.std.proofs.Common.{◌≡◌, ℕ, ◌+◌, Bool, List, [], ◌∷◌, ◌++◌, Option, Some, None, refl, sym, ap, ◌∙◌}
-use Rattle.pif_story_model.specs.Stories.{rows_from}
-use Rattle.pif_story_model.specs.Verdicts.{Fault, Flaw, fault_flaws, faulty}
-use Rattle.pif_story_model.proofs.ComparingLemmas.{flaws_end, flaws_from}
-use Rattle.pif_story_model.proofs.StoriesLemmas.{rows_from_nothing}
+use Rattle.pif_script_model.specs.Stories.{rows_from}
+use Rattle.pif_script_model.specs.Verdicts.{Fault, Flaw, fault_flaws, faulty}
+use Rattle.pif_script_model.proofs.ComparingLemmas.{flaws_end, flaws_from}
+use Rattle.pif_script_model.proofs.StoriesLemmas.{rows_from_nothing}
 
 same-fault : (last : ℕ) (fault : Option Fault)
     → fault_flaws last fault [] ≡ (elim fault [ None ↦ [] | Some f ↦ faulty last [] f.1 ∷ [] ])

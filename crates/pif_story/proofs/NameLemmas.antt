@@ -5,7 +5,7 @@ use Rattle.std.specs.List.{list_all, slice_split}
 use Rattle.std.proofs.lemmas.Bool.Decides.{nat_tests}
 use Rattle.std.proofs.lemmas.List.Splits.{length-slice_split}
 use Rattle.pif_text_model.specs.Words.{words}
-use Rattle.pif_story_model.specs.Lines.{lines_behind}
+use Rattle.pif_script_model.specs.Lines.{lines_behind}
 use Rattle.pif_story.specs.Names.{first_name, is_name, is_name_byte, name_by, naming_by, naming_in}
 
 some_words : (text : List ℕ) → (first : List ℕ) × (more : List (List ℕ)) × (words text ≡ first ∷ more)

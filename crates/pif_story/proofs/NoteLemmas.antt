@@ -3,10 +3,10 @@ use Rattle.std.proofs.Common.{◌≡◌, ◌<◌, ◌≤◌, ℕ, zero, suc, ◌
 use Rattle.std.proofs.lemmas.List.{drop_all, drop_more}
 use Rattle.std.specs.Prelude.{slice_get}
 use Rattle.std.specs.List.{cons_option, zip}
-use Rattle.pif_story_model.specs.Filling.{more_answers}
-use Rattle.pif_story_model.specs.Lines.{StoryRow, is_blank, row_in}
-use Rattle.pif_story_model.specs.Stories.{NumberedRow, rows_from}
-use Rattle.pif_story_model.proofs.StoriesLemmas.{rows_from_nothing, rows_from_passed, rows_from_row}
+use Rattle.pif_script_model.specs.Filling.{more_answers}
+use Rattle.pif_script_model.specs.Lines.{StoryRow, is_blank, row_in}
+use Rattle.pif_script_model.specs.Stories.{NumberedRow, rows_from}
+use Rattle.pif_script_model.proofs.StoriesLemmas.{rows_from_nothing, rows_from_passed, rows_from_row}
 use Rattle.pif_story.specs.declared.missing.Known.{Known}
 use Rattle.pif_story.specs.declared.missing.Missing.{Missing}
 use Rattle.pif_story.specs.declared.missing.Note.{Note}

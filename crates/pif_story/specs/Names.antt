@@ -5,7 +5,7 @@ use Rattle.std.specs.List.{list_all}
 use Rattle.std.specs.Str.Lines.{strip_carriage_return}
 use Rattle.pif_text_model.specs.Numbers.{thread_in}
 use Rattle.pif_text_model.specs.Words.{words}
-use Rattle.pif_story_model.specs.Lines.{commentless, lines, plain, without_mark}
+use Rattle.pif_script_model.specs.Lines.{commentless, lines, plain, without_mark}
 
 -- what stands in a line behind its first `#`, without a CR at its end
 abbrev pub comment_of : List ℕ → List ℕ

@@ -17,11 +17,11 @@ use Rattle.pif_text_model.specs.Replies.{thread_name, mutex_name, cond_name}
 use Rattle.pif_script_model.specs.declared.faults.CliFault.{CliFault}
 use Rattle.pif_script_model.specs.Running.{RunsTo}
 use Rattle.pif_script_model.specs.Showing.{ShowsTo, as_done}
-use Rattle.pif_story_model.specs.Checks.{Telling, TellsOfStory, text_of_run}
-use Rattle.pif_story_model.specs.Lines.{StoryRow, commentless, is_blank, lines, without_mark}
-use Rattle.pif_story_model.specs.Showing.{EndsWith, LeavesScript}
-use Rattle.pif_story_model.specs.Stories.{NumberedRow, rows_of, script_of}
-use Rattle.pif_story_model.specs.Verdicts.{is_refusal}
+use Rattle.pif_script_model.specs.Checks.{Telling, TellsOfStory, text_of_run}
+use Rattle.pif_script_model.specs.Lines.{StoryRow, commentless, is_blank, lines, without_mark}
+use Rattle.pif_script_model.specs.StoryShowing.{EndsWith, LeavesScript}
+use Rattle.pif_script_model.specs.Stories.{NumberedRow, rows_of, script_of}
+use Rattle.pif_script_model.specs.Verdicts.{is_refusal}
 use Rattle.pif_story.specs.declared.missing.Known.{Known}
 use Rattle.pif_story.specs.declared.missing.Missing.{Missing}
 use Rattle.pif_story.specs.declared.missing.Missing.TheVariants.{Thread, Mutex, Cond, Priority}

@@ -1,6 +1,6 @@
 -- Texts that are written part by part.
 use Rattle.std.specs.Prelude.{ℕ, List, [], ◌∷◌, ◌++◌, map, replicate, decimal}
-use Rattle.pif_story_model.specs.Verdicts.{printable, shown, shown_quoted}
+use Rattle.pif_script_model.specs.Verdicts.{printable, shown, shown_quoted}
 use Rattle.pif_story.specs.declared.parts.Part.{Part}
 use Rattle.pif_story.specs.declared.parts.Part.TheVariants.{Bytes, Number, Spaces, Printable, Shown, Quoted}
 

@@ -1,6 +1,6 @@
 -- Notes, one command at a time.
 use Rattle.std.specs.Prelude.{ℕ, List, [], ◌∷◌, Option, Some, None}
-use Rattle.pif_story_model.specs.Lines.{StoryRow}
+use Rattle.pif_script_model.specs.Lines.{StoryRow}
 use Rattle.pif_story.specs.declared.missing.Known.{Known}
 use Rattle.pif_story.specs.declared.missing.Note.{Note}
 use Rattle.pif_story.specs.Notes.{row_known, row_note}

@@ -1,8 +1,8 @@
 ghost use Rattle.std.specs.Prelude.{◌≡◌, ◌++◌, bytes_eq, option_copied, OnOk};
-ghost use Rattle.pif_story_model.specs.Answers.{answer_by, error_answer, error_in, form_in, in_form, is_named, says};
-ghost use Rattle.pif_story_model.specs.Filling.{form_written};
+ghost use Rattle.pif_script_model.specs.Answers.{answer_by, error_answer, error_in, form_in, in_form, is_named, says};
+ghost use Rattle.pif_script_model.specs.Filling.{form_written};
 
-use pif_story_model::Form;
+use pif_script_model::Form;
 use pif_text::{ERRORS, Text, append, append_number, errno_name};
 use pif_types::Errno;
 use std::alloc::AllocError;
@@ -35,7 +35,7 @@ fn is_error_answer(form: Form, errno: Errno, text: &[u8]) -> bool
 }
 
 /// The error whose answer in this form a text is.
-#[tactic(auto, unfolding(pif_story_model::specs::Answers::error_in))]
+#[tactic(auto, unfolding(pif_script_model::specs::Answers::error_in))]
 fn error_in(form: Form, text: &[u8]) -> Option<Errno>
     ensures { result ≡ error_in form text.now }
 {
@@ -48,7 +48,7 @@ fn error_in(form: Form, text: &[u8]) -> Option<Errno>
 }
 
 /// Whether an answer that is written says what `run` prints: it is the same text, or names the same error.
-#[tactic(auto, unfolding(pif_story_model::specs::Answers::says))]
+#[tactic(auto, unfolding(pif_script_model::specs::Answers::says))]
 pub fn says(written: &[u8], given: &[u8]) -> bool
     ensures { result ≡ says written.now given.now }
 {
@@ -68,7 +68,7 @@ fn is_named(text: &[u8], errno: Option<Errno>) -> bool
 }
 
 /// The form of an answer that is that of an error.
-#[tactic(auto, unfolding(pif_story_model::specs::Answers::form_in))]
+#[tactic(auto, unfolding(pif_script_model::specs::Answers::form_in))]
 fn form_in(text: &[u8]) -> Option<Form>
     ensures { result ≡ form_in text.now }
 {
@@ -95,7 +95,7 @@ pub fn form_written(written: Option<&[u8]>) -> Option<Form>
 /// # Errors
 ///
 /// A growth of memory was refused.
-#[tactic(auto, unfolding(pif_story_model::specs::Answers::in_form))]
+#[tactic(auto, unfolding(pif_script_model::specs::Answers::in_form))]
 pub fn append_in_form(text: &mut Vec<u8>, form: Form, given: &[u8]) -> Result<(), AllocError>
     ensures { OnOk result (text.new.items ≡ text.old.items ++ in_form form given.now) }
 {

@@ -1,19 +1,19 @@
 ghost use Rattle.std.specs.Prelude.{◌≡◌, ◌++◌, ◌≤◌, [], length, option_copied, option_map, IfOk, OnOk};
 ghost use Rattle.std.specs.List.{cons_option};
-ghost use Rattle.pif_story_model.specs.Comparing.{cause_at, row_flaws};
-ghost use Rattle.pif_story_model.specs.Filling.{more_answers};
-ghost use Rattle.pif_story_model.specs.Lines.{lines, lines_behind};
-ghost use Rattle.pif_story_model.specs.Stories.{count_in, rows_from};
-ghost use Rattle.pif_story_model.specs.Verdicts.{fault_flaws, flaw_beside, flaw_of, flaws_of, flaws_of_rows, is_refusal};
+ghost use Rattle.pif_script_model.specs.Comparing.{cause_at, row_flaws};
+ghost use Rattle.pif_script_model.specs.Filling.{more_answers};
+ghost use Rattle.pif_script_model.specs.Lines.{lines, lines_behind};
+ghost use Rattle.pif_script_model.specs.Stories.{count_in, rows_from};
+ghost use Rattle.pif_script_model.specs.Verdicts.{fault_flaws, flaw_beside, flaw_of, flaws_of, flaws_of_rows, is_refusal};
 
 use crate::answers::says;
 use crate::lines::{Row, row_of, split_line};
-use pif_story_model::Flaw;
+use pif_script_model::Flaw;
 use pif_text::Cause;
 use std::alloc::{AllocError, Global};
 
 /// How many commands a story has, of which nothing but its words is given.
-#[tactic(auto, using(pif_story_model::proofs::StoriesLemmas::count_in_nothing, pif_story_model::proofs::StoriesLemmas::count_in_passed, pif_story_model::proofs::StoriesLemmas::count_in_row))]
+#[tactic(auto, using(pif_script_model::proofs::StoriesLemmas::count_in_nothing, pif_script_model::proofs::StoriesLemmas::count_in_passed, pif_script_model::proofs::StoriesLemmas::count_in_row))]
 pub fn count_commands(story: &[u8]) -> usize
     ensures { result ≡ count_in (lines story.now) }
 {
@@ -40,7 +40,7 @@ fn cause_at(fault: Option<(u64, Cause)>, number: u64) -> Option<Cause>
 }
 
 /// Whether it is printed that a command is refused.
-#[tactic(auto, unfolding(pif_story_model::specs::Verdicts::is_refusal))]
+#[tactic(auto, unfolding(pif_script_model::specs::Verdicts::is_refusal))]
 pub fn is_refusal(given: &[u8]) -> bool
     ensures { result ≡ is_refusal given.now }
 {
@@ -120,7 +120,7 @@ fn compare_row<'a>(
 /// # Errors
 ///
 /// A growth of memory was refused.
-#[tactic(auto, using(pif_story_model::proofs::ComparingLemmas::flaws_start, pif_story_model::proofs::StoriesLemmas::rows_from_passed))]
+#[tactic(auto, using(pif_script_model::proofs::ComparingLemmas::flaws_start, pif_script_model::proofs::StoriesLemmas::rows_from_passed))]
 pub fn compare<'a>(
     alloc: Global,
     strict: bool,

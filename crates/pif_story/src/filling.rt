@@ -1,17 +1,17 @@
 ghost use Rattle.std.specs.Prelude.{◌≡◌, ◌++◌, ◌-◌, length, OnOk, IfOk, option_copied};
-ghost use Rattle.pif_story_model.specs.Answers.{in_form};
-ghost use Rattle.pif_story_model.specs.Filling.{answered_row, answers_behind, filled_line, filled_text, behind_words, form_from, form_or, next_answer, more_answers, width_from};
-ghost use Rattle.pif_story_model.specs.Lines.{lines, lines_behind, plain_lines};
+ghost use Rattle.pif_script_model.specs.Answers.{in_form};
+ghost use Rattle.pif_script_model.specs.Filling.{answered_row, answers_behind, filled_line, filled_text, behind_words, form_from, form_or, next_answer, more_answers, width_from};
+ghost use Rattle.pif_script_model.specs.Lines.{lines, lines_behind, plain_lines};
 
 use crate::answers::{append_in_form, form_written};
 use crate::lines::{commentless, row_of, split_line, without_blanks, without_mark};
 use crate::parts::{Part, append_parts};
 use crate::plain::append_plain;
-use pif_story_model::Form;
+use pif_script_model::Form;
 use std::alloc::{AllocError, Global};
 
 /// The length of the longest command of a story, of which nothing but its words is given.
-#[tactic(auto, using(pif_story_model::proofs::FillingLemmas::width_from_nothing, pif_story_model::proofs::FillingLemmas::width_from_passed, pif_story_model::proofs::FillingLemmas::width_from_row))]
+#[tactic(auto, using(pif_script_model::proofs::FillingLemmas::width_from_nothing, pif_script_model::proofs::FillingLemmas::width_from_passed, pif_script_model::proofs::FillingLemmas::width_from_row))]
 fn width_of(story: &[u8]) -> usize
     ensures { result ≡ width_from 0 (lines story.now) }
 {
@@ -29,7 +29,7 @@ fn width_of(story: &[u8]) -> usize
 
 /// The first form in which a story, of which nothing but its words is given, has the answer of an error; that by
 /// numbers, if it has none.
-#[tactic(auto, using(pif_story_model::proofs::FillingLemmas::form_from_nothing, pif_story_model::proofs::FillingLemmas::form_from_passed, pif_story_model::proofs::FillingLemmas::form_from_row))]
+#[tactic(auto, using(pif_script_model::proofs::FillingLemmas::form_from_nothing, pif_script_model::proofs::FillingLemmas::form_from_passed, pif_script_model::proofs::FillingLemmas::form_from_row))]
 fn form_of(story: &[u8]) -> Form
     ensures { result ≡ form_from (lines story.now) }
 {
@@ -89,7 +89,7 @@ fn form_or(form: Option<Form>, other: Form) -> Form
 }
 
 /// What stands behind the words of a line: blanks, a comment, and a CR.
-#[tactic(auto, unfolding(pif_story_model::specs::Filling::behind_words))]
+#[tactic(auto, unfolding(pif_script_model::specs::Filling::behind_words))]
 fn behind_words(line: &[u8]) -> &[u8]
     ensures { result.now ≡ behind_words line.now }
 {
@@ -134,7 +134,7 @@ fn append_line<'a>(
 /// # Errors
 ///
 /// A growth of memory was refused.
-#[tactic(auto, using(pif_story_model::proofs::FillingLemmas::filled_last, pif_story_model::proofs::FillingLemmas::filled_more), unfolding(pif_story_model::specs::Filling::filled_text))]
+#[tactic(auto, using(pif_script_model::proofs::FillingLemmas::filled_last, pif_script_model::proofs::FillingLemmas::filled_more), unfolding(pif_script_model::specs::Filling::filled_text))]
 pub fn filled_text(
     alloc: Global,
     story: &[u8],

@@ -1,6 +1,6 @@
 ghost use Rattle.std.specs.Prelude.{◌≡◌, ◌≢◌, ◌<◌, ◌≤◌, ◌∷◌, ◌+◌, ℕ, length, slice_index, IfSome, option_copied, option_map};
 ghost use Rattle.std.specs.Option.{option_map_or};
-ghost use Rattle.pif_story_model.specs.Lines.{commentless, without_comment, without_mark, lines, lines_behind, is_blank, without_blanks, is_passed, row_in};
+ghost use Rattle.pif_script_model.specs.Lines.{commentless, without_comment, without_mark, lines, lines_behind, is_blank, without_blanks, is_passed, row_in};
 
 use pif_text::{split_answer, without_return};
 
@@ -8,7 +8,7 @@ use pif_text::{split_answer, without_return};
 pub type Row<'a> = (&'a [u8], Option<&'a [u8]>);
 
 /// A text without a byte order mark at its front.
-#[tactic(auto, unfolding(pif_story_model::specs::Lines::without_mark))]
+#[tactic(auto, unfolding(pif_script_model::specs::Lines::without_mark))]
 pub fn without_mark(text: &[u8]) -> &[u8]
     ensures text { result.now ≡ without_mark text.now }
     ensures shorter { length result.now ≤ length text.now }
@@ -35,7 +35,7 @@ fn first_of(text: &[u8], wanted: u8) -> usize
 }
 
 /// The first line of a text without its LF, and what stands behind that, or `None` if the line has no LF.
-#[tactic(auto, using(pif_story_model::proofs::LinesLemmas::split_at_end, pif_story_model::proofs::LinesLemmas::split_nowhere))]
+#[tactic(auto, using(pif_script_model::proofs::LinesLemmas::split_at_end, pif_script_model::proofs::LinesLemmas::split_nowhere))]
 pub fn split_line(text: &[u8]) -> (&[u8], Option<&[u8]>)
     ensures split { lines text.now ≡ result.0.now ∷ lines_behind (option_copied result.1) }
     ensures shorter { IfSome result.1 (λ behind. length behind.now < length text.now) }
@@ -74,7 +74,7 @@ pub fn is_blank(byte: u8) -> bool
 }
 
 /// A text without the blanks at its end.
-#[tactic(auto, using(pif_story_model::proofs::LinesLemmas::blanks_none, pif_story_model::proofs::LinesLemmas::blanks_step, pif_story_model::proofs::LinesLemmas::blanks_stop))]
+#[tactic(auto, using(pif_script_model::proofs::LinesLemmas::blanks_none, pif_script_model::proofs::LinesLemmas::blanks_step, pif_script_model::proofs::LinesLemmas::blanks_stop))]
 pub fn without_blanks(text: &[u8]) -> &[u8]
     ensures text { result.now ≡ without_blanks text.now }
     ensures shorter { length result.now ≤ length text.now }
@@ -99,7 +99,7 @@ fn is_passed(text: &[u8]) -> bool
 
 /// What a line with nothing but its words says: a command and the answer that is written behind it, if there is one;
 /// `None` if the line is empty.
-#[tactic(auto, unfolding(pif_story_model::specs::Lines::row_in))]
+#[tactic(auto, unfolding(pif_script_model::specs::Lines::row_in))]
 pub fn row_of(line: &[u8]) -> Option<Row<'_>>
     ensures { option_map (λ row. (row.0.now, option_copied row.1)) result ≡ row_in line.now }
 {
@@ -113,7 +113,7 @@ pub fn row_of(line: &[u8]) -> Option<Row<'_>>
 }
 
 /// In which line of a text the byte stands that comes next, from 1.
-#[tactic(auto, using(pif_story_model::proofs::LinesLemmas::count_lines))]
+#[tactic(auto, using(pif_script_model::proofs::LinesLemmas::count_lines))]
 pub fn line_at_end(text: &[u8]) -> u64
     requires { length text.now ≤ 16777216 }
     ensures { result ≡ length (lines text.now) }

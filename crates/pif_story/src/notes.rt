@@ -1,7 +1,7 @@
 ghost use Rattle.std.specs.Prelude.{◌≡◌, ◌≤◌, ◌&&◌, not, nat_lt, length, option_copied};
-ghost use Rattle.pif_story_model.specs.Filling.{more_answers};
-ghost use Rattle.pif_story_model.specs.Lines.{lines, lines_behind, plain_lines};
-ghost use Rattle.pif_story_model.specs.Stories.{rows_from};
+ghost use Rattle.pif_script_model.specs.Filling.{more_answers};
+ghost use Rattle.pif_script_model.specs.Lines.{lines, lines_behind, plain_lines};
+ghost use Rattle.pif_script_model.specs.Stories.{rows_from};
 ghost use Rattle.pif_story.specs.Notes.{is_same, is_told, note_at, note_in, notes_beside, notes_of_rows, row_known, row_missing, with_found, with_note, words_noted};
 ghost use Rattle.pif_story.specs.Rows.{next_known, next_note};
 

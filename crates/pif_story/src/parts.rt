@@ -1,9 +1,9 @@
 ghost use Rattle.std.specs.Prelude.{◌≡◌, ◌++◌, OnOk, map, replicate};
 ghost use Rattle.pif_story.specs.Parts.{part_text, parts_text};
-ghost use Rattle.pif_story_model.specs.Verdicts.{printable, shown, shown_quoted};
+ghost use Rattle.pif_script_model.specs.Verdicts.{printable, shown, shown_quoted};
 
 use pif_script::MOST_LINE;
-use pif_text_json::append_decimal;
+use pif_text::append_decimal;
 use std::alloc::AllocError;
 
 /// A part of a text that is written for a person.

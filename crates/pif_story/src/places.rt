@@ -1,7 +1,7 @@
 //! Where in a line what isn't there is named.
 ghost use Rattle.std.specs.Prelude.{◌≡◌, ◌≤◌, ◌++◌, ◌&&◌, true, length, decimal};
 ghost use Rattle.arrayvec.specs.ArrayVec.{array_vec_len};
-ghost use Rattle.pif_story_model.specs.Lines.{without_mark};
+ghost use Rattle.pif_script_model.specs.Lines.{without_mark};
 ghost use Rattle.pif_story.specs.Notes.{begins_with, column_from, column_of, ends_word, line_in, missing_word};
 
 use crate::lines::is_blank;

@@ -1,5 +1,5 @@
 ghost use Rattle.std.specs.Prelude.{◌≡◌, ◌++◌, ◌∷◌, [], ◌≤◌, if◌then◌else◌, length, IfOk, OnOk};
-ghost use Rattle.pif_story_model.specs.Lines.{lines, plain, plain_lines};
+ghost use Rattle.pif_script_model.specs.Lines.{lines, plain, plain_lines};
 
 use crate::lines::{commentless, is_blank, split_line, without_mark};
 use std::alloc::{AllocError, Global};
@@ -43,7 +43,7 @@ pub fn append_plain(out: &mut Vec<u8>, text: &[u8]) -> Result<(), AllocError>
 /// # Errors
 ///
 /// A growth of memory was refused.
-#[tactic(auto, using(pif_story_model::proofs::RowLemmas::plain_joined))]
+#[tactic(auto, using(pif_script_model::proofs::RowLemmas::plain_joined))]
 pub fn plain_story(alloc: Global, story: &[u8]) -> Result<Vec<u8>, AllocError>
     ensures lines { IfOk result (λ plain. lines plain.items ≡ plain_lines story.now) }
     ensures shorter { IfOk result (λ plain. length plain.items ≤ length story.now) }

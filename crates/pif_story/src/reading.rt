@@ -1,6 +1,6 @@
 ghost use Rattle.std.specs.Prelude.{◌≡◌, Err, IfErr, IfOk, Ok};
-ghost use Rattle.pif_story_model.specs.Showing.{LeavesScriptTo};
-ghost use Rattle.pif_story_model.specs.Stories.{script_of};
+ghost use Rattle.pif_script_model.specs.StoryShowing.{LeavesScriptTo};
+ghost use Rattle.pif_script_model.specs.Stories.{script_of};
 
 use crate::lines::line_at_end;
 use crate::plain::plain_story;
@@ -38,7 +38,7 @@ pub fn read_script_of_story<R: Read>(alloc: Global, reader: &mut R) -> Result<Ve
 /// # Errors
 ///
 /// A growth of memory was refused.
-#[tactic(auto, using(pif_story_model::proofs::StoriesLemmas::script_in_all), unfolding(pif_story_model::specs::Stories::script_of))]
+#[tactic(auto, using(pif_script_model::proofs::StoriesLemmas::script_in_all), unfolding(pif_script_model::specs::Stories::script_of))]
 fn script_left(alloc: Global, story: &[u8]) -> Result<Vec<u8>, AllocError>
     ensures { IfOk result (λ script. script.items ≡ script_of story.now) }
 {

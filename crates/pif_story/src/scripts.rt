@@ -1,6 +1,6 @@
 ghost use Rattle.std.specs.Prelude.{◌≡◌, IfOk};
-ghost use Rattle.pif_story_model.specs.Lines.{lines};
-ghost use Rattle.pif_story_model.specs.Stories.{rows_from, script_by};
+ghost use Rattle.pif_script_model.specs.Lines.{lines};
+ghost use Rattle.pif_script_model.specs.Stories.{rows_from, script_by};
 
 use crate::lines::{row_of, split_line};
 use std::alloc::{AllocError, Global};
@@ -11,7 +11,7 @@ use std::alloc::{AllocError, Global};
 /// # Errors
 ///
 /// A growth of memory was refused.
-#[tactic(auto, using(pif_story_model::proofs::StoriesLemmas::script_in_whole, pif_story_model::proofs::StoriesLemmas::script_in_nothing, pif_story_model::proofs::StoriesLemmas::script_in_passed, pif_story_model::proofs::StoriesLemmas::script_in_row))]
+#[tactic(auto, using(pif_script_model::proofs::StoriesLemmas::script_in_whole, pif_script_model::proofs::StoriesLemmas::script_in_nothing, pif_script_model::proofs::StoriesLemmas::script_in_passed, pif_script_model::proofs::StoriesLemmas::script_in_row))]
 pub fn script_of(alloc: Global, story: &[u8]) -> Result<Vec<u8>, AllocError>
     ensures { IfOk result (λ script. script.items ≡ script_by (rows_from 1 (lines story.now))) }
 {

@@ -1,6 +1,6 @@
 ghost use Rattle.std.specs.Prelude.{◌≡◌, ◌++◌, IfOk, OnOk, codes, map};
-ghost use Rattle.pif_story_model.specs.Filling.{titled};
-ghost use Rattle.pif_story_model.specs.Verdicts.{printable};
+ghost use Rattle.pif_script_model.specs.Filling.{titled};
+ghost use Rattle.pif_script_model.specs.Verdicts.{printable};
 
 use crate::lines::without_mark;
 use crate::parts::{Part, append_parts};
@@ -26,7 +26,7 @@ fn append_title(text: &mut Vec<u8>, name: &[u8]) -> Result<(), AllocError>
 /// # Errors
 ///
 /// A growth of memory was refused.
-#[tactic(auto, unfolding(pif_story_model::specs::Filling::titled, pif_story_model::specs::Filling::ended))]
+#[tactic(auto, unfolding(pif_script_model::specs::Filling::titled, pif_script_model::specs::Filling::ended))]
 pub fn titled_story(alloc: Global, name: &[u8], story: &[u8]) -> Result<Vec<u8>, AllocError>
     ensures { IfOk result (λ text. text.items ≡ titled name.now story.now) }
 {

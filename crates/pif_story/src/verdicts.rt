@@ -1,11 +1,11 @@
 ghost use Rattle.std.specs.Prelude.{◌≡◌, ◌++◌, OnOk, IfOk, codes, filter, flat_map, take};
 ghost use Rattle.pif_text_model.specs.Replies.{fault_of};
-ghost use Rattle.pif_story_model.specs.Lines.{is_no_blank};
-ghost use Rattle.pif_story_model.specs.Verdicts.{differing_line, flaw_line, flaw_of, flaws_of, more_line, ok_line, refusing_line, same_but_blanks, shown, verdict_text};
+ghost use Rattle.pif_script_model.specs.Lines.{is_no_blank};
+ghost use Rattle.pif_script_model.specs.Verdicts.{differing_line, flaw_line, flaw_of, flaws_of, more_line, ok_line, refusing_line, same_but_blanks, shown, verdict_text};
 
 use crate::lines::is_blank;
 use crate::parts::{Part, append_parts};
-use pif_story_model::Flaw;
+use pif_script_model::Flaw;
 use pif_text::{Cause, Text, fault_text};
 use std::alloc::{AllocError, Global};
 
@@ -82,7 +82,7 @@ fn without_any_blank(alloc: Global, text: &[u8]) -> Result<Vec<u8>, AllocError>
 /// # Errors
 ///
 /// A growth of memory was refused.
-#[tactic(auto, unfolding(pif_story_model::specs::Verdicts::same_but_blanks))]
+#[tactic(auto, unfolding(pif_script_model::specs::Verdicts::same_but_blanks))]
 fn is_same_but_blanks(alloc: Global, one: &[u8], other: &[u8]) -> Result<bool, AllocError>
     ensures { IfOk result (λ same. same ≡ same_but_blanks one.now other.now) }
 {
@@ -147,7 +147,7 @@ fn append_refusal<'a>(
 }
 
 /// Appends the line of a flaw.
-#[tactic(auto, unfolding(pif_story_model::specs::Verdicts::flaw_line))]
+#[tactic(auto, unfolding(pif_script_model::specs::Verdicts::flaw_line))]
 fn append_flaw(
     alloc: Global,
     text: &mut Vec<u8>,
@@ -209,7 +209,7 @@ fn append_first(
 /// # Errors
 ///
 /// A growth of memory was refused.
-#[tactic(auto, unfolding(pif_story_model::specs::Verdicts::flaw_lines))]
+#[tactic(auto, unfolding(pif_script_model::specs::Verdicts::flaw_lines))]
 pub fn verdict_text(
     alloc: Global,
     name: &[u8],

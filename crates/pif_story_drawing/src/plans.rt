@@ -3,12 +3,11 @@ use crate::rows::{DrawnRow, letters_of};
 use crate::spans::Span;
 use pif_core::Core;
 use pif_model::Event;
+use pif_script_model::{AnsweredRow, Part, WatchSteps};
 use pif_story::name_of;
-use pif_story_model::AnsweredRow;
 use pif_text::{Addition, Command};
 use pif_text_core::owner_of;
 use pif_types::{MutexId, NoMemory, Request, Tid};
-use pif_watch::{Part, WatchSteps};
 use std::alloc::{AllocError, Global};
 
 /// Where the first column begins, if threads have no names.

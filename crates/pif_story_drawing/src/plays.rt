@@ -1,10 +1,9 @@
 use crate::rows::{DrawnRow, row_of};
 use pif_core::Core;
 use pif_script_core::{first_limits, obey};
-use pif_story_model::AnsweredRow;
+use pif_script_model::{AnsweredRow, WatchSteps};
 use pif_text::default_limits;
 use pif_types::{Limits, NoMemory};
-use pif_watch::WatchSteps;
 use std::alloc::Global;
 
 /// What looks on while the commands of a story are played.

@@ -1,6 +1,6 @@
 use crate::growing_text::Page;
 use pif_model::Event;
-use pif_story_model::AnsweredRow;
+use pif_script_model::AnsweredRow;
 use pif_text::{Command, Reply, Text, named_reply_text};
 use pif_types::Tid;
 use std::str::from_utf8;

@@ -10,9 +10,8 @@ use crate::rows::{DrawnRow, write_reply};
 use crate::sheets::Sheet;
 use crate::spans::Span;
 use pif_core::Core;
-use pif_story_model::AnsweredRow;
+use pif_script_model::{AnsweredRow, Part, WatchSteps};
 use pif_types::{MutexId, NoMemory, Tid};
-use pif_watch::{Part, WatchSteps};
 use std::alloc::{AllocError, Global};
 
 /// A drawing while it is made.

@@ -2,7 +2,7 @@
 use Rattle.std.proofs.Common.{◌≡◌, ℕ, suc, ◌+◌, ◌-◌, ◌<◌, ◌≤◌, List, [], ◌∷◌, ◌++◌, Option, Some, None, refl, sym, ap, ◌∙◌, append-nil, append_assoc, arith}
 use Rattle.pif_model.specs.Table.{Table}
 use Rattle.pif_text_core.specs.Waiting.{awaited, blocker}
-use Rattle.pif_text_json.specs.Json.{name_text}
+use Rattle.pif_text.specs.Json.{name_text}
 use Rattle.pif_story_states.specs.Objects.{chain_from, mutex_link}
 
 -- what stands behind the mutex for which a thread waits

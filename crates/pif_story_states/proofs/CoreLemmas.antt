@@ -3,9 +3,9 @@ use Rattle.std.proofs.Common.{◌≡◌, ℕ, ◌+◌, ◌<◌, ◌≤◌, Bool,
 use Rattle.std.specs.Prelude.{is_some, map, option_and_then}
 use Rattle.std.proofs.lemmas.List.{drop_all, drop_more}
 use Rattle.pif_model.specs.Table.{Table}
-use Rattle.pif_story_model.specs.declared.rows.AnsweredRow.{AnsweredRow}
-use Rattle.pif_story_model.specs.Rows.{AreRowsOf, Asked, asked_in}
-use Rattle.pif_story_model.specs.Stories.{NumberedRow}
+use Rattle.pif_script_model.specs.declared.rows.AnsweredRow.{AnsweredRow}
+use Rattle.pif_script_model.specs.Rows.{AreRowsOf, Asked, asked_in}
+use Rattle.pif_script_model.specs.Stories.{NumberedRow}
 use Rattle.pif_story_states.specs.Stories.{core_after, core_behind, graph_from, graph_if}
 
 behind_nothing : (before : Option Table) → core_behind before [] ≡ before

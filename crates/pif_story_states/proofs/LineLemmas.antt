@@ -6,8 +6,8 @@ use Rattle.pif_model.specs.Table.{Table}
 use Rattle.pif_model.specs.Calls.{threads_answer}
 use Rattle.pif_text_model.specs.declared.replies.Reply.{Reply}
 use Rattle.pif_text_core.specs.Waiting.{begins_chain, conds_added, mutexes_added, order_in}
-use Rattle.pif_text_json.specs.Json.{name_text, numbers, quoted, separated}
-use Rattle.pif_text_json.specs.Members.{array_member}
+use Rattle.pif_text.specs.Json.{name_text, numbers, quoted, separated}
+use Rattle.pif_text.specs.Members.{array_member}
 use Rattle.pif_story_states.specs.Objects.{answer_object, chain_array, cond_object, mutex_object, thread_object}
 use Rattle.pif_story_states.specs.States.{order_members, state_line, things_members}
 use Rattle.pif_story_states.proofs.FilterLemmas.{all_kept}

@@ -8,8 +8,8 @@ use Rattle.pif_text_model.specs.CommandTexts.{kind_word}
 use Rattle.pif_text_model.specs.Replies.{health_text}
 use Rattle.pif_story.specs.Names.{name_of}
 use Rattle.pif_text_core.specs.Waiting.{awaited, order_in, owner_of}
-use Rattle.pif_text_json.specs.Json.{bool_text, name_or_null, name_text, number_or_null, or_null, quoted, separated}
-use Rattle.pif_text_json.specs.Members.{array_member}
+use Rattle.pif_text.specs.Json.{bool_text, name_or_null, name_text, number_or_null, or_null, quoted, separated}
+use Rattle.pif_text.specs.Members.{array_member}
 use Rattle.pif_story_states.specs.Objects.{call_member, called_object, cond_by, cond_object, doing_members, error_name, holds_member, kind_members, mutex_object, owner_members, priority_members, state_word, thread_object, times, word_members}
 
 -- a member, by its name and the text of its value

@@ -5,9 +5,9 @@ use Rattle.std.proofs.lemmas.List.{drop_all, drop_more}
 use Rattle.pif_model.specs.Table.{Table}
 use Rattle.pif_text_model.specs.declared.replies.Reply.{Reply}
 use Rattle.pif_script_model.specs.Running.{Answer}
-use Rattle.pif_story_model.specs.declared.rows.AnsweredRow.{AnsweredRow}
-use Rattle.pif_story_model.specs.Rows.{AreRowsOf, Asked, asked_by, asked_in}
-use Rattle.pif_story_model.specs.Stories.{NumberedRow}
+use Rattle.pif_script_model.specs.declared.rows.AnsweredRow.{AnsweredRow}
+use Rattle.pif_script_model.specs.Rows.{AreRowsOf, Asked, asked_by, asked_in}
+use Rattle.pif_script_model.specs.Stories.{NumberedRow}
 use Rattle.pif_story_states.specs.States.{IsTold, answer_behind, answer_to, state_line, states_from}
 
 -- the states behind these commands

@@ -5,7 +5,7 @@ use Rattle.pif_model.specs.declared.lines.Status.TheVariants.{Ready, Queued, Par
 use Rattle.pif_model.specs.Table.{Table}
 use Rattle.pif_model.specs.Calls.{base_answer, effective_answer, parked_answer, status_answer, threads_answer}
 use Rattle.pif_text_model.specs.Replies.{cond_name, mutex_name, thread_name}
-use Rattle.pif_text_json.specs.Json.{numbers}
+use Rattle.pif_text.specs.Json.{numbers}
 use Rattle.pif_text_core.specs.Waiting.{conds_added, mutexes_added, owner_of}
 
 -- ---- the language

@@ -14,7 +14,7 @@ use Rattle.pif_text_model.specs.Errors.{errno_name, error_of}
 use Rattle.pif_text_model.specs.Replies.{health_text, text_of}
 use Rattle.pif_story.specs.Names.{name_of}
 use Rattle.pif_text_core.specs.Waiting.{awaited, blocker, has, mutexes_added, order_in, owner_of}
-use Rattle.pif_text_json.specs.Json.{bool_text, name_or_null, name_text, names_array, number_or_null, numbers, or_null, quoted}
+use Rattle.pif_text.specs.Json.{bool_text, name_or_null, name_text, names_array, number_or_null, numbers, or_null, quoted}
 
 -- ---- answers
 

@@ -8,10 +8,10 @@ use Rattle.pif_text_model.specs.declared.replies.Cause.{Cause}
 use Rattle.pif_text_model.specs.declared.replies.Reply.{Reply}
 use Rattle.pif_text_model.specs.Commands.{command_in}
 use Rattle.pif_script_model.specs.Running.{Answer, outcome_behind}
-use Rattle.pif_story_model.specs.declared.rows.AnsweredRow.{AnsweredRow}
-use Rattle.pif_story_model.specs.Stories.{NumberedRow, rows_of}
+use Rattle.pif_script_model.specs.declared.rows.AnsweredRow.{AnsweredRow}
+use Rattle.pif_script_model.specs.Stories.{NumberedRow, rows_of}
 use Rattle.pif_story.specs.Names.{names_in}
-use Rattle.pif_text_json.specs.Json.{names_array, numbers, quoted, separated}
+use Rattle.pif_text.specs.Json.{names_array, numbers, quoted, separated}
 use Rattle.pif_text_core.specs.Waiting.{begins_chain, conds_added, mutexes_added, order_in}
 use Rattle.pif_story_states.specs.Objects.{answer_object, chain_array, cond_object, mutex_object, thread_object}
 

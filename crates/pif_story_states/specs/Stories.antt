@@ -4,8 +4,8 @@ use Rattle.pif_model.specs.Table.{Table}
 use Rattle.pif_text_model.specs.declared.commands.Command.{Command}
 use Rattle.pif_text_model.specs.declared.replies.Cause.{Cause}
 use Rattle.pif_script_model.specs.Running.{Answer, outcome_behind}
-use Rattle.pif_story_model.specs.Rows.{Asked, asked_by}
-use Rattle.pif_story_model.specs.Stories.{NumberedRow, rows_of}
+use Rattle.pif_script_model.specs.Rows.{Asked, asked_by}
+use Rattle.pif_script_model.specs.Stories.{NumberedRow, rows_of}
 use Rattle.pif_story_states.specs.Graphs.{graph, parts_of}
 
 -- the core that a command leaves; one that is a fault leaves none

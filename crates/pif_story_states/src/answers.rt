@@ -3,8 +3,7 @@ ghost use Rattle.pif_text_model.specs.Replies.{text_of};
 ghost use Rattle.pif_story_states.specs.Objects.{answer_object, called_object, error_name, text_object};
 
 use pif_model::Seen;
-use pif_text::{Reply, Text, errno_name, errno_of, reply_text};
-use pif_text_json::{Member, append_object};
+use pif_text::{Member, Reply, Text, append_object, errno_name, errno_of, reply_text};
 use std::alloc::AllocError;
 
 /// The name of the error that has this number, if one has it.

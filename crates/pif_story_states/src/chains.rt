@@ -3,8 +3,8 @@ ghost use Rattle.pif_text_core.specs.Waiting.{awaited, blocker};
 ghost use Rattle.pif_story_states.specs.Objects.{chain_array, chain_from, mutex_link};
 
 use pif_core::Core;
+use pif_text::append_name;
 use pif_text_core::{awaited, blocker};
-use pif_text_json::append_name;
 use pif_types::Tid;
 use std::alloc::AllocError;
 

@@ -4,7 +4,7 @@ ghost use Rattle.pif_story_states.specs.Objects.{cond_object};
 use crate::numbers::number_of;
 use crate::queues::append_order;
 use pif_core::{Core, Order};
-use pif_text_json::{Member, append_members};
+use pif_text::{Member, append_members};
 use pif_types::CondId;
 use std::alloc::AllocError;
 

@@ -1,16 +1,15 @@
 ghost use Rattle.std.specs.Prelude.{◌≡◌, ◌++◌, None, List, map, IfOk, OnOk};
-ghost use Rattle.pif_story_model.specs.Rows.{AreRowsOf, asked_in};
-ghost use Rattle.pif_story_model.specs.Stories.{NumberedRow};
+ghost use Rattle.pif_script_model.specs.Rows.{AreRowsOf, asked_in};
+ghost use Rattle.pif_script_model.specs.Stories.{NumberedRow};
 ghost use Rattle.pif_story_states.specs.Stories.{core_after, core_behind, graph_from, graph_if};
 
 use crate::cores::append_parts;
 use pif_core::Core;
 use pif_script::OpenFault;
 use pif_script_core::do_command;
-use pif_story_model::AnsweredRow;
+use pif_script_model::{AnsweredRow, WatchSteps};
 use pif_text::{Added, Command, Fact};
 use pif_types::{AddFault, CondId, Health, MutexId, Prio, Tid};
-use pif_watch::WatchSteps;
 use std::alloc::{AllocError, Global};
 
 /// Has a core do what a command asks, or makes the core if it is the first one. A command that is a fault leaves no core.

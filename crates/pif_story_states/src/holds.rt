@@ -1,11 +1,11 @@
 ghost use Rattle.std.specs.Prelude.{◌≡◌, ◌++◌, OnOk};
-ghost use Rattle.pif_text_json.specs.Json.{name_text};
+ghost use Rattle.pif_text.specs.Json.{name_text};
 ghost use Rattle.pif_text_core.specs.Waiting.{has, mutexes_added};
 ghost use Rattle.pif_story_states.specs.Objects.{holds_member};
 
 use pif_core::Core;
+use pif_text::{Listed, append_array, append_name};
 use pif_text_core::{has, mutexes_added};
-use pif_text_json::{Listed, append_array, append_name};
 use pif_types::Tid;
 use std::alloc::AllocError;
 

@@ -10,9 +10,8 @@ use crate::mutexes::append_mutex;
 use crate::queues::append_order;
 use crate::threads::append_thread;
 use pif_core::{Core, Order};
-use pif_text::Reply;
+use pif_text::{Listed, Member, Reply, append_array, append_members};
 use pif_text_core::{begins_chain, conds_added, mutexes_added};
-use pif_text_json::{Listed, Member, append_array, append_members};
 use pif_types::{CondId, MutexId, Tid};
 use std::alloc::AllocError;
 

@@ -1,5 +1,5 @@
 ghost use Rattle.std.specs.Prelude.{◌≡◌, ◌++◌, ◌≤◌, ℕ, List, flat_map, OnOk};
-ghost use Rattle.pif_text_json.specs.Json.{numbers};
+ghost use Rattle.pif_text.specs.Json.{numbers};
 
 use std::alloc::AllocError;
 

@@ -7,8 +7,7 @@ ghost use Rattle.pif_story_states.specs.Objects.{mutex_object, times};
 
 use crate::queues::append_order;
 use pif_core::{Core, Order};
-use pif_text::{health_word, kind_word};
-use pif_text_json::{Member, append_members};
+use pif_text::{Member, append_members, health_word, kind_word};
 use pif_types::MutexId;
 use std::alloc::AllocError;
 

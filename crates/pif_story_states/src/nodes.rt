@@ -5,7 +5,7 @@ ghost use Rattle.pif_story_states.specs.Graphs.{base_words, ended_node, fill, li
 
 use crate::pieces::{Name, append_name};
 use pif_core::{Core, Status};
-use pif_text_json::append_decimal;
+use pif_text::append_decimal;
 use pif_types::Tid;
 use std::alloc::AllocError;
 

@@ -1,7 +1,7 @@
 ghost use Rattle.std.specs.Prelude.{◌≡◌, ◌++◌, ◌∷◌, decimal, OnOk};
 ghost use Rattle.pif_story_states.specs.Graphs.{edge, node};
 
-use pif_text_json::append_decimal;
+use pif_text::append_decimal;
 use std::alloc::AllocError;
 
 /// A thread, a mutex or a condition variable: its letter and its number.

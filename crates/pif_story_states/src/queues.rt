@@ -1,11 +1,11 @@
 ghost use Rattle.std.specs.Prelude.{◌≡◌, ◌++◌, map, OnOk};
-ghost use Rattle.pif_text_json.specs.Json.{name_text};
-ghost use Rattle.pif_text_json.specs.Members.{array_member};
+ghost use Rattle.pif_text.specs.Json.{name_text};
+ghost use Rattle.pif_text.specs.Members.{array_member};
 ghost use Rattle.pif_text_core.specs.Waiting.{all_in, order_in};
 
 use pif_core::{Core, Order};
+use pif_text::{Sequence, append_names};
 use pif_text_core::nth;
-use pif_text_json::{Sequence, append_names};
 use std::alloc::AllocError;
 
 /// The numbers of the threads of an order.

@@ -1,16 +1,15 @@
 ghost use Rattle.std.specs.Prelude.{◌≡◌, List, IfOk};
-ghost use Rattle.pif_story_model.specs.Rows.{AreRowsOf};
-ghost use Rattle.pif_story_model.specs.Stories.{NumberedRow};
+ghost use Rattle.pif_script_model.specs.Rows.{AreRowsOf};
+ghost use Rattle.pif_script_model.specs.Stories.{NumberedRow};
 ghost use Rattle.pif_story_states.specs.States.{states_from, IsTold};
 
 use crate::lines::append_line;
 use pif_core::Core;
 use pif_script::OpenFault;
 use pif_script_core::do_command;
-use pif_story_model::AnsweredRow;
+use pif_script_model::{AnsweredRow, WatchSteps};
 use pif_text::{Added, Fact};
 use pif_types::{AddFault, CondId, Health, MutexId, Prio, Tid};
-use pif_watch::WatchSteps;
 use std::alloc::{AllocError, Global};
 
 /// Has a core do what a command asks, or makes the core if it is the first one, and appends the state behind it, as a

@@ -6,9 +6,8 @@ use crate::holds::append_holds;
 use crate::numbers::number_of;
 use pif_core::{Core, Status};
 use pif_story::name_of;
-use pif_text::{Text, append_request};
+use pif_text::{Member, Text, append_members, append_request};
 use pif_text_core::awaited;
-use pif_text_json::{Member, append_members};
 use pif_types::{Prio, Tid};
 use std::alloc::AllocError;
 

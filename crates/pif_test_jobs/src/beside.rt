@@ -5,7 +5,7 @@
 use super::cloud::{Cloud, Sight};
 use super::numbers::{cond, mutex, thread};
 use pif_core::{Core, Entry, Event, Seen};
-use pif_posix_model::HistoryLimits;
+use pif_posix_steps::HistoryLimits;
 use pif_search::Stop;
 use pif_types::{CondId, Kind, Limits, MutexId, Prio, Request, Tid};
 use rand_core::{Rng, SeedableRng};

@@ -3,7 +3,7 @@
 use crate::numbers::{cond, thread};
 use crate::told::Told;
 use pif_history::{find_run, judge_lines};
-use pif_history_lines::Verdict;
+use pif_history_machine::Verdict;
 use pif_history_model::{HistoryLimits, Line};
 use pif_rules_model::no_rules;
 use pif_search::{Stop, push};

@@ -1,6 +1,6 @@
 //! Random scripts: what follows an end.
 use pif_job_random::{Shape, random_script};
-use pif_watch::Unwatched;
+use pif_script_model::Unwatched;
 use std::process::Abort;
 use std::str::from_utf8;
 use std::test::Fail;

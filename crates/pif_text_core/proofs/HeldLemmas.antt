@@ -3,7 +3,7 @@ use Rattle.std.proofs.Common.{◌≡◌, ℕ, ◌+◌, Bool, true, false, cond, 
 use Rattle.std.specs.Prelude.{◌&&◌, not, codes, filter}
 use Rattle.std.proofs.lemmas.List.{map_push}
 use Rattle.pif_model.specs.Table.{Table}
-use Rattle.pif_text_json.specs.Json.{numbers}
+use Rattle.pif_text.specs.Json.{numbers}
 use Rattle.pif_text_core.specs.Waiting.{has}
 use Rattle.pif_text_core.specs.Texts.{front_of, held_name, held_text, listed}
 use Rattle.pif_text_core.proofs.ListLemmas.{is_nil, listed_snoc, nil_map, numbers_next}

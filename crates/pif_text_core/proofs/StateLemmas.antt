@@ -3,7 +3,7 @@ use Rattle.std.proofs.Common.{◌≡◌, ℕ, List, ◌++◌, Option, Some, None
 use Rattle.std.specs.Prelude.{[], codes, flat_map}
 use Rattle.pif_model.specs.Table.{Table}
 use Rattle.pif_model.specs.Calls.{threads_answer}
-use Rattle.pif_text_json.specs.Json.{numbers}
+use Rattle.pif_text.specs.Json.{numbers}
 use Rattle.pif_text_core.specs.Waiting.{conds_added, mutexes_added}
 use Rattle.pif_text_core.specs.Changes.{changes_text, lines_text, new_lines}
 use Rattle.pif_text_core.specs.Texts.{chain_line_at, cond_line, mutex_line, ready_line, state_text, thread_line, time_line}

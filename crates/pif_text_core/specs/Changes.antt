@@ -19,7 +19,7 @@ use Rattle.pif_model.specs.declared.lines.Woken.TheVariants.{Fresh}
 use Rattle.pif_model.specs.contracts.lines.StatusPartialEq.TheImpl as status_eq
 use Rattle.pif_model.specs.Table.{Table}
 use Rattle.pif_model.specs.Calls.{base_answer, cond_word_answer, effective_answer, health_answer, kind_answer, open_call_answer, owner_answer, status_answer, threads_answer, word_answer}
-use Rattle.pif_text_json.specs.Json.{numbers}
+use Rattle.pif_text.specs.Json.{numbers}
 use Rattle.pif_text_core.specs.Waiting.{all_in, awaited, begins_chain, conds_added, mutexes_added}
 use Rattle.pif_text_core.specs.declared.parts.Holder.{Holder}
 use Rattle.pif_text_core.specs.Texts.{chain_line_at, cond_line, held_times, holder_of, mutex_line, ready_line, state_text, thread_line, time_before, time_line}

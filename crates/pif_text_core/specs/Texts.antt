@@ -12,7 +12,7 @@ use Rattle.pif_model.specs.Table.{Table}
 use Rattle.pif_model.specs.Calls.{base_answer, bound_answer, cond_word_answer, effective_answer, health_answer, kind_answer, open_call_answer, owner_answer, pick_answer, status_answer, threads_answer, word_answer}
 use Rattle.pif_text_model.specs.CommandTexts.{kind_word, request_text}
 use Rattle.pif_text_model.specs.Replies.{cond_name, health_text, mutex_name, thread_name}
-use Rattle.pif_text_json.specs.Json.{numbers}
+use Rattle.pif_text.specs.Json.{numbers}
 use Rattle.pif_text_core.specs.Waiting.{awaited, begins_chain, conds_added, has, mutexes_added, order_in, owner_of}
 use Rattle.pif_text_core.specs.declared.parts.Holder.{Holder}
 

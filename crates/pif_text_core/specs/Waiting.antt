@@ -8,7 +8,7 @@ use Rattle.pif_model.specs.declared.lines.Status.TheVariants.{Ready, Queued, Par
 use Rattle.pif_model.specs.Table.{Table}
 use Rattle.pif_model.specs.PiKernel.{parked_in, ready_in, waiters_in}
 use Rattle.pif_model.specs.Calls.{owner_answer, status_answer, threads_answer, waiter_answer}
-use Rattle.pif_text_json.specs.Json.{numbers}
+use Rattle.pif_text.specs.Json.{numbers}
 
 -- how many condition variables were added
 abbrev pub conds_added : Table → ℕ

@@ -1,6 +1,6 @@
 ghost use Rattle.std.specs.Prelude.{◌≡◌, ◌≤◌, flat_map, option_copied};
 ghost use Rattle.pif_model.specs.Calls.{threads_answer};
-ghost use Rattle.pif_text_json.specs.Json.{numbers};
+ghost use Rattle.pif_text.specs.Json.{numbers};
 ghost use Rattle.pif_text_core.specs.Changes.{chain_stays, chains_are_gone, has_waiting, is_waiting, link_stays, links_stay, new_chain_line, no_chain_line, was_there};
 ghost use Rattle.pif_text_core.specs.Pages.{Tells};
 ghost use Rattle.pif_text_core.specs.Texts.{chain_line, links_text};

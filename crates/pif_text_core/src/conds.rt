@@ -1,5 +1,5 @@
 ghost use Rattle.std.specs.Prelude.{◌≤◌, flat_map, option_copied};
-ghost use Rattle.pif_text_json.specs.Json.{numbers};
+ghost use Rattle.pif_text.specs.Json.{numbers};
 ghost use Rattle.pif_text_core.specs.Changes.{new_cond_line};
 ghost use Rattle.pif_text_core.specs.Pages.{Tells};
 ghost use Rattle.pif_text_core.specs.Texts.{cond_line};

@@ -3,7 +3,7 @@ ghost use Rattle.pif_model.specs.Calls.{kind_answer, owner_answer, word_answer};
 ghost use Rattle.pif_model.specs.Projection.{health_of};
 ghost use Rattle.pif_model.specs.Word.{health_word, word_of};
 ghost use Rattle.pif_text_model.specs.Replies.{thread_name};
-ghost use Rattle.pif_text_json.specs.Json.{numbers};
+ghost use Rattle.pif_text.specs.Json.{numbers};
 ghost use Rattle.pif_text_core.specs.Changes.{new_mutex_line};
 ghost use Rattle.pif_text_core.specs.Pages.{Tells};
 ghost use Rattle.pif_text_core.specs.Texts.{has_own_line, health_at, health_part, if_some, lag_text, kind_by, lags, mutex_line, owner_text, state_by, times_text, word_front, word_text};

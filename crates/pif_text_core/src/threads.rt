@@ -1,7 +1,7 @@
 ghost use Rattle.std.specs.Prelude.{flat_map, ◌≡◌, ◌≤◌, ◌++◌, [], codes, not, ◌&&◌, option_copied, if◌then◌else◌};
 ghost use Rattle.pif_model.specs.Calls.{base_answer, bound_answer, effective_answer, open_call_answer, status_answer, threads_answer};
 ghost use Rattle.pif_text_model.specs.Replies.{cond_name, mutex_name};
-ghost use Rattle.pif_text_json.specs.Json.{numbers};
+ghost use Rattle.pif_text.specs.Json.{numbers};
 ghost use Rattle.pif_text_core.specs.Changes.{new_thread_line};
 ghost use Rattle.pif_text_core.specs.Pages.{Tells};
 ghost use Rattle.pif_text_core.specs.Texts.{base_text, call_text, front_of, held_name, held_text, holder_of, holder_text, holding_text, if_some, priority_by, status_text, thread_line, times_text};

@@ -1,6 +1,6 @@
 -- The writer was empty before.
 use Rattle.std.proofs.Common.{ℕ, Some, List, subst}
-use Rattle.pif_story_model.specs.Checks.{TellsTo, check_telling}
+use Rattle.pif_script_model.specs.Checks.{TellsTo, check_telling}
 use Rattle.pif_c.proofs.texts.check_whole.Goals as goal
 
 pub returns : goal.returns

@@ -1,5 +1,5 @@
 use Rattle.std.proofs.Common.{◌≡◌, map, take}
-use Rattle.pif_story_model.specs.Verdicts.{printable}
+use Rattle.pif_script_model.specs.Verdicts.{printable}
 use Rattle.pif_cli.proofs.names.shown_name.Given as goal
 
 -- the bytes so far

@@ -1,6 +1,6 @@
 use Rattle.std.proofs.Common.{◌∙◌, ◌++◌, refl, ap}
 use Rattle.std.specs.Prelude.{decimal}
-use Rattle.pif_text_json.specs.Json.{bool_text, quoted}
+use Rattle.pif_text.specs.Json.{bool_text, quoted}
 use Rattle.pif_history_text.specs.Texts.{line_text}
 use Rattle.pif_history_told.specs.Runs.{rule_members}
 use Rattle.pif_history_told.specs.StateObjects.{change_members}

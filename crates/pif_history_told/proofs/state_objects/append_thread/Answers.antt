@@ -1,7 +1,7 @@
 use Rattle.std.proofs.Common.{◌∙◌, ap}
 use Rattle.std.specs.Prelude.{decimal}
 use Rattle.std.proofs.lemmas.Result.{on_ok_weaker}
-use Rattle.pif_text_json.specs.Json.{bool_text, name_text}
+use Rattle.pif_text.specs.Json.{bool_text, name_text}
 use Rattle.pif_history_told.specs.StateObjects.{call_members}
 use Rattle.pif_history_told.proofs.Appending.{grown_first, grown_more, grown_same, on_ok_grown, thread_appended}
 use Rattle.pif_history_told.proofs.Pieces.{thread_pieces}

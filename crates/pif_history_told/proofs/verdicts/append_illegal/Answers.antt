@@ -1,7 +1,7 @@
 use Rattle.std.proofs.Common.{◌∙◌, ◌++◌, refl, ap}
 use Rattle.std.specs.Prelude.{decimal}
 use Rattle.std.proofs.lemmas.Result.{on_ok_weaker}
-use Rattle.pif_text_json.specs.Json.{quoted}
+use Rattle.pif_text.specs.Json.{quoted}
 use Rattle.pif_history_text.specs.Texts.{line_text}
 use Rattle.pif_history_told.specs.Verdicts.{began_member, illegal_end, illegal_front, known_member}
 use Rattle.pif_history_told.proofs.Appending.{grown_first, grown_more, grown_same, on_ok_grown}

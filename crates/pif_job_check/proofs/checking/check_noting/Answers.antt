@@ -1,6 +1,6 @@
 use Rattle.std.proofs.Common.{false}
 use Rattle.std.proofs.lemmas.Result.{err_from_is_err_and}
-use Rattle.pif_story_model.proofs.ChecksLemmas.{checked_told}
+use Rattle.pif_script_model.proofs.ChecksLemmas.{checked_told}
 use Rattle.pif_job_check.proofs.NotingLemmas.{noted, not_noted}
 use Rattle.pif_job_check.proofs.checking.check_noting.Goals as goal
 

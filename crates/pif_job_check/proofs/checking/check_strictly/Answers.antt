@@ -1,5 +1,5 @@
 use Rattle.std.proofs.Common.{true}
-use Rattle.pif_story_model.proofs.ChecksLemmas.{checked_told}
+use Rattle.pif_script_model.proofs.ChecksLemmas.{checked_told}
 use Rattle.pif_job_check.proofs.checking.check_strictly.Goals as goal
 
 pub returns : goal.returns

@@ -1,4 +1,4 @@
-use Rattle.pif_story_model.proofs.ChecksLemmas.{filled_told}
+use Rattle.pif_script_model.proofs.ChecksLemmas.{filled_told}
 use Rattle.pif_job_check.proofs.checking.fill_noting.Goals as goal
 
 pub returns : goal.returns

@@ -1,6 +1,6 @@
 use Rattle.std.proofs.Common.{◌∙◌, ap, subst}
-use Rattle.pif_story_model.specs.Rows.{filling_end}
-use Rattle.pif_story_model.proofs.RunningLemmas.{end_of_large, end_of_small}
+use Rattle.pif_script_model.specs.Rows.{filling_end}
+use Rattle.pif_script_model.proofs.StoryRunningLemmas.{end_of_large, end_of_small}
 use Rattle.pif_job_check.specs.Rows.{EndsSo}
 use Rattle.pif_job_check.proofs.rows.fill_rows.Goals as goal
 

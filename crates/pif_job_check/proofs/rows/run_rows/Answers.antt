@@ -1,9 +1,9 @@
 use Rattle.std.proofs.Common.{◌+◌, ◌∙◌, length, ap, refl, sym, arith}
 use Rattle.std.specs.Prelude.{map, option_copied}
-use Rattle.pif_story_model.specs.Lines.{StoryRow, lines, lines_behind}
-use Rattle.pif_story_model.specs.Rows.{asked_by, asked_in, filling_end}
-use Rattle.pif_story_model.specs.Stories.{rows_from}
-use Rattle.pif_story_model.proofs.RunningLemmas.{ends_on, ends_out, ends_well, ends_whole, handed_all, handed_on, line_fits, rows_end}
+use Rattle.pif_script_model.specs.Lines.{StoryRow, lines, lines_behind}
+use Rattle.pif_script_model.specs.Rows.{asked_by, asked_in, filling_end}
+use Rattle.pif_script_model.specs.Stories.{rows_from}
+use Rattle.pif_script_model.proofs.StoryRunningLemmas.{ends_on, ends_out, ends_well, ends_whole, handed_all, handed_on, line_fits, rows_end}
 use Rattle.pif_job_check.proofs.rows.run_rows.Goals as goal
 
 pub lines-init : goal.lines-init

@@ -1,10 +1,10 @@
 use Rattle.std.proofs.Common.{◌≡◌, ◌+◌, ◌++◌, ◌≤◌, length}
 use Rattle.std.specs.Prelude.{map, option_copied}
 use Rattle.std.specs.Option.{option_map_or}
-use Rattle.pif_story_model.specs.Lines.{lines, lines_behind}
-use Rattle.pif_story_model.specs.Rows.{asked_by, asked_in, filling_end}
-use Rattle.pif_story_model.specs.Stories.{rows_from}
-use Rattle.pif_story_model.proofs.RunningLemmas.{rows_end}
+use Rattle.pif_script_model.specs.Lines.{lines, lines_behind}
+use Rattle.pif_script_model.specs.Rows.{asked_by, asked_in, filling_end}
+use Rattle.pif_script_model.specs.Stories.{rows_from}
+use Rattle.pif_script_model.proofs.StoryRunningLemmas.{rows_end}
 use Rattle.pif_job_check.proofs.rows.run_rows.Given as goal
 
 abbrev pub invariant-lines : goal.invariant-lines

@@ -2,8 +2,8 @@ use Rattle.std.proofs.Common.{List, ap, refl, subst, sym, take}
 use Rattle.pif_types.specs.Bounds.{Bounds}
 use Rattle.pif_history_model.specs.declared.labels.Label.{Label}
 use Rattle.pif_history_model.specs.declared.lines.Line.{Line}
-use Rattle.pif_history_lines.specs.declared.verdicts.Verdict.{Verdict}
-use Rattle.pif_history_lines.specs.Verdicts.{IsVerdictOf}
+use Rattle.pif_history_machine.specs.declared.verdicts.Verdict.{Verdict}
+use Rattle.pif_history_machine.specs.Verdicts.{IsVerdictOf}
 use Rattle.pif_history_told.specs.Ways.{IsRun}
 use Rattle.pif_history_text.specs.Histories.{limits_of}
 use Rattle.pif_history_text.specs.Reading.{heard_of}

@@ -1,6 +1,6 @@
 use Rattle.std.proofs.Common.{arith, subst}
-use Rattle.pif_history_lines.specs.declared.verdicts.Verdict.{Verdict}
-use Rattle.pif_history_lines.specs.Verdicts.{IsVerdictOf}
+use Rattle.pif_history_machine.specs.declared.verdicts.Verdict.{Verdict}
+use Rattle.pif_history_machine.specs.Verdicts.{IsVerdictOf}
 use Rattle.pif_job_judge.proofs.LeastRulesLemmas.{all_illegal, behind_illegal, illegal_more}
 use Rattle.pif_job_judge.proofs.search.first_in.Goals as goal
 

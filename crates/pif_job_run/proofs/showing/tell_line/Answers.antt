@@ -1,7 +1,7 @@
 use Rattle.std.proofs.Common.{◌≡◌, ℕ, ◌+◌, ◌<◌, ◌++◌, [], ◌∷◌, List, ◌∙◌, ap, sym, get_or, length, length-append, map, take, append_assoc, arith}
 use Rattle.std.specs.Prelude.{codes}
 use Rattle.std.proofs.lemmas.List.{map_push, take_all, take_more}
-use Rattle.pif_story_model.specs.Verdicts.{printable}
+use Rattle.pif_script_model.specs.Verdicts.{printable}
 use Rattle.pif_job_run.proofs.showing.tell_line.Goals as goal
 
 one_more : (line : List ℕ) (i : ℕ) → i < length line

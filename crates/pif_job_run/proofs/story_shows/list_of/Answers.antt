@@ -1,5 +1,5 @@
 use Rattle.std.proofs.Common.{◌≡◌, ◌∙◌, ap, arith, map, sym}
-use Rattle.pif_text_json.specs.Json.{numbers}
+use Rattle.pif_text.specs.Json.{numbers}
 use Rattle.pif_job_run.specs.Shows.{person_name}
 use Rattle.pif_job_run.proofs.NameLemmas.{listed_next, names_none, names_whole}
 use Rattle.pif_job_run.proofs.story_shows.list_of.Goals as goal

@@ -1,5 +1,5 @@
 use Rattle.std.proofs.Common.{◌≡◌, map}
-use Rattle.pif_text_json.specs.Json.{numbers}
+use Rattle.pif_text.specs.Json.{numbers}
 use Rattle.pif_job_run.specs.Shows.{person_name}
 use Rattle.pif_job_run.proofs.story_shows.list_of.Given as goal
 

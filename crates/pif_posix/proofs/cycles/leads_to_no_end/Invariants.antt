@@ -1,6 +1,6 @@
 use Rattle.std.proofs.Common.{◌≡◌, false, if◌then◌else◌}
 use Rattle.pif_model.specs.World.{leads_to}
-use Rattle.pif_posix_model.specs.Doing.{passing}
+use Rattle.pif_posix_steps.specs.Doing.{passing}
 use Rattle.pif_rules_model.specs.Rules.{never_goes_on}
 use Rattle.pif_rules_model.specs.Ruled.{is_some_of, leads_to_no_end}
 use Rattle.pif_posix.proofs.cycles.leads_to_no_end.Given as goal

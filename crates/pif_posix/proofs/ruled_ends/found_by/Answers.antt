@@ -1,5 +1,5 @@
 use Rattle.std.proofs.Common.{◌-◌, ◌∙◌, sym, arith}
-use Rattle.pif_posix_model.specs.Doing.{owns_robust}
+use Rattle.pif_posix_steps.specs.Doing.{owns_robust}
 use Rattle.pif_rules_model.specs.Ruled.{revived_if, found_by}
 use Rattle.pif_posix.proofs.Loops.{each_more}
 use Rattle.pif_posix.proofs.ruled_ends.found_by.Goals as goal

@@ -1,6 +1,6 @@
 use Rattle.std.proofs.Common.{◌≡◌, ◌++◌}
 use Rattle.std.specs.List.{flat_map}
-use Rattle.pif_posix_model.specs.Doing.{owns_robust, passing}
+use Rattle.pif_posix_steps.specs.Doing.{owns_robust, passing}
 use Rattle.pif_rules_model.specs.Ruled.{revived_if, found_by}
 use Rattle.pif_posix.proofs.ruled_ends.found_by.Given as goal
 

@@ -1,6 +1,6 @@
 use Rattle.std.proofs.Common.{◌-◌, ◌∙◌, sym, arith}
 use Rattle.std.specs.List.{flat_map}
-use Rattle.pif_posix_model.specs.Doing.{owns_robust, robust_of}
+use Rattle.pif_posix_steps.specs.Doing.{owns_robust, robust_of}
 use Rattle.pif_rules_model.specs.Ruled.{passed_by_death}
 use Rattle.pif_posix.proofs.Loops.{each_more}
 use Rattle.pif_posix.proofs.ruled_ends.passed_once.Goals as goal

@@ -1,5 +1,5 @@
 use Rattle.std.proofs.Common.{◌≡◌, ◌++◌}
-use Rattle.pif_posix_model.specs.Doing.{passing}
+use Rattle.pif_posix_steps.specs.Doing.{passing}
 use Rattle.pif_rules_model.specs.Rules.{of_call, signalling_by}
 use Rattle.pif_rules_model.specs.Ruled.{is_mutex_of, signallers}
 use Rattle.pif_posix.proofs.ruled_variables.signallers.Given as goal

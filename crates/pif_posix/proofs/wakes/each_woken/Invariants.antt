@@ -1,5 +1,5 @@
 use Rattle.std.proofs.Common.{◌≡◌, take, map}
-use Rattle.pif_posix_model.specs.Doing.{woken}
+use Rattle.pif_posix_steps.specs.Doing.{woken}
 use Rattle.pif_posix.proofs.wakes.each_woken.Given as goal
 
 abbrev pub invariant-loop-i : goal.invariant-loop-i

@@ -1,6 +1,6 @@
-use Rattle.pif_story_model.specs.Lines.{lines}
-use Rattle.pif_story_model.specs.Stories.{rows_from, script_by}
-use Rattle.pif_story_model.proofs.ChecksLemmas.{ran_to_fault, ran_well}
+use Rattle.pif_script_model.specs.Lines.{lines}
+use Rattle.pif_script_model.specs.Stories.{rows_from, script_by}
+use Rattle.pif_script_model.proofs.ChecksLemmas.{ran_to_fault, ran_well}
 use Rattle.pif_script_core.proofs.stories.run_story.Goals as goal
 
 pub returns-in-Ok-run-clause-printed : goal.returns-in-Ok-run-clause-printed

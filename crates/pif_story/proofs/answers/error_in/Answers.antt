@@ -1,7 +1,7 @@
 use Rattle.std.proofs.Common.{◌<◌, length, sym, ◌∙◌, arith, bytes_eq}
 use Rattle.pif_text_model.specs.Errors.{errors}
 use Rattle.pif_text_model.proofs.Finding.{find_behind}
-use Rattle.pif_story_model.specs.Answers.{error_answer}
+use Rattle.pif_script_model.specs.Answers.{error_answer}
 use Rattle.pif_story.proofs.answers.error_in.Goals as goal
 
 pub loop-errno-preserved : goal.loop-errno-preserved

@@ -1,9 +1,9 @@
 use Rattle.std.proofs.Common.{ℕ, ◌+◌, ◌≤◌, ◌∙◌, List, length, ap, sym, arith}
 use Rattle.std.specs.Prelude.{option_copied}
 use Rattle.std.proofs.lemmas.List.{map_push}
-use Rattle.pif_story_model.specs.Lines.{StoryRow, lines, lines_behind}
-use Rattle.pif_story_model.specs.Verdicts.{flaw_of, flaws_of}
-use Rattle.pif_story_model.proofs.ComparingLemmas.{found_faulty, found_next}
+use Rattle.pif_script_model.specs.Lines.{StoryRow, lines, lines_behind}
+use Rattle.pif_script_model.specs.Verdicts.{flaw_of, flaws_of}
+use Rattle.pif_script_model.proofs.ComparingLemmas.{found_faulty, found_next}
 use Rattle.pif_story.proofs.FlawLemmas.{found_end}
 use Rattle.pif_story.proofs.comparing.compare.Goals as goal
 

@@ -1,10 +1,10 @@
 use Rattle.std.proofs.Common.{◌≡◌, ◌+◌, ◌++◌, ◌≤◌, length}
 use Rattle.std.specs.Prelude.{option_copied}
 use Rattle.std.specs.Option.{option_map_or}
-use Rattle.pif_story_model.specs.Lines.{lines, lines_behind}
-use Rattle.pif_story_model.specs.Stories.{rows_from}
-use Rattle.pif_story_model.specs.Verdicts.{flaws_of, flaws_of_rows}
-use Rattle.pif_story_model.proofs.ComparingLemmas.{flaws_from}
+use Rattle.pif_script_model.specs.Lines.{lines, lines_behind}
+use Rattle.pif_script_model.specs.Stories.{rows_from}
+use Rattle.pif_script_model.specs.Verdicts.{flaws_of, flaws_of_rows}
+use Rattle.pif_script_model.proofs.ComparingLemmas.{flaws_from}
 use Rattle.pif_story.proofs.comparing.compare.Given as goal
 
 abbrev pub invariant-lines : goal.invariant-lines

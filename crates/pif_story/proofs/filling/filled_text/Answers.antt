@@ -1,8 +1,8 @@
 use Rattle.std.proofs.Common.{sym, ◌∙◌}
 use Rattle.std.specs.Prelude.{option_copied}
-use Rattle.pif_story_model.specs.Filling.{filled_text}
-use Rattle.pif_story_model.specs.Lines.{lines, lines_behind}
-use Rattle.pif_story_model.proofs.FillingLemmas.{filled_on, filled_out, filled_whole, some_copied}
+use Rattle.pif_script_model.specs.Filling.{filled_text}
+use Rattle.pif_script_model.specs.Lines.{lines, lines_behind}
+use Rattle.pif_script_model.proofs.FillingLemmas.{filled_on, filled_out, filled_whole, some_copied}
 use Rattle.pif_story.proofs.filling.filled_text.Goals as goal
 
 pub lines-preserved-in-Continue-branch-3 : goal.lines-preserved-in-Continue-branch-3

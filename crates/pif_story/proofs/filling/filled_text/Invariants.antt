@@ -2,8 +2,8 @@ use Rattle.std.proofs.Common.{◌≡◌, ◌+◌, ◌++◌, length}
 use Rattle.std.specs.Prelude.{option_copied}
 use Rattle.std.specs.List.{join_with_byte}
 use Rattle.std.specs.Option.{option_map_or}
-use Rattle.pif_story_model.specs.Filling.{filled_lines, filled_text}
-use Rattle.pif_story_model.specs.Lines.{lines, lines_behind}
+use Rattle.pif_script_model.specs.Filling.{filled_lines, filled_text}
+use Rattle.pif_script_model.specs.Lines.{lines, lines_behind}
 use Rattle.pif_story.proofs.filling.filled_text.Given as goal
 
 abbrev pub invariant-lines : goal.invariant-lines

@@ -1,8 +1,8 @@
 use Rattle.std.proofs.Common.{sym, ap, ◌∙◌}
 use Rattle.std.specs.Prelude.{option_copied}
-use Rattle.pif_story_model.specs.Filling.{form_from, form_or}
-use Rattle.pif_story_model.specs.Lines.{StoryRow, lines_behind}
-use Rattle.pif_story_model.proofs.FillingLemmas.{form_from_row}
+use Rattle.pif_script_model.specs.Filling.{form_from, form_or}
+use Rattle.pif_script_model.specs.Lines.{StoryRow, lines_behind}
+use Rattle.pif_script_model.proofs.FillingLemmas.{form_from_row}
 use Rattle.pif_story.proofs.filling.form_of.Goals as goal
 
 pub returns-in-Some-form_written : goal.returns-in-Some-form_written

@@ -1,9 +1,9 @@
 use Rattle.std.proofs.Common.{length, sym, ap, ◌∙◌}
 use Rattle.std.specs.Prelude.{option_copied}
-use Rattle.pif_story_model.specs.Filling.{width_from}
-use Rattle.pif_story_model.specs.Lines.{StoryRow, lines_behind}
-use Rattle.pif_story_model.proofs.FillingLemmas.{width_from_row}
-use Rattle.pif_story_model.proofs.OrderLemmas.{greater_is}
+use Rattle.pif_script_model.specs.Filling.{width_from}
+use Rattle.pif_script_model.specs.Lines.{StoryRow, lines_behind}
+use Rattle.pif_script_model.proofs.FillingLemmas.{width_from_row}
+use Rattle.pif_script_model.proofs.OrderLemmas.{greater_is}
 use Rattle.pif_story.proofs.filling.width_of.Goals as goal
 
 pub lines-preserved-in-Some-row_of : goal.lines-preserved-in-Some-row_of

@@ -1,8 +1,8 @@
 use Rattle.std.proofs.Common.{◌≡◌, ◌+◌, length}
 use Rattle.std.specs.Prelude.{option_copied}
 use Rattle.std.specs.Option.{option_map_or}
-use Rattle.pif_story_model.specs.Filling.{width_from}
-use Rattle.pif_story_model.specs.Lines.{lines, lines_behind}
+use Rattle.pif_script_model.specs.Filling.{width_from}
+use Rattle.pif_script_model.specs.Lines.{lines, lines_behind}
 use Rattle.pif_story.proofs.filling.width_of.Given as goal
 
 abbrev pub invariant-lines : goal.invariant-lines

@@ -1,4 +1,4 @@
-use Rattle.pif_story_model.proofs.LinesLemmas.{lines_counted}
+use Rattle.pif_script_model.proofs.LinesLemmas.{lines_counted}
 use Rattle.pif_story.proofs.lines.line_at_end.Goals as goal
 
 pub returns : goal.returns

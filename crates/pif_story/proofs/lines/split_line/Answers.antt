@@ -1,6 +1,6 @@
 use Rattle.std.proofs.Common.{◌<◌, length, arith}
 use Rattle.std.proofs.lemmas.List.{take_rest}
-use Rattle.pif_story_model.proofs.LinesLemmas.{split_at_end}
+use Rattle.pif_script_model.proofs.LinesLemmas.{split_at_end}
 use Rattle.pif_story.proofs.lines.split_line.Goals as goal
 
 pub returns-then-end-text-clause-split : goal.returns-then-end-text-clause-split

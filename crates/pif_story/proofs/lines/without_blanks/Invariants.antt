@@ -1,5 +1,5 @@
 use Rattle.std.proofs.Common.{◌≡◌, take}
-use Rattle.pif_story_model.specs.Lines.{without_blanks}
+use Rattle.pif_script_model.specs.Lines.{without_blanks}
 use Rattle.pif_story.proofs.lines.without_blanks.Given as goal
 
 abbrev pub invariant-loop-place : goal.invariant-loop-place

@@ -1,4 +1,4 @@
-use Rattle.pif_story_model.proofs.LinesLemmas.{comment_cut}
+use Rattle.pif_script_model.proofs.LinesLemmas.{comment_cut}
 use Rattle.pif_story.proofs.lines.without_comment.Goals as goal
 
 pub returns-clause-text : goal.returns-clause-text

@@ -1,6 +1,6 @@
 use Rattle.std.proofs.Common.{◌≡◌, Some, arith, refl, rules}
 use Rattle.std.specs.Prelude.{option_copied}
-use Rattle.pif_story_model.specs.Lines.{lines_behind}
+use Rattle.pif_script_model.specs.Lines.{lines_behind}
 use Rattle.pif_story.specs.Names.{name_of}
 use Rattle.pif_story.proofs.NameLemmas.{name_found, name_other, name_out, name_passed}
 use Rattle.pif_story.proofs.names.name_of.Goals as goal

@@ -1,7 +1,7 @@
 use Rattle.std.proofs.Common.{◌≡◌, ◌+◌, length}
 use Rattle.std.specs.Prelude.{option_copied}
 use Rattle.std.specs.Option.{option_map_or}
-use Rattle.pif_story_model.specs.Lines.{lines_behind}
+use Rattle.pif_script_model.specs.Lines.{lines_behind}
 use Rattle.pif_story.specs.Names.{first_name, name_of}
 use Rattle.pif_story.proofs.names.name_of.Given as goal
 

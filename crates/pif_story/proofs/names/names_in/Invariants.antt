@@ -1,7 +1,7 @@
 use Rattle.std.proofs.Common.{◌≡◌, ◌+◌, ◌++◌, length}
 use Rattle.std.specs.Prelude.{flat_map, option_copied}
 use Rattle.std.specs.Option.{option_map_or}
-use Rattle.pif_story_model.specs.Lines.{lines_behind}
+use Rattle.pif_script_model.specs.Lines.{lines_behind}
 use Rattle.pif_story.specs.Names.{names_in, naming_line}
 use Rattle.pif_story.proofs.names.names_in.Given as goal
 

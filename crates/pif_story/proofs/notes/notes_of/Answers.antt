@@ -1,6 +1,6 @@
 use Rattle.std.proofs.Common.{◌+◌, ◌∙◌, arith, sym}
 use Rattle.std.specs.Prelude.{option_copied}
-use Rattle.pif_story_model.specs.Lines.{StoryRow, lines_behind}
+use Rattle.pif_script_model.specs.Lines.{StoryRow, lines_behind}
 use Rattle.pif_story.proofs.NoteLemmas.{notes_end, notes_row}
 use Rattle.pif_story.proofs.notes.notes_of.Goals as goal
 

@@ -1,5 +1,5 @@
 use Rattle.std.proofs.Common.{◌≡◌, ◌++◌, List, OnOk, ℕ, subst}
-use Rattle.pif_story_model.proofs.OrderLemmas.{shown_whole}
+use Rattle.pif_script_model.proofs.OrderLemmas.{shown_whole}
 use Rattle.pif_story.proofs.parts.append_shown.Goals as goal
 
 pub returns : goal.returns

@@ -1,7 +1,7 @@
 use Rattle.std.proofs.Common.{◌≡◌, ◌+◌, length}
 use Rattle.std.specs.Prelude.{option_copied, slice_get}
 use Rattle.std.specs.Option.{option_map_or}
-use Rattle.pif_story_model.specs.Lines.{lines_behind}
+use Rattle.pif_script_model.specs.Lines.{lines_behind}
 use Rattle.pif_story.specs.Notes.{line_in, line_or_empty}
 use Rattle.pif_story.proofs.places.line_in.Given as goal
 

@@ -1,6 +1,6 @@
 use Rattle.std.proofs.Common.{◌++◌, refl, sym, ◌∙◌}
-use Rattle.pif_story_model.specs.Lines.{plain}
-use Rattle.pif_story_model.proofs.PlainLemmas.{at_blank, at_byte, at_end}
+use Rattle.pif_script_model.specs.Lines.{plain}
+use Rattle.pif_script_model.proofs.PlainLemmas.{at_blank, at_byte, at_end}
 use Rattle.pif_story.proofs.plain.append_plain.Goals as goal
 
 pub loop-byte-preserved-then-is_blank : goal.loop-byte-preserved-then-is_blank

@@ -1,6 +1,6 @@
 use Rattle.std.proofs.Common.{◌≡◌, ◌++◌, drop, true}
-use Rattle.pif_story_model.specs.Lines.{plain}
-use Rattle.pif_story_model.proofs.PlainLemmas.{left_by}
+use Rattle.pif_script_model.specs.Lines.{plain}
+use Rattle.pif_script_model.proofs.PlainLemmas.{left_by}
 use Rattle.pif_story.proofs.plain.append_plain.Given as goal
 
 abbrev pub invariant-loop-byte : goal.invariant-loop-byte

@@ -1,9 +1,9 @@
 use Rattle.std.proofs.Common.{length, sym, ◌∙◌}
 use Rattle.std.specs.Prelude.{option_copied}
 use Rattle.std.specs.List.{join_with_byte}
-use Rattle.pif_story_model.specs.Lines.{plain_lines}
-use Rattle.pif_story_model.proofs.FillingLemmas.{some_copied}
-use Rattle.pif_story_model.proofs.RowLemmas.{fits_on, fits_out, plain_on, plain_out, plain_whole}
+use Rattle.pif_script_model.specs.Lines.{plain_lines}
+use Rattle.pif_script_model.proofs.FillingLemmas.{some_copied}
+use Rattle.pif_script_model.proofs.RowLemmas.{fits_on, fits_out, plain_on, plain_out, plain_whole}
 use Rattle.pif_story.proofs.plain.plain_story.Goals as goal
 
 pub lines-preserved-in-Continue-branch-2 : goal.lines-preserved-in-Continue-branch-2

@@ -2,7 +2,7 @@ use Rattle.std.proofs.Common.{◌≡◌, ◌+◌, ◌++◌, ◌≤◌, length, m
 use Rattle.std.specs.Prelude.{option_copied}
 use Rattle.std.specs.List.{join_with_byte}
 use Rattle.std.specs.Option.{option_map_or}
-use Rattle.pif_story_model.specs.Lines.{lines_behind, plain_line, plain_lines}
+use Rattle.pif_script_model.specs.Lines.{lines_behind, plain_line, plain_lines}
 use Rattle.pif_story.proofs.plain.plain_story.Given as goal
 
 abbrev pub invariant-lines : goal.invariant-lines

@@ -1,4 +1,4 @@
-use Rattle.pif_story_model.proofs.LinesLemmas.{front_counts, front_fits}
+use Rattle.pif_script_model.proofs.LinesLemmas.{front_counts, front_fits}
 use Rattle.pif_story.proofs.reading.read_script_of_story.Goals as goal
 
 pub slice_bounds-line_at_end-end : goal.slice_bounds-line_at_end-end

@@ -1,7 +1,7 @@
 use Rattle.std.proofs.Common.{sym, ◌∙◌}
 use Rattle.std.specs.Prelude.{option_copied}
-use Rattle.pif_story_model.specs.Lines.{StoryRow, lines, lines_behind}
-use Rattle.pif_story_model.proofs.StoriesLemmas.{script_grown, script_in, script_in_whole, script_made}
+use Rattle.pif_script_model.specs.Lines.{StoryRow, lines, lines_behind}
+use Rattle.pif_script_model.proofs.StoriesLemmas.{script_grown, script_in, script_in_whole, script_made}
 use Rattle.pif_story.proofs.scripts.script_of.Goals as goal
 
 pub lines-preserved-in-Continue-branch-2 : goal.lines-preserved-in-Continue-branch-2

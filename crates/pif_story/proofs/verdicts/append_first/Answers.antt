@@ -1,7 +1,7 @@
 use Rattle.std.proofs.Common.{◌++◌, ◌∙◌, ap, take, take_all}
 use Rattle.std.specs.Prelude.{flat_map}
-use Rattle.pif_story_model.specs.Verdicts.{flaw_line, flaw_of}
-use Rattle.pif_story_model.proofs.OrderLemmas.{flaws_told}
+use Rattle.pif_script_model.specs.Verdicts.{flaw_line, flaw_of}
+use Rattle.pif_script_model.proofs.OrderLemmas.{flaws_told}
 use Rattle.pif_story.proofs.verdicts.append_first.Goals as goal
 
 pub returns : goal.returns

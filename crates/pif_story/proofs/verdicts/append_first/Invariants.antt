@@ -1,6 +1,6 @@
 use Rattle.std.proofs.Common.{◌≡◌, ◌++◌, take}
 use Rattle.std.specs.Prelude.{flat_map}
-use Rattle.pif_story_model.specs.Verdicts.{flaw_line, flaw_of}
+use Rattle.pif_script_model.specs.Verdicts.{flaw_line, flaw_of}
 use Rattle.pif_story.proofs.verdicts.append_first.Given as goal
 
 abbrev pub invariant-loop-flaw : goal.invariant-loop-flaw

@@ -1,6 +1,6 @@
 use Rattle.std.proofs.Common.{◌++◌, ◌∙◌, sym, ap}
 use Rattle.std.proofs.lemmas.Result.{on_ok_weaker}
-use Rattle.pif_text_json.specs.Json.{name_text}
+use Rattle.pif_text.specs.Json.{name_text}
 use Rattle.pif_story_states.specs.Objects.{chain_from}
 use Rattle.pif_story_states.proofs.ChainLemmas.{chain_end, chain_on, chain_out}
 use Rattle.pif_story_states.proofs.chains.append_from.Goals as goal

@@ -1,6 +1,6 @@
 use Rattle.std.proofs.Common.{◌∙◌, ap}
 use Rattle.std.proofs.lemmas.Result.{on_ok_weaker}
-use Rattle.pif_text_json.specs.Json.{name_or_null, name_text, number_or_null}
+use Rattle.pif_text.specs.Json.{name_or_null, name_text, number_or_null}
 use Rattle.pif_story_states.proofs.ObjectLemmas.{cond_appended}
 use Rattle.pif_story_states.proofs.PieceLemmas.{grown_first, grown_more, on_ok_grown}
 use Rattle.pif_story_states.proofs.conds.append_cond.Goals as goal

@@ -1,6 +1,6 @@
 use Rattle.std.specs.Prelude.{flat_map}
 use Rattle.pif_model.specs.Calls.{threads_answer}
-use Rattle.pif_text_json.specs.Json.{numbers}
+use Rattle.pif_text.specs.Json.{numbers}
 use Rattle.pif_text_core.specs.Waiting.{conds_added, mutexes_added}
 use Rattle.pif_story_states.specs.Graphs.{cond_parts, mutex_parts, parts_of, thread_edge, thread_node}
 use Rattle.pif_story_states.proofs.ListLemmas.{four_texts}

@@ -1,5 +1,5 @@
 use Rattle.std.proofs.Common.{None, map}
-use Rattle.pif_story_model.specs.Rows.{asked_in}
+use Rattle.pif_script_model.specs.Rows.{asked_in}
 use Rattle.pif_story_states.specs.Stories.{core_behind}
 use Rattle.pif_story_states.proofs.CoreLemmas.{core_lost, core_on, core_whole}
 use Rattle.pif_story_states.proofs.graphs.core_behind.Goals as goal

@@ -1,5 +1,5 @@
 use Rattle.std.proofs.Common.{◌≡◌, drop, map, None}
-use Rattle.pif_story_model.specs.Rows.{asked_in}
+use Rattle.pif_script_model.specs.Rows.{asked_in}
 use Rattle.pif_story_states.specs.Stories.{core_behind}
 use Rattle.pif_story_states.proofs.graphs.core_behind.Given as goal
 

@@ -1,5 +1,5 @@
 use Rattle.std.proofs.Common.{◌≡◌, ◌++◌, ◌∙◌, ap, arith, flat_map}
-use Rattle.pif_text_json.specs.Json.{numbers}
+use Rattle.pif_text.specs.Json.{numbers}
 use Rattle.pif_story_states.proofs.ListLemmas.{texts_on, texts_start}
 use Rattle.pif_story_states.proofs.lists.append_all.Goals as goal
 

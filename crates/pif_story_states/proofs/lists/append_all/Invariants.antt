@@ -1,5 +1,5 @@
 use Rattle.std.proofs.Common.{◌≡◌, ◌++◌, flat_map}
-use Rattle.pif_text_json.specs.Json.{numbers}
+use Rattle.pif_text.specs.Json.{numbers}
 use Rattle.pif_story_states.proofs.lists.append_all.Given as goal
 
 abbrev pub invariant-loop-place : goal.invariant-loop-place

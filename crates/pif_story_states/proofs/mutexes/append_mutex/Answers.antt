@@ -5,7 +5,7 @@ use Rattle.pif_types.specs.declared.requests.Kind.{Kind}
 use Rattle.pif_model.specs.Calls.{health_answer, kind_answer}
 use Rattle.pif_text_model.specs.CommandTexts.{kind_word}
 use Rattle.pif_text_model.specs.Replies.{health_text}
-use Rattle.pif_text_json.specs.Json.{bool_text, name_or_null, name_text, number_or_null, or_null, quoted}
+use Rattle.pif_text.specs.Json.{bool_text, name_or_null, name_text, number_or_null, or_null, quoted}
 use Rattle.pif_story_states.proofs.ObjectLemmas.{mapped, mutex_appended}
 use Rattle.pif_story_states.proofs.PieceLemmas.{grown_first, grown_more, on_ok_grown}
 use Rattle.pif_story_states.proofs.mutexes.append_mutex.Goals as goal

@@ -1,7 +1,7 @@
 use Rattle.std.proofs.Common.{◌∙◌, ap}
 use Rattle.std.proofs.lemmas.Result.{on_ok_weaker}
 use Rattle.pif_model.specs.Calls.{status_answer}
-use Rattle.pif_text_json.specs.Json.{name_or_null, name_text, number_or_null, or_null, quoted}
+use Rattle.pif_text.specs.Json.{name_or_null, name_text, number_or_null, or_null, quoted}
 use Rattle.pif_story_states.specs.Objects.{state_word}
 use Rattle.pif_story_states.proofs.ObjectLemmas.{mapped, thread_appended}
 use Rattle.pif_story_states.proofs.PieceLemmas.{grown_first, grown_more, on_ok_grown}

@@ -1,7 +1,7 @@
 use Rattle.std.proofs.Common.{◌≡◌, ◌∙◌, sym, ap, arith}
 use Rattle.std.specs.List.{list_any}
 use Rattle.pif_model.specs.Calls.{threads_answer}
-use Rattle.pif_text_json.specs.Json.{numbers}
+use Rattle.pif_text.specs.Json.{numbers}
 use Rattle.pif_text_core.specs.Changes.{has_waiting, is_waiting}
 use Rattle.pif_text_core.proofs.ListLemmas.{any_found, any_next, any_none}
 use Rattle.pif_text_core.proofs.chains.has_waiting.Goals as goal

@@ -1,6 +1,6 @@
 use Rattle.std.proofs.Common.{◌≡◌, ◌∙◌, sym, ap, not, arith}
 use Rattle.std.specs.List.{list_any}
-use Rattle.pif_text_json.specs.Json.{numbers}
+use Rattle.pif_text.specs.Json.{numbers}
 use Rattle.pif_text_core.specs.Waiting.{mutexes_added}
 use Rattle.pif_text_core.specs.Changes.{hold_changes, holds_stay}
 use Rattle.pif_text_core.proofs.ListLemmas.{any_found, any_next, any_none}

@@ -1,5 +1,5 @@
 use Rattle.std.specs.Prelude.{flat_map, option_copied}
-use Rattle.pif_text_json.specs.Json.{numbers}
+use Rattle.pif_text.specs.Json.{numbers}
 use Rattle.pif_text_core.specs.Changes.{new_cond_line}
 use Rattle.pif_text_core.specs.Pages.{Tells}
 use Rattle.pif_text_core.proofs.conds.show_conds.Given as goal

@@ -1,6 +1,6 @@
 use Rattle.std.proofs.Common.{◌≡◌, ◌∙◌, sym, ap, arith}
 use Rattle.std.specs.List.{list_any}
-use Rattle.pif_text_json.specs.Json.{numbers}
+use Rattle.pif_text.specs.Json.{numbers}
 use Rattle.pif_text_core.specs.Waiting.{blocks, has_waiter, mutexes_added}
 use Rattle.pif_text_core.proofs.AnyLemmas.{any_found, any_next, any_none}
 use Rattle.pif_text_core.proofs.waits.has_waiter.Goals as goal

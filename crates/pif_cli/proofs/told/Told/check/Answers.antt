@@ -1,5 +1,5 @@
 use Rattle.std.proofs.Common.{Ok, Err, refl}
-use Rattle.pif_story_model.specs.Checks.{check_telling}
+use Rattle.pif_script_model.specs.Checks.{check_telling}
 use Rattle.pif_cli.specs.Names.{shown_name}
 use Rattle.pif_cli.proofs.NotesLemmas.{told_noting, told_under}
 use Rattle.pif_cli.proofs.told.Told.check.Goals as goal

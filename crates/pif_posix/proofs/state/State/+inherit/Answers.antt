@@ -1,7 +1,7 @@
 use Rattle.std.proofs.Common.{◌++◌, ◌-◌, ◌∙◌, List, sym, ap, arith}
 use Rattle.std.specs.List.{flat_map}
 use Rattle.pif_model.specs.Posix.{World}
-use Rattle.pif_posix_model.specs.Doing.{owns_robust, robust_of, inherited, passed_on_by_death}
+use Rattle.pif_posix_steps.specs.Doing.{owns_robust, robust_of, inherited, passed_on_by_death}
 use Rattle.pif_posix.proofs.Inheriting.{inherited-next}
 use Rattle.pif_posix.proofs.Loops.{each_done}
 use Rattle.pif_posix.proofs.state.State.+inherit.Goals as goal

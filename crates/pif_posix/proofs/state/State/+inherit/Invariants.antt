@@ -1,6 +1,6 @@
 use Rattle.std.proofs.Common.{◌≡◌, ◌++◌, ◌-◌}
 use Rattle.std.specs.List.{flat_map}
-use Rattle.pif_posix_model.specs.Doing.{inherited, passed_on_by_death, owns_robust, passing, robust_of}
+use Rattle.pif_posix_steps.specs.Doing.{inherited, passed_on_by_death, owns_robust, passing, robust_of}
 use Rattle.pif_posix.proofs.state.State.+inherit.Given as goal
 
 abbrev pub decreases-inherit : goal.decreases-inherit

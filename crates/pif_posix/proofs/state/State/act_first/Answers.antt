@@ -2,7 +2,7 @@ use Rattle.std.proofs.Common.{ℕ, ◌≡◌, ◌∙◌, Bool, sym, ap}
 use Rattle.std.specs.Prelude.{option_to_list}
 use Rattle.std.proofs.lemmas.Result.{IfOk-weaker}
 use Rattle.pif_types.specs.declared.requests.Request.{Request}
-use Rattle.pif_posix_model.specs.Doing.{first_effects, locked, Does}
+use Rattle.pif_posix_steps.specs.Doing.{first_effects, locked, Does}
 use Rattle.pif_posix.specs.Results.{if_done}
 use Rattle.pif_posix.proofs.Results.{done_by_rule}
 use Rattle.pif_posix.proofs.state.State.act_first.Goals as goal

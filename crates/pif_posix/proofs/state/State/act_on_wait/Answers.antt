@@ -1,6 +1,6 @@
 use Rattle.std.proofs.Common.{◌≡◌, ◌∙◌, Bool, ap}
 use Rattle.std.proofs.lemmas.Result.{IfOk-weaker}
-use Rattle.pif_posix_model.specs.Doing.{wait_effects, locked, Does}
+use Rattle.pif_posix_steps.specs.Doing.{wait_effects, locked, Does}
 use Rattle.pif_posix.specs.declared.progress.Progress.{Progress}
 use Rattle.pif_posix.specs.Results.{if_done}
 use Rattle.pif_posix.specs.Shapes.{progress_of}

@@ -1,9 +1,9 @@
 use Rattle.std.proofs.Common.{List, ◌∙◌, ◌==◌, ◌++◌, ◌∷◌, [], refl, ap, length}
 use Rattle.std.specs.Prelude.{nat_le}
 use Rattle.pif_model.specs.Posix.{World, Mutex}
-use Rattle.pif_posix_model.specs.Doing.{mutex_added}
-use Rattle.pif_posix_model.specs.Doing.Does.{did_not}
-use Rattle.pif_posix_model.proofs.DoingCases.{did_this}
+use Rattle.pif_posix_steps.specs.Doing.{mutex_added}
+use Rattle.pif_posix_steps.specs.Doing.Does.{did_not}
+use Rattle.pif_posix_steps.proofs.DoingCases.{did_this}
 use Rattle.pif_posix.proofs.Entering.{next_within, not_next_within, next_is}
 use Rattle.pif_posix.proofs.state.State.add_mutex.Goals as goal
 

@@ -2,10 +2,10 @@ use Rattle.std.proofs.Common.{List, ◌∙◌, ◌==◌, ◌++◌, ◌∷◌, []
 use Rattle.std.specs.Prelude.{nat_le}
 use Rattle.pif_model.specs.Graph.{is_priority}
 use Rattle.pif_model.specs.Posix.{World, Thread, new_thread}
-use Rattle.pif_posix_model.specs.Doing.{thread_added}
-use Rattle.pif_posix_model.specs.Doing.Does.{did_not}
-use Rattle.pif_posix_model.proofs.DoingCases.{did_this, choose_then}
-use Rattle.pif_posix_model.proofs.DoingEntries.{priority_from}
+use Rattle.pif_posix_steps.specs.Doing.{thread_added}
+use Rattle.pif_posix_steps.specs.Doing.Does.{did_not}
+use Rattle.pif_posix_steps.proofs.DoingCases.{did_this, choose_then}
+use Rattle.pif_posix_steps.proofs.DoingEntries.{priority_from}
 use Rattle.pif_posix.proofs.Entering.{next_within, not_next_within, next_is}
 use Rattle.pif_posix.proofs.state.State.add_thread.Goals as goal
 

@@ -1,9 +1,9 @@
 use Rattle.std.proofs.Common.{List, ◌∙◌, ◌==◌, ◌++◌, ◌∷◌, [], refl, sym, ap, length}
 use Rattle.std.specs.Prelude.{nat_le}
 use Rattle.pif_model.specs.Posix.{World, Variable, is_mutex, new_variable}
-use Rattle.pif_posix_model.specs.Doing.{variable_added}
-use Rattle.pif_posix_model.specs.Doing.Does.{did_not}
-use Rattle.pif_posix_model.proofs.DoingCases.{did_this, choose_then, choose_else}
+use Rattle.pif_posix_steps.specs.Doing.{variable_added}
+use Rattle.pif_posix_steps.specs.Doing.Does.{did_not}
+use Rattle.pif_posix_steps.proofs.DoingCases.{did_this, choose_then, choose_else}
 use Rattle.pif_posix.proofs.Entering.{next_within, not_next_within, next_is}
 use Rattle.pif_posix.proofs.state.State.add_variable.Goals as goal
 

@@ -1,6 +1,6 @@
 use Rattle.std.proofs.Common.{◌≡◌, ◌++◌}
 use Rattle.pif_model.specs.Posix.{is_blocked_on}
-use Rattle.pif_posix_model.specs.Doing.{passing, all_blocked}
+use Rattle.pif_posix_steps.specs.Doing.{passing, all_blocked}
 use Rattle.pif_posix.proofs.state.State.all_blocked.Given as goal
 
 abbrev pub invariant-loop-u : goal.invariant-loop-u

@@ -1,8 +1,8 @@
 use Rattle.std.proofs.Common.{◌<◌, ◌∙◌, refl, sym, arith, length}
 use Rattle.pif_model.specs.declared.events.Event.TheVariants.{Begin}
-use Rattle.pif_posix_model.specs.Doing.{begun}
-use Rattle.pif_posix_model.specs.Doing.Does.{did_not}
-use Rattle.pif_posix_model.proofs.DoingCases.{did_this}
+use Rattle.pif_posix_steps.specs.Doing.{begun}
+use Rattle.pif_posix_steps.specs.Doing.Does.{did_not}
+use Rattle.pif_posix_steps.proofs.DoingCases.{did_this}
 use Rattle.pif_posix.proofs.Allowed.{allowed, not_allowed}
 use Rattle.pif_posix.proofs.Entering.{begun-allowed, begun-refused, opened}
 use Rattle.pif_posix.proofs.state.State.begin.Goals as goal

@@ -1,9 +1,9 @@
 use Rattle.std.proofs.Common.{◌<◌, ◌∙◌, refl, sym, arith}
 use Rattle.pif_model.specs.Posix.{mutex_at}
-use Rattle.pif_posix_model.specs.Doing.{wait_checked}
-use Rattle.pif_posix_model.specs.Doing.Does.{did_not}
-use Rattle.pif_posix_model.proofs.DoingCases.{did_this}
-use Rattle.pif_posix_model.proofs.DoingCalls.{wait_checked-other_mutex, wait_checked-not_owner, wait_checked-held_more, wait_checked-once, wait_checked-none}
+use Rattle.pif_posix_steps.specs.Doing.{wait_checked}
+use Rattle.pif_posix_steps.specs.Doing.Does.{did_not}
+use Rattle.pif_posix_steps.proofs.DoingCases.{did_this}
+use Rattle.pif_posix_steps.proofs.DoingCalls.{wait_checked-other_mutex, wait_checked-not_owner, wait_checked-held_more, wait_checked-once, wait_checked-none}
 use Rattle.pif_posix.proofs.state.State.check_wait.Goals as goal
 
 pub returns-then-bound-mutex : goal.returns-then-bound-mutex

@@ -1,7 +1,7 @@
 use Rattle.std.proofs.Common.{◌≡◌, Bool, true, [], ◌∷◌}
 use Rattle.std.proofs.lemmas.Result.{IfOk-weaker}
-use Rattle.pif_posix_model.specs.Once.{Enters}
-use Rattle.pif_posix_model.specs.Doing.{entered}
+use Rattle.pif_posix_steps.specs.Once.{Enters}
+use Rattle.pif_posix_steps.specs.Doing.{entered}
 use Rattle.pif_posix.specs.Results.{if_done, entered_in_place}
 use Rattle.pif_posix.proofs.Nobody.{came_alone, one_entry}
 use Rattle.pif_posix.proofs.state.State.come.Goals as goal

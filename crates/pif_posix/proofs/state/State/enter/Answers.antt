@@ -2,9 +2,9 @@ use Rattle.std.proofs.Common.{◌≡◌}
 use Rattle.std.specs.List.{All, Contains}
 use Rattle.std.proofs.lemmas.Result.{IfOk-weaker}
 use Rattle.pif_model.specs.Posix.{World}
-use Rattle.pif_posix_model.specs.Once.{Enters}
-use Rattle.pif_posix_model.specs.Doing.{entered}
-use Rattle.pif_posix_model.proofs.AllResults.{only_entered, each_entered}
+use Rattle.pif_posix_steps.specs.Once.{Enters}
+use Rattle.pif_posix_steps.specs.Doing.{entered}
+use Rattle.pif_posix_steps.proofs.AllResults.{only_entered, each_entered}
 use Rattle.pif_posix.proofs.state.State.enter.Goals as goal
 
 pub returns-clause-sound : goal.returns-clause-sound

@@ -3,9 +3,9 @@ use Rattle.pif_types.specs.declared.requests.Request.{Request}
 use Rattle.pif_model.specs.Posix.{with_progress}
 use Rattle.pif_model.specs.NamedNumbers.{ETIMEDOUT}
 use Rattle.pif_model.specs.World.Progress.{Has, Reacquiring}
-use Rattle.pif_posix_model.specs.Doing.{expired_by}
-use Rattle.pif_posix_model.specs.Doing.Does.{did_not}
-use Rattle.pif_posix_model.proofs.DoingCases.{did_this}
+use Rattle.pif_posix_steps.specs.Doing.{expired_by}
+use Rattle.pif_posix_steps.specs.Doing.Does.{did_not}
+use Rattle.pif_posix_steps.proofs.DoingCases.{did_this}
 use Rattle.pif_posix.proofs.state.State.expire.Goals as goal
 
 pub returns-in-Lock : goal.returns-in-Lock

@@ -1,9 +1,9 @@
 use Rattle.std.proofs.Common.{◌∙◌, refl, sym, ap}
 use Rattle.pif_model.specs.Posix.{Progress, mutex_at}
-use Rattle.pif_posix_model.specs.Doing.{given_up, released}
-use Rattle.pif_posix_model.specs.Doing.Does.{did_not}
-use Rattle.pif_posix_model.proofs.DoingCases.{did_this}
-use Rattle.pif_posix_model.proofs.DoingReleases.{given_up-owner, given_up-none}
+use Rattle.pif_posix_steps.specs.Doing.{given_up, released}
+use Rattle.pif_posix_steps.specs.Doing.Does.{did_not}
+use Rattle.pif_posix_steps.proofs.DoingCases.{did_this}
+use Rattle.pif_posix_steps.proofs.DoingReleases.{given_up-owner, given_up-none}
 use Rattle.pif_posix.proofs.state.State.give_up.Goals as goal
 
 pub returns-then-owner-thread : goal.returns-then-owner-thread

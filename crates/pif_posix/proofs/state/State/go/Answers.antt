@@ -1,7 +1,7 @@
 use Rattle.std.proofs.Common.{◌≡◌, Bool, true, [], ◌∷◌}
 use Rattle.std.proofs.lemmas.Result.{IfOk-weaker}
-use Rattle.pif_posix_model.specs.Once.{MovesOnce}
-use Rattle.pif_posix_model.specs.Doing.{moved}
+use Rattle.pif_posix_steps.specs.Once.{MovesOnce}
+use Rattle.pif_posix_steps.specs.Doing.{moved}
 use Rattle.pif_posix.proofs.Nobody.{one_move}
 use Rattle.pif_posix.proofs.state.State.go.Goals as goal
 

@@ -4,7 +4,7 @@ use Rattle.std.proofs.lemmas.Result.{IfOk-weaker}
 use Rattle.pif_model.specs.declared.events.Event.{Event}
 use Rattle.pif_model.specs.declared.events.Event.TheVariants.{Begin}
 use Rattle.pif_model.specs.declared.events.Seen.{Seen}
-use Rattle.pif_posix_model.specs.Doing.{begun, Does}
+use Rattle.pif_posix_steps.specs.Doing.{begun, Does}
 use Rattle.pif_posix.specs.Results.{if_done, happened_in_place}
 use Rattle.pif_posix.proofs.Results.{done_by_rule}
 use Rattle.pif_posix.proofs.state.State.happen.Goals as goal

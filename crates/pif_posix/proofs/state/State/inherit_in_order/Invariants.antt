@@ -1,5 +1,5 @@
 use Rattle.std.proofs.Common.{◌≡◌, length}
-use Rattle.pif_posix_model.specs.Doing.{inherited_below}
+use Rattle.pif_posix_steps.specs.Doing.{inherited_below}
 use Rattle.pif_posix.proofs.state.State.inherit_in_order.Given as goal
 
 abbrev pub invariant-loop-mutex : goal.invariant-loop-mutex

@@ -3,9 +3,9 @@ use Rattle.pif_model.specs.Kinds.{relock_of}
 use Rattle.pif_model.specs.declared.lines.Relock.TheVariants.{Deadlocks, Answers}
 use Rattle.pif_model.specs.Posix.{leads_to, with_progress}
 use Rattle.pif_model.specs.World.Progress.{Waiting}
-use Rattle.pif_posix_model.specs.Doing.{locked}
-use Rattle.pif_posix_model.proofs.DoingCases.{did_this}
-use Rattle.pif_posix_model.proofs.DoingLocks.{locked-relock, locked-free, locked-orphaned, locked-cycle, locked-joins}
+use Rattle.pif_posix_steps.specs.Doing.{locked}
+use Rattle.pif_posix_steps.proofs.DoingCases.{did_this}
+use Rattle.pif_posix_steps.proofs.DoingLocks.{locked-relock, locked-free, locked-orphaned, locked-cycle, locked-joins}
 use Rattle.pif_posix.proofs.state.State.lock.Goals as goal
 
 pub returns-in-Normal : goal.returns-in-Normal

@@ -1,10 +1,10 @@
 use Rattle.std.proofs.Common.{◌∙◌, refl, sym, ap, ◌+◌}
 use Rattle.pif_model.specs.Posix.{with_progress, with_hold_count}
 use Rattle.pif_model.specs.World.Progress.{Has}
-use Rattle.pif_posix_model.specs.Doing.{locked_more}
-use Rattle.pif_posix_model.specs.Doing.Does.{did_not}
-use Rattle.pif_posix_model.proofs.DoingCases.{did_this}
-use Rattle.pif_posix_model.proofs.DoingLocks.{locked_more-rises, locked_more-at_limit, locked_more-none}
+use Rattle.pif_posix_steps.specs.Doing.{locked_more}
+use Rattle.pif_posix_steps.specs.Doing.Does.{did_not}
+use Rattle.pif_posix_steps.proofs.DoingCases.{did_this}
+use Rattle.pif_posix_steps.proofs.DoingLocks.{locked_more-rises, locked_more-at_limit, locked_more-none}
 use Rattle.pif_posix.proofs.state.State.lock_more.Goals as goal
 
 pub returns-then-count-lt-MOST_HOLDS : goal.returns-then-count-lt-MOST_HOLDS

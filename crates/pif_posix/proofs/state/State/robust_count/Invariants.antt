@@ -1,5 +1,5 @@
 use Rattle.std.proofs.Common.{◌≡◌, ◌≤◌, length}
-use Rattle.pif_posix_model.specs.Doing.{owns_robust, passing}
+use Rattle.pif_posix_steps.specs.Doing.{owns_robust, passing}
 use Rattle.pif_posix.proofs.state.State.robust_count.Given as goal
 
 abbrev pub invariant-loop-mutex : goal.invariant-loop-mutex

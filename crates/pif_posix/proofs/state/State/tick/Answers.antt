@@ -1,9 +1,9 @@
 use Rattle.std.proofs.Common.{◌∙◌, refl, sym, ap}
 use Rattle.pif_model.specs.World.{World}
 use Rattle.pif_model.specs.declared.events.Event.TheVariants.{Tick}
-use Rattle.pif_posix_model.specs.Doing.{ticked}
-use Rattle.pif_posix_model.specs.Doing.Does.{did_not}
-use Rattle.pif_posix_model.proofs.DoingCases.{did_this}
+use Rattle.pif_posix_steps.specs.Doing.{ticked}
+use Rattle.pif_posix_steps.specs.Doing.Does.{did_not}
+use Rattle.pif_posix_steps.proofs.DoingCases.{did_this}
 use Rattle.pif_posix.proofs.Allowed.{allowed, not_allowed}
 use Rattle.pif_posix.proofs.Entering.{ticked-allowed, ticked-refused}
 use Rattle.pif_posix.proofs.state.State.tick.Goals as goal

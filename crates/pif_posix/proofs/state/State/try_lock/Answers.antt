@@ -1,9 +1,9 @@
 use Rattle.std.proofs.Common.{◌∙◌, sym, ap}
 use Rattle.pif_model.specs.Kinds.{relock_of}
 use Rattle.pif_model.specs.declared.lines.Relock.TheVariants.{Deadlocks, Answers}
-use Rattle.pif_posix_model.specs.Doing.{tried}
-use Rattle.pif_posix_model.proofs.DoingCases.{did_this}
-use Rattle.pif_posix_model.proofs.DoingLocks.{tried-free, tried-own, tried-busy}
+use Rattle.pif_posix_steps.specs.Doing.{tried}
+use Rattle.pif_posix_steps.proofs.DoingCases.{did_this}
+use Rattle.pif_posix_steps.proofs.DoingLocks.{tried-free, tried-own, tried-busy}
 use Rattle.pif_posix.proofs.state.State.try_lock.Goals as goal
 
 pub returns-then-owner-eq0 : goal.returns-then-owner-eq0

@@ -1,10 +1,10 @@
 use Rattle.std.proofs.Common.{◌<◌, ◌∙◌, refl, sym, ap, ◌-◌, arith}
 use Rattle.pif_model.specs.Posix.{mutex_at, with_progress, with_hold_count}
 use Rattle.pif_model.specs.World.Progress.{Has}
-use Rattle.pif_posix_model.specs.Doing.{unlocked}
-use Rattle.pif_posix_model.specs.Doing.Does.{did_not}
-use Rattle.pif_posix_model.proofs.DoingCases.{did_this}
-use Rattle.pif_posix_model.proofs.DoingReleases.{unlocked-not_owner, unlocked-once, unlocked-falls, unlocked-none}
+use Rattle.pif_posix_steps.specs.Doing.{unlocked}
+use Rattle.pif_posix_steps.specs.Doing.Does.{did_not}
+use Rattle.pif_posix_steps.proofs.DoingCases.{did_this}
+use Rattle.pif_posix_steps.proofs.DoingReleases.{unlocked-not_owner, unlocked-once, unlocked-falls, unlocked-none}
 use Rattle.pif_posix.proofs.state.State.unlock.Goals as goal
 
 pub returns-then-owner-thread : goal.returns-then-owner-thread

@@ -1,5 +1,5 @@
 use Rattle.std.proofs.Common.{arith, sym, ap, ◌∙◌}
-use Rattle.pif_posix_model.specs.Doing.{all_blocked}
+use Rattle.pif_posix_steps.specs.Doing.{all_blocked}
 use Rattle.pif_posix.proofs.Nobody.{chosen_nobody}
 use Rattle.pif_posix.proofs.state.State.wake_nobody.Goals as goal
 

@@ -1,7 +1,7 @@
 use Rattle.std.proofs.Common.{ℕ, ◌∙◌, ◌++◌, ◌∷◌, [], List, sym, ap, nat_le, map, take, arith}
 use Rattle.std.specs.List.{filter, list_all}
 use Rattle.pif_model.specs.Posix.{World, effective_of}
-use Rattle.pif_posix_model.specs.Doing.{woken}
+use Rattle.pif_posix_steps.specs.Doing.{woken}
 use Rattle.pif_posix.proofs.Loops.{kept_same, kept_more}
 use Rattle.pif_posix.proofs.state.State.wake_one.Goals as goal
 

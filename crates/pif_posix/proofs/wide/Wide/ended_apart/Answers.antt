@@ -1,7 +1,7 @@
 use Rattle.std.proofs.Common.{ℕ, ◌≡◌, ◌∙◌, true, List, [], ◌++◌, map, sym, ap, if◌then◌else◌}
 use Rattle.std.proofs.lemmas.Result.{IfOk-weaker}
 use Rattle.pif_model.specs.Posix.{World}
-use Rattle.pif_posix_model.proofs.DoingCases.{choose_then}
+use Rattle.pif_posix_steps.proofs.DoingCases.{choose_then}
 use Rattle.pif_rules_model.specs.declared.rules.Rules.{Rules}
 use Rattle.pif_rules_model.specs.Rules.{Wide, has_ended_apart}
 use Rattle.pif_rules_model.specs.Ruled.{beside, remembering_apart, left_apart, passed_apart, ended_apart}

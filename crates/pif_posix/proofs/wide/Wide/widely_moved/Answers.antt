@@ -4,7 +4,7 @@ use Rattle.std.proofs.lemmas.Result.{IfOk-weaker}
 use Rattle.pif_types.specs.declared.errors.Refusal.{Refusal}
 use Rattle.pif_model.specs.declared.events.Event.TheVariants.{Go}
 use Rattle.pif_model.specs.Posix.{World, refusal_of}
-use Rattle.pif_posix_model.specs.Doing.{moved, is_allowed}
+use Rattle.pif_posix_steps.specs.Doing.{moved, is_allowed}
 use Rattle.pif_rules_model.specs.declared.rules.Rules.{Rules}
 use Rattle.pif_rules_model.specs.Rules.{Wide}
 use Rattle.pif_rules_model.specs.Ruled.{beside, moved_by_rule, widely_moved}

@@ -1,4 +1,0 @@
-mod Telling
-mod Places
-mod Waking
-mod Errors

@@ -1,6 +1,0 @@
-use Rattle.std.proofs.Common.{reverse, take}
-use Rattle.pif_history_lines.specs.Wakeups.{AreCalls}
-use Rattle.pif_history_lines.proofs.wakeups.first_unwoken.Given as goal
-
-abbrev pub invariant-loop-place : goal.invariant-loop-place
-invariant-loop-place l = AreCalls (reverse (take l.place l.lines)) l.calls.items

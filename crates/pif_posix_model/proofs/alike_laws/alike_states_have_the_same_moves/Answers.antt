@@ -1,5 +1,0 @@
-use Rattle.pif_posix_model.proofs.Alike.{same_move}
-use Rattle.pif_posix_model.proofs.alike_laws.alike_states_have_the_same_moves.Goals as goal
-
-pub returns : goal.returns
-returns c = same_move

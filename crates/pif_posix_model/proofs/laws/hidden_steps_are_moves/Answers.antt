@@ -1,5 +1,0 @@
-use Rattle.pif_posix_model.proofs.Splits.{moves-from_hidden}
-use Rattle.pif_posix_model.proofs.laws.hidden_steps_are_moves.Goals as goal
-
-pub returns : goal.returns
-returns c = moves-from_hidden

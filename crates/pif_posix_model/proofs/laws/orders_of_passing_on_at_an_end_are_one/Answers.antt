@@ -1,5 +1,0 @@
-use Rattle.pif_posix_model.proofs.Ending.{ends_in_one_state}
-use Rattle.pif_posix_model.proofs.laws.orders_of_passing_on_at_an_end_are_one.Goals as goal
-
-pub returns : goal.returns
-returns c = ends_in_one_state

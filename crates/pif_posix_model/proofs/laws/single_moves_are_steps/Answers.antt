@@ -1,5 +1,0 @@
-use Rattle.pif_posix_model.proofs.Singles.{step-from_move}
-use Rattle.pif_posix_model.proofs.laws.single_moves_are_steps.Goals as goal
-
-pub returns : goal.returns
-returns c = step-from_move

@@ -1,0 +1,5 @@
+use Rattle.pif_posix_steps.proofs.Alike.{same_begin}
+use Rattle.pif_posix_steps.proofs.alike_laws.alike_states_have_the_same_begins.Goals as goal
+
+pub returns : goal.returns
+returns c = same_begin

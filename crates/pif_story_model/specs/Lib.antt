@@ -1,9 +1,0 @@
-pub mod Answers
-pub mod Checks
-pub mod Comparing
-pub mod Filling
-pub mod Lines
-pub mod Rows
-pub mod Showing
-pub mod Stories
-pub mod Verdicts
