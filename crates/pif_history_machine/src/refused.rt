@@ -113,17 +113,14 @@ impl Told {
     fn knows_names(&self, request: Request) -> bool
         ensures { result ≡ names_known (is_known self.now.mutexes) (is_known self.now.conds) request }
     {
-        match request {
-            Request::Lock(mutex)
-            | Request::TryLock(mutex)
-            | Request::Unlock(mutex)
-            | Request::Consistent(mutex)
-            | Request::TimedLock(mutex, _) => is_known(self.mutexes, mutex.get()),
-            Request::Wait(cond, mutex) | Request::TimedWait(cond, mutex, _) => {
+        let named = request.names();
+        match (named.mutex, named.cond) {
+            (Some(mutex), Some(cond)) => {
                 is_known(self.conds, cond.get()) && is_known(self.mutexes, mutex.get())
             }
-            Request::Signal(cond) | Request::Broadcast(cond) => is_known(self.conds, cond.get()),
-            Request::SetPrio(_, _) => true,
+            (Some(mutex), None) => is_known(self.mutexes, mutex.get()),
+            (None, Some(cond)) => is_known(self.conds, cond.get()),
+            (None, None) => true,
         }
     }
 

@@ -34,17 +34,14 @@ impl State {
     fn knows_names(&self, request: Request) -> bool
         ensures { result ≡ names_known (is_mutex self.now) (is_variable self.now) request }
     {
-        match request {
-            Request::Lock(mutex)
-            | Request::TryLock(mutex)
-            | Request::Unlock(mutex)
-            | Request::Consistent(mutex)
-            | Request::TimedLock(mutex, _) => self.is_mutex(mutex.get()),
-            Request::Wait(cond, mutex) | Request::TimedWait(cond, mutex, _) => {
+        let named = request.names();
+        match (named.mutex, named.cond) {
+            (Some(mutex), Some(cond)) => {
                 self.is_variable(cond.get()) && self.is_mutex(mutex.get())
             }
-            Request::Signal(cond) | Request::Broadcast(cond) => self.is_variable(cond.get()),
-            Request::SetPrio(_, _) => true,
+            (Some(mutex), None) => self.is_mutex(mutex.get()),
+            (None, Some(cond)) => self.is_variable(cond.get()),
+            (None, None) => true,
         }
     }
 
