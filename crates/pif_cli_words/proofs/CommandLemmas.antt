@@ -33,13 +33,13 @@ joined (Ok new) old sub app more adds is mine = (
 )
 joined (Err e) old sub app more adds is mine = tt
 
-abbrev Row : Type 0
-Row = Bor Text × Form × Bor Text
+abbrev Argument : Type 0
+Argument = Bor Text × Form × Bor Text
 
 -- a command that gets the first of some arguments, and then the others
-pub first_added : (app : App) (rows : List Row) (d : Row) → 1 ≤ length rows
+pub first_added : (app : App) (rows : List Argument) (d : Argument) → 1 ≤ length rows
     → with_rows (with_rule app (form_rule (get_or rows 0 d).0.now (get_or rows 0 d).1)) (take (length rows - 1) (drop 1 rows))
     ≡ with_rows app rows
 first_added app rows d some =
     ap (with_rows app)
-    (sym (drop_more rows 0 d (omega (arith, some)) ∙ ap (λ (rs : List Row). get_or rows 0 d ∷ rs) (sym (take_rest rows 1))))
+    (sym (drop_more rows 0 d (omega (arith, some)) ∙ ap (λ (rs : List Argument). get_or rows 0 d ∷ rs) (sym (take_rest rows 1))))

@@ -9,7 +9,7 @@ ghost use Rattle.pif_cli_words.specs.Words.{bare_program, program};
 use crate::helps::{ABOUT, EXAMPLE, VERSION};
 use crate::options::{Form, argument};
 use crate::tables::{
-    CHECK, DRAW, DRIVE, EXPLORE, JUDGE, MIGRATE, RANDOM, REPLAY, RUN, Row, SHELL, SHOW, TRACE,
+    Argument, CHECK, DRAW, DRIVE, EXPLORE, JUDGE, MIGRATE, RANDOM, REPLAY, RUN, SHELL, SHOW, TRACE,
     Table,
 };
 use std::alloc::{AllocError, Global};
@@ -55,7 +55,7 @@ fn with_argument<'a>(
 }
 
 /// A command with these arguments more.
-fn with_arguments<'a>(alloc: Global, made: Made<'a>, rows: &'static [Row]) -> Made<'a>
+fn with_arguments<'a>(alloc: Global, made: Made<'a>, rows: &'static [Argument]) -> Made<'a>
     ensures { (app : App) → IsApp app made.entry → IsApp (with_rows app rows.now) result }
 {
     let mut made = made;

@@ -16,7 +16,7 @@ use crate::options::{Absent, Form};
 use crate::random::MOST_SEED;
 
 /// An argument of a command: its name, its form, and what help says of it.
-pub type Row = (&'static str, Form<'static>, &'static str);
+pub type Argument = (&'static str, Form<'static>, &'static str);
 
 /// A command of the program.
 pub struct Table {
@@ -29,14 +29,14 @@ pub struct Table {
     /// What help says at the end.
     pub more: &'static str,
     /// Its arguments.
-    pub rows: &'static [Row],
+    pub rows: &'static [Argument],
 }
 
 /// The last line of a story that can be named.
 const MOST_LINE: u64 = 4_294_967_295;
 
 /// The file of one input.
-const FILE: Row = ("FILE", Form::File, ABOUT_FILE);
+const FILE: Argument = ("FILE", Form::File, ABOUT_FILE);
 
 pub const RUN: Table = Table {
     name: "run",

@@ -7,7 +7,7 @@ ghost use Rattle.pif_script_model.specs.Stories.{count_in, rows_from};
 ghost use Rattle.pif_script_model.specs.Verdicts.{fault_flaws, flaw_beside, flaw_of, flaws_of, flaws_of_rows, is_refusal};
 
 use crate::answers::says;
-use crate::lines::{Row, row_of, split_line};
+use crate::lines::{LineAndReply, row_of, split_line};
 use pif_script_model::Flaw;
 use pif_text::Cause;
 use std::alloc::{AllocError, Global};
@@ -48,7 +48,12 @@ pub fn is_refusal(given: &[u8]) -> bool
 }
 
 /// The flaw of a command in the line of this number, beside what is printed for it, if it has one.
-fn flaw_beside<'a>(strict: bool, number: u64, row: Row<'a>, given: &'a [u8]) -> Option<Flaw<'a>>
+fn flaw_beside<'a>(
+    strict: bool,
+    number: u64,
+    row: LineAndReply<'a>,
+    given: &'a [u8],
+) -> Option<Flaw<'a>>
     ensures { option_map flaw_of result ≡ flaw_beside strict number row.entry.0.now (option_copied row.entry.1) given.now }
 {
     let (command, written) = row;
@@ -95,7 +100,7 @@ fn keep_fault<'a>(
 fn compare_row<'a>(
     strict: bool,
     number: u64,
-    row: Row<'a>,
+    row: LineAndReply<'a>,
     answers: Option<&'a [u8]>,
     flaws: &mut Vec<Flaw<'a>>,
 ) -> Result<Option<&'a [u8]>, AllocError>

@@ -5,7 +5,7 @@ ghost use Rattle.pif_script_model.specs.Lines.{commentless, without_comment, wit
 use pif_text::{split_answer, without_return};
 
 /// A command of a story, and the answer that is written behind it, if there is one.
-pub type Row<'a> = (&'a [u8], Option<&'a [u8]>);
+pub type LineAndReply<'a> = (&'a [u8], Option<&'a [u8]>);
 
 /// A text without a byte order mark at its front.
 #[tactic(auto, unfolding(pif_script_model::specs::Lines::without_mark))]
@@ -100,7 +100,7 @@ fn is_passed(text: &[u8]) -> bool
 /// What a line with nothing but its words says: a command and the answer that is written behind it, if there is one;
 /// `None` if the line is empty.
 #[tactic(auto, unfolding(pif_script_model::specs::Lines::row_in))]
-pub fn row_of(line: &[u8]) -> Option<Row<'_>>
+pub fn row_of(line: &[u8]) -> Option<LineAndReply<'_>>
     ensures { option_map (λ row. (row.0.now, option_copied row.1)) result ≡ row_in line.now }
 {
     if is_passed(line) {

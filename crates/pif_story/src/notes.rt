@@ -5,6 +5,7 @@ ghost use Rattle.pif_script_model.specs.Stories.{rows_from};
 ghost use Rattle.pif_story.specs.Notes.{is_same, is_told, note_at, note_in, notes_beside, notes_of_rows, row_known, row_missing, with_found, with_note, words_noted};
 ghost use Rattle.pif_story.specs.Rows.{next_known, next_note};
 
+use crate::lines::LineAndReply;
 use crate::missing::{Known, Missing, Note, noted};
 use crate::places::{column_of, line_of};
 use crate::{MOST, row_of, split_line};
@@ -16,9 +17,6 @@ pub const MOST_NOTES: usize = 20;
 
 /// The notes on a script or a story. There is room for all that are told, so they take no memory.
 pub type Notes = ArrayVec<Note, MOST_NOTES>;
-
-/// A command of a story, and the answer that is written behind it, if there is one.
-type Row<'a> = (&'a [u8], Option<&'a [u8]>);
 
 /// Whether two are the same.
 fn is_same(one: &Missing, other: &Missing) -> bool
@@ -89,7 +87,7 @@ fn words_noted(known: &Known, words: &[u8], given: &[u8]) -> Option<Missing>
 }
 
 /// What is noted of a command beside what is printed for it.
-fn row_missing(known: &Known, row: Row<'_>, given: &[u8]) -> Option<Missing>
+fn row_missing(known: &Known, row: LineAndReply<'_>, given: &[u8]) -> Option<Missing>
     ensures { result ≡ row_missing known.now (row.entry.0.now, option_copied row.entry.1) given.now }
 {
     let (words, written) = row;
@@ -119,7 +117,7 @@ fn take_row<'a>(
     known: &mut Known,
     story: &[u8],
     line: u64,
-    row: Row<'_>,
+    row: LineAndReply<'_>,
     answers: Option<&'a [u8]>,
 ) -> Option<&'a [u8]>
     ensures notes { notes.new.items ≡ with_found notes.old.items
