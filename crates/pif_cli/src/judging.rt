@@ -6,7 +6,7 @@ ghost use Rattle.pif_cli.specs.Words.{JudgesAs, JudgesNamed, as_judged, form_of}
 use crate::names::Name;
 use crate::times::Timed;
 use pif_cli_messages::JobFault;
-use pif_job_judge::{Form, JudgeFault, Judging, Watch, judge, judge_least};
+use pif_job_judge::{Form, JudgeFault, Judging, WatchLines, judge, judge_least};
 use std::alloc::Global;
 use std::io::{Read, Write};
 use std::time::Clock;
@@ -46,7 +46,7 @@ fn form_of(asked: pif_cli_words::Judging) -> Form
 }
 
 /// Judges a history whose name is told, if there is one: in a form, or by the rules that it needs.
-fn judge_as<R: Read, W: Write, V: Watch>(
+fn judge_as<R: Read, W: Write, V: WatchLines>(
     alloc: Global,
     asked: pif_cli_words::Judging,
     name: Option<&[u8]>,
@@ -71,7 +71,7 @@ fn judge_as<R: Read, W: Write, V: Watch>(
 }
 
 /// Judges the history of this name, in the time that it may take by this clock.
-pub fn judge_input<C: Clock, R: Read, W: Write, V: Watch>(
+pub fn judge_input<C: Clock, R: Read, W: Write, V: WatchLines>(
     alloc: Global,
     clock: &C,
     asked: pif_cli_words::Judging,

@@ -1,5 +1,5 @@
 //! The time that a search may take.
-use pif_job_judge::Watch;
+use pif_job_judge::WatchLines;
 use std::time::{Clock, Instant};
 
 /// Who watches a search that ends behind so many seconds, or whose time isn't counted.
@@ -42,7 +42,7 @@ impl<'c, 'v, C: Clock, V> Timed<'c, 'v, C, V> {
     }
 }
 
-impl<C: Clock, V: Watch> Watch for Timed<'_, '_, C, V> {
+impl<C: Clock, V: WatchLines> WatchLines for Timed<'_, '_, C, V> {
     fn line(&mut self, line: usize, states: usize) {
         self.watch.line(line, states);
     }

@@ -22,7 +22,7 @@ use pif_cli_messages::{
 use pif_cli_words::{Job, first_name, near_command, read_words};
 use pif_job_check::{check_strictly, fill_as_one_of_several, fill_noting};
 use pif_job_draw::{Drawn, write_drawn, write_picture};
-use pif_job_explore::{ExploreFault, Exploring, Watch as WatchStates, explore_text};
+use pif_job_explore::{ExploreFault, Exploring, WatchStates, explore_text};
 use pif_job_replay::{migrate_noting, replay_noting};
 use pif_job_run::trace_story;
 use pif_job_shell::{NoShelf, Shelf, shell};

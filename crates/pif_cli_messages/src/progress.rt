@@ -1,7 +1,7 @@
 use crate::messages::Message;
-use pif_reach::Watch as WatchStates;
+use pif_reach::WatchStates;
 use pif_script_model::WatchSteps;
-use pif_search::Watch;
+use pif_search::WatchLines;
 use std::fmt::{Display, Write as _};
 use std::io::Write;
 use std::time::{Clock, Instant};
@@ -13,15 +13,15 @@ pub trait WatchFiles {
 }
 
 /// Who is told how far any job over one input has come.
-pub trait WatchJob: Watch + WatchStates + WatchSteps {}
+pub trait WatchJob: WatchLines + WatchStates + WatchSteps {}
 
-impl<V: Watch + WatchStates + WatchSteps> WatchJob for V {}
+impl<V: WatchLines + WatchStates + WatchSteps> WatchJob for V {}
 
 /// Nobody is told of anything.
 #[derive(Drop)]
 pub struct Unwatched;
 
-impl Watch for Unwatched {
+impl WatchLines for Unwatched {
     fn line(&mut self, _line: usize, _states: usize) {}
 
     fn goes_on(&mut self) -> bool {
@@ -99,7 +99,7 @@ impl<'c, 'e, C: Clock, E: Write> Progress<'c, 'e, C, E> {
     }
 }
 
-impl<C: Clock, E: Write> Watch for Progress<'_, '_, C, E> {
+impl<C: Clock, E: Write> WatchLines for Progress<'_, '_, C, E> {
     fn line(&mut self, line: usize, states: usize) {
         self.tell(format_args!("line {line}: {states} states"));
     }

@@ -35,4 +35,4 @@ mod tries;
 mod uses;
 
 pub use judge::{find_run, judge_lines, possible_answers, possible_priorities};
-pub use pif_search::{Stop, Unwatched, Watch};
+pub use pif_search::{Stop, Unwatched, WatchLines};

@@ -9,7 +9,7 @@ use pif_history_machine::{HistoryMachine, Later, Leaving, Position, thread_numbe
 use pif_history_model::{HistoryLimits, Label, Line};
 use pif_posix::Progress;
 use pif_rules_model::no_rules;
-use pif_search::{Stop, Watch, push};
+use pif_search::{Stop, WatchLines, push};
 use std::alloc::Global;
 
 /// A signal that woke a wait which an older use might have woken as well.
@@ -244,7 +244,7 @@ impl Scout {
 
     /// These lines, one after the other, each behind at most so many steps; false if the scout gets stuck, or if `watch`
     /// ends it.
-    fn reach_all<W: Watch>(
+    fn reach_all<W: WatchLines>(
         &mut self,
         alloc: Global,
         machine: &HistoryMachine,
@@ -303,7 +303,7 @@ impl Scout {
 /// Of each place of an answer, up to which line a player has to leave the wait blocked that is answered there, if a scout
 /// comes through all lines with at most so many steps before each. `watch` may end it before each line, and is told of
 /// none: no run has shown it.
-pub(crate) fn scouted<W: Watch>(
+pub(crate) fn scouted<W: WatchLines>(
     alloc: Global,
     limits: HistoryLimits,
     lines: &[Line],

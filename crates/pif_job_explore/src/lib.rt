@@ -38,4 +38,4 @@ mod telling;
 pub use exploring::{Exploring, explore_text};
 pub use faults::ExploreFault;
 pub use pif_explore_told::schedules_are_runs;
-pub use pif_reach::Watch;
+pub use pif_reach::WatchStates;

@@ -10,11 +10,11 @@ use pif_history_model::Line;
 use pif_history_text::History;
 use pif_history_told::Known;
 use pif_script_model::CliFault;
-use pif_search::Watch;
+use pif_search::WatchLines;
 use std::alloc::Global;
 
 /// What is known of the line behind the first `before` lines of a history, if it isn't refused.
-fn numbers_of<V: Watch>(
+fn numbers_of<V: WatchLines>(
     alloc: Global,
     states: usize,
     history: &History,
@@ -52,7 +52,7 @@ fn numbers_of<V: Watch>(
 /// # Errors
 ///
 /// `NoMemory`.
-pub fn known_of<V: Watch>(
+pub fn known_of<V: WatchLines>(
     alloc: Global,
     states: usize,
     history: &History,

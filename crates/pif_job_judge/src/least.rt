@@ -15,7 +15,7 @@ use crate::search::{Needed, least};
 use pif_history_text::{History, read_history};
 use pif_rules_model::Rules;
 use pif_script_model::CliFault;
-use pif_search::Watch;
+use pif_search::WatchLines;
 use std::alloc::Global;
 use std::io::{Read, Write};
 
@@ -34,7 +34,7 @@ fn in_lines<'a>(asked: &Judging<'a>) -> Judging<'a>
 }
 
 /// The rules that a history needs, which is legal with all.
-fn needed_of<V: Watch>(
+fn needed_of<V: WatchLines>(
     alloc: Global,
     asked: &Rules,
     states: u32,
@@ -63,7 +63,7 @@ fn needed_of<V: Watch>(
 }
 
 /// Appends what is told of the rules that a history needs, which is legal with all. Answers how that ends.
-fn tell_least<V: Watch>(
+fn tell_least<V: WatchLines>(
     alloc: Global,
     asked: &Judging<'_>,
     history: &History,
@@ -80,7 +80,7 @@ fn tell_least<V: Watch>(
 }
 
 /// Writes what is told of the rules that a history needs, which is legal with all.
-fn write_least<W: Write, V: Watch>(
+fn write_least<W: Write, V: WatchLines>(
     alloc: Global,
     asked: &Judging<'_>,
     history: &History,
@@ -101,7 +101,7 @@ fn write_least<W: Write, V: Watch>(
 }
 
 /// What is told of a history that is judged with all rules, behind its name, and how that ends.
-fn told_with_all<V: Watch>(
+fn told_with_all<V: WatchLines>(
     alloc: Global,
     asked: &Judging<'_>,
     history: &History,
@@ -119,7 +119,7 @@ fn told_with_all<V: Watch>(
 }
 
 /// Judges a history with all rules, and with sets of them if it is legal. Writes what is told of it.
-fn judge_history<W: Write, V: Watch>(
+fn judge_history<W: Write, V: WatchLines>(
     alloc: Global,
     asked: &Judging<'_>,
     history: History,
@@ -154,7 +154,7 @@ fn judge_history<W: Write, V: Watch>(
 /// run with all rules, which were written, too. `Script` with the line of the first fault, which was written, too. If the
 /// reader fails, `Read`; if memory ran out, `NoMemory`; then nothing was written. `Write`, if the writer fails or takes no
 /// byte.
-pub fn judge_least<R: Read, W: Write, V: Watch>(
+pub fn judge_least<R: Read, W: Write, V: WatchLines>(
     alloc: Global,
     asked: &Judging<'_>,
     reader: &mut R,

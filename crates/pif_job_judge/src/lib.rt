@@ -35,4 +35,4 @@ pub use faults::JudgeFault;
 pub use forms::{Form, Judging};
 pub use judging::judge;
 pub use least::judge_least;
-pub use pif_search::{Unwatched, Watch};
+pub use pif_search::{Unwatched, WatchLines};

@@ -17,7 +17,7 @@ use pif_history_told::{
 };
 use pif_rules_model::Rules;
 use pif_script_model::CliFault;
-use pif_search::Watch;
+use pif_search::WatchLines;
 use std::alloc::Global;
 
 /// What is told of a run that shows a history, by the labels of its steps, newest first: nothing if that is not asked
@@ -63,7 +63,7 @@ fn tell_verdict_legal(
 }
 
 /// Appends what is told of a history whose nth line is the first up to which there is no run. Answers how that ends.
-fn tell_illegal<V: Watch>(
+fn tell_illegal<V: WatchLines>(
     alloc: Global,
     asked: &Judging<'_>,
     history: &History,
@@ -99,7 +99,7 @@ fn tell_illegal<V: Watch>(
 
 /// Appends what is told of a history whose search was given up at its nth line, if searches found runs for so many
 /// lines. Answers how that ends.
-fn tell_undecided<V: Watch>(
+fn tell_undecided<V: WatchLines>(
     alloc: Global,
     asked: &Judging<'_>,
     history: &History,
@@ -130,7 +130,7 @@ fn tell_undecided<V: Watch>(
 /// # Errors
 ///
 /// `NoMemory`.
-pub fn tell_lines<V: Watch>(
+pub fn tell_lines<V: WatchLines>(
     alloc: Global,
     asked: &Judging<'_>,
     history: &History,

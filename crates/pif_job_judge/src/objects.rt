@@ -20,7 +20,7 @@ use pif_history_told::{
     line_at, number_at, run_text,
 };
 use pif_script_model::CliFault;
-use pif_search::Watch;
+use pif_search::WatchLines;
 use std::alloc::Global;
 
 /// How many lines are left out of a run that shows so many, in this form.
@@ -84,7 +84,7 @@ fn append_steps(
 
 /// Appends the lines of a run that shows the first `before` lines of a history, but for so many of its first lines;
 /// nothing, if no run was found. `watch` may end the search for it.
-fn append_before<V: Watch>(
+fn append_before<V: WatchLines>(
     alloc: Global,
     states: usize,
     history: &History,
@@ -137,7 +137,7 @@ fn append_legal_history(
 
 /// Appends what is told of a history whose nth line is the first up to which there is no run, and of a run that shows
 /// the lines before it. Answers how that ends.
-fn append_illegal_history<V: Watch>(
+fn append_illegal_history<V: WatchLines>(
     alloc: Global,
     asked: &Judging<'_>,
     history: &History,
@@ -166,7 +166,7 @@ fn append_illegal_history<V: Watch>(
 
 /// Appends what is told of a history that was given up at its nth line, and of a run that shows the lines before it, if
 /// searches came so far. Answers how that ends.
-fn append_undecided_history<V: Watch>(
+fn append_undecided_history<V: WatchLines>(
     alloc: Global,
     asked: &Judging<'_>,
     history: &History,
@@ -198,7 +198,7 @@ fn append_undecided_history<V: Watch>(
 /// # Errors
 ///
 /// `NoMemory`.
-pub fn tell_objects<V: Watch>(
+pub fn tell_objects<V: WatchLines>(
     alloc: Global,
     asked: &Judging<'_>,
     history: &History,

@@ -19,7 +19,7 @@ use pif_history_told::{number_at, push_needed, rules_of_run};
 use pif_rules::{both, is_any, no_rules, posix_rules, push_names};
 use pif_rules_model::Rules;
 use pif_script_model::CliFault;
-use pif_search::{Stop, Watch};
+use pif_search::{Stop, WatchLines};
 use pif_text::append_decimal;
 use std::alloc::Global;
 
@@ -38,7 +38,7 @@ pub enum Says {
 
 /// The rules with which a run was found that shows these lines, where it isn't known whether fewer do: those of its
 /// steps, if a run is found with these alone, and else all.
-fn found_with<V: Watch>(
+fn found_with<V: WatchLines>(
     alloc: Global,
     base: &Rules,
     all: &Rules,
@@ -59,7 +59,7 @@ fn found_with<V: Watch>(
 }
 
 /// The rules of POSIX that these lines need, which are legal with all of them.
-fn allowed_with<V: Watch>(
+fn allowed_with<V: WatchLines>(
     alloc: Global,
     base: &Rules,
     all: &Rules,
@@ -87,7 +87,7 @@ fn allowed_with<V: Watch>(
 /// # Errors
 ///
 /// Out of memory, or a number got too great for a state. Then nothing is claimed.
-fn posix_of<V: Watch>(
+fn posix_of<V: WatchLines>(
     alloc: Global,
     base: &Rules,
     limits: HistoryLimits,
@@ -241,7 +241,7 @@ fn end_of(fault: JudgeFault, says: &Says, number: u32) -> JudgeFault
 }
 
 /// What POSIX says of a history beside the rules that it allows.
-fn said_of<V: Watch>(
+fn said_of<V: WatchLines>(
     alloc: Global,
     states: u32,
     history: &History,
@@ -271,7 +271,7 @@ fn said_of<V: Watch>(
 /// # Errors
 ///
 /// `NoMemory`.
-pub fn tell_posix<V: Watch>(
+pub fn tell_posix<V: WatchLines>(
     alloc: Global,
     asked: &Judging<'_>,
     history: &History,

@@ -9,7 +9,7 @@ use pif_history_model::{HistoryLimits, Line};
 use pif_history_told::{added, sets_of_size};
 use pif_rules::both;
 use pif_rules_model::Rules;
-use pif_search::{Stop, Watch};
+use pif_search::{Stop, WatchLines};
 use std::alloc::Global;
 
 /// What is found of the least set of rules.
@@ -23,7 +23,7 @@ pub enum Needed {
 
 /// The first of these sets with which some run shows the lines, or with which the search is given up; `None` if there is
 /// no run with any of them.
-fn first_in<W: Watch>(
+fn first_in<W: WatchLines>(
     alloc: Global,
     sets: &Vec<Rules>,
     limits: HistoryLimits,
@@ -52,7 +52,7 @@ fn first_in<W: Watch>(
 /// # Errors
 ///
 /// Out of memory, or a number got too great for a state. Then nothing is claimed.
-pub fn least<W: Watch>(
+pub fn least<W: WatchLines>(
     alloc: Global,
     base: &Rules,
     asked: &Rules,

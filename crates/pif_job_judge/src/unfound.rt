@@ -9,12 +9,12 @@ use pif_history_model::{Label, Line};
 use pif_history_text::History;
 use pif_history_told::{Unfound, number_at, unfound_of};
 use pif_script_model::CliFault;
-use pif_search::{Stop, Watch, push};
+use pif_search::{Stop, WatchLines, push};
 use std::alloc::Global;
 
 /// Looks for the first line up to which a guided search finds no run, by halving: `watch` has for how many lines searches
 /// found one, and none was found for all. It ends as soon as the time is over.
-pub fn find_further<V: Watch>(
+pub fn find_further<V: WatchLines>(
     alloc: Global,
     states: usize,
     history: &History,
@@ -46,7 +46,7 @@ pub fn find_further<V: Watch>(
 }
 
 /// Adds a candidate, if a search finds a run that shows these lines and then it. `watch` may end the search.
-fn add_if_found<V: Watch>(
+fn add_if_found<V: WatchLines>(
     alloc: Global,
     states: usize,
     history: &History,
@@ -77,7 +77,7 @@ fn add_if_found<V: Watch>(
 
 /// The numbers of these candidates with which a search finds a run behind the first `before` lines of a history. `None`
 /// if `watch` ended a search.
-fn found_among<V: Watch>(
+fn found_among<V: WatchLines>(
     alloc: Global,
     states: usize,
     history: &History,
@@ -112,7 +112,7 @@ fn candidates_of(alloc: Global, line: &Line) -> Result<Option<Vec<Label>>, Stop>
 
 /// The answers or priorities with which a search finds a run up to a line of a history, the nth. `None` if `watch` ended
 /// a search.
-fn found_at<V: Watch>(
+fn found_at<V: WatchLines>(
     alloc: Global,
     states: usize,
     history: &History,
@@ -135,7 +135,7 @@ fn found_at<V: Watch>(
 /// # Errors
 ///
 /// `NoMemory`.
-pub fn unfound_at<V: Watch>(
+pub fn unfound_at<V: WatchLines>(
     alloc: Global,
     states: usize,
     history: &History,

@@ -1,5 +1,5 @@
 //! What a search tells the tests.
-use pif_search::Watch;
+use pif_search::WatchLines;
 
 /// Keeps what it was told, and ends a search behind `most` lines.
 #[derive(Drop)]
@@ -25,7 +25,7 @@ impl Told {
     }
 }
 
-impl Watch for Told {
+impl WatchLines for Told {
     fn goes_on(&mut self) -> bool {
         self.lines < self.most
     }

@@ -4,10 +4,10 @@ use crate::marks::{mark_of, number_of};
 use arrayvec::ArrayVec;
 use pif_cli_messages::{Given, JobFault, Progress, WatchFiles};
 use pif_cli_words::Job;
-use pif_reach::Watch as WatchStates;
+use pif_reach::WatchStates;
 use pif_script::{CliFault, Notice};
 use pif_script_model::WatchSteps;
-use pif_search::Watch;
+use pif_search::WatchLines;
 use pif_text::Cause;
 use std::cell::Cell;
 use std::io;
@@ -26,7 +26,7 @@ pub struct Begun {
     pub steps: Counts,
 }
 
-impl Watch for Begun {
+impl WatchLines for Begun {
     fn line(&mut self, _line: usize, _states: usize) {}
 
     fn goes_on(&mut self) -> bool {
