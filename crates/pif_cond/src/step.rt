@@ -1,5 +1,5 @@
 ghost use Rattle.std.specs.Prelude.{ℕ, ◌≡◌, ◌≢◌, ◌<◌, true};
-ghost use Rattle.pif_types.specs.declared.requests.Request;
+ghost use Rattle.pif_types.specs.declared.requests.Request.TheVariants as Request;
 ghost use Rattle.pif_model.specs.declared.lines.Line;
 ghost use Rattle.pif_model.specs.declared.lines.Place;
 ghost use Rattle.pif_model.specs.declared.lines.WakeStep;
@@ -15,9 +15,9 @@ ghost use Rattle.pif_cond.specs.Conditions.{is_of_conditions};
 use crate::uses::{use_exchange, use_load, use_reload, use_requeue};
 use crate::wait::{wait_load, wait_park, wait_stay_parked, wait_uses};
 use pif_kernel_calls::PiKernel;
-use pif_model::{Line, Place, WakeStep};
+use pif_model::{Line, Place, Plain, PlainRequest, WakeStep};
 use pif_mutex::{Lines, Parts, Progress, State};
-use pif_types::{CondId, Errno, MutexId, Request, Tid};
+use pif_types::{CondId, Errno, MutexId, Tid};
 
 /// The thread, which lives and has a wait, a signal or a broadcast open, takes one step of it: one access of one word,
 /// one write of its robust list, one kernel call, or the answer with no access if the variable is bound to another
@@ -51,7 +51,7 @@ impl Lines for CondLines {
     #[inline(always)]
     fn take<K: PiKernel + Drop>(
         state: &mut State<K>,
-        request: Request,
+        request: PlainRequest,
         place: Place,
         t: Tid,
     ) -> Progress {
@@ -63,7 +63,12 @@ impl Lines for CondLines {
 /// is due expires, and does nothing else. A signal and a broadcast are never due.
 #[inline(always)]
 #[tactic(auto, unfolding(pif_model::specs::Lines::line_of, pif_model::specs::Lines::use_line), using(crate::proofs::Stepping::signal_goes, crate::proofs::Stepping::broadcast_goes))]
-fn go<K: PiKernel + Drop>(state: &mut State<K>, request: Request, place: Place, t: Tid) -> Progress
+fn go<K: PiKernel + Drop>(
+    state: &mut State<K>,
+    request: PlainRequest,
+    place: Place,
+    t: Tid,
+) -> Progress
     requires living { is_living state.old.kernel t ≡ true }
     requires conditions { is_of_conditions (Line.At request place) ≡ true }
     requires belongs { belongs request place ≡ true }
@@ -71,9 +76,9 @@ fn go<K: PiKernel + Drop>(state: &mut State<K>, request: Request, place: Place, 
     requires below { (v : ℕ) → place ≡ Place.Wake (WakeStep.CountUse v) → v < state.old.limits.signals }
     ensures { outcome_of result state.new ≡ go_outcome (Line.At request place) t state.old }
 {
-    match request {
-        Request::Wait(c, m) => wait_step(state, request, place, c, m, t),
-        Request::Signal(c) | Request::Broadcast(c) => match place {
+    match request.get() {
+        Plain::Wait(c, m) => wait_step(state, request, place, c, m, t),
+        Plain::Signal(c) | Plain::Broadcast(c) => match place {
             Place::Wake(step) => use_step(state, request, step, c, t),
             _ => state.answer(t, Errno::Invalid.number()),
         },
@@ -86,7 +91,7 @@ fn go<K: PiKernel + Drop>(state: &mut State<K>, request: Request, place: Place, 
 #[tactic(auto, using(crate::proofs::Stepping::load_goes, crate::proofs::Stepping::uses_goes, crate::proofs::Stepping::park_goes))]
 fn wait_step<K: PiKernel + Drop>(
     state: &mut State<K>,
-    request: Request,
+    request: PlainRequest,
     place: Place,
     c: CondId,
     m: MutexId,
@@ -112,7 +117,7 @@ fn wait_step<K: PiKernel + Drop>(
 #[inline(never)]
 fn wait_on_mutex<K: PiKernel + Drop>(
     state: &mut State<K>,
-    request: Request,
+    request: PlainRequest,
     place: Place,
     t: Tid,
 ) -> Progress
@@ -129,7 +134,7 @@ fn wait_on_mutex<K: PiKernel + Drop>(
 #[tactic(auto, unfolding(pif_model::specs::Lines::line_of, pif_model::specs::Lines::use_line))]
 fn use_step<K: PiKernel + Drop>(
     state: &mut State<K>,
-    request: Request,
+    request: PlainRequest,
     step: WakeStep,
     c: CondId,
     t: Tid,

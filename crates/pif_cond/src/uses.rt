@@ -6,20 +6,20 @@ ghost use Rattle.pif_model.specs.Table.{has_thread, has_cond, uses_of};
 ghost use Rattle.pif_mutex.specs.Outcomes.{outcome_of};
 
 use pif_kernel_calls::PiKernel;
-use pif_model::{Place, WakeStep};
+use pif_model::{Place, Plain, PlainRequest, WakeStep};
 use pif_mutex::{Progress, State};
-use pif_types::{CondId, Errno, Request, Tid};
+use pif_types::{CondId, Errno, Tid};
 
 /// How many threads a broadcast takes besides the first: all that there can be.
 const ALL: u32 = 1024;
 
 /// How many threads the request takes besides the first: a signal none, and a broadcast all (POSIX, pthread_cond_signal
 /// and pthread_cond_broadcast).
-fn more(request: &Request) -> u32
+fn more(request: &PlainRequest) -> u32
     ensures { result ≡ more_in request.now }
 {
-    match request {
-        Request::Broadcast(_) => ALL,
+    match request.get() {
+        Plain::Broadcast(_) => ALL,
         _ => 0,
     }
 }
@@ -27,7 +27,7 @@ fn more(request: &Request) -> u32
 /// Loads the condition word.
 pub(crate) fn use_load<K: PiKernel + Drop>(
     state: &mut State<K>,
-    request: Request,
+    request: PlainRequest,
     c: CondId,
     t: Tid,
 ) -> Progress
@@ -43,7 +43,7 @@ pub(crate) fn use_load<K: PiKernel + Drop>(
 #[tactic(auto, unfolding(pif_model::specs::Lines::use_read))]
 fn use_read<K: PiKernel + Drop>(
     state: &mut State<K>,
-    request: Request,
+    request: PlainRequest,
     uses: u32,
     t: Tid,
 ) -> Progress
@@ -62,7 +62,7 @@ fn use_read<K: PiKernel + Drop>(
 #[tactic(auto, unfolding(pif_model::specs::Lines::use_exchange))]
 pub(crate) fn use_exchange<K: PiKernel + Drop>(
     state: &mut State<K>,
-    request: Request,
+    request: PlainRequest,
     uses: u32,
     c: CondId,
     t: Tid,
@@ -87,7 +87,7 @@ pub(crate) fn use_exchange<K: PiKernel + Drop>(
 #[tactic(auto, unfolding(pif_model::specs::Lines::use_requeue, pif_model::specs::Lines::use_by), using(pif_model_simulation::proofs::events::KernelLeaves::requeue_keeps_threads))]
 pub(crate) fn use_requeue<K: PiKernel + Drop>(
     state: &mut State<K>,
-    request: Request,
+    request: PlainRequest,
     uses: u32,
     c: CondId,
     t: Tid,
@@ -107,7 +107,7 @@ pub(crate) fn use_requeue<K: PiKernel + Drop>(
 /// Loads the condition word again, and makes the kernel call again.
 pub(crate) fn use_reload<K: PiKernel + Drop>(
     state: &mut State<K>,
-    request: Request,
+    request: PlainRequest,
     c: CondId,
     t: Tid,
 ) -> Progress

@@ -1,4 +1,5 @@
 ghost use Rattle.std.specs.Prelude.{ℕ, ◌≡◌, true, false, if◌then◌else◌};
+ghost use Rattle.pif_types.specs.declared.requests.Request.TheVariants as Request;
 ghost use Rattle.pif_model.specs.Deadlines.{ran_out};
 ghost use Rattle.pif_model.specs.Lines.{wait_load, wait_uses, wait_park, own_exchange, lock_queued, goes_to, expired_in, go_outcome};
 ghost use Rattle.pif_model.specs.PiKernel.{is_living, is_ready, is_woken_again};
@@ -6,9 +7,9 @@ ghost use Rattle.pif_model.specs.Table.{has_thread, has_mutex, has_cond, status_
 ghost use Rattle.pif_mutex.specs.Outcomes.{outcome_of};
 
 use pif_kernel_calls::{PiKernel, Status, Woken};
-use pif_model::{GiveStep, Line, Place, Purpose, Timer};
+use pif_model::{GiveStep, Line, Place, PlainRequest, Purpose, Timer};
 use pif_mutex::{Progress, State, reported};
-use pif_types::{CondId, Errno, MutexId, Request, Tid};
+use pif_types::{CondId, Errno, MutexId, Tid};
 use pif_word::number;
 
 /// A mutex to which the variable is not bound is answered EINVAL with no access (POSIX, pthread_cond_wait: at one time
@@ -17,7 +18,7 @@ use pif_word::number;
 #[tactic(auto, unfolding(pif_model::specs::Lines::wait_load))]
 pub(crate) fn wait_load<K: PiKernel + Drop>(
     state: &mut State<K>,
-    request: Request,
+    request: PlainRequest,
     c: CondId,
     m: MutexId,
     t: Tid,
@@ -43,7 +44,7 @@ pub(crate) fn wait_load<K: PiKernel + Drop>(
 #[tactic(auto, unfolding(pif_model::specs::Lines::wait_uses))]
 pub(crate) fn wait_uses<K: PiKernel + Drop>(
     state: &mut State<K>,
-    request: Request,
+    request: PlainRequest,
     c: CondId,
     m: MutexId,
     t: Tid,
@@ -71,7 +72,7 @@ pub(crate) fn wait_uses<K: PiKernel + Drop>(
 #[tactic(auto, unfolding(pif_model::specs::Lines::wait_park, pif_model::specs::Lines::wait_by), using(pif_model_simulation::proofs::events::KernelLeaves::wait_requeue_keeps_threads))]
 pub(crate) fn wait_park<K: PiKernel + Drop>(
     state: &mut State<K>,
-    request: Request,
+    request: PlainRequest,
     uses: u32,
     c: CondId,
     m: MutexId,
@@ -94,7 +95,7 @@ pub(crate) fn wait_park<K: PiKernel + Drop>(
 #[inline(never)]
 pub(crate) fn wait_stay_parked<K: PiKernel + Drop>(
     state: &mut State<K>,
-    request: Request,
+    request: PlainRequest,
     m: MutexId,
     t: Tid,
 ) -> Progress
@@ -117,7 +118,7 @@ pub(crate) fn wait_stay_parked<K: PiKernel + Drop>(
 /// which goes on as a lock that was queued.
 fn wait_parked<K: PiKernel + Drop>(
     state: &mut State<K>,
-    request: Request,
+    request: PlainRequest,
     m: MutexId,
     t: Tid,
 ) -> Progress
@@ -138,7 +139,7 @@ fn wait_parked<K: PiKernel + Drop>(
 #[cold]
 #[inline(never)]
 #[tactic(auto, unfolding(pif_model::specs::Lines::expired_in), using(pif_model_simulation::proofs::events::KernelLeaves::expire_keeps_threads))]
-fn wait_expire<K: PiKernel + Drop>(state: &mut State<K>, request: Request, t: Tid) -> Progress
+fn wait_expire<K: PiKernel + Drop>(state: &mut State<K>, request: PlainRequest, t: Tid) -> Progress
     requires known { has_thread state.old t ≡ true }
     requires living { is_living state.old.kernel t ≡ true }
     requires unready { is_ready (status_at state.old t) ≡ false }

@@ -14,7 +14,7 @@ ghost use Rattle.pif_model_simulation.specs.Calls.{finish_outcome};
 
 use pif_cond::CondLines;
 use pif_kernel_linked::LinkedKernel;
-use pif_model::{Entry, Event, Line, Place, Seen, Status};
+use pif_model::{Entry, Event, Line, Place, Plain, PlainRequest, Seen, Status};
 use pif_mutex::{MutexLines, Parts, Progress};
 use pif_types::{
     AddFault, CondId, Health, Kind, Limits, MutexId, NoMemory, Prio, Refusal, Request, Tid,
@@ -53,8 +53,6 @@ impl Core {
         ensures made { IfOk result (λ c. c ≡ new_table limits) }
         ensures stands { IfOk result (λ c. (w : World) × Stands c [] [] w) }
     {
-        // This reads a limit, so that the proof has the ranges of all.
-        let _threads = limits.threads();
         let kernel = LinkedKernel::new(alloc, limits, FIRST_TICKET)?;
         let parts = Parts::new(alloc, limits, kernel)?;
         Ok(Core { parts })
@@ -423,7 +421,7 @@ impl Core {
     /// A thread takes one step of its open call, which is this request at this place, and is not refused.
     #[inline(always)]
     #[tactic(auto, unfolding(pif_model::specs::Lines::event_outcome, pif_model::specs::Lines::accepted_outcome))]
-    fn go(&mut self, request: Request, place: Place, thread: Tid) -> Seen
+    fn go(&mut self, request: PlainRequest, place: Place, thread: Tid) -> Seen
         requires allowed { table_refusal self.old (Event.Go thread) ≡ None }
         requires line { line_at self.old thread ≡ Line.At request place }
         ensures seen { result ≡ (event_outcome (Event.Go thread) self.old).seen }
@@ -439,13 +437,13 @@ impl Core {
     /// A thread takes one step of its open call, which is this request at this place, and is not refused: what it came
     /// to.
     #[inline(always)]
-    fn advance(&mut self, request: Request, place: Place, thread: Tid) -> Progress
+    fn advance(&mut self, request: PlainRequest, place: Place, thread: Tid) -> Progress
         requires allowed { table_refusal self.old (Event.Go thread) ≡ None }
         requires line { line_at self.old thread ≡ Line.At request place }
         ensures { outcome_of result self.new ≡ go_outcome (line_at self.old thread) thread self.old }
     {
-        match request {
-            Request::Wait(_, _) | Request::Signal(_) | Request::Broadcast(_) => {
+        match request.get() {
+            Plain::Wait(_, _) | Plain::Signal(_) | Plain::Broadcast(_) => {
                 self.parts.take::<CondLines>(request, place, thread)
             }
             _ => self.parts.take::<MutexLines>(request, place, thread),

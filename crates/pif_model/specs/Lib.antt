@@ -2,6 +2,7 @@ pub mod NamedNumbers
 pub mod Kinds
 pub mod Graph
 pub mod Refusals
+pub mod Plain
 pub mod Deadlines
 pub mod Word
 pub mod PiKernel

@@ -5,9 +5,11 @@
 
 mod events;
 mod lines;
+mod plain;
 
 pub use events::{Entry, Event, Order, Seen};
 pub use lines::{
     Footing, GiveStep, Line, LinkStep, Place, Purpose, Relock, RepairStep, Status, TakeStep, Timer,
     Took, WakeStep, Woken,
 };
+pub use plain::{Plain, PlainRequest};

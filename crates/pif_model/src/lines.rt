@@ -1,4 +1,5 @@
-use pif_types::{Answer, CondId, MutexId, Request};
+use crate::PlainRequest;
+use pif_types::{Answer, CondId, MutexId};
 
 /// A step of taking over a robust mutex that the caller was found to own.
 #[derive(Clone, Copy)]
@@ -143,7 +144,7 @@ pub enum Line {
     /// No call is open.
     Idle,
     /// This call is open, at this place.
-    At(Request, Place),
+    At(PlainRequest, Place),
 }
 
 /// What an open call has of its deadline. It is set again at each begin.

@@ -2,8 +2,8 @@
 use Rattle.std.proofs.Common.{◌≡◌, ◌≢◌, ℕ, Bool, true, false, refl, sym, ap, subst, ◌∙◌, if◌then◌else◌}
 use Rattle.std.proofs.lemmas.Bool.{true≢false}
 use Rattle.pif_types.specs.declared.requests.Request.{Request}
-use Rattle.pif_types.specs.declared.requests.Request.TheVariants.{Lock, TryLock, Unlock, Consistent, Wait, SetPrio, TimedLock, TimedWait}
-use Rattle.pif_model.specs.NamedNumbers.{EINVAL, ETIMEDOUT}
+use Rattle.pif_types.specs.declared.requests.Request.TheVariants.{Lock, TryLock, Unlock, Consistent, Wait, SetPrio}
+use Rattle.pif_model.specs.NamedNumbers.{ETIMEDOUT}
 use Rattle.pif_model.specs.declared.events.Seen.{Seen}
 use Rattle.pif_model.specs.declared.events.Seen.TheVariants.{Waits, Answered}
 use Rattle.pif_model.specs.declared.lines.Line.TheVariants.{At}
@@ -12,7 +12,7 @@ use Rattle.pif_model.specs.declared.lines.Place.{Place}
 use Rattle.pif_model.specs.declared.lines.Place.TheVariants.{Load, NamePending, StayQueued, StayStopped, LoadUses, Park, StayParked}
 use Rattle.pif_model.specs.Deadlines.{is_reached, reported_seen}
 use Rattle.pif_model.specs.Table.{Table, status_at, timer_at}
-use Rattle.pif_model.specs.Lines.{lock_queued, locking_line, line_of, counts_at, is_line_due, answers, ends_by, expired_in, expired_place, expires_at, reported_outcome, go_outcome}
+use Rattle.pif_model.specs.Lines.{lock_queued, locking_line, line_of, counts_at, is_line_due, ends_by, expired_in, expired_place, expires_at, reported_outcome, go_outcome}
 use Rattle.pif_model_simulation.specs.Steppable.{may_wait_at}
 use Rattle.pif_model_simulation.proofs.Undue.{goes_by_line, undue}
 use Rattle.pif_mutex.specs.Mutexes.{is_on_mutex}
@@ -99,7 +99,7 @@ pub stopped_goes : (m t : ℕ) (s : Table) → is_line_due (At (Lock m) StayStop
 unfolding line_of locking_line
 stopped_goes m t s h = undue_lock_goes m StayStopped t s h
 
--- and that of an unlock, a trylock, a consistent, a setprio, and a timed request, which never comes, is its line
+-- and that of an unlock, a trylock, a consistent and a setprio is its line
 pub unlock_goes : (m : ℕ) (p : Place) (t : ℕ) (s : Table) → go_outcome (At (Unlock m) p) t s ≡ line_of (Unlock m) p t s
 unlock_goes m p t s = goes_by_line (Unlock m) p t s refl (λ expired a. refl)
 
@@ -114,13 +114,3 @@ consistent_goes m p t s = goes_by_line (Consistent m) p t s refl (λ expired a. 
 pub set_prio_goes : (u n : ℕ) (p : Place) (t : ℕ) (s : Table)
     → go_outcome (At (SetPrio u n) p) t s ≡ line_of (SetPrio u n) p t s
 set_prio_goes u n p t s = goes_by_line (SetPrio u n) p t s refl (λ expired a. refl)
-
-pub timed_lock_goes : (m d : ℕ) (p : Place) (t : ℕ) (s : Table)
-    → go_outcome (At (TimedLock m d) p) t s ≡ answers t EINVAL s
-unfolding line_of
-timed_lock_goes m d p t s = goes_by_line (TimedLock m d) p t s refl (λ expired a. refl)
-
-pub timed_wait_goes : (c m d : ℕ) (p : Place) (t : ℕ) (s : Table)
-    → go_outcome (At (TimedWait c m d) p) t s ≡ answers t EINVAL s
-unfolding line_of
-timed_wait_goes c m d p t s = goes_by_line (TimedWait c m d) p t s refl (λ expired a. refl)

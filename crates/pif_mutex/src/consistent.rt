@@ -1,4 +1,5 @@
 ghost use Rattle.std.specs.Prelude.{◌≡◌, true};
+ghost use Rattle.pif_types.specs.declared.requests.Request.TheVariants as Request;
 ghost use Rattle.pif_model.specs.Lines.{answers, consistent_load, consistent_health};
 ghost use Rattle.pif_model.specs.Table.{has_thread, has_mutex, with_health_word};
 ghost use Rattle.pif_mutex.specs.Outcomes.{outcome_of};
@@ -6,8 +7,8 @@ ghost use Rattle.pif_mutex.specs.Outcomes.{outcome_of};
 use crate::progress::Progress;
 use crate::state::State;
 use pif_kernel_calls::PiKernel;
-use pif_model::{Place, RepairStep};
-use pif_types::{Errno, Health, MutexId, Request, Tid};
+use pif_model::{Place, PlainRequest, RepairStep};
+use pif_types::{Errno, Health, MutexId, Tid};
 use pif_word::number;
 
 /// The lines of a consistent.
@@ -15,7 +16,7 @@ impl<K: PiKernel + Drop> State<K> {
     /// A stalled mutex is answered EINVAL with no access. Else loads the word, and who is not the owner is answered
     /// EPERM.
     #[tactic(auto, unfolding(pif_model::specs::Lines::consistent_load))]
-    pub(crate) fn consistent_load(&mut self, request: Request, t: Tid, m: MutexId) -> Progress
+    pub(crate) fn consistent_load(&mut self, request: PlainRequest, t: Tid, m: MutexId) -> Progress
         requires is { request ≡ Request.Consistent m }
         requires known { has_thread self.old t ≡ true }
         requires mutex { has_mutex self.old m ≡ true }
@@ -32,7 +33,12 @@ impl<K: PiKernel + Drop> State<K> {
 
     /// Loads the health word. A mutex that is not inconsistent is answered EINVAL.
     #[tactic(auto, unfolding(pif_model::specs::Lines::consistent_health))]
-    pub(crate) fn consistent_health(&mut self, request: Request, t: Tid, m: MutexId) -> Progress
+    pub(crate) fn consistent_health(
+        &mut self,
+        request: PlainRequest,
+        t: Tid,
+        m: MutexId,
+    ) -> Progress
         requires is { request ≡ Request.Consistent m }
         requires known { has_thread self.old t ≡ true }
         requires mutex { has_mutex self.old m ≡ true }

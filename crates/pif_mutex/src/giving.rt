@@ -9,8 +9,8 @@ ghost use Rattle.pif_mutex.specs.Outcomes.{outcome_of};
 use crate::progress::Progress;
 use crate::state::State;
 use pif_kernel_calls::PiKernel;
-use pif_model::{Footing, GiveStep, Place, Purpose};
-use pif_types::{Errno, Health, MutexId, Request, Tid};
+use pif_model::{Footing, GiveStep, Place, PlainRequest, Purpose};
+use pif_types::{Errno, Health, MutexId, Tid};
 
 /// The lines by which a mutex that is held once is given up: by an unlock, by a wait, and by who leaves a mutex that it
 /// took and found unusable. `purpose` says which, and so what comes after.
@@ -18,7 +18,7 @@ impl<K: PiKernel + Drop> State<K> {
     /// The mutex was given up: a robust one that was unlocked or left clears its pending field, a stalled one that was
     /// unlocked is answered, and a wait parks.
     #[inline(always)]
-    fn given_up(&mut self, request: Request, purpose: Purpose, t: Tid, m: MutexId) -> Progress
+    fn given_up(&mut self, request: PlainRequest, purpose: Purpose, t: Tid, m: MutexId) -> Progress
         requires known { has_thread self.old t ≡ true }
         requires mutex { has_mutex self.old m ≡ true }
         ensures { outcome_of result self.new ≡ given_up request purpose t m self.old }
@@ -38,7 +38,7 @@ impl<K: PiKernel + Drop> State<K> {
     #[tactic(auto, unfolding(pif_model::specs::Lines::give_health))]
     pub(crate) fn give_health(
         &mut self,
-        request: Request,
+        request: PlainRequest,
         purpose: Purpose,
         t: Tid,
         m: MutexId,
@@ -60,7 +60,7 @@ impl<K: PiKernel + Drop> State<K> {
     #[tactic(auto, unfolding(pif_model::specs::Lines::give_line))]
     pub(crate) fn give_store(
         &mut self,
-        request: Request,
+        request: PlainRequest,
         purpose: Purpose,
         t: Tid,
         m: MutexId,
@@ -78,7 +78,7 @@ impl<K: PiKernel + Drop> State<K> {
     #[tactic(auto, unfolding(pif_model::specs::Lines::give_line))]
     pub(crate) fn give_unlink(
         &mut self,
-        request: Request,
+        request: PlainRequest,
         purpose: Purpose,
         t: Tid,
         m: MutexId,
@@ -95,7 +95,7 @@ impl<K: PiKernel + Drop> State<K> {
     #[inline(always)]
     pub(crate) fn give_exchange(
         &mut self,
-        request: Request,
+        request: PlainRequest,
         purpose: Purpose,
         t: Tid,
         m: MutexId,
@@ -118,7 +118,7 @@ impl<K: PiKernel + Drop> State<K> {
     #[tactic(auto, unfolding(pif_model::specs::Lines::gives_up, pif_model::specs::Lines::given_up_by), using(pif_model_simulation::proofs::events::KernelLeaves::unlock_keeps_threads))]
     pub(crate) fn give_kernel(
         &mut self,
-        request: Request,
+        request: PlainRequest,
         purpose: Purpose,
         t: Tid,
         m: MutexId,

@@ -52,11 +52,10 @@
 //!
 //! `lock`, `try_lock`, `unlock`, `consistent` and `set_priority` have the lines of each call; `taking` and `linking`
 //! what lock, trylock and wait share; `giving` how a mutex is given up, by whichever call; `lists` the robust lists;
-//! `kernel` the kernel calls; `deadlines` what a request is without its deadline, and which calls are due; `kinds` what
-//! a lock by the owner does; `end` the end of a thread; and `step` which line a step is. All are methods of `State`,
-//! which keeps only that the parts fit together; `Parts` keeps besides that they are sound, by which each open call may
-//! take its next step. `lines` has the trait by which `Parts` lend their state to one line, of this crate or of
-//! pif_cond.
+//! `kernel` the kernel calls; `deadlines` the timer of a call that begins, and which calls are due; `kinds` what a lock
+//! by the owner does; `end` the end of a thread; and `step` which line a step is. All are methods of `State`, which
+//! keeps only that the parts fit together; `Parts` keeps besides that they are sound, by which each open call may take
+//! its next step. `lines` has the trait by which `Parts` lend their state to one line, of this crate or of pif_cond.
 #![tactic(auto)]
 
 mod consistent;

@@ -8,8 +8,8 @@ ghost use Rattle.pif_mutex.specs.Outcomes.{outcome_of};
 use crate::progress::Progress;
 use crate::state::State;
 use pif_kernel_calls::PiKernel;
-use pif_model::{Line, Place};
-use pif_types::{Request, Tid};
+use pif_model::{Line, Place, PlainRequest};
+use pif_types::Tid;
 
 /// The lines of some calls, each of them a step over the state inside of `Parts`: those on mutexes (`MutexLines`), or
 /// those of a crate above.
@@ -24,7 +24,7 @@ pub trait Lines {
     /// expires, and does nothing else. The state is sound before and after it, and not in between.
     fn take<K: PiKernel + Drop>(
         state: &mut State<K>,
-        request: Request,
+        request: PlainRequest,
         place: Place,
         t: Tid,
     ) -> Progress
@@ -47,7 +47,7 @@ impl Lines for MutexLines {
     #[inline(always)]
     fn take<K: PiKernel + Drop>(
         state: &mut State<K>,
-        request: Request,
+        request: PlainRequest,
         place: Place,
         t: Tid,
     ) -> Progress {

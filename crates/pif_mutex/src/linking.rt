@@ -8,8 +8,8 @@ ghost use Rattle.pif_mutex.specs.Outcomes.{outcome_of};
 use crate::progress::Progress;
 use crate::state::State;
 use pif_kernel_calls::PiKernel;
-use pif_model::{Footing, LinkStep, Place};
-use pif_types::{Answer, MutexId, Request, Tid};
+use pif_model::{Footing, LinkStep, Place, PlainRequest};
+use pif_types::{Answer, MutexId, Tid};
 
 /// The two writes by which a robust mutex that is taken over becomes the head of the list of its thread. The call will
 /// answer `answer`.
@@ -19,7 +19,7 @@ impl<K: PiKernel + Drop> State<K> {
     #[tactic(auto, unfolding(pif_model::specs::Lines::link_line))]
     pub(crate) fn link_next(
         &mut self,
-        request: Request,
+        request: PlainRequest,
         answer: Answer,
         t: Tid,
         m: MutexId,
@@ -39,7 +39,7 @@ impl<K: PiKernel + Drop> State<K> {
     #[tactic(auto, unfolding(pif_model::specs::Lines::link_line))]
     pub(crate) fn link_head(
         &mut self,
-        request: Request,
+        request: PlainRequest,
         answer: Answer,
         t: Tid,
         m: MutexId,

@@ -1,4 +1,5 @@
 ghost use Rattle.std.specs.Prelude.{◌≡◌, true, false};
+ghost use Rattle.pif_types.specs.declared.requests.Request.TheVariants as Request;
 ghost use Rattle.pif_model.specs.PiKernel.{is_living, is_ready};
 ghost use Rattle.pif_model.specs.Table.{has_thread, has_mutex, status_at};
 ghost use Rattle.pif_model.specs.Lines.{lock_load, lock_kernel, lock_queued, lock_stop, ends_by, expired_in, go_outcome};
@@ -9,8 +10,8 @@ use crate::kinds::relock_of;
 use crate::progress::Progress;
 use crate::state::State;
 use pif_kernel_calls::PiKernel;
-use pif_model::{Footing, Line, Place, Relock, Status, TakeStep, Took};
-use pif_types::{Errno, MutexId, Request, Tid};
+use pif_model::{Footing, Line, Place, PlainRequest, Relock, Status, TakeStep, Took};
+use pif_types::{Errno, MutexId, Tid};
 use pif_word::number;
 
 /// The lines of a request that locks a mutex, but for its exchange.
@@ -18,7 +19,7 @@ impl<K: PiKernel + Drop> State<K> {
     /// Loads the word. By the mutex's kind its owner goes on to stop, is answered EDEADLK, or holds it once more.
     #[inline(always)]
     #[tactic(auto, unfolding(pif_model::specs::Lines::lock_load))]
-    pub(crate) fn lock_load(&mut self, request: Request, t: Tid, m: MutexId) -> Progress
+    pub(crate) fn lock_load(&mut self, request: PlainRequest, t: Tid, m: MutexId) -> Progress
         requires known { has_thread self.old t ≡ true }
         requires mutex { has_mutex self.old m ≡ true }
         ensures { outcome_of result self.new ≡ lock_load request t m self.old }
@@ -38,7 +39,7 @@ impl<K: PiKernel + Drop> State<K> {
     #[cold]
     #[inline(never)]
     #[tactic(auto, unfolding(pif_model::specs::Lines::lock_kernel, pif_model::specs::Lines::lock_by), using(pif_model_simulation::proofs::events::KernelLeaves::lock_keeps_threads))]
-    pub(crate) fn lock_kernel(&mut self, request: Request, t: Tid, m: MutexId) -> Progress
+    pub(crate) fn lock_kernel(&mut self, request: PlainRequest, t: Tid, m: MutexId) -> Progress
         requires known { has_thread self.old t ≡ true }
         requires mutex { has_mutex self.old m ≡ true }
         requires ready { is_ready (status_at self.old t) ≡ true }
@@ -66,7 +67,7 @@ impl<K: PiKernel + Drop> State<K> {
     /// robust one is taken over from the load on.
     #[inline(never)]
     #[tactic(auto, unfolding(pif_model::specs::Lines::lock_queued))]
-    pub fn lock_queued(&mut self, request: Request, t: Tid, m: MutexId) -> Progress
+    pub fn lock_queued(&mut self, request: PlainRequest, t: Tid, m: MutexId) -> Progress
         requires known { has_thread self.old t ≡ true }
         requires mutex { has_mutex self.old m ≡ true }
         ensures { outcome_of result self.new ≡ lock_queued request t m self.old }
@@ -83,7 +84,7 @@ impl<K: PiKernel + Drop> State<K> {
     /// A lock that is queued, or was handed the mutex: if it is due it expires, else it goes on as it was queued.
     #[inline(never)]
     #[tactic(auto, using(crate::proofs::Locking::due_lock_goes))]
-    pub(crate) fn lock_stay_queued(&mut self, request: Request, t: Tid, m: MutexId) -> Progress
+    pub(crate) fn lock_stay_queued(&mut self, request: PlainRequest, t: Tid, m: MutexId) -> Progress
         requires is { request ≡ Request.Lock m }
         requires known { has_thread self.old t ≡ true }
         requires mutex { has_mutex self.old m ≡ true }
@@ -100,7 +101,12 @@ impl<K: PiKernel + Drop> State<K> {
     /// A lock that has stopped for good: if it is due it expires, else it waits.
     #[inline(never)]
     #[tactic(auto, using(crate::proofs::Locking::due_lock_goes))]
-    pub(crate) fn lock_stay_stopped(&mut self, request: Request, t: Tid, m: MutexId) -> Progress
+    pub(crate) fn lock_stay_stopped(
+        &mut self,
+        request: PlainRequest,
+        t: Tid,
+        m: MutexId,
+    ) -> Progress
         requires is { request ≡ Request.Lock m }
         requires known { has_thread self.old t ≡ true }
         requires mutex { has_mutex self.old m ≡ true }
@@ -120,7 +126,13 @@ impl<K: PiKernel + Drop> State<K> {
     #[cold]
     #[inline(never)]
     #[tactic(auto, unfolding(pif_model::specs::Lines::expired_in), using(pif_model_simulation::proofs::events::KernelLeaves::expire_keeps_threads))]
-    fn lock_expire(&mut self, request: Request, footing: Footing, t: Tid, m: MutexId) -> Progress
+    fn lock_expire(
+        &mut self,
+        request: PlainRequest,
+        footing: Footing,
+        t: Tid,
+        m: MutexId,
+    ) -> Progress
         requires known { has_thread self.old t ≡ true }
         requires mutex { has_mutex self.old m ≡ true }
         requires living { is_living self.old.kernel t ≡ true }
@@ -137,7 +149,7 @@ impl<K: PiKernel + Drop> State<K> {
     #[cold]
     #[inline(never)]
     #[tactic(auto, unfolding(pif_model::specs::Lines::lock_stop), using(pif_model_simulation::proofs::events::KernelLeaves::stop_keeps_threads))]
-    pub(crate) fn lock_stop(&mut self, request: Request, t: Tid) -> Progress
+    pub(crate) fn lock_stop(&mut self, request: PlainRequest, t: Tid) -> Progress
         requires known { has_thread self.old t ≡ true }
         requires ready { is_ready (status_at self.old t) ≡ true }
         ensures { outcome_of result self.new ≡ lock_stop request t self.old }

@@ -7,13 +7,13 @@ ghost use Rattle.pif_mutex.specs.Outcomes.{outcome_of};
 use crate::progress::Progress;
 use crate::state::State;
 use pif_kernel_calls::PiKernel;
-use pif_model::{Line, Place};
-use pif_types::{Answer, Errno, MutexId, Request, Tid};
+use pif_model::{Line, Place, PlainRequest};
+use pif_types::{Answer, Errno, MutexId, Tid};
 
 /// What a line can come to, and the writes of the pending field, after or before which a call goes on or ends.
 impl<K: PiKernel + Drop> State<K> {
     /// The call goes on at this place.
-    pub fn go_on(&mut self, request: Request, place: Place, t: Tid) -> Progress
+    pub fn go_on(&mut self, request: PlainRequest, place: Place, t: Tid) -> Progress
         requires { has_thread self.old t ≡ true }
         ensures { outcome_of result self.new ≡ goes_to t request place self.old }
     {
@@ -24,7 +24,7 @@ impl<K: PiKernel + Drop> State<K> {
     /// The call goes on at the place `robust` for a robust mutex, and at the place `stalled` for a stalled one.
     pub fn go_by(
         &mut self,
-        request: Request,
+        request: PlainRequest,
         m: MutexId,
         robust: Place,
         stalled: Place,
@@ -44,7 +44,7 @@ impl<K: PiKernel + Drop> State<K> {
     /// The call goes on at this place for a robust mutex, and is closed with this answer for a stalled one.
     pub fn end_by(
         &mut self,
-        request: Request,
+        request: PlainRequest,
         m: MutexId,
         robust: Place,
         answer: Answer,
@@ -62,7 +62,7 @@ impl<K: PiKernel + Drop> State<K> {
     }
 
     /// The thread waits at this place.
-    pub fn wait(&mut self, request: Request, place: Place, t: Tid) -> Progress
+    pub fn wait(&mut self, request: PlainRequest, place: Place, t: Tid) -> Progress
         requires { has_thread self.old t ≡ true }
         ensures { outcome_of result self.new ≡ waits_at t request place self.old }
     {
@@ -94,7 +94,7 @@ impl<K: PiKernel + Drop> State<K> {
     /// Names the mutex in the pending field of the thread, and goes on at this place.
     pub(crate) fn name_pending(
         &mut self,
-        request: Request,
+        request: PlainRequest,
         place: Place,
         t: Tid,
         m: MutexId,

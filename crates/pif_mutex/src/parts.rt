@@ -9,13 +9,13 @@ ghost use Rattle.pif_model.specs.Calls.{request_at, effective_answer, base_answe
 ghost use Rattle.pif_mutex.specs.Outcomes.{outcome_of};
 ghost use Rattle.pif_mutex.specs.Mutexes.{is_of_mutexes};
 
-use crate::deadlines::{plain, timer_of, with_deadline_if_any};
+use crate::deadlines::timer_of;
 use crate::lines::{Lines, MutexLines};
 use crate::progress::Progress;
 use crate::state::State;
 use arrayvec::ArrayVec;
 use pif_kernel_calls::PiKernel;
-use pif_model::{Event, Line, Place, Status, WakeStep};
+use pif_model::{Event, Line, Place, PlainRequest, Status, WakeStep};
 use pif_types::{CondId, Health, Kind, Limits, MutexId, NoMemory, Prio, Request, Tid};
 use pif_word::number;
 use std::alloc::Global;
@@ -55,8 +55,6 @@ impl<K: PiKernel + Drop> Parts<K> {
         requires kept { IsKernel (K.meaning kernel) }
         ensures { IfOk result (λ p. p ≡ new_table limits) }
     {
-        // This reads a limit, so that the proof has the ranges of all.
-        let _threads = limits.threads();
         let state = State::new(alloc, limits, kernel)?;
         Ok(Parts { state })
     }
@@ -97,8 +95,6 @@ impl<K: PiKernel + Drop> Parts<K> {
         ensures number { result ≡ length self.old.lines }
         ensures after { self.new ≡ thread_added prio self.old }
     {
-        // This reads the priority, so that the proof has its range.
-        let _level = prio.get();
         self.state.add_thread(prio)
     }
 
@@ -159,10 +155,9 @@ impl<K: PiKernel + Drop> Parts<K> {
     {
         match self.state.line(t) {
             Line::Idle => None,
-            Line::At(request, _) => Some(with_deadline_if_any(
-                self.state.timer(t).deadline,
-                request,
-            )),
+            Line::At(request, _) => {
+                Some(request.with_deadline_if_any(self.state.timer(t).deadline))
+            }
         }
     }
 
@@ -192,7 +187,7 @@ impl<K: PiKernel + Drop> Parts<K> {
         requires { table_refusal self.old (Event.Begin t request) ≡ None }
         ensures { self.new ≡ begun_table t request self.old }
     {
-        let line = Line::At(plain(request), first_place(&request));
+        let line = Line::At(PlainRequest::of(request), first_place(&request));
         self.state.set_line(t, line);
         self.state.set_timer(t, timer_of(request));
     }
@@ -362,7 +357,7 @@ impl<K: PiKernel + Drop> Parts<K> {
     /// A thread takes one line, which is one of `L`: it lives, and stands at this place of its open call, which is this
     /// request. Whoever owns a mutex after the line and did not before holds it once.
     #[inline(always)]
-    pub fn take<L: Lines>(&mut self, request: Request, place: Place, t: Tid) -> Progress
+    pub fn take<L: Lines>(&mut self, request: PlainRequest, place: Place, t: Tid) -> Progress
         requires living { is_living self.old.kernel t ≡ true }
         requires line { line_at self.old t ≡ Line.At request place }
         requires included { L.include (line_at self.old t) ≡ true }

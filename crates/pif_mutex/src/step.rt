@@ -1,4 +1,5 @@
 ghost use Rattle.std.specs.Prelude.{ℕ, ◌≡◌, true, false};
+ghost use Rattle.pif_types.specs.declared.requests.Request.TheVariants as Request;
 ghost use Rattle.pif_model.specs.PiKernel.{is_living, is_ready};
 ghost use Rattle.pif_model.specs.RobustList.{robust_at, is_listed, IsUnlisted, IsHalfLinkedByNoOther};
 ghost use Rattle.pif_model.specs.Soundness.{is_half_linked};
@@ -12,8 +13,10 @@ use crate::deadlines::reported;
 use crate::progress::Progress;
 use crate::state::State;
 use pif_kernel_calls::PiKernel;
-use pif_model::{GiveStep, Line, LinkStep, Place, Purpose, RepairStep, TakeStep};
-use pif_types::{Errno, MutexId, Request, Tid};
+use pif_model::{
+    GiveStep, Line, LinkStep, Place, Plain, PlainRequest, Purpose, RepairStep, TakeStep,
+};
+use pif_types::{Errno, MutexId, Tid};
 
 /// Which line a step is, by request and place. The lines of a mutex that nobody waits for are inlined here. Each other
 /// line is a function of its own, so that its locals cost the common ones nothing.
@@ -21,32 +24,28 @@ impl<K: PiKernel + Drop> State<K> {
     /// One step of the open call of `t`, which is this request at this place: one on mutexes. A call that is due
     /// expires, and does nothing else.
     #[inline(always)]
-    #[tactic(auto, using(crate::proofs::Locking::unlock_goes, crate::proofs::Locking::try_lock_goes, crate::proofs::Locking::consistent_goes, crate::proofs::Locking::set_prio_goes, crate::proofs::Locking::timed_lock_goes, crate::proofs::Locking::timed_wait_goes))]
-    pub fn go(&mut self, request: Request, place: Place, t: Tid) -> Progress
+    #[tactic(auto, using(crate::proofs::Locking::unlock_goes, crate::proofs::Locking::try_lock_goes, crate::proofs::Locking::consistent_goes, crate::proofs::Locking::set_prio_goes))]
+    pub fn go(&mut self, request: PlainRequest, place: Place, t: Tid) -> Progress
         requires living { is_living self.old.kernel t ≡ true }
         requires call { CallMayStep self.old t request place }
         requires mutexes { is_of_mutexes (Line.At request place) ≡ true }
         ensures { outcome_of result self.new ≡ go_outcome (Line.At request place) t self.old }
     {
-        match request {
-            Request::Lock(m) => self.lock_step(request, place, t, m),
-            Request::TryLock(m) => self.try_lock_step(request, place, t, m),
-            Request::Unlock(m) => self.unlock_step(request, place, t, m),
-            Request::Consistent(m) => self.consistent_step(request, place, t, m),
-            Request::Wait(_, m) => self.wait_step(request, place, t, m),
-            Request::Signal(_) | Request::Broadcast(_) => unreachable!(),
-            Request::SetPrio(other, prio) => self.set_prio_step(place, t, other, prio),
-            // A begun call has no deadline in its request.
-            Request::TimedLock(_, _) | Request::TimedWait(_, _, _) => {
-                self.answer(t, Errno::Invalid.number())
-            }
+        match request.get() {
+            Plain::Lock(m) => self.lock_step(request, place, t, m),
+            Plain::TryLock(m) => self.try_lock_step(request, place, t, m),
+            Plain::Unlock(m) => self.unlock_step(request, place, t, m),
+            Plain::Consistent(m) => self.consistent_step(request, place, t, m),
+            Plain::Wait(_, m) => self.wait_step(request, place, t, m),
+            Plain::Signal(_) | Plain::Broadcast(_) => unreachable!(),
+            Plain::SetPrio(other, prio) => self.set_prio_step(place, t, other, prio),
         }
     }
 
     /// One step of a lock, or its expiry, if it is due. It is due only if it waits.
     #[inline(always)]
     #[tactic(auto, unfolding(pif_model::specs::Lines::line_of), using(crate::proofs::Locking::lock_goes))]
-    fn lock_step(&mut self, request: Request, place: Place, t: Tid, m: MutexId) -> Progress
+    fn lock_step(&mut self, request: PlainRequest, place: Place, t: Tid, m: MutexId) -> Progress
         requires is { request ≡ Request.Lock m }
         requires living { is_living self.old.kernel t ≡ true }
         requires call { CallMayStep self.old t (Request.Lock m) place }
@@ -63,7 +62,7 @@ impl<K: PiKernel + Drop> State<K> {
 
     /// One step of a wait on its mutex. Once it has expired it is answered ETIMEDOUT in place of 0.
     #[inline(never)]
-    fn wait_step(&mut self, request: Request, place: Place, t: Tid, m: MutexId) -> Progress
+    fn wait_step(&mut self, request: PlainRequest, place: Place, t: Tid, m: MutexId) -> Progress
         requires is { (c : ℕ) × (request ≡ Request.Wait c m) }
         requires known { has_thread self.old t ≡ true }
         requires call { CallMayStep self.old t request place }
@@ -78,7 +77,7 @@ impl<K: PiKernel + Drop> State<K> {
     /// One step of a request that may queue for `m`: of a lock from the exchange on, or of a wait.
     #[inline(always)]
     #[tactic(auto, unfolding(pif_model::specs::Lines::locking_line))]
-    fn locking_step(&mut self, request: Request, place: Place, t: Tid, m: MutexId) -> Progress
+    fn locking_step(&mut self, request: PlainRequest, place: Place, t: Tid, m: MutexId) -> Progress
         requires known { has_thread self.old t ≡ true }
         requires mutex { has_mutex self.old m ≡ true }
         requires ready { may_wait_at place ≡ false → is_ready (status_at self.old t) ≡ true }
@@ -100,7 +99,7 @@ impl<K: PiKernel + Drop> State<K> {
     /// One step of a trylock.
     #[inline(never)]
     #[tactic(auto, unfolding(pif_model::specs::Lines::line_of))]
-    fn try_lock_step(&mut self, request: Request, place: Place, t: Tid, m: MutexId) -> Progress
+    fn try_lock_step(&mut self, request: PlainRequest, place: Place, t: Tid, m: MutexId) -> Progress
         requires is { request ≡ Request.TryLock m }
         requires known { has_thread self.old t ≡ true }
         requires call { CallMayStep self.old t (Request.TryLock m) place }
@@ -117,7 +116,7 @@ impl<K: PiKernel + Drop> State<K> {
     /// One step that all requests share which lock `m`: the exchange, taking over and leaving.
     #[inline(always)]
     #[tactic(auto, unfolding(pif_model::specs::Lines::shared_line, pif_model::specs::Lines::giving_line))]
-    fn shared_step(&mut self, request: Request, place: Place, t: Tid, m: MutexId) -> Progress
+    fn shared_step(&mut self, request: PlainRequest, place: Place, t: Tid, m: MutexId) -> Progress
         requires known { has_thread self.old t ≡ true }
         requires mutex { has_mutex self.old m ≡ true }
         requires ready { may_wait_at place ≡ false → is_ready (status_at self.old t) ≡ true }
@@ -140,7 +139,7 @@ impl<K: PiKernel + Drop> State<K> {
     /// One step of taking `m` over.
     #[inline(always)]
     #[tactic(auto, unfolding(pif_model::specs::Lines::take_line))]
-    fn take_step(&mut self, request: Request, step: TakeStep, t: Tid, m: MutexId) -> Progress
+    fn take_step(&mut self, request: PlainRequest, step: TakeStep, t: Tid, m: MutexId) -> Progress
         requires known { has_thread self.old t ≡ true }
         requires mutex { has_mutex self.old m ≡ true }
         ensures { outcome_of result self.new ≡ take_line request step t m self.old }
@@ -156,7 +155,7 @@ impl<K: PiKernel + Drop> State<K> {
     /// One step of giving `m` up, or of clearing the pending field.
     #[inline(always)]
     #[tactic(auto, unfolding(pif_model::specs::Lines::giving_line))]
-    fn giving_step(&mut self, request: Request, place: Place, t: Tid, m: MutexId) -> Progress
+    fn giving_step(&mut self, request: PlainRequest, place: Place, t: Tid, m: MutexId) -> Progress
         requires known { has_thread self.old t ≡ true }
         requires mutex { has_mutex self.old m ≡ true }
         requires ready { may_wait_at place ≡ false → is_ready (status_at self.old t) ≡ true }
@@ -172,7 +171,13 @@ impl<K: PiKernel + Drop> State<K> {
 
     /// The same in a function of its own, for calls other than an unlock.
     #[inline(never)]
-    fn giving_step_apart(&mut self, request: Request, place: Place, t: Tid, m: MutexId) -> Progress
+    fn giving_step_apart(
+        &mut self,
+        request: PlainRequest,
+        place: Place,
+        t: Tid,
+        m: MutexId,
+    ) -> Progress
         requires known { has_thread self.old t ≡ true }
         requires mutex { has_mutex self.old m ≡ true }
         requires ready { may_wait_at place ≡ false → is_ready (status_at self.old t) ≡ true }
@@ -187,7 +192,7 @@ impl<K: PiKernel + Drop> State<K> {
     #[tactic(auto, unfolding(pif_model::specs::Lines::give_line))]
     fn give_step(
         &mut self,
-        request: Request,
+        request: PlainRequest,
         step: GiveStep,
         purpose: Purpose,
         t: Tid,
@@ -215,7 +220,7 @@ impl<K: PiKernel + Drop> State<K> {
     /// One step of an unlock.
     #[inline(always)]
     #[tactic(auto, unfolding(pif_model::specs::Lines::line_of))]
-    fn unlock_step(&mut self, request: Request, place: Place, t: Tid, m: MutexId) -> Progress
+    fn unlock_step(&mut self, request: PlainRequest, place: Place, t: Tid, m: MutexId) -> Progress
         requires is { request ≡ Request.Unlock m }
         requires known { has_thread self.old t ≡ true }
         requires call { CallMayStep self.old t (Request.Unlock m) place }
@@ -231,7 +236,13 @@ impl<K: PiKernel + Drop> State<K> {
     #[cold]
     #[inline(never)]
     #[tactic(auto, unfolding(pif_model::specs::Lines::line_of, pif_model::specs::Lines::repair_line))]
-    fn consistent_step(&mut self, request: Request, place: Place, t: Tid, m: MutexId) -> Progress
+    fn consistent_step(
+        &mut self,
+        request: PlainRequest,
+        place: Place,
+        t: Tid,
+        m: MutexId,
+    ) -> Progress
         requires is { request ≡ Request.Consistent m }
         requires known { has_thread self.old t ≡ true }
         requires call { CallMayStep self.old t (Request.Consistent m) place }

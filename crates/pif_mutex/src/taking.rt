@@ -7,8 +7,8 @@ ghost use Rattle.pif_mutex.specs.Outcomes.{outcome_of};
 use crate::progress::Progress;
 use crate::state::State;
 use pif_kernel_calls::PiKernel;
-use pif_model::{GiveStep, LinkStep, Place, Purpose, TakeStep};
-use pif_types::{Errno, Health, MutexId, Request, Tid};
+use pif_model::{GiveStep, LinkStep, Place, PlainRequest, Purpose, TakeStep};
+use pif_types::{Errno, Health, MutexId, Tid};
 use pif_word::owner_died;
 
 /// The most often that an owner holds a recursive mutex.
@@ -35,7 +35,7 @@ impl<K: PiKernel + Drop> State<K> {
     /// Compare-exchange of the word from 0 to the number of the thread. Done, a stalled mutex is answered, and of a
     /// robust one the health word is next. If it fails, the request goes on with its kernel call.
     #[inline(always)]
-    pub fn own_exchange(&mut self, request: Request, t: Tid, m: MutexId) -> Progress
+    pub fn own_exchange(&mut self, request: PlainRequest, t: Tid, m: MutexId) -> Progress
         requires known { has_thread self.old t ≡ true }
         requires mutex { has_mutex self.old m ≡ true }
         ensures { outcome_of result self.new ≡ own_exchange request t m self.old }
@@ -52,7 +52,7 @@ impl<K: PiKernel + Drop> State<K> {
     #[cold]
     #[inline(never)]
     #[tactic(auto, unfolding(pif_model::specs::Lines::take_load))]
-    pub(crate) fn take_load(&mut self, request: Request, t: Tid, m: MutexId) -> Progress
+    pub(crate) fn take_load(&mut self, request: PlainRequest, t: Tid, m: MutexId) -> Progress
         requires known { has_thread self.old t ≡ true }
         requires mutex { has_mutex self.old m ≡ true }
         ensures { outcome_of result self.new ≡ take_load request t m self.old }
@@ -67,7 +67,7 @@ impl<K: PiKernel + Drop> State<K> {
     #[tactic(auto, unfolding(pif_model::specs::Lines::take_health))]
     pub(crate) fn take_health(
         &mut self,
-        request: Request,
+        request: PlainRequest,
         died: bool,
         t: Tid,
         m: MutexId,
@@ -89,7 +89,7 @@ impl<K: PiKernel + Drop> State<K> {
     #[cold]
     #[inline(never)]
     #[tactic(auto, unfolding(pif_model::specs::Lines::take_line))]
-    pub(crate) fn take_store(&mut self, request: Request, t: Tid, m: MutexId) -> Progress
+    pub(crate) fn take_store(&mut self, request: PlainRequest, t: Tid, m: MutexId) -> Progress
         requires known { has_thread self.old t ≡ true }
         requires mutex { has_mutex self.old m ≡ true }
         ensures { outcome_of result self.new ≡ take_line request TakeStep.StoreInconsistent t m self.old }
@@ -102,7 +102,7 @@ impl<K: PiKernel + Drop> State<K> {
     #[cold]
     #[inline(never)]
     #[tactic(auto, unfolding(pif_model::specs::Lines::take_line))]
-    pub(crate) fn take_word(&mut self, request: Request, t: Tid, m: MutexId) -> Progress
+    pub(crate) fn take_word(&mut self, request: PlainRequest, t: Tid, m: MutexId) -> Progress
         requires known { has_thread self.old t ≡ true }
         requires mutex { has_mutex self.old m ≡ true }
         ensures { outcome_of result self.new ≡ take_line request TakeStep.ClearDied t m self.old }

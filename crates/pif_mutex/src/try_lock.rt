@@ -1,4 +1,5 @@
 ghost use Rattle.std.specs.Prelude.{◌≡◌, true};
+ghost use Rattle.pif_types.specs.declared.requests.Request.TheVariants as Request;
 ghost use Rattle.pif_model.specs.PiKernel.{is_ready};
 ghost use Rattle.pif_model.specs.Table.{has_thread, has_mutex, status_at};
 ghost use Rattle.pif_model.specs.Lines.{try_load, try_kernel};
@@ -8,15 +9,15 @@ use crate::kinds::relock_of;
 use crate::progress::Progress;
 use crate::state::State;
 use pif_kernel_calls::PiKernel;
-use pif_model::{Footing, Place, Relock, TakeStep};
-use pif_types::{Errno, MutexId, Request, Tid};
+use pif_model::{Footing, Place, PlainRequest, Relock, TakeStep};
+use pif_types::{Errno, MutexId, Tid};
 use pif_word::number;
 
 /// The lines of a trylock, but for its exchange.
 impl<K: PiKernel + Drop> State<K> {
     /// Loads the word. The owner holds the mutex once more, if a lock by it counts, and else is answered EBUSY.
     #[tactic(auto, unfolding(pif_model::specs::Lines::try_load))]
-    pub(crate) fn try_load(&mut self, request: Request, t: Tid, m: MutexId) -> Progress
+    pub(crate) fn try_load(&mut self, request: PlainRequest, t: Tid, m: MutexId) -> Progress
         requires is { request ≡ Request.TryLock m }
         requires known { has_thread self.old t ≡ true }
         requires mutex { has_mutex self.old m ≡ true }
@@ -36,7 +37,7 @@ impl<K: PiKernel + Drop> State<K> {
     #[cold]
     #[inline(never)]
     #[tactic(auto, unfolding(pif_model::specs::Lines::try_kernel, pif_model::specs::Lines::try_by))]
-    pub(crate) fn try_kernel(&mut self, request: Request, t: Tid, m: MutexId) -> Progress
+    pub(crate) fn try_kernel(&mut self, request: PlainRequest, t: Tid, m: MutexId) -> Progress
         requires is { request ≡ Request.TryLock m }
         requires known { has_thread self.old t ≡ true }
         requires mutex { has_mutex self.old m ≡ true }

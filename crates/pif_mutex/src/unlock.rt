@@ -1,4 +1,5 @@
 ghost use Rattle.std.specs.Prelude.{◌≡◌, true};
+ghost use Rattle.pif_types.specs.declared.requests.Request.TheVariants as Request;
 ghost use Rattle.pif_model.specs.Table.{has_thread, has_mutex};
 ghost use Rattle.pif_model.specs.Lines.{unlock_load};
 ghost use Rattle.pif_mutex.specs.Outcomes.{outcome_of};
@@ -6,8 +7,8 @@ ghost use Rattle.pif_mutex.specs.Outcomes.{outcome_of};
 use crate::progress::Progress;
 use crate::state::State;
 use pif_kernel_calls::PiKernel;
-use pif_model::{GiveStep, Place, Purpose};
-use pif_types::{Errno, MutexId, Request, Tid};
+use pif_model::{GiveStep, Place, PlainRequest, Purpose};
+use pif_types::{Errno, MutexId, Tid};
 use pif_word::number;
 
 /// The line of an unlock that is its own: the load.
@@ -16,7 +17,7 @@ impl<K: PiKernel + Drop> State<K> {
     /// less.
     #[inline(always)]
     #[tactic(auto, unfolding(pif_model::specs::Lines::unlock_load))]
-    pub(crate) fn unlock_load(&mut self, request: Request, t: Tid, m: MutexId) -> Progress
+    pub(crate) fn unlock_load(&mut self, request: PlainRequest, t: Tid, m: MutexId) -> Progress
         requires is { request ≡ Request.Unlock m }
         requires known { has_thread self.old t ≡ true }
         requires mutex { has_mutex self.old m ≡ true }

@@ -10,7 +10,7 @@ ghost use Rattle.pif_model.specs.Posix.{names_known};
 use crate::seen::{cond, mutex, priority, thread};
 use pif_chains_linked::LinkedChains;
 use pif_kernel::{Chains, KernelOn, PiKernel, Status};
-use pif_model::Line;
+use pif_model::{Line, Plain};
 use pif_mutex::{Parts, Progress};
 use pif_plain::PlainChains;
 use pif_types::{Kind, Limits, MutexId, Prio, Request, Tid};
@@ -111,10 +111,13 @@ fn go<K: PiKernel + Drop>(parts: &mut Parts<K>, t: Tid) -> Option<Progress> {
         return None;
     }
     match parts.line(t) {
-        Line::At(Request::Wait(_, _) | Request::Signal(_) | Request::Broadcast(_), _) => {
-            Some(pif_cond::advance(parts, t))
-        }
-        _ => Some(pif_mutex::advance(parts, t)),
+        Line::At(request, _) => match request.get() {
+            Plain::Wait(_, _) | Plain::Signal(_) | Plain::Broadcast(_) => {
+                Some(pif_cond::advance(parts, t))
+            }
+            _ => Some(pif_mutex::advance(parts, t)),
+        },
+        Line::Idle => None,
     }
 }
 

@@ -1,5 +1,5 @@
 -- A new thread leaves the parts sound.
-use Rattle.std.proofs.Common.{ap, ◌∙◌}
+use Rattle.std.proofs.Common.{ap, ◌∙◌, rules}
 use Rattle.pif_model.specs.Table.{Table, has_thread_room}
 use Rattle.pif_model_simulation.proofs.additions.ThreadAdded.{thread_added_sound}
 use Rattle.pif_model_simulation.proofs.events.SoundTables.{priority}
@@ -11,5 +11,4 @@ invariant_of-self g c =
     rw c.add_thread.ensures.after
     (thread_added_sound s c.args.prio c.self.invariant
     (ap (λ (x : Table). has_thread_room x) c.self.view_is ∙ c.requires)
-    (priority c.args.prio (rw (← c.get-level.ensures.value) c.get-level.ensures.low)
-    (rw (← c.get-level.ensures.value) c.get-level.ensures.high)))
+    (priority c.args.prio (search rules) (search rules)))

@@ -12,5 +12,5 @@ invariant_of-self g c =
     let q = c.args.request in
     let allowed : table_refusal s (Begin c.args.t q) ≡ None = ap (λ (x : Table). table_refusal x (Begin c.args.t q))
     c.self.view_is ∙ c.requires in
-    rw (c.set_timer.ensures, c.timer_of.ensures, c.set_line.ensures.after, c.plain.ensures, c.first_place.ensures)
+    rw (c.set_timer.ensures, c.timer_of.ensures, c.set_line.ensures.after, c.of.ensures, c.first_place.ensures)
     (begin_sound s c.args.t q c.self.invariant allowed)
