@@ -197,12 +197,12 @@ DidFile job name held holds errors_held errors_hold status =
     × Did job name before after held holds errors_held errors_hold status)
     ⊎ ((status ≡ 3) × Keeps held holds × TellsLine errors_held errors_hold)
 
--- the answers of the story in the file of this name were written into it, of whose bytes nothing is known; or it has a
--- fault, and that is told as of a story that is filled in; or it stays as it is for another reason, of which the errors
--- are told
+-- the answers of the story in the file of this name were written into it, of whose bytes nothing is known, and the
+-- errors may be told of those that were replaced; or it has a fault, and that is told as of a story that is filled in;
+-- or it stays as it is for another reason, of which the errors are told
 abbrev pub RewroteFile : (name : Text) → (held holds errors_held errors_hold : Option (List ℕ)) → ℕ → Type 0
 RewroteFile name held holds errors_held errors_hold status =
-    ((status ≡ 0) × Keeps held holds × Keeps errors_held errors_hold)
+    ((status ≡ 0) × Keeps held holds × (Keeps errors_held errors_hold ⊎ TellsLine errors_held errors_hold))
     ⊎ (((before : Option (List ℕ)) × (after : Option (List ℕ))
     × Did Fill name before after held holds errors_held errors_hold status)
     ⊎ (((status ≡ 3) ⊎ (status ≡ 4)) × Keeps held holds × TellsLine errors_held errors_hold))

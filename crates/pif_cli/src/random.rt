@@ -3,13 +3,12 @@ ghost use Rattle.pif_cli.specs.Random.{WritesRandom};
 
 use pif_cli_messages::JobFault;
 use pif_cli_words::Recipe;
-use pif_job_random::random_script;
-use pif_script::{CliFault, write_whole};
+use pif_job_random::write_random_script;
 use pif_script_model::WatchSteps;
 use std::alloc::Global;
 use std::io::Write;
 
-/// `pif random`: writes the random script of a recipe, once all of it is made. `watch` is told of each line.
+/// `pif random`: writes the random script of a recipe, each line once it is made. `watch` is told of each line.
 ///
 /// # Errors
 ///
@@ -22,11 +21,15 @@ pub fn write_random<W: Write, V: WatchSteps>(
 ) -> Result<(), JobFault>
     ensures { WritesRandom recipe.lines (W.contents output.old) (W.contents output.new) result }
 {
-    let Ok(script) = random_script(alloc, recipe.seed, recipe.lines, recipe.shape, watch) else {
-        return Err(JobFault::Cli(CliFault::NoMemory));
-    };
-    match write_whole(output, script.as_slice()) {
+    match write_random_script(
+        alloc,
+        recipe.seed,
+        recipe.lines,
+        recipe.shape,
+        output,
+        watch,
+    ) {
         Ok(()) => Ok(()),
-        Err(_) => Err(JobFault::Cli(CliFault::Write)),
+        Err(fault) => Err(JobFault::Cli(fault)),
     }
 }

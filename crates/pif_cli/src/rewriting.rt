@@ -8,12 +8,13 @@ use crate::hosts::{Host, Runtime};
 use crate::making::{mode_of, replace_file};
 use crate::names::Name;
 use crate::words::do_and_tell;
-use pif_cli_messages::{Input, Unwritten, WatchJob, unwritten_message, words_of};
+use pif_cli_messages::{Input, Replaced, Unwritten, WatchJob, unwritten_message, words_of};
 use pif_cli_words::Job;
 use pif_job_check::fill;
 use pif_job_shell::{SaveFault, Shelf};
 use pif_script::{CliFault, read_all};
-use std::alloc::Global;
+use pif_story::{plain_story, row_of, split_line};
+use std::alloc::{AllocError, Global};
 use std::fs;
 use std::fs::Permissions;
 use std::io::Write;
@@ -29,6 +30,9 @@ fn read_story<P: Files>(process: &P, alloc: Global, name: &str) -> Result<Stored
         Ok(None) => return Err(Unwritten::NoPlainFile),
         Err(error) => return Err(Unwritten::Unread(words_of(error.kind()))),
     };
+    if mode.readonly() {
+        return Err(Unwritten::ReadOnly);
+    }
     let mut file = match fs::open(process, name) {
         Ok(file) => file,
         Err(error) => return Err(Unwritten::Unread(words_of(error.kind()))),
@@ -63,6 +67,32 @@ fn filled(alloc: Global, name: &str, story: &[u8]) -> Result<Option<Vec<u8>>, Un
     }
 }
 
+/// Whether two lines with nothing but their words have answers, and not the same.
+fn is_replaced(line: &[u8], other: &[u8]) -> bool {
+    match (row_of(line), row_of(other)) {
+        (Some((_, Some(before))), Some((_, Some(after)))) => before != after,
+        _ => false,
+    }
+}
+
+/// The lines of a story that have another answer in this text, which has as many lines.
+fn replaced_in(alloc: Global, story: &[u8], text: &[u8]) -> Result<Replaced, AllocError> {
+    let before = plain_story(alloc, story)?;
+    let after = plain_story(alloc, text)?;
+    let mut replaced = Replaced::nothing();
+    let mut rest = Some(after.as_slice());
+    let mut number = 1u64;
+    for line in before.as_slice().split(|byte| *byte == b'\n') {
+        let (other, behind) = split_line(rest.unwrap_or(b""));
+        rest = behind;
+        if is_replaced(line, other) {
+            replaced.add(number);
+        }
+        number = number.saturating_add(1);
+    }
+    Ok(replaced)
+}
+
 /// Writes a text into the file of this name and mode in place of this story, if they differ.
 fn put_in_place<P: Files>(
     process: &P,
@@ -83,23 +113,63 @@ fn put_in_place<P: Files>(
     }
 }
 
-/// Tells of what was done with the file of this name. Answers the status.
-fn tell_written<E: Write>(name: &str, done: Result<(), Unwritten>, errors: &mut E) -> u8
-    ensures { ((result ≡ 0) × Keeps (E.contents errors.old) (E.contents errors.new))
+/// Tells `errors` which answers were replaced in the file of this name, if some were.
+fn tell_replaced<E: Write>(name: &str, replaced: &Replaced, errors: &mut E)
+    ensures { Keeps (E.contents errors.old) (E.contents errors.new) ⊎ TellsLine (E.contents errors.old) (E.contents errors.new) }
+{
+    if let Some(message) = replaced.message(name) {
+        message.tell(errors);
+    }
+}
+
+/// Tells of what was done with the file of this name, in which these answers were to be replaced. Answers the status.
+fn tell_written<E: Write>(
+    name: &str,
+    done: Result<(), Unwritten>,
+    replaced: &Replaced,
+    errors: &mut E,
+) -> u8
+    ensures { ((result ≡ 0) × (Keeps (E.contents errors.old) (E.contents errors.new)
+        ⊎ TellsLine (E.contents errors.old) (E.contents errors.new)))
         ⊎ (((result ≡ 3) ⊎ (result ≡ 4)) × TellsLine (E.contents errors.old) (E.contents errors.new)) }
 {
     match done {
-        Ok(()) => 0,
+        Ok(()) => {
+            tell_replaced(name, replaced, errors);
+            0
+        }
         Err(why) => tell_unwritten(name, why, errors),
     }
 }
 
+/// Writes the text of a story with its answers into the file of this name in place of the story, and tells `errors` of
+/// it. Answers the status.
+fn write_and_tell<P: Files, E: Write>(
+    process: &P,
+    alloc: Global,
+    name: &str,
+    stored: Stored,
+    text: &[u8],
+    errors: &mut E,
+) -> u8
+    ensures { ((result ≡ 0) × (Keeps (E.contents errors.old) (E.contents errors.new)
+        ⊎ TellsLine (E.contents errors.old) (E.contents errors.new)))
+        ⊎ (((result ≡ 3) ⊎ (result ≡ 4)) × TellsLine (E.contents errors.old) (E.contents errors.new)) }
+{
+    let Ok(replaced) = replaced_in(alloc, stored.0.as_slice(), text) else {
+        return tell_unwritten(name, Unwritten::NoMemory, errors);
+    };
+    let done = put_in_place(process, alloc, name, stored, text);
+    tell_written(name, done, &replaced, errors)
+}
+
 /// Writes the answers of the story in the plain file of this name into it: a new file beside it, whose name ends in
-/// `.new`, gets the story with its answers and the file's mode, and takes its place. Answers the status.
+/// `.new`, gets the story with its answers and the file's mode, and takes its place. Answers the status. The errors are
+/// told in one line in which lines an answer took the place of another one, if it is so.
 ///
 /// The file stays as it is if the story has a fault, which is told as `check --print` tells it; and if it is no plain
-/// file, can't be read, or can't be written, of which the errors are told in one line. It is not written if the answers
-/// are there.
+/// file, is read-only, can't be read, or can't be written, of which the errors are told in one line. It is not written
+/// if the answers are there.
 pub fn rewrite_file<P: Files + Runtime + Sync, S: Shelf, W: Write, E: Write, V: WatchJob>(
     name: &Name<'_>,
     host: &mut Host<P, S, W, E, V>,
@@ -116,8 +186,7 @@ pub fn rewrite_file<P: Files + Runtime + Sync, S: Shelf, W: Write, E: Write, V: 
     };
     match filled(alloc, given, stored.0.as_slice()) {
         Ok(Some(text)) => {
-            let done = put_in_place(process, alloc, given, stored, text.as_slice());
-            tell_written(given, done, host.errors)
+            write_and_tell(process, alloc, given, stored, text.as_slice(), host.errors)
         }
         Ok(None) => {
             let mut input = Input::new(stored.0.as_slice());

@@ -20,6 +20,8 @@ pub enum Unwritten {
     NoPlainFile,
     /// It can't be read, for this reason in the system's words, if there are such.
     Unread(Option<&'static str>),
+    /// Nobody may write it.
+    ReadOnly,
     /// The new file beside it is there already.
     Taken,
     /// The new file can't be made or written, or can't take its place, for this reason likewise.
@@ -112,7 +114,12 @@ impl<'n, 's> Given<'n, 's> {
             (Job::Replay | Job::Migrate, Cause::Command) => {
                 no_traced(&place, number, notice, &mut message)
             }
-            (Job::Run, Cause::Command) => no_command(&place, notice.line(), &mut message),
+            (Job::Run, Cause::Command) => no_script(&place, notice.line(), &mut message),
+            (Job::Run, Cause::Cut) => {
+                let line = notice.line();
+                let column = column_of(MOST_LINE, cause, line);
+                say_line_of_story(&place, column, cause_words(cause), line, &mut message)
+            }
             (_, Cause::Command) => no_row(&place, notice.line(), &mut message),
             (Job::Draw(_), Cause::Size) => {
                 say_line(&place, 1, size_of_drawing(self.story()), b"", &mut message)
@@ -150,6 +157,9 @@ impl<'n, 's> Given<'n, 's> {
                     _ => history_error(line),
                 };
                 say_wrong_line(place, kind, syntax_error, line, message)
+            }
+            (Cause::Long, _, Some(line)) if is_of_program(line, kind) => {
+                say_other_kind(place, TextKind::Program, kind, line, message)
             }
             _ => {
                 let column = column_of(most_bytes(kind), cause, b"");
@@ -196,6 +206,7 @@ pub fn unwritten_message(name: &str, why: Unwritten) -> Message {
         Unwritten::Unread(why) => unread_message(name, why),
         Unwritten::NoMemory => plain_message(CliFault::NoMemory),
         Unwritten::NoPlainFile => file_message(name, "is no plain file"),
+        Unwritten::ReadOnly => file_message(name, "is read-only"),
         Unwritten::Taken => {
             let words = "stays as it is, since there is a file of its name with '.new' after it";
             file_message(name, words)
@@ -205,7 +216,7 @@ pub fn unwritten_message(name: &str, why: Unwritten) -> Message {
 }
 
 /// What is told of the file of this name by these words. A name without a letter stands in quotes.
-fn file_message(name: &str, words: &str) -> Message {
+pub(crate) fn file_message(name: &str, words: &str) -> Message {
     let mut message = Message::new();
     if name.is_empty() {
         message.say("''");
@@ -252,6 +263,25 @@ fn say_line(place: &Place<'_, '_>, column: usize, words: &str, line: &[u8], mess
     place.say(column, message);
     message.say(words);
     show_line(line, message);
+}
+
+/// Says of a column of a line of a script these words, that a story may have such a line, and its text.
+fn say_line_of_story(
+    place: &Place<'_, '_>,
+    column: usize,
+    words: &str,
+    line: &[u8],
+    message: &mut Message,
+) {
+    place.say(column, message);
+    message.say(words);
+    message.say("; 'pif check' takes the file as a story");
+    show_line(line, message);
+}
+
+/// Whether a line that is too long for a text of this kind is one of a program, whose lines may be longer.
+fn is_of_program(line: &[u8], kind: TextKind) -> bool {
+    kind != TextKind::Program && other_kind(line, kind) == Some(TextKind::Program)
 }
 
 /// How many bytes a line of a text of this kind has at most.
@@ -407,6 +437,25 @@ fn wrong_mark(line: &[u8]) -> Option<&'static str> {
         Some("an answer stands after ' = ', with a blank on both sides of '='")
     } else {
         None
+    }
+}
+
+/// Whether what is wrong with a line of a script is right in a story.
+fn is_right_in_story(wrong: Wrong) -> bool {
+    match wrong {
+        Wrong::Empty | Wrong::CarriageReturn | Wrong::Comment => true,
+        _ => false,
+    }
+}
+
+/// Says why a line that is run is no command, and of one that a story may have which command takes stories.
+fn no_script(place: &Place<'_, '_>, line: &[u8], message: &mut Message) {
+    match read_command(line) {
+        Err(syntax_error) if is_right_in_story(syntax_error.wrong) => {
+            let (column, words) = (syntax_error.column, syntax_error.wrong.words());
+            say_line_of_story(place, column, words, line, message)
+        }
+        _ => no_command(place, line, message),
     }
 }
 

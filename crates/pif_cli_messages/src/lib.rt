@@ -6,6 +6,7 @@
 //! | `messages` | a line for the standard error |
 //! | `places` | where in an input a fault stands |
 //! | `causes` | what a person is told of a fault |
+//! | `replaced` | which answers of a story were replaced |
 //! | `statuses` | faults of jobs, and their statuses |
 //! | `streams` | what jobs read and write, and why that has failed |
 //! | `progress` | how far a job has come |
@@ -15,11 +16,13 @@ mod causes;
 mod messages;
 mod places;
 mod progress;
+mod replaced;
 mod statuses;
 mod streams;
 
 pub use causes::{Given, Unwritten, plain_message, unread_message, unwritten_message};
 pub use messages::Message;
 pub use progress::{Progress, Unwatched, WatchFiles, WatchJob};
+pub use replaced::Replaced;
 pub use statuses::{JobFault, fault_status, is_output, job_fault_status};
 pub use streams::{Input, Keeps, Kept, Output, words_of};

@@ -4,11 +4,13 @@
 #![tactic(auto)]
 
 mod laws;
+mod marks;
 mod player;
+mod rings;
 mod scripts;
 mod shapes;
 mod written;
 
 pub use laws::commands_have_no_fault;
-pub use scripts::random_script;
+pub use scripts::write_random_script;
 pub use shapes::Shape;

@@ -2,6 +2,7 @@ ghost use Rattle.std.specs.Prelude.{◌≤◌};
 ghost use Rattle.pif_script_model.specs.CommandLines.{IsNoLimits};
 
 use crate::Shape;
+use crate::marks::{Marks, is_orphaned};
 use pif_core::{Core, Event, Seen, Status};
 use pif_text::{Addition, Command, Question, default_limits};
 use pif_types::{CondId, Health, Kind, MutexId, NoMemory, Request, Tid};
@@ -12,21 +13,25 @@ use std::alloc::Global;
 /// The stream of the random words; only the seed differs from script to script.
 const STREAM: u64 = 54;
 
-/// How far a chain of waiting is followed.
-const MOST_HOPS: u32 = 16;
-
-/// The mutex on which a thread of this status is queued.
-fn mutex_of(status: Status) -> Option<MutexId> {
-    match status {
-        Status::Queued(mutex) => Some(mutex),
-        _ => None,
-    }
+/// What a thread does next to a core by its open call, as far as others may have to do with it.
+#[derive(Clone, Copy)]
+struct Turn {
+    thread: Tid,
+    /// The mutex of the call.
+    mutex: Option<MutexId>,
+    /// Who would get that mutex next.
+    waiter: Option<Tid>,
+    /// Whether the call may wake threads that are parked on its condition variable.
+    wakes: bool,
+    /// Whether chains of waiting may lead elsewhere then.
+    changes: bool,
 }
 
 /// A core that plays a script while it is made, and what is left to chance.
 #[derive(Drop)]
 pub struct Player {
     core: Core,
+    marks: Marks,
     random: Pcg32,
     shape: Shape,
     // How many are to be added: more than at first once some threads have ended, or some mutexes are of no use any
@@ -41,6 +46,7 @@ impl Player {
     pub fn new(alloc: Global, seed: u64, shape: Shape) -> Result<Player, NoMemory> {
         Ok(Player {
             core: Core::new(alloc, default_limits())?,
+            marks: Marks::new(alloc)?,
             random: Pcg32::new(seed, STREAM),
             shape,
             threads: shape.threads,
@@ -72,92 +78,138 @@ impl Player {
     fn add(&mut self, addition: Addition) {
         match addition {
             Addition::Thread(priority) => {
-                let _added = self.core.add_thread(priority);
+                if let Ok(thread) = self.core.add_thread(priority) {
+                    self.marks.see_thread(&self.core, thread);
+                }
             }
             Addition::Mutex(kind, robust) => {
-                let _added = self.core.add_mutex(kind, robust);
+                if let Ok(mutex) = self.core.add_mutex(kind, robust) {
+                    self.marks.add_mutex(mutex);
+                }
             }
             Addition::Cond(mutex) => {
                 let _added = self.core.add_cond(mutex);
+                self.marks.expire();
             }
         }
     }
 
     fn run(&mut self, thread: Tid, request: Option<Request>) {
-        let _seen = match request {
+        // For the prover: each use has a value of its own.
+        let asked = request;
+        let turn = self.turn_before(thread, asked);
+        let seen = match request {
             Some(request) => self.core.call(thread, request),
             None => self.core.finish(thread),
         };
+        self.see_turn(turn, seen);
     }
 
     // Another thread follows one that has ended.
     fn step(&mut self, event: Event) {
-        if let Seen::Ended = self.core.step(event) {
-            self.threads = self.threads.saturating_add(1);
+        match event {
+            // A thread that begins a call touches nothing yet.
+            Event::Begin(thread, request) => {
+                let _seen = self.core.step(Event::Begin(thread, request));
+            }
+            Event::Go(thread) => {
+                let turn = self.turn_before(thread, None);
+                let seen = self.core.step(Event::Go(thread));
+                self.see_turn(turn, seen);
+            }
+            Event::End(thread) => {
+                if let Seen::Ended = self.core.step(Event::End(thread)) {
+                    self.threads = self.threads.saturating_add(1);
+                    self.see_all();
+                }
+            }
+            Event::Tick(time) => {
+                let _seen = self.core.step(Event::Tick(time));
+                self.marks.see_threads(&self.core);
+            }
+        }
+    }
+
+    // Any thread may go on, and any mutex have another owner.
+    fn see_all(&mut self) {
+        self.marks.see_threads(&self.core);
+        self.marks.see_owners(&self.core);
+        self.marks.expire();
+    }
+
+    // What a thread is about to do, by this call, or else by the one that it has open.
+    fn turn_before(&self, thread: Tid, request: Option<Request>) -> Turn {
+        let asked = match request {
+            Some(request) => Some(request),
+            None => self.core.open_call(thread),
+        };
+        let wakes = self.wakes(&asked);
+        let mutex = match asked {
+            Some(request) => request.names().mutex,
+            None => None,
+        };
+        Turn {
+            thread,
+            mutex,
+            waiter: self.next_owner(&mutex),
+            wakes,
+            changes: wakes || !self.is_ready(thread) || self.is_unusable(&mutex),
+        }
+    }
+
+    // Whether a call may wake threads.
+    fn wakes(&self, request: &Option<Request>) -> bool {
+        match *request {
+            Some(Request::Signal(cond) | Request::Broadcast(cond)) => {
+                self.core.parked(cond, 0).is_some()
+            }
+            _ => false,
+        }
+    }
+
+    fn next_owner(&self, mutex: &Option<MutexId>) -> Option<Tid> {
+        match *mutex {
+            Some(mutex) => self.core.waiter(mutex, 0),
+            None => None,
+        }
+    }
+
+    fn is_ready(&self, thread: Tid) -> bool {
+        match self.core.status(thread) {
+            Some(Status::Ready(_)) => true,
+            _ => false,
+        }
+    }
+
+    fn is_unusable(&self, mutex: &Option<MutexId>) -> bool {
+        match *mutex {
+            Some(mutex) => self.core.health(mutex) == Some(Health::Unusable),
+            None => false,
+        }
+    }
+
+    // What has become of the core by what a thread did.
+    fn see_turn(&mut self, turn: Turn, seen: Seen) {
+        if turn.wakes {
+            self.see_all();
+        }
+        self.marks.see_thread(&self.core, turn.thread);
+        if let Some(thread) = turn.waiter {
+            self.marks.see_thread(&self.core, thread);
+        }
+        if turn.changes || seen == Seen::Waits || self.is_unusable(&turn.mutex) {
+            self.marks.expire();
+        }
+        if let Some(mutex) = turn.mutex {
+            self.marks.see_owner(&self.core, mutex);
         }
     }
 
     // Has as many mutexes and condition variables added as at first, besides those that are of no use any more.
     fn count_lost(&mut self) {
-        self.mutexes = self.shape.mutexes.saturating_add(self.lost_mutexes());
-        self.conds = self.shape.conds.saturating_add(self.lost_conds());
-    }
-
-    fn lost_mutexes(&self) -> u32 {
-        let mut lost = 0u32;
-        for number in 1..=self.core.mutexes() {
-            if self.is_orphaned(MutexId::new(number)) {
-                lost = lost.saturating_add(1);
-            }
-        }
-        lost
-    }
-
-    // How many condition variables are bound to mutexes that are of no use any more.
-    fn lost_conds(&self) -> u32 {
-        let mut lost = 0u32;
-        for number in 1..=self.core.conds() {
-            if self.is_orphaned(self.mutex_of(number)) {
-                lost = lost.saturating_add(1);
-            }
-        }
-        lost
-    }
-
-    // The mutex to which the condition variable of this number is bound.
-    fn mutex_of(&self, number: u32) -> Option<MutexId> {
-        self.core.bound(CondId::new(number)?)
-    }
-
-    // Whether a mutex is of no use any more: it is unusable, or the chain from it leads to a thread that never goes on.
-    fn is_orphaned(&self, mutex: Option<MutexId>) -> bool {
-        let mut next = mutex;
-        for _hop in 0..MOST_HOPS {
-            match next {
-                Some(mutex) if self.is_left(mutex) => return true,
-                Some(mutex) => next = self.waited_for(mutex),
-                None => return false,
-            }
-        }
-        false
-    }
-
-    // Whether a mutex is unusable, or has an owner that never gives it up.
-    fn is_left(&self, mutex: MutexId) -> bool {
-        match (self.core.kind(mutex), self.core.owner(mutex)) {
-            (Some((_, robust)), Some((owner, _))) => match self.core.status(owner) {
-                Some(Status::Ended) => !robust,
-                Some(Status::Stopped) => true,
-                _ => false,
-            },
-            _ => self.core.health(mutex) == Some(Health::Unusable),
-        }
-    }
-
-    // The mutex for which the owner of a mutex waits.
-    fn waited_for(&self, mutex: MutexId) -> Option<MutexId> {
-        let (owner, _count) = self.core.owner(mutex)?;
-        mutex_of(self.core.status(owner)?)
+        let (mutexes, conds) = self.marks.lost(&self.core);
+        self.mutexes = self.shape.mutexes.saturating_add(mutexes);
+        self.conds = self.shape.conds.saturating_add(conds);
     }
 
     // What is still to be added, as far as the limits allow.
@@ -327,29 +379,21 @@ impl Player {
     fn thread(&mut self) -> Option<Tid> {
         let threads = self.core.threads();
         let start = self.below(threads);
-        for i in 0..threads {
-            let thread = Tid::new(turned(start, i, threads))?;
-            if self.core.effective(thread).is_some() && self.core.waiting(thread) != Some(true) {
-                return Some(thread);
+        match self.marks.awake_from(start, threads) {
+            Some(place) => Tid::new(place.saturating_add(1)),
+            None => {
+                self.threads = self.threads.saturating_add(1);
+                Tid::new(start.saturating_add(1))
             }
         }
-        self.threads = self.threads.saturating_add(1);
-        Tid::new(start.saturating_add(1))
     }
 
     // A mutex that the thread owns.
     fn owned(&mut self, thread: Tid) -> Option<MutexId> {
         let mutexes = self.core.mutexes();
         let start = self.below(mutexes);
-        for i in 0..mutexes {
-            let mutex = MutexId::new(turned(start, i, mutexes))?;
-            if let Some((owner, _)) = self.core.owner(mutex) {
-                if owner == thread {
-                    return Some(mutex);
-                }
-            }
-        }
-        None
+        let place = self.marks.held_from(thread, start, mutexes)?;
+        MutexId::new(place.saturating_add(1))
     }
 
     // A condition variable that is bound to the mutex.
@@ -376,7 +420,7 @@ impl Player {
         }
         let place = self.below(mutexes);
         let number = place.saturating_add(1);
-        if !self.is_orphaned(MutexId::new(number)) {
+        if !is_orphaned(&self.core, MutexId::new(number)) {
             return MutexId::new(number);
         }
         self.count_lost();
@@ -389,14 +433,8 @@ impl Player {
 
     // The first mutex behind this place that is still of use, or else the one in it.
     fn useful(&self, start: u32) -> Option<MutexId> {
-        let mutexes = self.core.mutexes();
-        for i in 0..mutexes {
-            let number = turned(start, i, mutexes);
-            if !self.is_orphaned(MutexId::new(number)) {
-                return MutexId::new(number);
-            }
-        }
-        MutexId::new(start.saturating_add(1))
+        let place = self.marks.useful_from(start, self.core.mutexes());
+        MutexId::new(place.unwrap_or(start).saturating_add(1))
     }
 
     fn kind(&mut self) -> Kind {

@@ -1,48 +1,49 @@
-ghost use Rattle.std.specs.Prelude.{◌≡◌, ◌≤◌, ◌++◌, IfOk, OnOk, length};
-ghost use Rattle.pif_job_random.specs.Lines.{AddsLines};
-ghost use Rattle.pif_script_model.specs.CommandLines.{command_line, HasNoFault, IsNoLimits, IsOfCommands, StandsAnywhere};
+ghost use Rattle.std.specs.Prelude.{◌≤◌, length};
+ghost use Rattle.pif_job_random.specs.Lines.{WritesLines, WritesScript};
+ghost use Rattle.pif_script_model.specs.CommandLines.{command_line, IsNoLimits, StandsAnywhere};
+ghost use Rattle.pif_script_model.specs.Runs.{Writes};
 
 use crate::Shape;
-use crate::laws::commands_have_no_fault;
 use crate::player::Player;
 use crate::written::see_written;
-use pif_script_model::WatchSteps;
-use pif_text::{Command, Text, command_text};
-use pif_types::NoMemory;
+use pif_script::write_whole;
+use pif_script_model::{CliFault, WatchSteps};
+use pif_text::{Command, Text, append, command_text};
 use std::alloc::Global;
+use std::io::Write;
 
-/// A random script of so many lines, each a command, the same for the same seed, lines and shape. Which commands it has
-/// is not promised. A run of it has no fault if there are at most 262,144 lines: a script has at most 16 MiB. `watch`
-/// is told of each line.
+/// Writes a random script of so many lines, each a command, the same for the same seed, lines and shape. Each line is
+/// written once it is made. Which commands it has is not promised. A run of it has no fault if there are at most
+/// 262,144 lines: a script has at most 16 MiB. `watch` is told of each line.
 ///
 /// # Errors
 ///
-/// A growth of memory was refused.
-pub fn random_script<V: WatchSteps>(
+/// `NoMemory`, with nothing written, if memory is refused; `Write` if the writer fails or takes no byte, and then a part
+/// of such a script is written, from its front.
+pub fn write_random_script<W: Write, V: WatchSteps>(
     alloc: Global,
     seed: u64,
     lines: u32,
     shape: Shape,
+    output: &mut W,
     watch: &mut V,
-) -> Result<Vec<u8>, NoMemory>
-    ensures commands { IfOk result (λ script. IsOfCommands lines script.items) }
-    ensures no_fault { lines ≤ 262144 → IfOk result (λ script. HasNoFault script.items) }
+) -> Result<(), CliFault>
+    ensures { WritesScript lines (W.contents output.old) (W.contents output.new) result }
 {
-    commands_have_no_fault();
-    let mut player = Player::new(alloc, seed, shape)?;
-    let mut script = Vec::new(alloc);
-    append_lines(lines, &mut player, &mut script, watch)?;
-    Ok(script)
+    match Player::new(alloc, seed, shape) {
+        Ok(mut player) => write_lines(lines, &mut player, output, watch),
+        Err(_) => Err(CliFault::NoMemory),
+    }
 }
 
-// Appends so many lines, each of which `watch` is told.
-fn append_lines<V: WatchSteps>(
+// Writes so many lines, each of which `watch` is told.
+fn write_lines<W: Write, V: WatchSteps>(
     lines: u32,
     player: &mut Player,
-    script: &mut Vec<u8>,
+    output: &mut W,
     watch: &mut V,
-) -> Result<(), NoMemory>
-    ensures lines { OnOk result (AddsLines lines script.old.items script.new.items) }
+) -> Result<(), CliFault>
+    ensures { WritesLines lines (W.contents output.old) (W.contents output.new) result }
 {
     for line in 0..lines {
         watch.step(line as usize, lines as usize);
@@ -50,15 +51,15 @@ fn append_lines<V: WatchSteps>(
         // For the prover: each use has a value of its own.
         let played = command;
         player.play(played);
-        append_line(command, script)?;
+        write_line(command, output)?;
     }
     Ok(())
 }
 
-// Appends a command as a line.
-fn append_line(command: Command, script: &mut Vec<u8>) -> Result<(), NoMemory>
+// Writes a command as a line.
+fn write_line<W: Write>(command: Command, output: &mut W) -> Result<(), CliFault>
     requires { IsNoLimits command }
-    ensures line { OnOk result (script.new.items ≡ script.old.items ++ command_line command) }
+    ensures line { Writes (W.contents output.old) (W.contents output.new) (command_line command) result }
     ensures within { length (command_line command) ≤ 63 }
     ensures stands { StandsAnywhere command }
 {
@@ -66,11 +67,6 @@ fn append_line(command: Command, script: &mut Vec<u8>) -> Result<(), NoMemory>
     see_written(written);
     let mut text = Text::new();
     command_text(command, &mut text);
-    match script.extend_from_slice(text.as_slice()) {
-        Ok(()) => match script.push(b'\n') {
-            Ok(()) => Ok(()),
-            Err(_) => Err(NoMemory),
-        },
-        Err(_) => Err(NoMemory),
-    }
+    append(&mut text, b"\n");
+    write_whole(output, text.as_slice())
 }

@@ -1,5 +1,5 @@
 //! Random scripts: what follows an end.
-use pif_job_random::{Shape, random_script};
+use pif_job_random::{Shape, write_random_script};
 use pif_script_model::Unwatched;
 use std::process::Abort;
 use std::str::from_utf8;
@@ -38,7 +38,8 @@ fn check_followed(rt: &impl Abort, script: &str) {
 
 #[test]
 fn what_is_lost_is_followed_by_another(rt: HostRuntime) -> Result<(), Fail> {
-    let script = random_script(rt.alloc(), 2, 1500, ENDING, &mut Unwatched)?;
+    let mut script = Vec::new(rt.alloc());
+    write_random_script(rt.alloc(), 2, 1500, ENDING, &mut script, &mut Unwatched)?;
     check_followed(&rt, from_utf8(script.as_slice())?);
     Ok(())
 }

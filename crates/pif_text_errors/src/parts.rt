@@ -80,6 +80,14 @@ fn is_plain(word: &[u8], part: Part) -> bool {
     }
 }
 
+/// What is wrong with a word that is no answer.
+fn wrong_with_answer(word: &[u8]) -> Wrong {
+    match word {
+        [b'-', answer @ ..] if is_answer(answer) => Wrong::Signed,
+        _ => Wrong::Not(Part::Answer),
+    }
+}
+
 /// What is wrong with a word where this part is wanted, or `None` if it is right.
 pub fn wrong_with_part(word: &[u8], part: Part) -> Option<Wrong> {
     match part {
@@ -88,6 +96,7 @@ pub fn wrong_with_part(word: &[u8], part: Part) -> Option<Wrong> {
         Part::Cond => wrong_with_name(word, b'c', part),
         _ if is_plain(word, part) => None,
         Part::Robust => Some(wrong_with_word(word, Table::of(&ROBUST), Wrong::Not(part))),
+        Part::Answer => Some(wrong_with_answer(word)),
         _ => Some(Wrong::Not(part)),
     }
 }

@@ -80,6 +80,8 @@ pub enum Wrong {
     OpenBrackets,
     /// There are more words after the end of the command.
     TooMany,
+    /// An answer has a sign.
+    Signed,
     /// Another part is wanted here.
     Not(Part),
     /// The letter is right, and the number behind it is that of no name.
@@ -145,6 +147,7 @@ impl Wrong {
             Wrong::OpenBlock => "the line ends where a '}' is wanted",
             Wrong::OpenBrackets => "the line ends where a ')' is wanted",
             Wrong::TooMany => "there are more words after the end of the command",
+            Wrong::Signed => "an answer is written without its sign, as 16 or EBUSY",
             Wrong::Not(part) => part.words(),
             Wrong::NameNumber => "a name has a number from 1 to 4294967295, with no zero in front",
             Wrong::NotAdded(Part::Thread) => "there is no thread",
