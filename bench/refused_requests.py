@@ -14,7 +14,7 @@ status is 1.
     bench/refused_requests.py [PROGRAM [WORD..]]        PROGRAM is crates/pif/out/pif by default
 
 Prints a line for each row, and how many differ; a row in which no request was seen, or a run takes more than 120
-seconds, is one of them. A program of a checked run (`rt try`) has a `malloc` of its own, so that none is seen. The
+seconds, is one of them. A program of `rt try` itself has a `malloc` of its own, so that none is seen. The
 status is 0 if none differs, 1 if one does, and 2 if there is no program or no C compiler.
 """
 
