@@ -3,6 +3,7 @@ use Rattle.std.specs.Prelude.{ℕ, ◌≡◌, ◌≤◌, ◌<◌, ◌+◌, ◌-�
 use Rattle.std.specs.Io.KnownBytes.{Consumes}
 use Rattle.std.specs.List.{cons_option, starts_with, zip}
 use Rattle.pif_types.specs.declared.requests.Request.{Request}
+use Rattle.pif_types.specs.declared.requests.Named.{Named}
 use Rattle.pif_types.specs.Shapes.{names_of}
 use Rattle.pif_model.specs.declared.events.Event.{Event}
 use Rattle.pif_model.specs.declared.events.Event.TheVariants.{Begin, Go, End, Tick}
@@ -10,9 +11,8 @@ use Rattle.pif_text_model.specs.declared.commands.Command.{Command}
 use Rattle.pif_text_model.specs.declared.commands.Command.TheVariants as command
 use Rattle.pif_text_model.specs.declared.commands.Addition.{Addition}
 use Rattle.pif_text_model.specs.declared.commands.Addition.TheVariants as addition
-use Rattle.pif_text_model.specs.declared.questions.Question.{Question}
-use Rattle.pif_text_model.specs.declared.questions.Question.TheVariants as question
 use Rattle.pif_text_model.specs.Commands.{command_in}
+use Rattle.pif_text_model.specs.Questions.{asked_names}
 use Rattle.pif_text_model.specs.Replies.{thread_name, mutex_name, cond_name}
 use Rattle.pif_script_model.specs.declared.faults.CliFault.{CliFault}
 use Rattle.pif_script_model.specs.Running.{RunsTo}
@@ -70,32 +70,23 @@ abbrev pub first_of : (one other : Option Missing) → Option Missing
 first_of None other = other
 first_of (Some m) other = Some m
 
--- the first name in a request that nobody has: of a condition variable, a mutex and a thread, in this order
-unfoldable pub missing_in_request : Known → Request → Option Missing
-missing_in_request known q =
-    let named = names_of q in
+-- the first of these names that nobody has: of a condition variable, a mutex and a thread, in this order
+unfoldable pub missing_in_names : Known → Named → Option Missing
+missing_in_names known named =
     first_of (option_and_then (missing_cond known) named.cond)
     (first_of (option_and_then (missing_mutex known) named.mutex) (option_and_then (missing_thread known) named.thread))
 
--- the same of a request, if there is one
+-- the first name in a request that nobody has, if there is a request
 abbrev pub missing_in_run : Known → Option Request → Option Missing
 missing_in_run known None = None
-missing_in_run known (Some q) = missing_in_request known q
+missing_in_run known (Some q) = missing_in_names known (names_of q)
 
 -- the same of an event
 unfoldable pub missing_in_event : Known → Event → Option Missing
-missing_in_event known (Begin t q) = first_of (missing_thread known t) (missing_in_request known q)
+missing_in_event known (Begin t q) = first_of (missing_thread known t) (missing_in_names known (names_of q))
 missing_in_event known (Go t) = missing_thread known t
 missing_in_event known (End t) = missing_thread known t
 missing_in_event known (Tick n) = None
-
--- the same of a question
-unfoldable pub missing_in_question : Known → Question → Option Missing
-missing_in_question known (question.Word m) = missing_mutex known m
-missing_in_question known (question.Health m) = missing_mutex known m
-missing_in_question known (question.CondWord c) = missing_cond known c
-missing_in_question known (question.Prio t) = missing_thread known t
-missing_in_question known question.Pick = None
 
 -- the same of an addition: a condition variable is bound to a mutex
 abbrev pub missing_in_addition : Known → Addition → Option Missing
@@ -109,7 +100,7 @@ missing_in known (command.Limits t m c n) = None
 missing_in known (command.Add a) = missing_in_addition known a
 missing_in known (command.Event e) = missing_in_event known e
 missing_in known (command.Run t q) = first_of (missing_thread known t) (missing_in_run known q)
-missing_in known (command.Ask q) = missing_in_question known q
+missing_in known (command.Ask q) = missing_in_names known (asked_names q)
 
 -- the priority that a command asks for, if it adds a thread
 unfoldable pub asked_priority : Command → Option Missing

@@ -1,10 +1,10 @@
 ghost use Rattle.std.specs.Prelude.{◌≡◌, option_and_then};
-ghost use Rattle.pif_story.specs.Notes.{asked_priority, first_of, known_behind, known_with, missing_cond, missing_in, missing_in_addition, missing_in_event, missing_in_question, missing_in_request, missing_in_run, missing_mutex, missing_thread, nothing_known, noted, one_more};
+ghost use Rattle.pif_story.specs.Notes.{asked_priority, first_of, known_behind, known_with, missing_cond, missing_in, missing_in_addition, missing_in_event, missing_in_names, missing_in_run, missing_mutex, missing_thread, nothing_known, noted, one_more};
 
 use crate::comparing::is_refusal;
 use pif_model::Event;
-use pif_text::{Addition, Command, Question};
-use pif_types::{CondId, MutexId, Request, Tid};
+use pif_text::{Addition, Command};
+use pif_types::{CondId, MutexId, Named, Request, Tid};
 
 /// What a command names or asks for, and isn't there.
 #[derive(Clone, Copy)]
@@ -170,12 +170,11 @@ impl Known {
         self.cond(cond?)
     }
 
-    /// The first name in a request that nobody has: of a condition variable, a mutex and a thread, in this order.
-    #[tactic(auto, unfolding(crate::specs::Notes::missing_in_request))]
-    fn in_request(&self, request: Request) -> Option<Missing>
-        ensures { result ≡ missing_in_request self.now request }
+    /// The first of these names that nobody has: of a condition variable, a mutex and a thread, in this order.
+    #[tactic(auto, unfolding(crate::specs::Notes::missing_in_names))]
+    fn in_names(&self, named: &Named) -> Option<Missing>
+        ensures { result ≡ missing_in_names self.now named.now }
     {
-        let named = request.names();
         let others = first_of(
             self.mutex_if_any(named.mutex),
             self.thread_if_any(named.thread),
@@ -188,7 +187,7 @@ impl Known {
         ensures { result ≡ missing_in_run self.now request }
     {
         match request {
-            Some(request) => self.in_request(request),
+            Some(request) => self.in_names(&request.names()),
             None => None,
         }
     }
@@ -200,23 +199,10 @@ impl Known {
     {
         match event {
             Event::Begin(thread, request) => {
-                first_of(self.thread(thread), self.in_request(request))
+                first_of(self.thread(thread), self.in_names(&request.names()))
             }
             Event::Go(thread) | Event::End(thread) => self.thread(thread),
             Event::Tick(_) => None,
-        }
-    }
-
-    /// The first name in a question that nobody has.
-    #[tactic(auto, unfolding(crate::specs::Notes::missing_in_question))]
-    fn in_question(&self, question: Question) -> Option<Missing>
-        ensures { result ≡ missing_in_question self.now question }
-    {
-        match question {
-            Question::Word(mutex) | Question::Health(mutex) => self.mutex(mutex),
-            Question::CondWord(cond) => self.cond(cond),
-            Question::Prio(thread) => self.thread(thread),
-            Question::Pick => None,
         }
     }
 
@@ -240,7 +226,7 @@ impl Known {
             Command::Add(addition) => self.in_addition(addition),
             Command::Event(event) => self.in_event(event),
             Command::Run(thread, request) => first_of(self.thread(thread), self.in_run(request)),
-            Command::Ask(question) => self.in_question(question),
+            Command::Ask(question) => self.in_names(&question.names()),
         }
     }
 }

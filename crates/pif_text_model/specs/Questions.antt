@@ -1,9 +1,18 @@
 -- Questions, which change nothing: their words, and their texts.
 use Rattle.std.specs.Prelude.{ℕ, List, ◌++◌, Option, Some, None, option_map, if◌then◌else◌, bytes_eq, codes}
+use Rattle.pif_types.specs.declared.requests.Named.{Named}
 use Rattle.pif_text_model.specs.declared.questions.Question.{Question}
 use Rattle.pif_text_model.specs.declared.questions.Question.TheVariants.{Word, Health, CondWord, Prio, Pick}
 use Rattle.pif_text_model.specs.Numbers.{IsName, thread_in, mutex_in, cond_in}
 use Rattle.pif_text_model.specs.Replies.{thread_name, mutex_name, cond_name}
+
+-- What a question names.
+abbrev pub asked_names : Question → Named
+asked_names (Word m) = record { mutex = Some m; cond = None; thread = None }
+asked_names (Health m) = record { mutex = Some m; cond = None; thread = None }
+asked_names (CondWord c) = record { mutex = None; cond = Some c; thread = None }
+asked_names (Prio t) = record { mutex = None; cond = None; thread = Some t }
+asked_names Pick = record { mutex = None; cond = None; thread = None }
 
 -- A question of one word: `pick`.
 unfoldable pub question_in_one : List ℕ → Option Question
