@@ -18,16 +18,16 @@ o >>= f = option_and_then f o
 
 -- A row of the table: the word of a call, what stands behind the word in this order, and the number by which C knows
 -- the call.
-pub record Row : Type 0 where
+pub record CallRow : Type 0 where
   pub name : List ℕ
   pub parameters : List Parameter
   pub number : ℕ
 
-abbrev row : List ℕ → List Parameter → ℕ → Row
+abbrev row : List ℕ → List Parameter → ℕ → CallRow
 row name parameters number = record { name = name; parameters = parameters; number = number }
 
 -- The row of a call.
-abbrev pub row_of : CallKind → Row
+abbrev pub row_of : CallKind → CallRow
 row_of Lock = row (codes "lock") (Mutex ∷ []) 1
 row_of TryLock = row (codes "trylock") (Mutex ∷ []) 2
 row_of Unlock = row (codes "unlock") (Mutex ∷ []) 3
