@@ -5,9 +5,9 @@ use pif_core::Core;
 use pif_model::Event;
 use pif_script_model::{AnsweredRow, Part, WatchSteps};
 use pif_story::name_of;
-use pif_text::{Addition, Command};
+use pif_text::{Addition, Arguments, Command};
 use pif_text_core::owner_of;
-use pif_types::{MutexId, NoMemory, Request, Tid};
+use pif_types::{MutexId, NoMemory, Tid};
 use std::alloc::{AllocError, Global};
 
 /// Where the first column begins, if threads have no names.
@@ -253,8 +253,9 @@ impl Plan {
 fn named_priority(command: Command) -> Option<u32> {
     let priority = match command {
         Command::Add(Addition::Thread(priority)) => priority,
-        Command::Run(_, Some(Request::SetPrio(_, priority))) => priority,
-        Command::Event(Event::Begin(_, Request::SetPrio(_, priority))) => priority,
+        Command::Run(_, Some(request)) | Command::Event(Event::Begin(_, request)) => {
+            Arguments::of(&request).priority?
+        }
         _ => return None,
     };
     if 1 <= priority && priority <= 99 {

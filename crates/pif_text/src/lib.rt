@@ -39,7 +39,9 @@ pub use lists::{Listed, Sequence, append_array, append_names};
 pub use members::{Member, append_members, append_object};
 pub use numbers::{number_behind, number_of, number_reads_back, thread_of};
 pub use pieces::{append_decimal, append_name};
-pub use pif_text_model::{Added, Addition, Cause, Command, Fact, Question, Reply, Version};
+pub use pif_text_model::{
+    Added, Addition, Arguments, Cause, Command, Fact, Question, Reply, Version,
+};
 pub use reading::{command_of, request_of};
 pub use text::{TEXT_ROOM, Text};
 pub use traces::{
