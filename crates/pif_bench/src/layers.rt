@@ -24,7 +24,7 @@ pub enum Layer {
 /// How many threads the chain has along which a benchmark goes; 0 if it goes along none.
 pub fn depth_of(layer: Layer) -> u32 {
     match layer {
-        Layer::Core(_, Scene::LastLock(depth) | Scene::SetPrio(depth)) => depth,
+        Layer::Core(_, Scene::LastLock(depth) | Scene::NewPriority(depth)) => depth,
         _ => 0,
     }
 }

@@ -37,7 +37,7 @@ pub enum Scene {
     /// The last thread joins a chain of so many.
     LastLock(u32),
     /// The priority of the last thread of a chain of so many changes.
-    SetPrio(u32),
+    NewPriority(u32),
     /// A mutex is locked and unlocked, a robust one or a stalled one.
     Pair(bool),
     /// A thread that holds so many robust mutexes ends, and for each of them another waits, or none does.
@@ -70,7 +70,7 @@ fn cast_of(scene: Scene) -> Cast {
             let before = depth.saturating_sub(1);
             (before.saturating_add(chains::JOINS), before, chains::JOINS)
         }
-        Scene::SetPrio(depth) => (depth, depth, chains::CHANGES),
+        Scene::NewPriority(depth) => (depth, depth, chains::CHANGES),
         Scene::Pair(_) => (1, 1, robust::PAIRS),
         Scene::End(held, contended) => {
             let holders = robust::holders_of(held);
@@ -98,7 +98,7 @@ fn limits_of(room: Room, threads: u32, mutexes: u32) -> Option<Limits> {
 
 /// Adds the threads, mutexes and condition variables of a scene to a core. `None` if the core has no room for them.
 fn fill(core: &mut Core, scene: Scene, cast: &Cast) -> Option<()> {
-    let last = if matches!(scene, Scene::Round | Scene::SetPrio(_)) {
+    let last = if matches!(scene, Scene::Round | Scene::NewPriority(_)) {
         99
     } else {
         1
@@ -125,7 +125,7 @@ fn prepare(core: &mut Core, scene: Scene) {
         Scene::Round => lock(core, 1, 1),
         Scene::QueueRandom => chains::scatter(core, WAITING + 1),
         Scene::LastLock(depth) => chains::prepare_joins(core, depth.saturating_sub(1)),
-        Scene::SetPrio(depth) => chains::make_chain(core, depth),
+        Scene::NewPriority(depth) => chains::make_chain(core, depth),
         Scene::Pair(_) => {}
         Scene::End(held, contended) => robust::prepare_ends(core, held, contended),
         Scene::WaitAndSignal(parked) | Scene::Broadcast(parked, _) => conditions::park_all(
@@ -147,7 +147,7 @@ fn play(core: &mut Core, scene: Scene) {
             depth.saturating_add(chains::JOINS - 1),
             depth.saturating_sub(1),
         ),
-        Scene::SetPrio(depth) => chains::set_prio(core, depth),
+        Scene::NewPriority(depth) => chains::set_prio(core, depth),
         Scene::Pair(_) => robust::make_pairs(core),
         Scene::End(held, _) => robust::end(core, held),
         Scene::WaitAndSignal(parked) => conditions::wait_and_signal(core, parked),
