@@ -23,10 +23,10 @@ fn refuse_growth(rt: &impl Wait, desk: &Desk<NoPause>) -> Result<(), DeskFault> 
 
 /// A fault that a client meets, what is told of it then, and how many events its end makes: none if memory is refused
 /// for good.
-type Row = (DeskFault, DriveFault, usize);
+type LeaveCase = (DeskFault, DriveFault, usize);
 
 /// Whether a client ends so.
-fn ends_so(rt: &impl Wait, desk: &Desk<NoPause>, row: &Row) -> Result<bool, DeskFault> {
+fn ends_so(rt: &impl Wait, desk: &Desk<NoPause>, row: &LeaveCase) -> Result<bool, DeskFault> {
     let (fault, told, events) = *row;
     let client = desk.enter(rt, 1)?;
     if events == 0 {
@@ -41,7 +41,7 @@ fn ends_so(rt: &impl Wait, desk: &Desk<NoPause>, row: &Row) -> Result<bool, Desk
     Ok(is_told && desk.entries(rt).wrapping_sub(before) == events)
 }
 
-const NO_MEMORY: Row = (DeskFault::NoMemory, DriveFault::NoMemory, 0);
+const NO_MEMORY: LeaveCase = (DeskFault::NoMemory, DriveFault::NoMemory, 0);
 
 #[test]
 fn a_client_that_cannot_end_is_given_up(rt: HostRuntime) -> Result<(), Fail> {
@@ -50,7 +50,7 @@ fn a_client_that_cannot_end_is_given_up(rt: HostRuntime) -> Result<(), Fail> {
     Ok(())
 }
 
-static REFUSED: [Row; 2] = [
+static REFUSED: [LeaveCase; 2] = [
     (DeskFault::Refused(Refusal::Busy), DriveFault::Unsettled, 1),
     (
         DeskFault::NotAdded(AddFault::TooMany),

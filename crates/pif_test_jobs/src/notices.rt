@@ -84,7 +84,7 @@ const FAULTY_BEHIND: &str = "thread 10 = t7\npik\n";
 const OTHER_BEHIND: &str = "thread 0\npick = t1\n";
 
 /// What is done first, if anything is, and then; the line that the notice has behind it, and what the core gives there.
-type Row = (
+type NoticeCase = (
     Option<(Noting, &'static str)>,
     Noting,
     &'static str,
@@ -92,7 +92,7 @@ type Row = (
     &'static str,
 );
 
-static ROWS: [Row; 32] = [
+static ROWS: [NoticeCase; 32] = [
     (None, Noting::Run, "pick\n", "", ""),
     (None, Noting::Run, LONG, "", ""),
     (Some(DIFFERENCE), Noting::Keep, "xx", "xx", ""),
@@ -140,7 +140,7 @@ static ROWS: [Row; 32] = [
 ];
 
 /// Checks what the notice has.
-fn check_kept(rt: &impl Abort, alloc: Global, row: usize, asked: &Row) {
+fn check_kept(rt: &impl Abort, alloc: Global, row: usize, asked: &NoticeCase) {
     let (before, noting, text, line, given) = *asked;
     let mut notice = Notice::new();
     if let Some((noting, text)) = before {

@@ -41,7 +41,7 @@ const READ: Result<(), CliFault> = Err(CliFault::Read);
 
 /// What is read of a script, how the next read fails once if it does, what stands behind that, how many bytes a writer
 /// takes before it fails, what is written, and how that ends.
-type Row = (
+type TraceCase = (
     &'static str,
     Option<ErrorKind>,
     &'static str,
@@ -50,7 +50,7 @@ type Row = (
     Result<(), CliFault>,
 );
 
-static ROWS: [Row; 20] = [
+static ROWS: [TraceCase; 20] = [
     ("", None, "", 4096, "", Ok(())),
     (
         "pik\n",
@@ -109,7 +109,7 @@ static ROWS: [Row; 20] = [
 ];
 
 /// A script is traced so, by writes of so many bytes at most.
-fn check_traced(rt: &impl Abort, alloc: Global, row: usize, asked: &Row, each: usize) {
+fn check_traced(rt: &impl Abort, alloc: Global, row: usize, asked: &TraceCase, each: usize) {
     let (first, failure, second, room, written, wanted) = *asked;
     let (script, texts) = ([(first, 1), (second, 1)], [(written, 1)]);
     let most = if failure.is_some() {

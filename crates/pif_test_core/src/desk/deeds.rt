@@ -91,7 +91,7 @@ pub(super) enum Deed {
 }
 
 /// The number of the thread whose client does it, 0 for nobody; what it does; and what that comes to.
-pub(super) type Row = (u32, Deed, Result<u32, DeskFault>);
+pub(super) type DeedCase = (u32, Deed, Result<u32, DeskFault>);
 
 /// What a deed of this thread comes to.
 pub(super) fn take<R: Wait + Clock + Abort + AllocGlobal>(

@@ -1,9 +1,9 @@
 //! The journal's growth is refused before a call or an addition, and between two events of a call.
-use super::deeds::{BUSY, DEAD, Deed, LOCK, NO_MEMORY, ROBUST, Row, STALLED};
+use super::deeds::{BUSY, DEAD, Deed, DeedCase, LOCK, NO_MEMORY, ROBUST, STALLED};
 use super::scenes::{EMPTY, End, Scene};
 
 /// A call is refused memory at its second event, and stays open.
-const CUT: &[Row] = &[
+const CUT: &[DeedCase] = &[
     (0, STALLED, Ok(1)),
     (0, Deed::Enter(1, 10), Ok(1)),
     (0, Deed::Fill(1), Ok(0)),

@@ -1,5 +1,5 @@
 //! Scenes at a desk, each a table of what is done there.
-use super::deeds::{NO_MEMORY, Row, serve, take};
+use super::deeds::{DeedCase, NO_MEMORY, serve, take};
 use super::stress;
 use super::watch::Watch;
 use crate::driver::{Wish, request};
@@ -55,11 +55,11 @@ pub(super) struct Scene {
     /// Who is refused memory asks again.
     pub(super) asks_again: bool,
     /// What is done first, in this order.
-    pub(super) before: &'static [Row],
+    pub(super) before: &'static [DeedCase],
     /// What the clients do then, each in a thread of its own.
-    pub(super) beside: &'static [Row],
+    pub(super) beside: &'static [DeedCase],
     /// What is done last.
-    pub(super) after: &'static [Row],
+    pub(super) after: &'static [DeedCase],
     /// What each client does in the room, and what that is answered.
     pub(super) inside: &'static [(Turn, Seen)],
     pub(super) ends: End,
@@ -131,7 +131,7 @@ fn take_all<R: Wait + Clock + Abort + AllocGlobal>(
     scene: &Scene,
     desk: &Desk<Watch>,
     clients: &mut Vec<Client>,
-    rows: &[Row],
+    rows: &[DeedCase],
 ) {
     for (place, (number, deed, expected)) in rows.iter().enumerate() {
         let mut come = take(rt, desk, clients, *number, *deed);

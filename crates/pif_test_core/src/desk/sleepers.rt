@@ -1,10 +1,10 @@
 //! Clients sleep while their threads rest, and are woken. Each thread that the limits allow has a bell.
-use super::deeds::{Deed, LOCK, ROBUST, Row, STALLED, UNLOCK};
+use super::deeds::{Deed, DeedCase, LOCK, ROBUST, STALLED, UNLOCK};
 use super::scenes::{EMPTY, End, Scene};
 use crate::driver::Wish;
 
 /// Three clients, of which the first holds both mutexes.
-const OWNED: &[Row] = &[
+const OWNED: &[DeedCase] = &[
     (0, ROBUST, Ok(1)),
     (0, ROBUST, Ok(2)),
     (0, Deed::Enter(2, 10), Ok(2)),

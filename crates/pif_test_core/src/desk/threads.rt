@@ -1,18 +1,18 @@
 //! Two real threads at one desk, of which the first is held inside its call while the second makes one.
-use super::deeds::{Deed, LOCK, Row, STALLED};
+use super::deeds::{Deed, DeedCase, LOCK, STALLED};
 use super::scenes::{EMPTY, End, Scene};
 use crate::driver::Wish;
 use pif_desk::Seen;
 
 /// Two clients and two mutexes.
-const TWO: &[Row] = &[
+const TWO: &[DeedCase] = &[
     (0, Deed::Enter(2, 10), Ok(2)),
     (0, STALLED, Ok(1)),
     (0, STALLED, Ok(2)),
 ];
 
 /// Each client locks a mutex of its own, the second while the first is held inside its call.
-const LOCKS: &[Row] = &[
+const LOCKS: &[DeedCase] = &[
     (1, LOCK, Ok(0)),
     (2, Deed::SeeHeld, Ok(1)),
     (2, Deed::Call(Wish::Lock(2)), Ok(0)),
