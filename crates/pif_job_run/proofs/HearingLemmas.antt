@@ -1,6 +1,7 @@
 -- A script that is shown, as a run hears it, and as it is told.
-use Rattle.std.proofs.Common.{◌≡◌, ℕ, Bool, true, false, cond, List, [], ◌∷◌, ◌++◌, Option, Some, None, Result, Ok, Err, refl, sym, ap, ◌∙◌, append-nil}
-use Rattle.std.specs.Io.KnownBytes.{Appends}
+use Rattle.std.proofs.Common.{◌≡◌, ℕ, zero, suc, ◌<◌, ◌≤◌, Bool, true, false, cond, List, [], ◌∷◌, ◌++◌, take, get_or, Option, Some, None, Result, Ok, Err, inl, inr, refl, sym, ap, ◌∙◌, subst, arith, append-nil, get_or-take}
+use Rattle.std.proofs.lemmas.Bool.Decides.{nat_tests}
+use Rattle.std.proofs.lemmas.List.{length-take-le}
 use Rattle.std.specs.Prelude.{◌==◌, nat_lt, length, option_map}
 use Rattle.pif_model.specs.Table.{Table}
 use Rattle.pif_text_model.specs.declared.commands.Command.{Command}
@@ -12,9 +13,10 @@ use Rattle.pif_script_model.specs.declared.ending.End.{End}
 use Rattle.pif_script_model.specs.declared.ending.Ending.TheVariants.{Fault}
 use Rattle.pif_script_model.specs.declared.ending.Stop.TheVariants.{Ended, NoMemory}
 use Rattle.pif_script_model.specs.Running.{Answer, answer_line, answer_or_fault, command_answer, first_answer, first_line_meaning, line_meaning, made_by, script}
-use Rattle.pif_script_model.proofs.FeedLemmas.{Feeding, Feeding-flushed, Feeding-more}
-use Rattle.pif_script_model.specs.Scripts.{FirstMeaning, Hearing, Meaning, NeedsListener, Scan, Takes, after_line, answer_to_line, answered_first, answered_later, byte_taken, with_byte}
-use Rattle.pif_job_run.specs.Shows.{Moment, behind_byte, core_scan, first_named, first_told, front_told, later_named, later_told, named, named_line, showing}
+use Rattle.pif_script_model.proofs.LineLemmas.{TakesAll-byte}
+use Rattle.pif_script_model.proofs.ScriptLemmas.{by_cases, reading_of-err, reading_of-nil, reading_of-ok, reading_of-unheard}
+use Rattle.pif_script_model.specs.Scripts.{FirstMeaning, Meaning, NeedsIn, NeedsListener, Scan, TakesAll, TakesSome, after_line, answer_to_line, answered_first, answered_later, byte_taken, reading_of, with_byte}
+use Rattle.pif_job_run.specs.Shows.{IsPart, Moment, behind_part, core_scan, first_named, first_told, front_told, later_named, later_told, line_told, named, named_line, showing}
 
 -- ---- as a run hears it
 
@@ -107,17 +109,62 @@ ended : (r : Result (List ℕ × Scan Table) End) (f : End) → stands r ≡ Err
 ended (Ok m) f e = absurd (cc)
 ended (Err g) f e = ap (with_text []) e
 
--- a byte that was answered so is taken by a run too
-pub core_took : (s : Scan Moment) (b : ℕ) (old new : List ℕ) (t : Scan Moment) (x : Unit {0}) → Takes named s b old new t (Ok x)
-    → (text : List ℕ) × Takes script (core_scan s) b [] text (core_scan t) (Ok x)
-core_took s b old new t x k =
-    let r = stood (byte_taken script (core_scan s) b) (core_scan t) (same_byte s b ∙ ap core_stands k.1) in
-    (r.0, (r.0, r.1, refl))
+abbrev scan_or : Scan Moment → Result (Scan Moment) End → Scan Moment
+scan_or s (Ok t) = t
+scan_or s (Err e) = s
 
--- and one that ends the script ends it
-pub core_ended : (s : Scan Moment) (b : ℕ) (old new : List ℕ) (t : Scan Moment) (e : End) → Takes named s b old new t (Err (Ended e))
-    → Takes script (core_scan s) b old new (core_scan t) (Err (Ended e))
-core_ended s b old new t e k = (ended (byte_taken script (core_scan s) b) e (same_byte s b ∙ ap core_stands k.0), k.1)
+abbrev end_or : End → Result (Scan Moment) End → End
+end_or e (Ok t) = e
+end_or e (Err f) = f
+
+-- bytes that were read are read by a run too
+core_read : (bs : List ℕ) (s u : Scan Moment) → (reading_of named s bs).stands ≡ Ok u
+    → (reading_of script (core_scan s) bs).stands ≡ Ok (core_scan u)
+core_read [] s u e =
+    let same : s ≡ u = ap (scan_or s) (sym (reading_of-nil named s).1 ∙ e) in
+    (reading_of-nil script (core_scan s)).1 ∙ ap (λ v. Ok (core_scan v)) same
+core_read (b ∷ bs) s u e =
+    elim (by_cases (byte_taken named s b)) [
+      | inl r ↦
+          let one = reading_of-ok named s b bs r.0 r.1 in
+          let next = stood (byte_taken script (core_scan s) b) (core_scan r.0.1) (same_byte s b ∙ ap core_stands r.1) in
+          let run = reading_of-ok script (core_scan s) b bs (next.0, core_scan r.0.1) next.1 in
+          run.1 ∙ core_read bs r.0.1 u (sym one.1 ∙ e)
+      | inr r ↦ let one = reading_of-err named s b bs r.0 r.1 in let bad : Err r.0 ≡ Ok u = sym one.1 ∙ e in cc
+    ]
+
+-- and if one of them ended the script, it ends the run
+core_stopped : (bs : List ℕ) (s : Scan Moment) (f : End) → (reading_of named s bs).stands ≡ Err f
+    → (reading_of script (core_scan s) bs).stands ≡ Err f
+core_stopped [] s f e = let bad : Ok s ≡ Err f = sym (reading_of-nil named s).1 ∙ e in cc
+core_stopped (b ∷ bs) s f e =
+    elim (by_cases (byte_taken named s b)) [
+      | inl r ↦
+          let one = reading_of-ok named s b bs r.0 r.1 in
+          let next = stood (byte_taken script (core_scan s) b) (core_scan r.0.1) (same_byte s b ∙ ap core_stands r.1) in
+          let run = reading_of-ok script (core_scan s) b bs (next.0, core_scan r.0.1) next.1 in
+          run.1 ∙ core_stopped bs r.0.1 f (sym one.1 ∙ e)
+      | inr r ↦
+          let one = reading_of-err named s b bs r.0 r.1 in
+          let run = reading_of-err script (core_scan s) b bs r.0
+          (ended (byte_taken script (core_scan s) b) r.0 (same_byte s b ∙ ap core_stands r.1)) in
+          run.1 ∙ ap Err (ap (end_or f) (sym one.1 ∙ e))
+    ]
+
+-- what some bytes are answered by a run
+abbrev core_text : Scan Moment → List ℕ → List ℕ
+core_text s bs = (reading_of script (core_scan s) bs).text
+
+-- some bytes that were answered so are taken by a run too
+pub core_took : (s : Scan Moment) (bs old new : List ℕ) (t : Scan Moment) (n : ℕ) → TakesSome named s bs old new t (Ok n)
+    → TakesSome script (core_scan s) bs [] (core_text s (take n bs)) (core_scan t) (Ok n)
+core_took s bs old new t n k = (core_read (take n bs) s t k.0, refl)
+
+-- and those of which one ends the script end it
+pub core_ended : (s : Scan Moment) (bs old new : List ℕ) (t : Scan Moment) (e : End)
+    → TakesSome named s bs old new t (Err (Ended e))
+    → TakesSome script (core_scan s) bs [] (core_text s bs) (core_scan t) (Err (Ended e))
+core_ended s bs old new t e k = (core_stopped bs s e k.0, refl)
 
 needs_first : (r : Result Answer Cause) → NeedsListener (made_by (named_line None r)) → NeedsListener (made_by (answer_line r))
 needs_first (Ok a) n = tt
@@ -140,19 +187,47 @@ needs_line line = by_command (command_in line)
     by_command (Some c) n = needs_first (first_answer c) n
 
 -- a line for which there was no memory
-pub core_needs : (s : Scan Moment) (b : ℕ) (old new : List ℕ) (t : Scan Moment) → Takes named s b old new t (Err NoMemory)
-    → Takes script (core_scan s) b old new (core_scan t) (Err NoMemory)
-core_needs s b old new t k =
-    ((ap (option_map (λ m. m.core)) k.0.0, needs_line s.line k.0.1, k.0.2, k.0.3), k.1)
+pub core_needs : (s : Scan Moment) (bs old new : List ℕ) (t : Scan Moment) → TakesSome named s bs old new t (Err NoMemory)
+    → TakesSome script (core_scan s) bs [] [] (core_scan t) (Err NoMemory)
+core_needs s bs old new t k =
+    let n = k.0 in
+    let needs = n.6 in (
+      (
+        n.0,
+        core_scan n.1,
+        n.2,
+        n.3,
+        n.4,
+        core_read n.0 s n.1 n.5,
+        (ap (option_map (λ m. m.core)) needs.0, needs_line n.1.line needs.1, needs.2, needs.3),
+      ),
+      refl,
+    )
+
+-- there is nobody to answer before such a line
+pub needs_nobody : (s : Scan Moment) (bs : List ℕ) → NeedsIn named s bs → s.listener ≡ None
+needs_nobody s bs n = (reading_of-unheard named n.0 s n.1 n.5 n.6.0).0
 
 -- ---- as it is told
+
+pub is_zero : (n : ℕ) → n ≡ 0 → (n == 0) ≡ true
+is_zero n e = grind (arith, nat_tests)
+
+pub not_zero : (n : ℕ) → (n ≡ 0 → ⊥) → (n == 0) ≡ false
+not_zero n p = grind (arith, nat_tests)
+
+not_feed : (b : ℕ) → (b ≡ 10 → ⊥) → (b == 10) ≡ false
+not_feed b n = grind (arith, nat_tests)
+
+is_feed : (b : ℕ) → b ≡ 10 → (b == 10) ≡ true
+is_feed b e = grind (arith, nat_tests)
 
 module _ (detail : Detail) (names : List (List ℕ)) where
   -- what is told of an answer to a line, and where the script stands behind it
   abbrev told_of : Scan Moment → (ends_line : Bool) → List ℕ × Scan Moment → Result (List ℕ × Scan Moment) End
-  told_of s ends p = Ok (behind_byte detail names ends (front_told ends s.line ++ p.0) p.1.listener, p.1)
+  told_of s ends p = Ok (behind_part detail names ends (front_told ends s.line ++ p.0) p.1.listener, p.1)
 
-  nothing_behind : (told : List ℕ) (l : Option Moment) → [] ≡ behind_byte detail names false told l
+  nothing_behind : (told : List ℕ) (l : Option Moment) → [] ≡ behind_part detail names false told l
   nothing_behind told None = refl
   nothing_behind told (Some m) = refl
 
@@ -181,7 +256,7 @@ module _ (detail : Detail) (names : List (List ℕ)) where
     told_line (Some m) e = told_later (later_named m.core s.line) e
 
     -- what is told of a byte that was answered so
-    pub told_byte : (b : ℕ) → byte_taken named s b ≡ Ok (text, t)
+    told_byte : (b : ℕ) → byte_taken named s b ≡ Ok (text, t)
         → byte_taken (showing detail names) s b ≡ told_of s (b == 10) (text, t)
     unfolding byte_taken
     told_byte b e =
@@ -197,10 +272,63 @@ module _ (detail : Detail) (names : List (List ℕ)) where
         by_tests true false false p q long size h e = absurd (cc)
         by_tests false y z p q long size h e = absurd (cc)
 
--- one more byte was read, and what is told of it was written
-pub Feeding-told : {S : Type 0} (hearing : Hearing S) (s : Scan S) (bs : List ℕ) (held : Option (List ℕ)) (t : Scan S) (b : ℕ)
-    (rest text : List ℕ) (holds k : Option (List ℕ)) (u : Scan S) → Feeding hearing s bs held t (b ∷ rest) [] holds
-    → byte_taken hearing t b ≡ Ok (text, u) → Appends holds k text → Feeding hearing s bs held u rest [] k
-Feeding-told hearing s bs held t b rest text holds k u f e a =
-    Feeding-flushed hearing s bs held u rest text [] holds k tt
-    (Feeding-more hearing s bs held t b rest [] text holds u tt f (text, e, refl)) (text, sym (append-nil text), a)
+  -- bytes before the first LF are told nothing
+  told_plain : (bs : List ℕ) (s u : Scan Moment) → ((k : ℕ) → k < length bs → get_or bs k 0 ≡ 10 → ⊥)
+      → (reading_of named s bs).stands ≡ Ok u
+      → ((reading_of (showing detail names) s bs).stands ≡ Ok u) × ((reading_of (showing detail names) s bs).text ≡ [])
+  told_plain [] s u p e =
+      let n = reading_of-nil (showing detail names) s in
+      (n.1 ∙ sym (reading_of-nil named s).1 ∙ e, n.0)
+  told_plain (b ∷ bs) s u p e =
+      elim (by_cases (byte_taken named s b)) [
+        | inl r ↦
+            let one = reading_of-ok named s b bs r.0 r.1 in
+            let here = told_byte s r.0.0 r.0.1 b r.1 ∙ ap (λ x. told_of s x r.0) (not_feed b (p 0 (omega arith)))
+            ∙ ap (λ (l : List ℕ). Ok (l, r.0.1)) (sym (nothing_behind ([] ++ r.0.0) r.0.1.listener)) in
+            let shown = reading_of-ok (showing detail names) s b bs ([], r.0.1) here in
+            let rest = told_plain bs r.0.1 u (λ k h. p (suc k) (omega arith)) (sym one.1 ∙ e) in
+            (shown.1 ∙ rest.0, shown.0 ∙ rest.1)
+        | inr r ↦ let one = reading_of-err named s b bs r.0 r.1 in let bad : Err r.0 ≡ Ok u = sym one.1 ∙ e in (cc, cc)
+      ]
+
+  -- an LF is told with its line, and what is told of the core stands behind it
+  told_feed : (s : Scan Moment) (b : ℕ) (bs new : List ℕ) (u : Scan Moment) → b ≡ 10
+      → TakesSome named s (b ∷ bs) (line_told s.line) new u (Ok 1)
+      → TakesSome (showing detail names) s (b ∷ bs) [] (behind_part detail names true new u.listener) u (Ok 1)
+  told_feed s b bs new u feed took =
+      elim (by_cases (byte_taken named s b)) [
+        | inl r ↦
+            let one = reading_of-ok named s b [] r.0 r.1 in
+            let none = reading_of-nil named r.0.1 in
+            let same : r.0.1 ≡ u = ap (scan_or u) (sym none.1 ∙ sym one.1 ∙ took.0) in
+            let text : line_told s.line ++ r.0.0 ≡ new =
+            sym (took.1 ∙ ap (λ l. line_told s.line ++ l) (one.0 ∙ ap (λ l. r.0.0 ++ l) none.0 ∙ append-nil r.0.0)) in
+            let here = told_byte s r.0.0 r.0.1 b r.1 ∙ ap (λ x. told_of s x r.0) (is_feed b feed) in
+            let all = TakesAll-byte (showing detail names) s b []
+            (behind_part detail names true (line_told s.line ++ r.0.0) r.0.1.listener) r.0.1
+            (behind_part detail names true (line_told s.line ++ r.0.0) r.0.1.listener, here, refl) in
+            subst (λ (l : List ℕ). TakesAll (showing detail names) s (b ∷ []) [] (behind_part detail names true l u.listener) u (Ok tt))
+            text
+            (subst (λ (v : Scan Moment). TakesAll (showing detail names) s (b ∷ []) []
+            (behind_part detail names true (line_told s.line ++ r.0.0) v.listener) v (Ok tt)) same all)
+        | inr r ↦
+            let one = reading_of-err named s b [] r.0 r.1 in let bad : Err r.0 ≡ Ok u = sym one.1 ∙ took.0 in (cc, cc)
+      ]
+
+  -- what is told of bytes that were answered so: some of those before the first LF, or that one
+  pub told_part : (s : Scan Moment) (bs : List ℕ) (plain n : ℕ) (new : List ℕ) (u : Scan Moment)
+      → ((k : ℕ) → k < plain → get_or bs k 0 ≡ 10 → ⊥) → (plain < length bs → get_or bs plain 0 ≡ 10)
+      → n ≤ length bs → IsPart plain n → TakesSome named s bs (front_told (plain == 0) s.line) new u (Ok n)
+      → TakesSome (showing detail names) s bs [] (behind_part detail names (plain == 0) new u.listener) u (Ok n)
+  told_part s [] zero n new u p q le one took = absurd (omega (arith, le, one))
+  told_part s (b ∷ bs) zero n new u p q le one took =
+      subst (λ k. TakesSome (showing detail names) s (b ∷ bs) [] (behind_part detail names true new u.listener) u (Ok k))
+      (sym one)
+      (told_feed s b bs new u (q (omega arith))
+      (subst (λ k. TakesSome named s (b ∷ bs) (line_told s.line) new u (Ok k)) one took))
+  told_part s bs (suc m) n new u p q le part took =
+      let size : length (take n bs) ≡ n = length-take-le n bs le in
+      let few : n ≤ suc m = part.1 in
+      let r = told_plain (take n bs) s u (λ k h. rw (get_or-take n bs k 0 (omega arith)) (p k (omega arith))) took.0 in
+      subst (λ b. TakesSome (showing detail names) s bs [] (behind_part detail names b new u.listener) u (Ok n))
+      (sym (not_zero (suc m) (λ e. omega (arith, e)))) (r.0, sym (nothing_behind new u.listener) ∙ sym r.1)

@@ -1,6 +1,6 @@
 -- What is written of a script that is shown to a person: of each line the line itself, what it is answered, and what is
 -- told of the core behind it.
-use Rattle.std.specs.Prelude.{ℕ, Bool, List, [], ◌∷◌, ◌++◌, Option, Some, None, Result, Ok, Err, codes, map, option_map, unwrap_or, if◌then◌else◌}
+use Rattle.std.specs.Prelude.{ℕ, zero, suc, ◌≡◌, ◌<◌, ◌≤◌, Bool, List, [], ◌∷◌, ◌++◌, Option, Some, None, Result, Ok, Err, codes, map, option_map, unwrap_or, if◌then◌else◌}
 use Rattle.std.specs.Io.KnownBytes.{Appends, Consumes}
 use Rattle.pif_model.specs.Table.{Table}
 use Rattle.pif_text_model.specs.declared.replies.Cause.{Cause}
@@ -130,11 +130,16 @@ core_scan s = record {
   taken = s.taken;
 }
 
--- what stands in front of an answer: the line, if a byte ends it
+-- how many bytes are read at once: one LF, or some of those before the first LF
+abbrev pub IsPart : (plain count : ℕ) → Type 0
+IsPart zero count = count ≡ 1
+IsPart (suc n) count = (0 < count) × (count ≤ suc n)
+
+-- what stands in front of an answer: the line, if these bytes end it
 abbrev pub front_told : (ends_line : Bool) → (line : List ℕ) → List ℕ
 front_told ends_line line = if ends_line then line_told line else []
 
--- what is written behind a byte of which this was told: that and what is told of the core, if the byte ended a line
-abbrev pub behind_byte : Detail → (names : List (List ℕ)) → (ends_line : Bool) → (told : List ℕ) → Option Moment → List ℕ
-behind_byte detail names ends_line told None = []
-behind_byte detail names ends_line told (Some m) = if ends_line then told ++ core_told detail names m else []
+-- what is written behind bytes of which this was told: that and what is told of the core, if they ended a line
+abbrev pub behind_part : Detail → (names : List (List ℕ)) → (ends_line : Bool) → (told : List ℕ) → Option Moment → List ℕ
+behind_part detail names ends_line told None = []
+behind_part detail names ends_line told (Some m) = if ends_line then told ++ core_told detail names m else []

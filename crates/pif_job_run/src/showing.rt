@@ -1,22 +1,24 @@
-ghost use Rattle.std.specs.Prelude.{◌≡◌, ◌+◌, ◌≤◌, ◌++◌, ◌==◌, None, Some, List, [], ℕ, Ok, OnOk, length, map, option_copied};
+ghost use Rattle.std.specs.Prelude.{◌≡◌, ◌+◌, ◌<◌, ◌≤◌, ◌++◌, ◌==◌, None, Some, List, [], ℕ, Ok, IfOk, OnOk, length, map, option_copied};
 ghost use Rattle.std.specs.Io.KnownBytes.{Appends, Keeps};
 ghost use Rattle.arrayvec.specs.ArrayVec.{array_vec_len};
 ghost use Rattle.pif_text_model.specs.Extends.{Stays};
 ghost use Rattle.pif_script_model.specs.Running.{script};
 ghost use Rattle.pif_script_model.specs.Runs.{Feeds, RunsFrom, Stops};
+ghost use Rattle.pif_script_model.specs.Scripts.{TakesSome};
 ghost use Rattle.pif_script.specs.Scanners.{scan_of};
 ghost use Rattle.pif_script_model.specs.Showing.{OrUnwritten, ShowsTo, Silent};
 ghost use Rattle.pif_text_core.specs.Changes.{lines_text};
-ghost use Rattle.pif_job_run.specs.Shows.{behind_byte, core_scan, core_told, front_told, line_told, showing, shown_text};
+ghost use Rattle.pif_job_run.specs.Shows.{IsPart, behind_part, core_scan, core_told, front_told, line_told, showing, shown_text};
 
 use crate::shown::Shown;
 use pif_core::Core;
 use pif_script::{
-    CliFault, END_ROOM, End, MOST_LINE, Notice, OUTPUT_ROOM, Output, Scanner, Stop, append, stop,
-    write_whole,
+    CliFault, END_ROOM, End, Listener, MOST_LINE, Notice, OUTPUT_ROOM, Output, Scanner, Stop,
+    append, stop, write_whole,
 };
 use pif_script_model::Detail;
 use pif_story::printable;
+use pif_text::before_feed;
 use pif_text_core::{Unwritten, write_changes, write_state};
 use std::alloc::Global;
 use std::io::Write;
@@ -71,14 +73,15 @@ fn feed<W: Write>(
     ensures stays { Stays (W.contents writer.old) (W.contents writer.new) }
     ensures silent { Silent (scan_of scanner.old) (scan_of scanner.new) (W.contents writer.old) (W.contents writer.new) result }
 {
-    for byte in bytes {
-        begin_line(*byte, scanner, output);
-        match scanner.take(alloc, *byte, output) {
-            Ok(()) => {}
+    let mut rest = bytes;
+    while !rest.is_empty() {
+        let plain = before_feed(rest);
+        match read_part(alloc, scanner, rest, plain, output) {
+            Ok(count) => rest = &rest[count..],
             Err(Stop::Ended(end)) => return Err(stop_showing(end, scanner, output, writer, notice)),
             Err(Stop::NoMemory) => return Err(CliFault::NoMemory),
         }
-        match end_line(*byte, look, scanner, output, writer) {
+        match end_part(plain == 0, look, scanner, output, writer) {
             Ok(()) => {}
             Err(_) => return Err(CliFault::Write),
         }
@@ -86,16 +89,29 @@ fn feed<W: Write>(
     Ok(())
 }
 
-/// Tells the line that this byte ends, if it ends one, in place of what was told.
-fn begin_line(byte: u8, scanner: &Scanner<Shown>, output: &mut Output)
-    ensures told { output.new.items ≡ front_told (byte == 10) (scan_of scanner.now).line }
-    ensures room { array_vec_len output.new ≤ LINE_ROOM }
+/// Reads the bytes before the first LF, which are `plain`, or some of them; or, if there are none, that LF. Then tells
+/// the line that it ends and its answer, in place of what was told. Answers how many bytes it read.
+fn read_part<L: Listener + Drop>(
+    alloc: Global,
+    scanner: &mut Scanner<L>,
+    bytes: &[u8],
+    plain: usize,
+    output: &mut Output,
+) -> Result<usize, Stop>
+    requires some { 0 < length bytes.now }
+    requires within { plain ≤ length bytes.now }
+    ensures answer { TakesSome L.hearing (scan_of scanner.old) bytes.now (front_told (plain == 0) (scan_of scanner.old).line) output.new.items (scan_of scanner.new) result }
+    ensures part { IfOk result (λ count. IsPart plain count) }
+    ensures within { IfOk result (λ count. count ≤ length bytes.now) }
+    ensures room { array_vec_len output.new + END_ROOM ≤ OUTPUT_ROOM }
 {
-    if byte == b'\n' {
+    if plain == 0 {
         tell_line(scanner.line(), output);
-    } else {
-        output.clear();
+        scanner.take(alloc, bytes[0], output)?;
+        return Ok(1);
     }
+    output.clear();
+    scanner.take_some(alloc, &bytes[..plain], output)
 }
 
 /// Tells a line behind `> `, with LF behind it, in place of what was told. What is not printable stands there as `?`.
@@ -112,21 +128,21 @@ fn tell_line(line: &[u8], output: &mut Output)
     output.push(b'\n');
 }
 
-/// Writes what was told of the line that this byte ended, if it ended one, and what is told of the core behind it.
-fn end_line<W: Write>(
-    byte: u8,
+/// Writes what was told of the line that these bytes ended, if they ended one, and what is told of the core behind it.
+fn end_part<W: Write>(
+    ends_line: bool,
     look: &Look<'_>,
     scanner: &Scanner<Shown>,
     output: &Output,
     writer: &mut W,
 ) -> Result<(), Unwritten>
     ensures told { OnOk result (Appends (W.contents writer.old) (W.contents writer.new)
-        (behind_byte look.now.detail (map (λ name. name.now) look.now.names.now) (byte == 10) output.now.items (scan_of scanner.now).listener)) }
+        (behind_part look.now.detail (map (λ name. name.now) look.now.names.now) ends_line output.now.items (scan_of scanner.now).listener)) }
     ensures stays { Stays (W.contents writer.old) (W.contents writer.new) }
     ensures silent { (scan_of scanner.now).listener ≡ None → Keeps (W.contents writer.old) (W.contents writer.new) }
 {
     match scanner.listener() {
-        Some(shown) => write_if_ended(byte == b'\n', look, shown, output, writer),
+        Some(shown) => write_if_ended(ends_line, look, shown, output, writer),
         None => Ok(()),
     }
 }
@@ -140,7 +156,7 @@ fn write_if_ended<W: Write>(
     writer: &mut W,
 ) -> Result<(), Unwritten>
     ensures told { OnOk result (Appends (W.contents writer.old) (W.contents writer.new)
-        (behind_byte look.now.detail (map (λ name. name.now) look.now.names.now) ends_line output.now.items (Some shown.now))) }
+        (behind_part look.now.detail (map (λ name. name.now) look.now.names.now) ends_line output.now.items (Some shown.now))) }
     ensures stays { Stays (W.contents writer.old) (W.contents writer.new) }
 {
     if ends_line {

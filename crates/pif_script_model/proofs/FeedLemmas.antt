@@ -5,10 +5,10 @@ use Rattle.std.specs.Io.KnownBytes.{Appends, Consumes}
 use Rattle.pif_script_model.specs.declared.faults.CliFault.{CliFault}
 use Rattle.pif_script_model.specs.declared.faults.CliFault.TheVariants.{Read, Write, NoMemory, Script, Differs}
 use Rattle.pif_script_model.specs.declared.ending.End.{End}
-use Rattle.pif_script_model.specs.Scripts.{Hearing, Scan, reading_of, Takes, TakesSome}
+use Rattle.pif_script_model.specs.Scripts.{Hearing, Scan, reading_of, TakesSome}
 use Rattle.pif_script_model.specs.declared.ending.Stop.TheVariants.{Ended, NoMemory as StopNoMemory}
 use Rattle.pif_script_model.specs.Runs.{EndsAfter, Feeds, Flushes, RunsFrom, Stops, Writes, WritesPart, output_of}
-use Rattle.pif_script_model.proofs.ScriptLemmas.{reading_of-append, reading_of-err, reading_of-nil, reading_of-ok, reading_of-unheard}
+use Rattle.pif_script_model.proofs.ScriptLemmas.{reading_of-append, reading_of-nil, reading_of-unheard}
 use Rattle.pif_script_model.proofs.RunLemmas.{Appends-kept_before, EndsAfter-stopped, Stops-after, Writes-more, output_of-append}
 
 front-nil : (xs ys : List ℕ) → xs ++ ys ≡ [] → xs ≡ []
@@ -45,27 +45,6 @@ module _ {S : Type 0} (hearing : Hearing S) where
     written = Appends-trans held holds k f.done w.0 f.written w.2;
     told = f.told ∙ ap (λ l. f.done ++ l) w.1 ∙ sym (append_assoc f.done w.0 new);
   }
-
-  -- one more byte was read
-  pub Feeding-more : (s : Scan S) (bs : List ℕ) (held : Option (List ℕ)) (t : Scan S) (b : ℕ) (rest out new : List ℕ)
-      (holds : Option (List ℕ)) (u : Scan S) (x : Unit {0}) → Feeding s bs held t (b ∷ rest) out holds
-      → Takes hearing t b out new u (Ok x) → Feeding s bs held u rest new holds
-  Feeding-more s bs held t b rest out new holds u x f k =
-      let one = reading_of-ok hearing t b [] (k.0, u) k.1 in
-      let none = reading_of-nil hearing u in
-      let more = reading_of-append hearing f.front (b ∷ []) s t f.stands in
-      let last : (reading_of hearing t (b ∷ [])).text ≡ k.0 =
-      one.0 ∙ ap (λ l. k.0 ++ l) none.0 ∙ append-nil k.0 in
-      record {
-        front = f.front ++ b ∷ [];
-        split = f.split ∙ sym (append_assoc f.front (b ∷ []) rest);
-        stands = more.1 ∙ one.1 ∙ none.1;
-        done = f.done;
-        written = f.written;
-        told = more.0 ∙ ap (λ l. l ++ (reading_of hearing t (b ∷ [])).text) f.told
-            ∙ append_assoc f.done out (reading_of hearing t (b ∷ [])).text
-            ∙ ap (λ l. f.done ++ (out ++ l)) last ∙ ap (λ l. f.done ++ l) (sym k.2);
-      }
 
   -- some of the rest were read
   pub Feeding-some : (s : Scan S) (bs : List ℕ) (held : Option (List ℕ)) (t : Scan S) (rest out new : List ℕ)
@@ -113,35 +92,6 @@ module _ {S : Type 0} (hearing : Hearing S) where
       )
   Feeds-end s bs held t rest out shown holds k (Err e) f n same w =
       λ after. Feeding-unwritten s bs held t rest out holds k after e f (subst (λ l. Writes holds k l (Err e)) same w)
-
-  -- a byte ended the script
-  pub Feeds-stop : (s : Scan S) (bs : List ℕ) (held : Option (List ℕ)) (t : Scan S) (b : ℕ) (rest out new : List ℕ)
-      (holds k : Option (List ℕ)) (u v : Scan S) (x : End) (e : CliFault) → Feeding s bs held t (b ∷ rest) out holds
-      → Takes hearing t b out new u (Err (Ended x)) → Stops holds k new (hearing.said_of x) x e
-      → Feeds hearing s bs v held k (Err e)
-  Feeds-stop s bs held t b rest out new holds k u v x e f w stop =
-      let step = reading_of-err hearing t b rest x w.0 in
-      let more = reading_of-append hearing f.front (b ∷ rest) s t f.stands in
-      let text : (reading_of hearing s bs).text ≡ f.done ++ new =
-      ap (λ l. (reading_of hearing s l).text) f.split ∙ more.0
-      ∙ ap (λ l. (reading_of hearing s f.front).text ++ l) step.0
-      ∙ append-nil (reading_of hearing s f.front).text ∙ f.told ∙ ap (λ l. f.done ++ l) (sym w.1) in
-      λ after. EndsAfter-stopped hearing s bs after held k x e
-      (ap (λ l. (reading_of hearing s l).stands) f.split ∙ more.1 ∙ step.1)
-      (subst (λ l. Stops held k l (hearing.said_of x) x e) (sym text)
-      (Stops-after f.done new (hearing.said_of x) held holds k x e f.written stop))
-
-  -- a line needs a listener for which there is no memory
-  pub Feeds-no_memory : (s : Scan S) (bs : List ℕ) (held : Option (List ℕ)) (t : Scan S) (b : ℕ)
-      (rest out new : List ℕ) (holds : Option (List ℕ)) (u v : Scan S) → Feeding s bs held t (b ∷ rest) out holds
-      → Takes hearing t b out new u (Err StopNoMemory) → Feeds hearing s bs v held holds (Err NoMemory)
-  Feeds-no_memory s bs held t b rest out new holds u v f w =
-      let quiet = reading_of-unheard hearing f.front s t f.stands w.0.0 in
-      let none = front-nil f.done out (sym f.told ∙ quiet.1) in
-      λ after. (
-        (f.front, t, b, rest, f.split, f.stands, w.0),
-        Appends-kept_before held holds holds [] (subst (λ l. Appends held holds l) none f.written) (Keeps-refl holds),
-      )
 
   -- one of the rest ended the script
   pub Feeds-stopped : (s : Scan S) (bs : List ℕ) (held : Option (List ℕ)) (t : Scan S) (rest out new : List ℕ)
