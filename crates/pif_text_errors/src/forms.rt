@@ -23,6 +23,8 @@ pub enum Part {
     Cell,
     /// The value of a cell.
     Value,
+    /// How many processors a schedule has.
+    Processors,
     /// `:`
     Colon,
     /// `=`
@@ -61,6 +63,7 @@ impl Part {
             Part::Priority => "a priority is a number from 1 to 99, with no zero in front",
             Part::Cell => "a cell is wanted here, x1 to x64",
             Part::Value => "a number from 0 to 255 is wanted here",
+            Part::Processors => "a number from 1 to 64 is wanted here",
             Part::Colon => "a ':' is wanted here",
             Part::Equals => "a '=' is wanted here",
             Part::By => "'by' is wanted here",

@@ -72,6 +72,7 @@ fn is_plain(word: &[u8], part: Part) -> bool {
         Part::Priority => is_between(word, 1, 99),
         Part::Cell => is_cell(word),
         Part::Value => is_between(word, 0, 255),
+        Part::Processors => is_between(word, 1, 64),
         Part::Robust => word == b"robust".as_slice(),
         Part::Colon => word == b":".as_slice(),
         Part::Equals => word == b"=".as_slice(),

@@ -153,7 +153,7 @@ pub static HISTORY: [Form; 12] = [
 ];
 
 /// The lines of programs that are explored, by their first word.
-pub static PROGRAM: [Form; 11] = [
+pub static PROGRAM: [Form; 12] = [
     LIMITS,
     ALLOW,
     Form {
@@ -164,6 +164,12 @@ pub static PROGRAM: [Form; 11] = [
     },
     MUTEX,
     COND,
+    Form {
+        name: "schedule",
+        text: "schedule K",
+        parts: Parts::Of(&[Part::Processors]),
+        rest: Rest::End,
+    },
     Form {
         name: "do",
         text: "do tN: S; S; ..",
