@@ -31,17 +31,19 @@ static const char help[] =
     "  --plain          mutexes without PTHREAD_PRIO_INHERIT\n"
     "  --std            the mutexes and condition variables of Rust's standard library; locks have no deadline there\n"
     "  --parking_lot    those of Rust's parking_lot\n"
+    "  --library FILE   those of a library, which has a function `calls` as host/others/nsync/nsync.c does\n"
     "  --seconds N      SIGALRM ends it then; 20 without it\n"
     "  --help           prints this\n"
     "\n"
     "It prints one line with how often each answer came. Status 0: all calls were made; 1: wrong words, or the\n"
-    "history can't be written; 6: a thread can't be started; 7: SCHED_FIFO isn't allowed, or Rust's can't be had. To\n"
-    "record it:\n"
+    "history can't be written; 6: a thread can't be started; 7: SCHED_FIFO isn't allowed, or Rust's or the library can't\n"
+    "be had; 9: SIGALRM ended it, and there is a history. To record it:\n"
     "\n"
     "  RECORD_FILE=a.history LD_PRELOAD=host/record/librecord.so host/record/hammer --robust --ends 1\n"
     "\n"
-    "Those of Rust are normal, and have neither robustness nor priorities, so that they take none of --kinds,\n"
-    "--robust, --ends, --fifo and --plain. They need no LD_PRELOAD: with RECORD_FILE the hammer writes the history.\n";
+    "Those of Rust and of a library have neither robustness nor priorities, so that they take none of --kinds,\n"
+    "--robust, --ends, --fifo and --plain. They need no LD_PRELOAD: with RECORD_FILE the hammer writes the history, also\n"
+    "when SIGALRM ends it.\n";
 
 Orders orders = {
     .threads = 4, .mutexes = 2, .variables = 1, .calls = 500, .seconds = 20, .seed = 1,
@@ -59,26 +61,28 @@ typedef struct {
     const char *name;
     unsigned *number, least, most;
     bool *is_said;
+    const char **text;
 } Option;
 
 static const Option options[] = {
-    {"threads", &orders.threads, 2, MOST_THREADS, NULL},
-    {"mutexes", &orders.mutexes, 1, MOST_MUTEXES, NULL},
-    {"variables", &orders.variables, 0, MOST_VARIABLES, NULL},
-    {"calls", &orders.calls, 1, 1000000, NULL},
-    {"seed", &orders.seed, 0, UINT32_MAX, NULL},
-    {"trylock", &orders.trylocks, 0, 100, NULL},
-    {"timed", &orders.timed, 0, 100, NULL},
-    {"waits", &orders.waits, 0, 100, NULL},
-    {"ends", &orders.ends, 0, 100, NULL},
-    {"priorities", &orders.priorities, 0, 100, NULL},
-    {"seconds", &orders.seconds, 1, 3600, NULL},
-    {"kinds", NULL, 0, 0, &orders.kinds},
-    {"robust", NULL, 0, 0, &orders.robust},
-    {"fifo", NULL, 0, 0, &orders.fifo},
-    {"plain", NULL, 0, 0, &orders.plain},
-    {"std", NULL, 0, 0, &orders.std},
-    {"parking_lot", NULL, 0, 0, &orders.parking_lot},
+    {"threads", &orders.threads, 2, MOST_THREADS, NULL, NULL},
+    {"mutexes", &orders.mutexes, 1, MOST_MUTEXES, NULL, NULL},
+    {"variables", &orders.variables, 0, MOST_VARIABLES, NULL, NULL},
+    {"calls", &orders.calls, 1, 1000000, NULL, NULL},
+    {"seed", &orders.seed, 0, UINT32_MAX, NULL, NULL},
+    {"trylock", &orders.trylocks, 0, 100, NULL, NULL},
+    {"timed", &orders.timed, 0, 100, NULL, NULL},
+    {"waits", &orders.waits, 0, 100, NULL, NULL},
+    {"ends", &orders.ends, 0, 100, NULL, NULL},
+    {"priorities", &orders.priorities, 0, 100, NULL, NULL},
+    {"seconds", &orders.seconds, 1, 3600, NULL, NULL},
+    {"kinds", NULL, 0, 0, &orders.kinds, NULL},
+    {"robust", NULL, 0, 0, &orders.robust, NULL},
+    {"fifo", NULL, 0, 0, &orders.fifo, NULL},
+    {"plain", NULL, 0, 0, &orders.plain, NULL},
+    {"std", NULL, 0, 0, &orders.std, NULL},
+    {"parking_lot", NULL, 0, 0, &orders.parking_lot, NULL},
+    {"library", NULL, 0, 0, NULL, &orders.library},
 };
 enum { OPTIONS = sizeof options / sizeof *options };
 
@@ -102,7 +106,7 @@ static bool take_words(int count, char **words)
     int at;
 
     for (int i = 0; i < OPTIONS; i++)
-        known[i] = (struct option){options[i].name, options[i].number != NULL, NULL, i};
+        known[i] = (struct option){options[i].name, options[i].is_said == NULL, NULL, i};
     known[OPTIONS] = (struct option){"help", no_argument, NULL, OPTIONS};
     while ((at = getopt_long(count, words, "", known, NULL)) >= 0) {
         if (at == OPTIONS) {
@@ -113,25 +117,19 @@ static bool take_words(int count, char **words)
             return false;
         if (options[at].is_said != NULL)
             *options[at].is_said = true;
+        else if (options[at].text != NULL)
+            *options[at].text = optarg;
         else if (!take_number(&options[at], optarg))
             return false;
     }
     return optind == count;
 }
 
-static void make_mutex(Mutex *mutex, unsigned number)
+static int type_of(unsigned number)
 {
     static const int types[] = {PTHREAD_MUTEX_NORMAL, PTHREAD_MUTEX_ERRORCHECK, PTHREAD_MUTEX_RECURSIVE};
-    pthread_mutexattr_t attributes;
 
-    mutex->type = types[orders.kinds ? (number + orders.seed) % 3 : 0];
-    mutex->is_robust = orders.robust && number % 2 == 0;
-    pthread_mutexattr_init(&attributes);
-    pthread_mutexattr_settype(&attributes, mutex->type);
-    pthread_mutexattr_setrobust(&attributes, mutex->is_robust ? PTHREAD_MUTEX_ROBUST : PTHREAD_MUTEX_STALLED);
-    pthread_mutexattr_setprotocol(&attributes, orders.plain ? PTHREAD_PRIO_NONE : PTHREAD_PRIO_INHERIT);
-    pthread_mutex_init(&mutex->mutex, &attributes);
-    pthread_mutexattr_destroy(&attributes);
+    return orders.recursive ? PTHREAD_MUTEX_RECURSIVE : types[orders.kinds ? (number + orders.seed) % 3 : 0];
 }
 
 static int start(Slot *slot)
@@ -225,13 +223,13 @@ static bool become_first(void)
     return !orders.fifo || pthread_setschedparam(pthread_self(), SCHED_FIFO, &parameters) == 0;
 }
 
-/* Mutexes of Rust have less to ask. */
+/* Mutexes of Rust and of a library have less to ask. */
 static bool are_together(void)
 {
-    bool is_rust = orders.std || orders.parking_lot;
+    int others = orders.std + orders.parking_lot + (orders.library != NULL);
 
-    return !(orders.std && orders.parking_lot) &&
-           !(is_rust && (orders.kinds || orders.robust || orders.ends > 0 || orders.fifo || orders.plain));
+    return others <= 1 &&
+           !(others == 1 && (orders.kinds || orders.robust || orders.ends > 0 || orders.fifo || orders.plain));
 }
 
 /* Whether all that is asked for can be asked here. */
@@ -241,6 +239,8 @@ static bool prepare(char **words)
         fprintf(stderr, "hammer: SCHED_FIFO isn't allowed here\n");
         return false;
     }
+    if (orders.library != NULL)
+        return use_library(orders.library, words);
     return orders.std ? use_rust("std", words) : !orders.parking_lot || use_rust("parking_lot", words);
 }
 
@@ -254,7 +254,7 @@ int main(int count, char **words)
         return STATUS_CANNOT_ASK;
     alarm(orders.seconds);
     for (unsigned i = 0; i < orders.mutexes; i++)
-        make_mutex(&mutexes[i], i);
+        make_mutex(&mutexes[i], type_of(i), orders.robust && i % 2 == 0);
     for (unsigned i = 0; i < orders.variables; i++)
         pthread_cond_init(&variables[i], NULL);
     int status = start_all();

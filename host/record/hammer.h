@@ -8,7 +8,7 @@
 #include <stdint.h>
 
 enum { MOST_THREADS = 16, MOST_MUTEXES = 4, MOST_VARIABLES = 4, MOST_ANSWERS = 134 };
-enum { STATUS_DONE, STATUS_WORDS, STATUS_THREADS = 6, STATUS_CANNOT_ASK = 7 };
+enum { STATUS_DONE, STATUS_WORDS, STATUS_THREADS = 6, STATUS_CANNOT_ASK = 7, STATUS_HUNG = 9 };
 
 typedef struct {
     unsigned threads, mutexes, variables, calls, seconds;
@@ -16,6 +16,8 @@ typedef struct {
     unsigned trylocks, timed, waits, ends, priorities; /* per cent */
     bool fifo, kinds, robust, plain;
     bool std, parking_lot;
+    bool recursive; /* all mutexes are: a library has only such */
+    const char *library;
 } Orders;
 
 typedef struct {
@@ -34,7 +36,7 @@ typedef struct {
     bool is_running;
 } Slot;
 
-/* Whose mutexes and variables are called: glibc's, or those of Rust. Places of both are counted from 0, and times are
+/* Whose mutexes and variables are called: glibc's, or those of Rust or of a library. Places of both are counted from 0, and times are
    microseconds from now. A timedlock may be missing. */
 typedef struct {
     int (*lock)(unsigned mutex);
@@ -55,12 +57,14 @@ extern pthread_cond_t variables[MOST_VARIABLES];
 extern _Atomic unsigned waiting[MOST_VARIABLES];
 extern _Atomic unsigned long answers[MOST_ANSWERS];
 
+void make_mutex(Mutex *, int type, bool is_robust);
 unsigned choose(Slot *, unsigned below);
 bool happens(Slot *, unsigned per_cent);
 void *work(void *slot);
 
-/* Mutexes of Rust are loaded, and their calls noted by pif_record.h; so each thread says its number. */
+/* Mutexes of Rust, or of a library, are loaded, and their calls noted by pif_record.h; so each thread says its number. */
 bool use_rust(const char *name, char **words);
+bool use_library(const char *file, char **words);
 void name_thread(unsigned number);
 bool write_history(void);
 

@@ -3,6 +3,20 @@
 
 #include "hammer.h"
 
+void make_mutex(Mutex *mutex, int type, bool is_robust)
+{
+    pthread_mutexattr_t attributes;
+
+    mutex->type = type;
+    mutex->is_robust = is_robust;
+    pthread_mutexattr_init(&attributes);
+    pthread_mutexattr_settype(&attributes, type);
+    pthread_mutexattr_setrobust(&attributes, is_robust ? PTHREAD_MUTEX_ROBUST : PTHREAD_MUTEX_STALLED);
+    pthread_mutexattr_setprotocol(&attributes, orders.plain ? PTHREAD_PRIO_NONE : PTHREAD_PRIO_INHERIT);
+    pthread_mutex_init(&mutex->mutex, &attributes);
+    pthread_mutexattr_destroy(&attributes);
+}
+
 static struct timespec behind(unsigned microseconds)
 {
     struct timespec time;
