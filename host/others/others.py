@@ -155,7 +155,8 @@ def library_batches(library, known, prefix=""):
         yield Batch(prefix + name, [hammer, "--library", library, *words], known.get(name, known.get("", ())))
     for name in CALL_PROBES:
         may = known.get(name, known.get("", ()))
-        yield Batch(prefix + name, [probe, name, "--library", library], may, share=2 if name in RACES else 0.2)
+        words = [probe, name, "--library", library, *(["--fifo"] if name in RACES else [])]
+        yield Batch(prefix + name, words, may, share=2 if name in RACES else 0.2)
 
 
 # Probes whose threads race: they need many seeds.

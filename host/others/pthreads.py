@@ -69,7 +69,8 @@ def probe_batches(probe, known):
             is_asked = (if_robust if is_robust else if_stalled) and (if_plain or not is_plain)
             if not is_asked or (name in NEED_RECURSION and kind != "recursive"):
                 continue
-            options = ["--kind", kind, *(["--robust"] if is_robust else []), *(["--plain"] if is_plain else [])]
+            options = ["--kind", kind, *(["--robust"] if is_robust else []), *(["--plain"] if is_plain else []),
+                       *(["--fifo"] if name in RACES else [])]
             may = known(name, kind, is_robust, is_plain)
             yield Batch("%s: %s, %s" % (name, kind, shown(is_robust, is_plain)), [probe, name, *options], may,
                         share=1 if name in RACES else 0.1)

@@ -107,7 +107,11 @@ static unsigned highest(const Slot *slot)
     return found;
 }
 
-static bool knows_its_owner(const Mutex *mutex) { return mutex->is_robust || mutex->type != PTHREAD_MUTEX_NORMAL; }
+/* Of a library an unlock by another thread is undefined. */
+static bool knows_its_owner(const Mutex *mutex)
+{
+    return orders.library == NULL && (mutex->is_robust || mutex->type != PTHREAD_MUTEX_NORMAL);
+}
 
 /* What can be asked again of a mutex that this thread holds. */
 static void take_again(Slot *slot, unsigned which)

@@ -306,8 +306,18 @@ static void hung(int number)
     _exit(STATUS_HUNG);
 }
 
+static void died(int number)
+{
+    signal(number, SIG_DFL);
+    write_noted();
+    raise(number);
+}
+
 void write_when_hung(void)
 {
     signal(SIGALRM, hung);
     signal(SIGTERM, hung);
+    signal(SIGABRT, died);
+    signal(SIGSEGV, died);
+    signal(SIGBUS, died);
 }

@@ -29,7 +29,8 @@ unsigned mutex_of(unsigned variable);
 /* Writes what was noted to RECORD_FILE; whether that is done, or there is no such name. */
 bool write_noted(void);
 
-/* At SIGALRM and SIGTERM the history is written, and the program ends with status 9. */
+/* At SIGALRM and SIGTERM the history is written, and the program ends with status 9. It is written, too, if the program
+   is about to end by SIGABRT, SIGSEGV or SIGBUS. */
 void write_when_hung(void);
 
 #endif
