@@ -38,6 +38,7 @@ class Batch(NamedTuple):
     always: bool = False
     share: float = 1
     short: bool = True  # the test makes it, too
+    number: int = 0
 
 
 class Implementation(NamedTuple):
