@@ -1,6 +1,7 @@
 /* Probes of all mutexes and variables, by the calls of the hammer. Each is a round of two or three threads. */
 #include "probe.h"
 
+#include <errno.h>
 #include <stddef.h>
 
 enum { HOLDS = 300 };
@@ -160,16 +161,21 @@ static void waits_with_two_holds(void)
     calls->lock(0);
     calls->lock(0);
     set(1);
-    calls->timedwait(0, 0, 6000);
+    calls->timedwait(0, 0, 20000);
     calls->unlock(0);
     calls->unlock(0);
 }
 
 static void tries_meanwhile(void)
 {
+    int answer = EBUSY;
+
     await(1);
-    rest(2000);
-    if (calls->trylock(0) == 0)
+    for (int left = 5; left > 0 && answer != 0; left--) {
+        rest(2000);
+        answer = calls->trylock(0);
+    }
+    if (answer == 0)
         calls->unlock(0);
 }
 

@@ -208,14 +208,16 @@ def wait_with_two_holds():
         caller.lock(0)
         caller.lock(0)
         caller.objects.stage = 1
-        caller.timedwait(0, 6000)
+        caller.timedwait(0, 40000)
         caller.give_all_up()
 
     def tries(caller):
         caller.reach(1)
-        time.sleep(0.002)
-        if caller.trylock(0):
-            caller.unlock(0)
+        for _ in range(10):
+            time.sleep(0.002)
+            if caller.trylock(0):
+                break
+        caller.give_all_up()
 
     return [waits, tries]
 

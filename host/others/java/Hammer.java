@@ -335,15 +335,17 @@ final class Hammer {
                 caller.lock(0);
                 caller.lock(0);
                 stage.set(1);
-                caller.timedAwait(0, 6000);
+                caller.timedAwait(0, 40000);
                 caller.giveAllUp();
             },
             caller -> {
                 caller.reach(1);
-                Thread.sleep(2);
-                if (caller.trylock(0)) {
-                    caller.unlock(0);
+                boolean isHad = false;
+                for (int left = 10; left > 0 && !isHad; left--) {
+                    Thread.sleep(2);
+                    isHad = caller.trylock(0);
                 }
+                caller.giveAllUp();
             });
     }
 
@@ -425,6 +427,19 @@ final class Hammer {
         }
     }
 
+    /** The first calls of all load classes, which takes long. */
+    static void warmUp() throws InterruptedException {
+        ReentrantLock lock = new ReentrantLock();
+        Condition variable = lock.newCondition();
+        for (int left = 100; left > 0; left--) {
+            lock.tryLock(1, TimeUnit.MICROSECONDS);
+            variable.await(1, TimeUnit.MICROSECONDS);
+            variable.signal();
+            variable.signalAll();
+            lock.unlock();
+        }
+    }
+
     public static void main(String[] words) throws Exception {
         Map<String, Integer> orders = new HashMap<>(Map.of("threads", 3, "mutexes", 1, "calls", 30, "seed", 1, "waits", 30,
             "trylock", 20, "timed", 30, "fair", 0, "deep", 0, "seeds", 1));
@@ -432,6 +447,7 @@ final class Hammer {
         for (int i = words.length % 2; i + 1 < words.length; i += 2) {
             orders.put(words[i].substring(2), Integer.valueOf(words[i + 1]));
         }
+        warmUp();
         int first = orders.get("seed"), last = first + orders.get("seeds");
         for (int seed = first; seed < last; seed++) {
             orders.put("seed", seed);
