@@ -214,7 +214,8 @@ def made(batch, seed, folder, asked):
 
 
 def result_of(history, trouble, asked):
-    if not history.exists() or b"begin" not in history.read_bytes():
+    text = history.read_bytes() if history.exists() else b""
+    if b"begin" not in text or b"# lost" in text:
         return Result("", 0, trouble or "no history", history, "")
     verdict, told = verdict_of(history, asked)
     calls = history.read_text().count("\nbegin ")

@@ -75,13 +75,15 @@ static void ends_with_two(void)
 static void tries_one_and_then_the_other(void)
 {
     unsigned one = first_tried, other = 1 - first_tried;
-    int answer;
+    int answer = EBUSY;
 
     await(1);
     set(2);
     watch(3);
-    while ((answer = calls->trylock(one)) == EBUSY)
+    for (int left = 300; left > 0 && answer == EBUSY; left--) {
+        answer = calls->trylock(one);
         spin(30);
+    }
     int next = calls->trylock(other);
     spin(20000);
     give_up(answer, one);

@@ -377,6 +377,28 @@ final class Hammer {
             });
     }
 
+    /** One sleeps. The owner gives the mutex up, wants it again in time, and tries it: a fair lock lets only the last go first. */
+    List<Body> timedLockBehindASleeper() {
+        return List.of(
+            caller -> {
+                caller.lock(0);
+                stage.set(1);
+                while (!mutexes[0].hasQueuedThreads()) {
+                    Thread.onSpinWait();
+                }
+                Thread.sleep(1);
+                caller.unlock(0);
+                caller.timedlock(0, 20);
+                caller.trylock(0);
+                caller.giveAllUp();
+            },
+            caller -> {
+                caller.reach(1);
+                caller.lock(0);
+                caller.unlock(0);
+            });
+    }
+
     /** Each has a mutex, and wants that of the other one. */
     List<Body> cycleWithDeadlines() {
         return List.of(
@@ -414,6 +436,8 @@ final class Hammer {
                 return waitWithTwoHolds();
             case "timed_lock_at_an_unlock":
                 return timedLockAtAnUnlock();
+            case "timed_lock_behind_a_sleeper":
+                return timedLockBehindASleeper();
             case "cycle_with_deadlines":
                 return cycleWithDeadlines();
             case "held_300_times":
