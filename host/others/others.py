@@ -28,8 +28,9 @@ LEGAL, FORBIDDEN, UNDECIDED = "legal", "forbidden", "undecided"
 
 
 class Batch(NamedTuple):
-    """Recordings of one kind. The words get `--seed N`, and write to RECORD_FILE. `may` are the verdicts that are known
-    besides `legal`, and with `always` a history that is legal isn't right either. A `share` is how many times the
+    """Recordings of one kind. The words get `--seed N`, and write to RECORD_FILE. `may` are the rules that are known to be
+    needed, `forbidden` if some are illegal with all, and what else may happen, as `hung` or `signal 6`. With `always` a
+    history that is legal isn't right either. A `share` is how many times the
     number of seeds are made."""
 
     name: str
@@ -37,7 +38,6 @@ class Batch(NamedTuple):
     may: tuple = ()
     always: bool = False
     share: float = 1
-    short: bool = True  # the test makes it, too
     number: int = 0
 
 
@@ -189,6 +189,14 @@ def verdict_of(history, asked):
     return (FORBIDDEN if least.startswith("illegal") else UNDECIDED), told
 
 
+def trouble_of(status):
+    """What a status tells, of a program or of a shell: nothing is wrong, it hung, or else; None if it can't be asked."""
+    if status == CANNOT_ASK:
+        return None
+    signal = -status if status < 0 else status - 128
+    return {0: "", HUNG: "hung"}.get(status, "signal %d" % signal if signal > 0 else "status %d" % status)
+
+
 def record(batch, seed, history, seconds=30):
     """What went wrong with a recording, or nothing; None if it can't be asked."""
     env = {**os.environ, "RECORD_FILE": str(history), "GOMAXPROCS": "4"}
@@ -197,9 +205,7 @@ def record(batch, seed, history, seconds=30):
         done = subprocess.run(words, env=env, capture_output=True, stdin=subprocess.DEVNULL, timeout=seconds)
     except subprocess.TimeoutExpired:
         return "hung"
-    if done.returncode == CANNOT_ASK:
-        return None
-    return {0: "", HUNG: "hung"}.get(done.returncode, "status %d" % done.returncode)
+    return trouble_of(done.returncode)
 
 
 def file_name(batch):
@@ -228,7 +234,7 @@ def is_known(batch, result):
         return False
     if result.verdict in ("", UNDECIDED):
         return True
-    return not batch.always if result.verdict == LEGAL else result.verdict in batch.may
+    return not batch.always if result.verdict == LEGAL else set(result.verdict.split()) <= set(batch.may)
 
 
 def keep(asked, name, result):
@@ -275,7 +281,6 @@ def read_words(name):
     parser.add_argument("--keep", type=Path, help="a folder for what isn't legal plainly")
     parser.add_argument("--pif", type=Path, default=TOP / "out" / "pif", help="the program; out/pif without it")
     parser.add_argument("--offline", action="store_true", help="fetch nothing")
-    parser.add_argument("--short", action="store_true", help="only what the test makes")
     parser.add_argument("batches", nargs="*", help="parts of the names of batches; all without them")
     return parser.parse_args()
 
@@ -286,8 +291,7 @@ def print_row(cells):
 
 def judge_all(implementation, batches, asked, playing):
     """Prints the table; whether all is as known. A batch is recorded and judged by `playing`."""
-    wanted = [batch for batch in batches if (batch.short or not asked.short)
-              and (not asked.batches or any(part in batch.name for part in asked.batches))]
+    wanted = [batch for batch in batches if not asked.batches or any(part in batch.name for part in asked.batches)]
     print_row(COLUMNS)
     print("|---" * len(COLUMNS) + "|")
     right, all_results, unasked = True, [], []
@@ -300,7 +304,7 @@ def judge_all(implementation, batches, asked, playing):
             print_row(row_of(batch, results))
             right = right and all(is_known(batch, result) for result in results)
             all_results += results
-    print_row(row_of(Batch("all", [], tuple({result.verdict for result in all_results})), all_results)[:-1] + ("yes" if right else "NO",))
+    print_row(row_of(Batch("all", []), all_results)[:-1] + ("yes" if right else "NO",))
     if unasked:
         print("can't be asked: %s" % ", ".join(unasked))
     return right
