@@ -34,6 +34,7 @@ PROBES = (
     ("owner_ends", True, False, True),
     ("owner_ends_with_two", True, False, True),
     ("owner_ends_with_two_and_one_waits", True, False, True),
+    ("mutexes_of_an_end_pass_on_apart", True, False, True),
     ("wait_while_inconsistent", True, False, True),
     ("lost_for_good", True, False, True),
     ("lost_and_wanted_by_two", True, False, True),

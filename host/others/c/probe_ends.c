@@ -113,6 +113,31 @@ static void owner_ends_with_two_and_one_waits(void)
     go(tries_one_and_then_the_other, OTHER, ANY_PROCESSOR);
 }
 
+/* The waiter of the mutex that passes on first keeps the processor of the thread that ends. So it finds the other mutex
+   held, though its own has passed on. */
+static void ends_with_two_and_a_waiter(void)
+{
+    calls->lock(0);
+    calls->lock(1);
+    set(1);
+    rest(3000);
+}
+
+static void goes_on_and_tries_the_other(void)
+{
+    await(1);
+    int answer = calls->lock(1), other = calls->trylock(0);
+
+    give_up(other, 0);
+    give_up(answer, 1);
+}
+
+static void mutexes_of_an_end_pass_on_apart(void)
+{
+    go(ends_with_two_and_a_waiter, MIDDLE, 0);
+    go(goes_on_and_tries_the_other, MIDDLE + 10, 0);
+}
+
 /* A wait by the owner of an inconsistent mutex. */
 static void waits_while_inconsistent(void)
 {
@@ -397,6 +422,7 @@ const Probe probes_of_ends[] = {
     {"owner_ends", 3, 1, 0, 1, PTHREADS | ROBUST, owner_ends},
     {"owner_ends_with_two", 2, 2, 0, 1, PTHREADS | ROBUST, owner_ends_with_two},
     {"owner_ends_with_two_and_one_waits", 3, 2, 0, 1, PTHREADS | ROBUST, owner_ends_with_two_and_one_waits},
+    {"mutexes_of_an_end_pass_on_apart", 2, 2, 0, 1, PTHREADS | ROBUST | FIFO, mutexes_of_an_end_pass_on_apart},
     {"wait_while_inconsistent", 3, 1, 1, 1, PTHREADS | ROBUST, wait_while_inconsistent},
     {"lost_for_good", 6, 1, 0, 1, PTHREADS | ROBUST, lost_for_good},
     {"lost_and_wanted_by_two", 4, 1, 0, 1, PTHREADS | ROBUST, lost_and_wanted_by_two},
