@@ -20,7 +20,7 @@ sys.path.insert(0, str(RECORD))
 
 from packages import CANNOT_ASK, CannotAsk, run, unpack  # noqa: E402
 
-OUT = HERE / "out"
+OUT = Path(os.environ.get("OTHERS_CACHE") or Path.home() / ".cache" / "pif-others")
 C = HERE / "c"
 FLAGS = ["-std=c11", "-O2", "-g", "-Wall", "-Wextra", "-Werror", "-D_GNU_SOURCE", "-pthread", "-I", str(C), "-I", str(RECORD)]
 HUNG, NICE, AT_ONCE, PLACES = 9, 10, 2, ("packages", "root")
