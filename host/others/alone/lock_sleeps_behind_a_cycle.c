@@ -1,6 +1,7 @@
-/* Two normal mutexes with PTHREAD_PRIO_INHERIT. One thread has the first and asks for the second with a deadline; the other
-   has the second and locks the first. For a moment that is a cycle, and then the first thread times out, and gives up what it
-   has. So the other one has to get it. Status 1 if it still sleeps a second later, while anybody else can have the mutex. */
+/* Two normal mutexes with PTHREAD_PRIO_INHERIT. One thread has the first and asks for the second with a deadline; the
+   other has the second and locks the first. For a moment that is a cycle. Then the first thread times out, and gives up
+   what it has. So the other one has to get it. Status 1 if it still sleeps a second later, while anybody else can have
+   the mutex. */
 #include <pthread.h>
 #include <stdatomic.h>
 #include <stdio.h>
@@ -19,7 +20,7 @@ static void *has_a_deadline(void *value)
     while (atomic_load(&stage) < 2)
         usleep(100);
     clock_gettime(CLOCK_REALTIME, &time);
-    time.tv_sec++;
+    time.tv_sec += 4;
     if (pthread_mutex_timedlock(&second, &time) == 0)
         pthread_mutex_unlock(&second);
     pthread_mutex_unlock(&first);
@@ -33,7 +34,7 @@ static void *has_none(void *value)
         usleep(100);
     pthread_mutex_lock(&second);
     atomic_store(&stage, 2);
-    usleep(200000);
+    usleep(1000000);
     pthread_mutex_lock(&first);
     pthread_mutex_unlock(&first);
     pthread_mutex_unlock(&second);
@@ -55,7 +56,8 @@ int main(void)
     pthread_join(threads[0], NULL);
     sleep(1);
     int tried = pthread_mutex_trylock(&first);
-    printf("the lock %s; a trylock of its mutex: %d\n", atomic_load(&stage) < 4 ? "still sleeps" : "was answered", tried);
+    const char *what = atomic_load(&stage) < 4 ? "still sleeps" : "was answered";
+    printf("the lock %s; a trylock of its mutex: %d\n", what, tried);
     fflush(stdout);
     _exit(atomic_load(&stage) < 4 && tried == 0);
 }
