@@ -1,5 +1,5 @@
-/* Two recursive mutexes with PTHREAD_PRIO_INHERIT. Each of two threads has one, and asks for the other one with a deadline.
-   That is answered EDEADLK, ETIMEDOUT or 0. Status 1 if the process is aborted. */
+/* Two recursive mutexes with PTHREAD_PRIO_INHERIT. Each of two threads has one, and asks for the other one with a
+   deadline. That is answered EDEADLK, ETIMEDOUT or 0. Status 1 if the process is aborted. */
 #include <pthread.h>
 #include <stdatomic.h>
 #include <stdio.h>

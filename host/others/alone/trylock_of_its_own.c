@@ -1,5 +1,5 @@
-/* The owner of an ERRORCHECK mutex tries it. The answer has to be EBUSY, and EDEADLK is none of this call. Status 1 if one
-   of the four mutexes answers it: robust or not, with PTHREAD_PRIO_INHERIT or not. */
+/* The owner of an ERRORCHECK mutex tries it. The answer has to be EBUSY, and EDEADLK is none of this call. Status 1
+   if one of the four mutexes answers it: robust or not, with PTHREAD_PRIO_INHERIT or not. */
 #include <errno.h>
 #include <pthread.h>
 #include <stdio.h>

@@ -1,5 +1,5 @@
-/* The owner of a robust mutex ends. The next one is told EOWNERDEAD, owns the mutex, and waits on a condition variable. The
-   wait has to give the mutex up; it isn't EPERM, which is for who doesn't own it. Status 1 if it is. */
+/* The owner of a robust mutex ends. The next one is told EOWNERDEAD, owns the mutex, and waits on a condition
+   variable. The wait has to give the mutex up; it isn't EPERM, which is for who doesn't own it. Status 1 if it is. */
 #include <errno.h>
 #include <pthread.h>
 #include <stdio.h>

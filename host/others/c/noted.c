@@ -1,5 +1,5 @@
-/* Notes each call of pthreads, and the threads, mutexes and variables that there are. A thread's end is noted by a key's
-   destructor, and by the join. */
+/* Notes each call of pthreads, and the threads, mutexes and variables that there are. A thread's end is noted by a
+   key's destructor, and by the join. */
 #include "noted.h"
 
 #include <fcntl.h>
