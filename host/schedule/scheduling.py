@@ -38,6 +38,10 @@ class Refused(Exception):
     """What is asked can't be done, and why."""
 
 
+def counted(count, one, several=None):
+    return "%d %s" % (count, one if count == 1 else several or one + "s")
+
+
 class Told(NamedTuple):
     """A file of the library."""
 
@@ -212,12 +216,15 @@ class Program:
         link.symlink_to(LIBRARY)  # the folder's own name has neither
         return " ".join(filter(None, [str(link), os.environ.get("LD_PRELOAD")]))
 
+    def names(self):
+        """What the environment of the program has for the library."""
+        return {"LD_PRELOAD": self.preloaded(), "PIF_SCHEDULE": str(self.folder)}
+
     def start(self):
         read_end, self.to_program = os.pipe()
         self.from_program, write_end = os.pipe()
         self.pipes = self.to_program, self.from_program
-        environment = {**os.environ, "LD_PRELOAD": self.preloaded(), "PIF_SCHEDULE": str(self.folder),
-                       "PIF_SCHEDULE_SERVER": "%d,%d" % (read_end, write_end)}
+        environment = {**os.environ, **self.names(), "PIF_SCHEDULE_SERVER": "%d,%d" % (read_end, write_end)}
         self.process = subprocess.Popen(
             [self.file, *self.words[1:]], env=environment, stdin=subprocess.DEVNULL, preexec_fn=before_exec,
             stdout=self.out, stderr=self.err, pass_fds=(read_end, write_end))
@@ -260,28 +267,36 @@ class Program:
             text = file.read(length).decode("ascii", "replace")
             return Told(takers, points, switches, forks, ended, bool(is_full), text)
 
-    def run(self, asked, choices=()):
-        """Runs the program once."""
+    def prepare(self, asked, choices):
+        """Makes the files for a run."""
         for name in ("told", "story"):
             with open(self.file_of(name), "wb") as file:
                 file.truncate(ROOM)
         self.out.truncate(0)
         self.err.truncate(0)
         self.file_of("asked").write_text(asked.text(choices))
+
+    def run(self, asked, choices=()):
+        """Runs the program once."""
+        self.prepare(asked, choices)
         status = self.status(asked.seconds)
         told, story = self.told("told"), self.told("story")
-        lines = told.text.splitlines()
-        reasons = [line[2:] for line in lines if line.startswith("# ")]
-        made = [choice for choice in map(read_choice, lines) if choice]
+        made = [choice for choice in map(read_choice, told.text.splitlines()) if choice]
         out = self.file_of("out").read_bytes()
-        kind, reasons = verdict(asked, told, reasons, status, out)
+        kind, reasons = verdict(asked, told, status, out)
         self.forks, self.others = max(self.forks, told.forks), max(self.others, told.takers - 1)
         return Run(kind, reasons, told.points, told.switches, made, story.text, story.is_full, out,
                    self.file_of("err").read_text("utf-8", "replace"))
 
 
-def verdict(asked, told, reasons, status, out):
+def reasons_of(told):
+    """The lines in which the library says why it ended the run."""
+    return [line[2:] for line in told.text.splitlines() if line.startswith("# ")]
+
+
+def verdict(asked, told, status, out):
     """The verdict on a run in short, and its lines."""
+    reasons = reasons_of(told)
     if status is None:
         return "hang", ["hang: the run takes more than %g seconds" % asked.seconds]
     if told.ended == BY_LIBRARY:
