@@ -21,11 +21,12 @@ from typing import NamedTuple
 HERE = Path(__file__).resolve().parent
 TOP = HERE.parent.parent
 LIBRARY = HERE / "out" / "libschedule.so"
+MEMORY = HERE / "out" / "memory"
 FIRST_LINE = "pif-schedule 1"
 STRATEGIES = ("random", "pct", "pick", "stay")  # by the numbers of schedule.h
 
 # What ends a run without a verdict on the program.
-UNDECIDED = ("hang", "diverged", "limit", "unsupported", "no call", "unconfirmed")
+UNDECIDED = ("hang", "diverged", "limit", "unsupported", "no call", "no access", "unconfirmed")
 
 # The head of a file in which the library tells of a run, as told.c has it; its text is behind.
 HEAD = struct.Struct("<8Q")
@@ -51,6 +52,7 @@ class Told(NamedTuple):
     forks: int
     ended: int
     is_full: bool
+    accesses: int
     text: str
 
 
@@ -134,6 +136,8 @@ class Asked(NamedTuple):
     loose: bool = False
     whole: bool = False
     story: bool = False
+    memory: bool = False
+    races: bool = False
     expect: int = 0
     output: bytes | None = None
     seconds: float = 10.0
@@ -146,7 +150,7 @@ class Asked(NamedTuple):
 
 
 # What a schedule keeps of what was asked: a replay needs it.
-KEPT = ("ends", "time", "steps", "inherit", "errors", "each", "expect")
+KEPT = ("ends", "time", "steps", "inherit", "errors", "each", "memory", "races", "expect")
 
 
 def sum_of(program):
@@ -263,9 +267,9 @@ class Program:
 
     def told(self, name):
         with open(self.file_of(name), "rb") as file:
-            takers, length, points, switches, forks, ended, is_full, _ = HEAD.unpack(file.read(HEAD.size))
+            takers, length, points, switches, forks, ended, is_full, accesses = HEAD.unpack(file.read(HEAD.size))
             text = file.read(length).decode("ascii", "replace")
-            return Told(takers, points, switches, forks, ended, bool(is_full), text)
+            return Told(takers, points, switches, forks, ended, bool(is_full), accesses, text)
 
     def prepare(self, asked, choices):
         """Makes the files for a run."""
@@ -306,6 +310,8 @@ def verdict(asked, told, status, out):
         return name, ["%s: %s" % (name, signal.strsignal(os.WTERMSIG(status)))]
     if told.takers == 0:
         return "no call", ["no call: no thread was started, and no call on locks was seen"]
+    if asked.memory and told.accesses == 0:
+        return "no access", ["no access: the program isn't built with -fsanitize=thread against %s" % MEMORY]
     if os.WEXITSTATUS(status) != asked.expect:
         return "status %d" % os.WEXITSTATUS(status), ["status %d, and %d is expected" % (os.WEXITSTATUS(status),
                                                                                         asked.expect)]

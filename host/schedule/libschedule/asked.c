@@ -19,7 +19,7 @@ static const struct {
     {"length", &options.length},     {"ends", &options.ends},     {"time", &options.time},
     {"steps", &options.steps},       {"inherit", &options.inherit}, {"errors", &options.errors},
     {"each", &options.each},         {"loose", &options.loose},   {"whole", &options.whole},
-    {"story", &options.story},
+    {"story", &options.story},       {"memory", &options.memory}, {"races", &options.races},
 };
 
 static Choice *choices;

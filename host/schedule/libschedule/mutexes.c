@@ -12,9 +12,19 @@ static int judged(const Thread *me, uint32_t mutex, int answer, const char *does
     return answer;
 }
 
-static int judged_lock(const Thread *me, uint32_t mutex, int answer)
+/* Who gets a mutex comes after those who had it. */
+static int taken(const Thread *me, const pthread_mutex_t *mutex, int answer)
 {
-    return answer == EDEADLK ? judged(me, mutex, answer, "locks", "which it holds") : answer;
+    if (answer == 0 || answer == EOWNERDEAD)
+        take_order(me, mutex);
+    if (answer == EOWNERDEAD)
+        take_order(me, &living);
+    return answer;
+}
+
+static int judged_lock(const Thread *me, const pthread_mutex_t *mutex, uint32_t number, int answer)
+{
+    return answer == EDEADLK ? judged(me, number, answer, "locks", "which it holds") : taken(me, mutex, answer);
 }
 
 int pthread_mutex_init(pthread_mutex_t *mutex, const pthread_mutexattr_t *attributes)
@@ -47,7 +57,7 @@ int pthread_mutex_lock(pthread_mutex_t *mutex)
         return BELOW(pthread_mutex_lock)(mutex);
     point(me);
     uint32_t number = number_of_mutex(me, mutex);
-    int answer = judged_lock(me, number, ask_for_lock(me, pif_lock(number)));
+    int answer = judged_lock(me, mutex, number, ask_for_lock(me, pif_lock(number)));
     leave(me);
     return answer;
 }
@@ -59,7 +69,7 @@ int pthread_mutex_trylock(pthread_mutex_t *mutex)
     if (me == NULL)
         return BELOW(pthread_mutex_trylock)(mutex);
     point(me);
-    int answer = ask(me, pif_trylock(number_of_mutex(me, mutex)));
+    int answer = taken(me, mutex, ask(me, pif_trylock(number_of_mutex(me, mutex))));
     if (answer == EBUSY)
         find_nothing(me);
     leave(me);
@@ -79,7 +89,7 @@ int pthread_mutex_clocklock(pthread_mutex_t *mutex, clockid_t clock, const struc
     point(me);
     uint32_t number = number_of_mutex(me, mutex);
     set_deadline(me, clock, deadline);
-    int answer = judged_lock(me, number, ask_for_lock(me, pif_timedlock(number, me->deadline)));
+    int answer = judged_lock(me, mutex, number, ask_for_lock(me, pif_timedlock(number, me->deadline)));
     leave(me);
     return answer;
 }
@@ -97,6 +107,7 @@ int pthread_mutex_unlock(pthread_mutex_t *mutex)
         return BELOW(pthread_mutex_unlock)(mutex);
     point(me);
     uint32_t number = number_of_mutex(me, mutex);
+    pass_order(me, mutex);
     int answer = ask(me, pif_unlock(number));
     if (answer == EPERM)
         judged(me, number, answer, "unlocks", "which it doesn't hold");

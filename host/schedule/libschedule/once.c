@@ -32,8 +32,11 @@ static void run_body(Thread *me, volatile int *once, void (*body)(void))
     while (*once == BEGUN)
         wait_until(me, is_done, (const void *)once, "waits for what runs once");
     leave(me);
-    if (*once == NOT_BEGUN)
+    if (*once == NOT_BEGUN) {
         run(once, body);
+        pass_order(me, once);
+    }
+    take_order(me, once);
 }
 
 int pthread_once(pthread_once_t *once, void (*body)(void))
@@ -79,12 +82,17 @@ int __cxa_guard_acquire(int *guard)
     bool makes = (*guard & MADE_BITS) == 0;
     if (makes)
         *guard |= IS_BEING_MADE;
+    take_order(me, guard);
     leave(me);
     return makes;
 }
 
 static void end_making(int *guard, int state)
 {
+    const Thread *me = this_thread();
+
+    if (me != NULL)
+        pass_order(me, guard);
     *(volatile int *)guard = state;
 }
 

@@ -38,6 +38,7 @@ int sem_post(sem_t *semaphore)
     if (me == NULL)
         return BELOW(sem_post)(semaphore);
     point(me);
+    pass_order(me, semaphore);
     ++*value_of(semaphore);
     leave(me);
     return 0;
@@ -52,6 +53,7 @@ int sem_wait(sem_t *semaphore)
     point(me);
     wait_until(me, has_value, semaphore, "waits for a semaphore");
     --*value_of(semaphore);
+    take_order(me, semaphore);
     leave(me);
     return 0;
 }
@@ -62,7 +64,9 @@ static int take_one(Thread *me, sem_t *semaphore, int otherwise)
     bool has = *value_of(semaphore) > 0;
 
     *value_of(semaphore) -= has;
-    if (!has)
+    if (has)
+        take_order(me, semaphore);
+    else
         find_nothing(me);
     leave(me);
     errno = has ? errno : otherwise;
@@ -100,13 +104,16 @@ int sem_timedwait(sem_t *restrict semaphore, const struct timespec *restrict dea
 
 int sem_destroy(sem_t *semaphore) { return BELOW(sem_destroy)(semaphore); }
 
-/* READ-WRITE LOCKS: who reads isn't known. */
+/* READ-WRITE LOCKS: who reads isn't known. Readers come after writers, and writers after all: what readers pass on has
+   the address behind that of the lock. */
 
 typedef struct {
     uint32_t readers, writer; /* how many, and the number of a thread; 0: nobody */
 } Shared;
 
 static Shared *shared_of(const pthread_rwlock_t *lock) { return (Shared *)(uintptr_t)lock; }
+
+static const void *of_readers(const pthread_rwlock_t *lock) { return (const char *)lock + 1; }
 
 static bool can_read(const Thread *thread) { return shared_of(thread->waits_for)->writer == 0; }
 
@@ -152,6 +159,9 @@ static const Access writing = {can_write, can_write_or_is_due, true, "waits to w
 
 static int take_access(Thread *me, pthread_rwlock_t *lock, const Access *access)
 {
+    take_order(me, lock);
+    if (access->writes)
+        take_order(me, of_readers(lock));
     if (access->writes)
         shared_of(lock)->writer = me->number;
     else
@@ -243,6 +253,7 @@ int pthread_rwlock_unlock(pthread_rwlock_t *lock)
         return BELOW(pthread_rwlock_unlock)(lock);
     point(me);
     Shared *shared = shared_of(lock);
+    pass_order(me, shared->writer == me->number ? lock : of_readers(lock));
     if (shared->writer == me->number)
         shared->writer = 0;
     else if (shared->readers > 0 && shared->writer == 0)
@@ -264,6 +275,9 @@ OLD_NAME("__pthread_rwlock_unlock", pthread_rwlock_unlock);
 typedef struct {
     uint32_t wanted, here, round;
 } Barrier;
+
+/* What those pass on who come in one round isn't taken by those who are late to leave the round before. */
+static const void *of_round(const Barrier *barrier, uint32_t round) { return (const char *)barrier + round % 2; }
 
 static bool is_open(const Thread *thread) { return ((const Barrier *)thread->waits_for)->round != thread->seen; }
 
@@ -304,14 +318,16 @@ int pthread_barrier_wait(pthread_barrier_t *barrier)
     if (me == NULL)
         return BELOW(pthread_barrier_wait)(barrier);
     point(me);
+    me->seen = passed->round;
+    pass_order(me, of_round(passed, me->seen));
     if (++passed->here == passed->wanted) {
         passed->here = 0;
         passed->round++;
         answer = PTHREAD_BARRIER_SERIAL_THREAD;
     } else {
-        me->seen = passed->round;
         wait_until(me, is_open, passed, "waits at a barrier");
     }
+    take_order(me, of_round(passed, me->seen));
     leave(me);
     return answer;
 }
@@ -335,6 +351,7 @@ int pthread_spin_lock(pthread_spinlock_t *lock)
         wait_until(me, is_another_unlock, (const void *)lock, "waits for a spin lock");
     }
     me->wants_lock = false;
+    take_order(me, (const void *)lock);
     leave(me);
     return 0;
 }
@@ -349,6 +366,8 @@ int pthread_spin_trylock(pthread_spinlock_t *lock)
     int answer = BELOW(pthread_spin_trylock)(lock);
     if (answer == EBUSY)
         find_nothing(me);
+    else
+        take_order(me, (const void *)lock);
     leave(me);
     return answer;
 }
@@ -361,6 +380,7 @@ int pthread_spin_unlock(pthread_spinlock_t *lock)
         return BELOW(pthread_spin_unlock)(lock);
     point(me);
     spin_unlocks++;
+    pass_order(me, (const void *)lock);
     int answer = BELOW(pthread_spin_unlock)(lock);
     leave(me);
     return answer;

@@ -19,6 +19,17 @@
 
 enum { MILLISECOND = 1000, MICROSECONDS = 1000000, NANOSECONDS = 1000 };
 
+/* What one thread wrote, sent or signalled comes before what another one read: by all files and signals at once. */
+static const char of_kernel;
+
+static void order_by_kernel(void (*orders)(const Thread *, const volatile void *))
+{
+    const Thread *me = is_on() ? this_thread() : NULL;
+
+    if (me != NULL)
+        orders(me, &of_kernel);
+}
+
 /* Waits until the condition holds, or that long, in microseconds; below 0: for good. */
 static void wait_outside(Thread *me, Condition *condition, const void *on, int64_t time)
 {
@@ -28,6 +39,7 @@ static void wait_outside(Thread *me, Condition *condition, const void *on, int64
     me->asks_the_kernel = true;
     wait_until(me, condition, on, "waits for the kernel");
     me->asks_the_kernel = false;
+    take_order(me, &of_kernel);
     leave(me);
 }
 
@@ -178,7 +190,12 @@ static void wait_for_file(const char *call, uintptr_t caller, int file, short ev
     type call parameters \
     { \
         wait_for_file(#call, CALLER, file, events); \
-        return BELOW(call) arguments; \
+        if (events == POLLOUT) \
+            order_by_kernel(pass_order); \
+        type answer = BELOW(call) arguments; \
+        if (events == POLLIN) \
+            order_by_kernel(take_order); \
+        return answer; \
     }
 FILE_CALL(ssize_t, read, POLLIN, (int file, void *bytes, size_t size), (file, bytes, size))
 FILE_CALL(ssize_t, readv, POLLIN, (int file, const struct iovec *parts, int count), (file, parts, count))
@@ -206,6 +223,7 @@ ssize_t write(int file, const void *bytes, size_t size)
     ssize_t part, all = 0;
 
     wait_for_file("write", CALLER, file, POLLOUT);
+    order_by_kernel(pass_order);
     if (size <= PIPE_BUF || !may_wait(file) || !is_pipe(file))
         return BELOW(write)(file, bytes, size);
     do {
@@ -242,6 +260,7 @@ int pthread_kill(pthread_t name, int signal)
 
     if (thread != NULL && signal > 0 && signal < _NSIG)
         thread->signals |= bit_of(signal);
+    order_by_kernel(pass_order);
     return BELOW(pthread_kill)(name, signal);
 }
 

@@ -20,6 +20,7 @@ typedef enum {
     DIVERGED,     /* the schedule doesn't fit the program */
     LIMIT,        /* more of something than there may be */
     UNSUPPORTED,  /* a call that can't be scheduled */
+    RACE,         /* of plain memory */
     VERDICTS,
 } Verdict;
 
@@ -38,6 +39,8 @@ typedef struct {
     uint64_t loose;         /* choices are found by thread and its own count; those that don't fit are left out */
     uint64_t whole;         /* no choice may come behind those that were given */
     uint64_t story;         /* the events of the core are told */
+    uint64_t memory;        /* each access of memory is a point, too */
+    uint64_t races;         /* then a race is no verdict */
 } Options;
 
 /* glibc's call of the same name, which is looked for once. */
@@ -52,6 +55,7 @@ typedef struct {
 #define NEW_BELOW(call) FOUND_BELOW(call, new_below)
 
 typedef struct Thread Thread;
+typedef struct Clock Clock;
 
 /* Whether a thread can go on, by what it waits for outside of the core. It may be asked at any choice. */
 typedef bool Condition(const Thread *);
@@ -79,6 +83,9 @@ struct Thread {
     uintptr_t caller; /* where that returns to */
     uint64_t rank;    /* of PCT: the greatest goes */
     int priority, rounds; /* the base priority; rounds of the keys' destructors */
+    const volatile void *last_read; /* the last access of memory */
+    uint8_t last_value;
+    uint32_t same; /* how often in a row it read that, and found the same */
     uint64_t signals; /* sent to it, one bit each, while it waits for them */
     pthread_t name;
     void *(*start)(void *);
@@ -119,6 +126,7 @@ bool take_told(void); /* this process is the first that wants to be scheduled */
 void tell_points(uint64_t points, bool is_switch);
 void tell_choice(const char *line);
 void tell_fork(void);
+void tell_access(void); /* of memory */
 void tell_exit(void);
 void tell_verdict(Verdict, const char *reason);
 void tell_reason(const char *format, ...) __attribute__((format(printf, 1, 2)));
@@ -172,6 +180,11 @@ bool begin_threads(void);
 Thread *this_thread(void);
 Thread *thread_named(pthread_t);
 void stop_thread(Thread *); /* for good */
+
+/* memory.c: what happens before what, of which races of memory are told */
+void pass_order(const Thread *, const volatile void *on); /* what it did comes before what those do who take it */
+void take_order(const Thread *, const volatile void *on);
+void forget_stack(const Thread *);
 
 /* core.c: calls that the core answers */
 int ask(Thread *, pif_request);

@@ -43,6 +43,8 @@ static void leave_the_living(Thread *thread)
         at++;
     living.count--;
     memmove(&living.at[at], &living.at[at + 1], (living.count - at) * sizeof *living.at);
+    pass_order(thread, thread);
+    pass_order(thread, &living);
     thread->gone = true;
     thread->call = "its end";
     pif_end(&core, thread->number);
@@ -99,6 +101,8 @@ static void *run_thread(void *value)
 
     first_turn(me);
     take_name(me);
+    take_order(me, me);
+    forget_stack(me);
     return me->start(me->argument);
 }
 
@@ -133,6 +137,7 @@ int pthread_create(pthread_t *name, const pthread_attr_t *attributes, void *(*st
     added->start = start;
     added->argument = argument;
     added->detached = starts_detached(attributes);
+    pass_order(me, added);
     int answer = BELOW(pthread_create)(&added->name, without_priority(attributes, &room), run_thread, added);
     if (answer == 0)
         *name = added->name;
@@ -171,8 +176,9 @@ static Thread *thread_to_join(Thread *me, pthread_t name)
 }
 
 /* A thread that stopped for good stands still in glibc. */
-static int take_result(Thread *thread, void **result)
+static int take_result(const Thread *me, Thread *thread, void **result)
 {
+    take_order(me, thread);
     thread->joined = true;
     if (!thread->stopped)
         return BELOW(pthread_join)(thread->name, result);
@@ -190,7 +196,7 @@ int pthread_join(pthread_t name, void **result)
     point(me);
     Thread *thread = thread_to_join(me, name);
     wait_until(me, has_ended, thread, "waits for the end of");
-    int answer = take_result(thread, result);
+    int answer = take_result(me, thread, result);
     leave(me);
     return answer;
 }
@@ -205,7 +211,7 @@ int pthread_tryjoin_np(pthread_t name, void **result)
     Thread *thread = thread_to_join(me, name);
     if (!thread->gone)
         find_nothing(me);
-    int answer = thread->gone ? take_result(thread, result) : EBUSY;
+    int answer = thread->gone ? take_result(me, thread, result) : EBUSY;
     leave(me);
     return answer;
 }
@@ -226,7 +232,7 @@ int pthread_clockjoin_np(pthread_t name, void **result, clockid_t clock, const s
     Thread *thread = thread_to_join(me, name);
     set_deadline(me, clock, deadline);
     wait_until(me, has_ended_or_is_due, thread, "waits for the end of");
-    int answer = thread->gone ? take_result(thread, result) : ETIMEDOUT;
+    int answer = thread->gone ? take_result(me, thread, result) : ETIMEDOUT;
     leave(me);
     return answer;
 }

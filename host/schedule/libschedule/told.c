@@ -18,7 +18,7 @@ typedef struct {
     uint64_t length, points, switches, forks;
     uint64_t ended; /* 0: in a way of its own; 1: by exit; 2: the library ended it */
     uint64_t is_full;
-    uint64_t unused;
+    uint64_t accesses; /* of memory */
     char text[];
 } Told;
 
@@ -29,6 +29,7 @@ static Told *run, *story;
 static const char *const verdicts[VERDICTS] = {
     [DEADLOCK] = "deadlock", [LOST_WAKE_UP] = "lost wake-up", [STUCK] = "stuck", [MISUSE] = "misuse",
     [LIVELOCK] = "livelock", [DIVERGED] = "diverged",         [LIMIT] = "limit", [UNSUPPORTED] = "unsupported",
+    [RACE] = "race",
 };
 
 static Told *map_told(const char *folder, const char *name)
@@ -78,6 +79,8 @@ void tell_choice(const char *line)
 }
 
 void tell_fork(void) { run->forks++; }
+
+void tell_access(void) { run->accesses++; }
 
 void tell_exit(void) { run->ended = BY_EXIT; }
 

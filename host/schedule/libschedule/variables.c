@@ -53,10 +53,12 @@ static int wait_with(Thread *me, pthread_cond_t *variable, pthread_mutex_t *mute
     Variable *waited = variable_at(me, variable);
 
     bind_variable(me, waited, number);
+    pass_order(me, mutex);
     waited->waiting++;
     int answer = ask(me, is_timed ? pif_timedwait(waited->number, number, me->deadline)
                                   : pif_wait(waited->number, number));
     waited->waiting--;
+    take_order(me, mutex);
     return judged_wait(me, number, answer);
 }
 
