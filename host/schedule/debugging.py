@@ -37,7 +37,7 @@ def debug(schedule):
             print(line)
         print("what it prints is in %s and %s" % (program.file_of("out"), program.file_of("err")), flush=True)
         run_in_gdb(schedule, program)
-        told = program.told("told")
+        told = program.told(program.tellings)
         reasons = reasons_of(told)
     finally:
         program.stop()

@@ -166,6 +166,11 @@ def program_named(word):
     return found
 
 
+def whole(file):
+    file.seek(0)
+    return file.read()
+
+
 def before_exec():
     """Of the process that becomes the program: the same addresses in each run, and no files of memory."""
     ctypes.CDLL(None).personality(ADDR_NO_RANDOMIZE)
@@ -184,8 +189,9 @@ class Program:
                                                 else None)
         self.folder = Path(self.room.name)
         self.process = None
-        self.out = open(self.folder / "out", "ab", buffering=0)
-        self.err = open(self.folder / "err", "ab", buffering=0)
+        self.out, self.err = (open(self.file_of(name), "ab+", buffering=0) for name in ("out", "err"))
+        self.asked, self.tellings = (open(self.file_of(name), "wb+", buffering=0) for name in ("asked", "told"))
+        self.story = open(self.file_of("story"), "wb+", buffering=0)
         self.pipes = ()
         self.rest = b""  # what the program said that wasn't read as a line yet
 
@@ -207,7 +213,7 @@ class Program:
             self.process.wait()
         for end in self.pipes:
             os.close(end)
-        for file in (self.out, self.err):
+        for file in (self.out, self.err, self.asked, self.tellings, self.story):
             file.close()
         self.room.cleanup()
 
@@ -265,32 +271,32 @@ class Program:
         self.answer("status", 20)
         return None
 
-    def told(self, name):
-        with open(self.file_of(name), "rb") as file:
-            takers, length, points, switches, forks, ended, is_full, accesses = HEAD.unpack(file.read(HEAD.size))
-            text = file.read(length).decode("ascii", "replace")
-            return Told(takers, points, switches, forks, ended, bool(is_full), accesses, text)
+    def told(self, file):
+        file.seek(0)
+        takers, length, points, switches, forks, ended, is_full, accesses = HEAD.unpack(file.read(HEAD.size))
+        text = file.read(length).decode("ascii", "replace")
+        return Told(takers, points, switches, forks, ended, bool(is_full), accesses, text)
 
     def prepare(self, asked, choices):
         """Makes the files for a run."""
-        for name in ("told", "story"):
-            with open(self.file_of(name), "wb") as file:
-                file.truncate(ROOM)
-        self.out.truncate(0)
-        self.err.truncate(0)
-        self.file_of("asked").write_text(asked.text(choices))
+        for file in (self.out, self.err, self.asked, self.tellings, self.story):
+            file.truncate(0)
+        for file in (self.tellings, self.story):
+            file.truncate(ROOM)
+        self.asked.seek(0)
+        self.asked.write(asked.text(choices).encode())
 
     def run(self, asked, choices=()):
         """Runs the program once."""
         self.prepare(asked, choices)
         status = self.status(asked.seconds)
-        told, story = self.told("told"), self.told("story")
+        told, story = self.told(self.tellings), self.told(self.story)
         made = [choice for choice in map(read_choice, told.text.splitlines()) if choice]
-        out = self.file_of("out").read_bytes()
+        out = whole(self.out)
         kind, reasons = verdict(asked, told, status, out)
         self.forks, self.others = max(self.forks, told.forks), max(self.others, told.takers - 1)
         return Run(kind, reasons, told.points, told.switches, made, story.text, story.is_full, out,
-                   self.file_of("err").read_text("utf-8", "replace"))
+                   whole(self.err).decode("utf-8", "replace"))
 
 
 def reasons_of(told):

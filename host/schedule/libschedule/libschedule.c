@@ -54,6 +54,7 @@ static void fail(const char *why)
     syscall(SYS_exit_group, STATUS_OF_FAULT);
 }
 
+/* Each run's is a copy of the one that is made here. */
 static void make_core(void)
 {
     if (pif_core_new(&core, MOST_THREADS, MOST_MUTEXES, MOST_VARIABLES, UINT32_MAX) != PIF_OK)
@@ -72,7 +73,6 @@ static void take_the_run(void)
     strcat(strcpy(asked, folder), "/asked");
     if (!read_asked(asked))
         fail("what is asked can't be read");
-    make_core();
     if (!begin_threads() || pthread_atfork(NULL, in_parent, in_child) != 0)
         fail("there is no key for a thread's end");
     begin_strategy();
@@ -118,6 +118,7 @@ __attribute__((constructor)) static void begin(void)
     if (given == NULL || given[0] == '\0' || strlen(given) >= MOST_OF_PATH)
         return;
     strcpy(folder, given);
+    make_core();
     serve();
     if (!open_told(folder))
         fail("the folder of the run has no files 'told' and 'story'");

@@ -64,27 +64,25 @@ static uint32_t kind_of(int bits)
 
 bool is_plain(uint32_t mutex) { return mutexes[mutex].kind == 2 * PIF_NORMAL; }
 
-static const char *nameless(uintptr_t address, char *room, size_t size)
+static const char *where_it_is(const pthread_mutex_t *mutex)
 {
-    const char *name = object_name(address);
+    const char *name = object_name((uintptr_t)mutex);
 
-    snprintf(room, size, "%s", name != NULL ? name : "on the stack or the heap");
-    return room;
+    return name != NULL ? name : "on the stack or the heap";
 }
 
 /* What a core hasn't got is refused by name. */
 static void refuse_others(const Thread *me, const pthread_mutex_t *mutex)
 {
-    char room[MOST_OF_NAME];
     int bits = mutex->__data.__kind;
-    const char *name = nameless((uintptr_t)mutex, room, sizeof room);
 
     if (bits < 0 || (bits & ~KIND_COMPARED) > 1 << 10)
-        misuse(me, "uses the mutex %s, which is destroyed or isn't initialised", name);
+        misuse(me, "uses the mutex %s, which is destroyed or isn't initialised", where_it_is(mutex));
     if ((bits & KIND_PROTECT) != 0)
-        stop(UNSUPPORTED, "a mutex with PTHREAD_PRIO_PROTECT: %s", name);
+        stop(UNSUPPORTED, "a mutex with PTHREAD_PRIO_PROTECT: %s", where_it_is(mutex));
     if ((bits & KIND_INHERIT) == 0 && !options.inherit)
-        stop(UNSUPPORTED, "a mutex without PTHREAD_PRIO_INHERIT: %s; --inherit takes each mutex as inheriting", name);
+        stop(UNSUPPORTED, "a mutex without PTHREAD_PRIO_INHERIT: %s; --inherit takes each mutex as inheriting",
+             where_it_is(mutex));
 }
 
 static uint32_t added_mutex(uint32_t kind)
