@@ -1,9 +1,11 @@
 /* Programs whose runs the library ends: by a failure, or since it can't go on. */
 #include <errno.h>
+#include <sched.h>
 #include <semaphore.h>
 #include <signal.h>
 #include <stdio.h>
 #include <stdlib.h>
+#include <sys/select.h>
 #include <unistd.h>
 
 #include "features.h"
@@ -138,29 +140,79 @@ static void shares(void)
     pthread_mutex_init(&mutex, &attributes);
 }
 
-static void named_semaphore(void) { sem_open("/pif", 0); }
-
-static void lock_in_handler(int number)
+static void shares_semaphore(void)
 {
-    (void)number;
+    sem_t semaphore;
+
+    sem_init(&semaphore, 1, 0);
+}
+
+static void shares_barrier(void)
+{
+    pthread_barrierattr_t attributes;
+    pthread_barrier_t barrier;
+
+    pthread_barrierattr_init(&attributes);
+    pthread_barrierattr_setpshared(&attributes, PTHREAD_PROCESS_SHARED);
+    pthread_barrier_init(&barrier, &attributes, 1);
+}
+
+static void shares_rwlock(void)
+{
+    pthread_rwlockattr_t attributes;
+    pthread_rwlock_t lock;
+
+    pthread_rwlockattr_init(&attributes);
+    pthread_rwlockattr_setpshared(&attributes, PTHREAD_PROCESS_SHARED);
+    pthread_rwlock_init(&lock, &attributes);
+}
+
+static void shares_variable(void)
+{
+    pthread_condattr_t attributes;
+    pthread_cond_t shared;
+
+    pthread_condattr_init(&attributes);
+    pthread_condattr_setpshared(&attributes, PTHREAD_PROCESS_SHARED);
+    pthread_cond_init(&shared, &attributes);
     pthread_mutex_lock(&mutex);
+    pthread_cond_wait(&shared, &mutex);
 }
 
-/* The first thread is inside of its join when the handler runs there. */
-static void *send_to_first(void *first)
+static void sets_ceiling(void)
 {
-    pthread_kill(*(pthread_t *)first, SIGUSR1);
-    sleep(1);
-    return NULL;
+    int old;
+
+    start(do_nothing, NULL);
+    pthread_mutex_setprioceiling(&mutex, 1, &old);
 }
 
-static void handler_locks(void)
+static void sets_scheduler(void)
 {
-    pthread_t first = pthread_self();
-
-    signal(SIGUSR1, lock_in_handler);
-    pthread_join(start(send_to_first, &first), NULL);
+    start(do_nothing, NULL);
+    sched_setscheduler(0, SCHED_FIFO, &(struct sched_param){1});
 }
+
+static void selects_with_mask(void)
+{
+    sigset_t none;
+
+    start(do_nothing, NULL);
+    sigemptyset(&none);
+    pselect(0, NULL, NULL, NULL, NULL, &none);
+}
+
+static void too_many_mutexes(void)
+{
+    static pthread_mutex_t mutexes[1025];
+
+    for (int i = 0; i < 1025; i++) {
+        pthread_mutex_init(&mutexes[i], NULL);
+        pthread_mutex_lock(&mutexes[i]);
+    }
+}
+
+static void named_semaphore(void) { sem_open("/pif", 0); }
 
 static void too_many_threads(void)
 {
@@ -182,7 +234,10 @@ const Feature ended_features[] = {
     {"joins_twice", joins_twice},       {"locks_for_ever", locks_for_ever},     {"loops", loops},
     {"cycle_in_time", cycle_in_time},   {"faults", faults},                     {"prints", prints},
     {"ends_with_4", ends_with_4},       {"cancels", cancels},                   {"protects", protects},
-    {"shares", shares},                 {"named_semaphore", named_semaphore},   {"handler_locks", handler_locks},
+    {"shares", shares},                 {"named_semaphore", named_semaphore},
+    {"shares_semaphore", shares_semaphore}, {"shares_barrier", shares_barrier}, {"shares_rwlock", shares_rwlock},
+    {"shares_variable", shares_variable}, {"sets_ceiling", sets_ceiling}, {"sets_scheduler", sets_scheduler},
+    {"selects_with_mask", selects_with_mask}, {"too_many_mutexes", too_many_mutexes},
     {"too_many_threads", too_many_threads}, {"sleeps_too_long", sleeps_too_long}, {"makes_no_call", makes_no_call},
     {NULL, NULL},
 };

@@ -11,7 +11,8 @@ typedef struct {
     void (*run)(void);
 } Feature;
 
-extern const Feature lock_features[], wait_features[], kernel_features[], memory_features[], ended_features[];
+extern const Feature lock_features[], wait_features[], kernel_features[], memory_features[],
+    handler_features[], ended_features[];
 
 /* Ends the program with status 3 if this doesn't hold, and says where. */
 #define CHECK(condition) check(condition, #condition, __FILE__, __LINE__)

@@ -105,6 +105,14 @@ static void *read_it(void *unused)
     return unused;
 }
 
+static void *read_too_late(void *unused)
+{
+    struct timespec late = after(CLOCK_REALTIME, 10);
+
+    CHECK(pthread_rwlock_timedrdlock(&lock, &late) == ETIMEDOUT);
+    return unused;
+}
+
 static void rwlocks(void)
 {
     struct timespec late = after(CLOCK_REALTIME, 10);
@@ -113,6 +121,9 @@ static void rwlocks(void)
     CHECK(pthread_rwlock_rdlock(&lock) == 0 && pthread_rwlock_rdlock(&lock) == 0);
     CHECK(pthread_rwlock_timedwrlock(&lock, &late) == ETIMEDOUT);
     CHECK(pthread_rwlock_unlock(&lock) == 0 && pthread_rwlock_unlock(&lock) == 0);
+    late = after(CLOCK_MONOTONIC, 10);
+    CHECK(pthread_rwlock_clockwrlock(&lock, CLOCK_MONOTONIC, &late) == 0);
+    CHECK(pthread_join(start(read_too_late, NULL), NULL) == 0 && pthread_rwlock_unlock(&lock) == 0);
     CHECK(pthread_rwlock_destroy(&lock) == 0);
 }
 

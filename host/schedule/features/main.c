@@ -7,7 +7,9 @@
 
 enum { WRONG_WORDS = 2, DOES_NOT_HOLD = 3 };
 
-static const Feature *const all[] = {lock_features, wait_features, kernel_features, memory_features, ended_features};
+static const Feature *const all[] = {
+    lock_features, wait_features, kernel_features, memory_features, handler_features, ended_features,
+};
 
 void check(bool holds, const char *condition, const char *file, int line)
 {

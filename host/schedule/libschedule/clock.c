@@ -127,11 +127,14 @@ int timespec_get(struct timespec *time, int base)
 
 static bool has_slept(const Thread *thread) { return is_due(thread); }
 
-static void sleep_until_due(Thread *me)
+/* How much is left of it, if a handler ran meanwhile. */
+static uint32_t sleep_until_due(Thread *me)
 {
     point(me);
-    wait_until(me, has_slept, NULL, "sleeps");
+    uint32_t end = me->deadline;
+    bool is_whole = wait_or_handle(me, has_slept, NULL, "sleeps");
     leave(me);
+    return is_whole ? 0 : end - core_time;
 }
 
 static bool is_length(const struct timespec *time)
@@ -164,8 +167,10 @@ int clock_nanosleep(clockid_t clock, int flags, const struct timespec *time, str
         set_deadline(me, clock, time);
     else
         set_timeout(me, (uint64_t)time->tv_sec * MICROSECONDS + (uint64_t)time->tv_nsec / NANOSECONDS + 1);
-    sleep_until_due(me);
-    return 0;
+    uint32_t left = sleep_until_due(me);
+    if (left > 0 && rest != NULL && (flags & TIMER_ABSTIME) == 0)
+        *rest = (struct timespec){left / MICROSECONDS, (long)(left % MICROSECONDS) * NANOSECONDS};
+    return left > 0 ? EINTR : 0;
 }
 
 int nanosleep(const struct timespec *time, struct timespec *rest)
@@ -185,14 +190,14 @@ int usleep(useconds_t time)
 
 unsigned sleep(unsigned seconds)
 {
-    struct timespec length = {seconds, 0};
+    struct timespec length = {seconds, 0}, rest = {seconds, 0};
 
-    return nanosleep(&length, NULL) == 0 ? 0 : seconds;
+    return nanosleep(&length, &rest) == 0 ? 0 : (unsigned)rest.tv_sec + (rest.tv_nsec > 0);
 }
 
 int thrd_sleep(const struct timespec *time, struct timespec *rest)
 {
-    return nanosleep(time, rest) == 0 ? 0 : -2;
+    return nanosleep(time, rest) == 0 ? 0 : errno == EINTR ? -1 : -2;
 }
 
 int sched_yield(void)

@@ -13,6 +13,8 @@ static void refuse(const Thread *me, pif_seen seen)
 /* A whole call. While it waits other threads go. */
 int ask(Thread *me, pif_request request)
 {
+    if (me->is_inside)
+        stop(UNSUPPORTED, "%s by a signal's handler, whose thread waits for a mutex or on a variable", me->call);
     pif_seen seen = pif_call(&core, me->number, request);
 
     tell_call(me, "call", &request, seen);

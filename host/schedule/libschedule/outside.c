@@ -30,12 +30,26 @@ static void order_by_kernel(void (*orders)(const Thread *, const volatile void *
         orders(me, &of_kernel);
 }
 
-/* Waits until the condition holds, or that long, in microseconds; below 0: for good. */
-static void wait_outside(Thread *me, Condition *condition, const void *on, int64_t time)
+/* Waits until the condition holds, or that long, in microseconds; below 0: for good. false: a signal's handler ran
+   before; then errno is EINTR. */
+static bool wait_once(Thread *me, Condition *condition, const void *on, int64_t time)
 {
     point(me);
     if (time >= 0)
         set_timeout(me, (uint64_t)time);
+    me->asks_the_kernel = true;
+    bool holds = wait_or_handle(me, condition, on, "waits for the kernel");
+    me->asks_the_kernel = false;
+    take_order(me, &of_kernel);
+    leave(me);
+    errno = holds ? errno : EINTR;
+    return holds;
+}
+
+/* Likewise, and goes on behind handlers, as calls with SA_RESTART do. */
+static void wait_outside(Thread *me, Condition *condition, const void *on)
+{
+    point(me);
     me->asks_the_kernel = true;
     wait_until(me, condition, on, "waits for the kernel");
     me->asks_the_kernel = false;
@@ -74,8 +88,7 @@ int ppoll(struct pollfd *files, nfds_t count, const struct timespec *time, const
 
     if (me == NULL)
         return BELOW(ppoll)(files, count, time, blocked);
-    wait_outside(me, is_polled, &polled, length_of(time));
-    return poll_now(&polled);
+    return wait_once(me, is_polled, &polled, length_of(time)) ? poll_now(&polled) : -1;
 }
 
 int poll(struct pollfd *files, nfds_t count, int milliseconds)
@@ -121,7 +134,8 @@ static int select_for(Thread *me, Selected *selected, int64_t time)
 {
     fd_set result[3];
 
-    wait_outside(me, is_selected, selected, time);
+    if (!wait_once(me, is_selected, selected, time))
+        return -1;
     int answer = select_now(selected, result);
     for (int i = 0; answer >= 0 && i < 3; i++)
         if (selected->sets[i] != NULL)
@@ -161,8 +175,7 @@ int epoll_wait(int file, struct epoll_event *events, int most, int milliseconds)
 
     if (me == NULL)
         return BELOW(epoll_wait)(file, events, most, milliseconds);
-    wait_outside(me, is_polled, &(Polled){&polled, 1, NULL}, time);
-    return BELOW(epoll_wait)(file, events, most, 0);
+    return wait_once(me, is_polled, &(Polled){&polled, 1, NULL}, time) ? BELOW(epoll_wait)(file, events, most, 0) : -1;
 }
 
 /* FILES: a call that may wait comes when it no longer has to. */
@@ -182,7 +195,7 @@ static void wait_for_file(const char *call, uintptr_t caller, int file, short ev
     Thread *me = may_wait(file) ? enter_if_on(call, caller) : NULL;
 
     if (me != NULL)
-        wait_outside(me, is_polled, &(Polled){&polled, 1, NULL}, -1);
+        wait_outside(me, is_polled, &(Polled){&polled, 1, NULL});
     errno = number;
 }
 
@@ -238,8 +251,6 @@ ssize_t write(int file, const void *bytes, size_t size)
 
 /* SIGNALS: those of the process, and of a thread, which nobody else can ask for. */
 
-static uint64_t bit_of(int signal) { return UINT64_C(1) << (signal - 1); }
-
 static bool has_signal(const Thread *thread)
 {
     const sigset_t *wanted = thread->waits_for;
@@ -248,7 +259,7 @@ static bool has_signal(const Thread *thread)
     sigpending(&pending);
     sigandset(&both, &pending, wanted);
     for (int signal = 1; signal < _NSIG; signal++)
-        if ((thread->signals & bit_of(signal)) != 0 && sigismember(wanted, signal) == 1)
+        if ((thread->signals & bit_of_signal(signal)) != 0 && sigismember(wanted, signal) == 1)
             return true;
     return is_due(thread) || !sigisemptyset(&both);
 }
@@ -256,32 +267,44 @@ static bool has_signal(const Thread *thread)
 /* A signal to a thread that waits for it. */
 int pthread_kill(pthread_t name, int signal)
 {
-    Thread *thread = is_on() ? thread_named(name) : NULL;
+    Thread *me = enter_if_on("pthread_kill", CALLER);
 
-    if (thread != NULL && signal > 0 && signal < _NSIG)
-        thread->signals |= bit_of(signal);
-    order_by_kernel(pass_order);
-    return BELOW(pthread_kill)(name, signal);
+    if (me == NULL)
+        return BELOW(pthread_kill)(name, signal);
+    point(me);
+    pass_order(me, &of_kernel);
+    Thread *thread = thread_named(name);
+    bool is_there = thread != NULL && !thread->gone, is_caught = is_there && has_caught(thread, signal);
+    if (is_there && !is_caught && signal > 0 && signal < _NSIG)
+        thread->signals |= bit_of_signal(signal);
+    leave(me);
+    run_handlers(me);
+    return is_caught || (thread != NULL && thread->stopped) ? 0 : BELOW(pthread_kill)(name, signal);
 }
 
-static void wait_for_signal(Thread *me, const sigset_t *wanted, int64_t time)
+static bool wait_for_signal(Thread *me, const sigset_t *wanted, int64_t time)
 {
     if (me == NULL)
-        return;
-    wait_outside(me, has_signal, wanted, time);
+        return true;
+    bool has_come = wait_once(me, has_signal, wanted, time);
     me->signals = 0;
+    return has_come;
 }
 
 int sigwait(const sigset_t *restrict wanted, int *restrict signal)
 {
-    wait_for_signal(enter_if_on("sigwait", CALLER), wanted, -1);
+    Thread *me = enter_if_on("sigwait", CALLER);
+
+    while (!wait_for_signal(me, wanted, -1))
+        me->in_call = true;
     return BELOW(sigwait)(wanted, signal);
 }
 
 int sigwaitinfo(const sigset_t *restrict wanted, siginfo_t *restrict signal)
 {
-    wait_for_signal(enter_if_on("sigwaitinfo", CALLER), wanted, -1);
-    return BELOW(sigwaitinfo)(wanted, signal);
+    bool has_come = wait_for_signal(enter_if_on("sigwaitinfo", CALLER), wanted, -1);
+
+    return has_come ? BELOW(sigwaitinfo)(wanted, signal) : -1;
 }
 
 int sigtimedwait(const sigset_t *restrict wanted, siginfo_t *restrict signal, const struct timespec *restrict time)
@@ -290,8 +313,7 @@ int sigtimedwait(const sigset_t *restrict wanted, siginfo_t *restrict signal, co
 
     if (me == NULL)
         return BELOW(sigtimedwait)(wanted, signal, time);
-    wait_for_signal(me, wanted, length_of(time));
-    return BELOW(sigtimedwait)(wanted, signal, &no_time);
+    return wait_for_signal(me, wanted, length_of(time)) ? BELOW(sigtimedwait)(wanted, signal, &no_time) : -1;
 }
 
 /* CHILDREN */
@@ -325,7 +347,7 @@ pid_t waitpid(pid_t process, int *status, int options)
     Thread *me = (options & WNOHANG) != 0 ? NULL : enter_if_on("waitpid", CALLER);
 
     if (me != NULL)
-        wait_outside(me, has_changed, &child, -1);
+        wait_outside(me, has_changed, &child);
     return BELOW(waitpid)(process, status, options);
 }
 

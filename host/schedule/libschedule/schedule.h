@@ -69,6 +69,7 @@ struct Thread {
     uint32_t idle, was_idle; /* how often in a row calls of it found nothing to do: with this call, and before it */
     bool yields;         /* that was too often: another thread goes first */
     bool open;           /* a call of the core is open, and waits */
+    bool is_inside;      /* it was, when a signal's handler began that it is in */
     bool asks_the_kernel; /* what it waits for may come from outside of the program */
     bool is_timed;
     uint32_t deadline; /* in microseconds of the run's time, if it is timed */
@@ -87,6 +88,9 @@ struct Thread {
     uint8_t last_value;
     uint32_t same; /* how often in a row it read that, and found the same */
     uint64_t signals; /* sent to it, one bit each, while it waits for them */
+    _Atomic uint64_t caught; /* likewise those whose handlers it has to run */
+    uint64_t blocked;        /* likewise those that it doesn't take */
+    uint32_t handled;        /* how many handlers it has run */
     pthread_t name;
     void *(*start)(void *);
     void *argument;
@@ -139,6 +143,7 @@ extern Thread *running;
 void point(Thread *);                       /* another thread may go first */
 void wait_in_core(Thread *);                /* its call of the core waits */
 void wait_until(Thread *, Condition *, const void *on, const char *how);
+bool wait_or_handle(Thread *, Condition *, const void *on, const char *how); /* false: a handler has run before */
 void first_turn(Thread *);                  /* of a new thread */
 void last_turn(Thread *);                   /* of one that ends */
 void find_nothing(Thread *);                /* its call found nothing to do, as in a loop that waits for others */
@@ -180,6 +185,12 @@ bool begin_threads(void);
 Thread *this_thread(void);
 Thread *thread_named(pthread_t);
 void stop_thread(Thread *); /* for good */
+
+/* handlers.c: of signals */
+static inline uint64_t bit_of_signal(int signal) { return UINT64_C(1) << (signal - 1); }
+void begin_handlers(Thread *first);
+void run_handlers(Thread *);              /* those of signals that it has caught */
+bool has_caught(Thread *, int signal);    /* false: the kernel has to be told of it */
 
 /* memory.c: what happens before what, of which races of memory are told */
 void pass_order(const Thread *, const volatile void *on); /* what it did comes before what those do who take it */

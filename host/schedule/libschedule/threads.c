@@ -90,6 +90,7 @@ bool begin_threads(void)
         return false;
     running = new_thread(LEAST_PRIORITY);
     take_name(running);
+    begin_handlers(running);
     return true;
 }
 
@@ -137,6 +138,7 @@ int pthread_create(pthread_t *name, const pthread_attr_t *attributes, void *(*st
     added->start = start;
     added->argument = argument;
     added->detached = starts_detached(attributes);
+    added->blocked = me->blocked;
     pass_order(me, added);
     int answer = BELOW(pthread_create)(&added->name, without_priority(attributes, &room), run_thread, added);
     if (answer == 0)

@@ -28,6 +28,8 @@ static long futex(_Atomic int *word, int what, int number)
 
 static bool can_go(const Thread *thread)
 {
+    if (thread->caught != 0)
+        return true;
     if (thread->open)
         return pif_waiting(&core, thread->number).number == 0;
     return thread->can_go == NULL || thread->can_go(thread);
@@ -332,6 +334,7 @@ static void pass_turn(Thread *me)
         stand_still();
     if (next != me)
         await(me);
+    run_handlers(me);
     errno = number;
 }
 
@@ -347,20 +350,42 @@ void find_nothing(Thread *me)
 void wait_in_core(Thread *me)
 {
     me->open = true;
-    pass_turn(me);
+    do
+        pass_turn(me);
+    while (pif_waiting(&core, me->number).number != 0);
 }
 
-void wait_until(Thread *me, Condition *condition, const void *on, const char *how)
+static void begin_wait(Thread *me, Condition *condition, const void *on, const char *how)
 {
     me->can_go = condition;
     me->waits_for = on;
     me->waits_how = how;
+}
+
+static void end_wait(Thread *me)
+{
+    begin_wait(me, NULL, NULL, NULL);
+    me->is_timed = false;
+}
+
+void wait_until(Thread *me, Condition *condition, const void *on, const char *how)
+{
+    begin_wait(me, condition, on, how);
     while (!condition(me))
         pass_turn(me);
-    me->can_go = NULL;
-    me->waits_for = NULL;
-    me->waits_how = NULL;
-    me->is_timed = false;
+    end_wait(me);
+}
+
+bool wait_or_handle(Thread *me, Condition *condition, const void *on, const char *how)
+{
+    uint32_t handled = me->handled;
+
+    begin_wait(me, condition, on, how);
+    while (!condition(me) && me->handled == handled)
+        pass_turn(me);
+    bool holds = condition(me);
+    end_wait(me);
+    return holds;
 }
 
 void first_turn(Thread *me) { await(me); }
