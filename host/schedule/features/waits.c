@@ -59,6 +59,17 @@ static void timed_locks(void)
     CHECK(pthread_join(holder, NULL) == 0);
 }
 
+/* A lock of one's own mutex ends with its time. */
+static void own_in_time(void)
+{
+    pthread_mutex_t own;
+    struct timespec time = after(CLOCK_MONOTONIC, 100);
+
+    make_mutex(&own, PTHREAD_MUTEX_NORMAL, false);
+    CHECK(pthread_mutex_lock(&own) == 0 && pthread_mutex_clocklock(&own, CLOCK_MONOTONIC, &time) == ETIMEDOUT);
+    CHECK(!is_before(after(CLOCK_MONOTONIC, 0), time) && pthread_mutex_unlock(&own) == 0);
+}
+
 static void *end_at_once(void *value) { return value; }
 
 static void joins(void)
@@ -156,7 +167,7 @@ static void main_ends_first(void)
 }
 
 const Feature wait_features[] = {
-    {"long_sleeps", long_sleeps},     {"timed_locks", timed_locks}, {"joins", joins},
+    {"long_sleeps", long_sleeps},     {"timed_locks", timed_locks}, {"own_in_time", own_in_time}, {"joins", joins},
     {"yields", yields},               {"trylocks", trylocks},       {"other_mutexes", other_mutexes},
     {"destructors", destructors},     {"main_ends_first", main_ends_first}, {NULL, NULL},
 };

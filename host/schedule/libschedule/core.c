@@ -19,11 +19,12 @@ int ask(Thread *me, pif_request request)
 
     tell_call(me, "call", &request, seen);
     while (seen.what == PIF_WAITS) {
-        if (pif_status(&core, me->number).state == PIF_STOPPED) {
+        if (pif_status(&core, me->number).state == PIF_STOPPED)
             me->wants = request.mutex;
+        if (me->wants != 0 && !me->is_timed)
             tell_deadlock(me);
-        }
         wait_in_core(me);
+        me->wants = 0;
         seen = pif_finish(&core, me->number);
         tell_call(me, "finish", NULL, seen);
     }
