@@ -123,6 +123,7 @@ static void rwlocks(void)
     CHECK(pthread_rwlock_unlock(&lock) == 0 && pthread_rwlock_unlock(&lock) == 0);
     late = after(CLOCK_MONOTONIC, 10);
     CHECK(pthread_rwlock_clockwrlock(&lock, CLOCK_MONOTONIC, &late) == 0);
+    CHECK(pthread_rwlock_wrlock(&lock) == EDEADLK && pthread_rwlock_timedrdlock(&lock, &late) == EDEADLK);
     CHECK(pthread_join(start(read_too_late, NULL), NULL) == 0 && pthread_rwlock_unlock(&lock) == 0);
     CHECK(pthread_rwlock_destroy(&lock) == 0);
 }

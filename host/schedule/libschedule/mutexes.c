@@ -124,8 +124,9 @@ int pthread_mutex_consistent(pthread_mutex_t *mutex)
     point(me);
     uint32_t number = number_of_mutex(me, mutex);
     int answer = ask(me, pif_consistent(number));
-    if (answer == EINVAL)
-        judged(me, number, answer, "calls consistent", "which it doesn't hold, or which isn't inconsistent");
+    if (answer == EINVAL && !options.errors)
+        misuse(me, "calls consistent of m%u%s, which it doesn't hold, or which isn't inconsistent", number,
+               name_of_mutex(number));
     leave(me);
     return answer;
 }

@@ -170,17 +170,23 @@ static int take_access(Thread *me, pthread_rwlock_t *lock, const Access *access)
     return 0;
 }
 
-/* A wait for what the thread itself holds for writing never ends. */
-static void refuse_own(const Thread *me, const pthread_rwlock_t *lock)
+/* A wait for what the thread itself holds for writing never ends. POSIX has an error for it. */
+static bool is_own(const Thread *me, const pthread_rwlock_t *lock)
 {
-    if (shared_of(lock)->writer == me->number)
+    bool is_own = shared_of(lock)->writer == me->number;
+
+    if (is_own && !options.errors)
         misuse(me, "waits for a read-write lock that it holds for writing");
+    return is_own;
 }
 
 static int wait_for_access(Thread *me, pthread_rwlock_t *lock, const Access *access)
 {
     point(me);
-    refuse_own(me, lock);
+    if (is_own(me, lock)) {
+        leave(me);
+        return EDEADLK;
+    }
     me->wants_lock = true;
     wait_until(me, access->now, lock, access->how);
     me->wants_lock = false;
@@ -202,11 +208,10 @@ static int try_access(Thread *me, pthread_rwlock_t *lock, const Access *access)
 static int wait_in_time(Thread *me, pthread_rwlock_t *lock, const Access *access, clockid_t clock,
                         const struct timespec *deadline)
 {
-    int answer = EINVAL;
+    int answer = is_time(clock, deadline) ? EDEADLK : EINVAL;
 
     point(me);
-    refuse_own(me, lock);
-    if (is_time(clock, deadline)) {
+    if (answer == EDEADLK && !is_own(me, lock)) {
         set_deadline(me, clock, deadline);
         wait_until(me, access->in_time, lock, access->how);
         const Shared *shared = shared_of(lock);
