@@ -43,6 +43,10 @@ def counted(count, one, several=None):
     return "%d %s" % (count, one if count == 1 else several or one + "s")
 
 
+# What the sanitizers of compilers write.
+REPORT = re.compile(r"(?m)(?:ERROR|WARNING): \w+Sanitizer: .*|^.*: runtime error: .*")
+
+
 class Told(NamedTuple):
     """A file of the library."""
 
@@ -228,7 +232,8 @@ class Program:
 
     def names(self):
         """What the environment of the program has for the library."""
-        return {"LD_PRELOAD": self.preloaded(), "PIF_SCHEDULE": str(self.folder)}
+        options = ":".join(filter(None, [os.environ.get("ASAN_OPTIONS"), "verify_asan_link_order=0"]))
+        return {"LD_PRELOAD": self.preloaded(), "PIF_SCHEDULE": str(self.folder), "ASAN_OPTIONS": options}
 
     def start(self):
         read_end, self.to_program = os.pipe()
@@ -293,10 +298,11 @@ class Program:
         told, story = self.told(self.tellings), self.told(self.story)
         made = [choice for choice in map(read_choice, told.text.splitlines()) if choice]
         out = whole(self.out)
-        kind, reasons = verdict(asked, told, status, out)
+        err = whole(self.err).decode("utf-8", "replace")
+        kind, reasons = verdict(asked, told, status, out, err)
         self.forks, self.others = max(self.forks, told.forks), max(self.others, told.takers - 1)
         return Run(kind, reasons, told.points, told.switches, made, story.text, story.is_full, out,
-                   whole(self.err).decode("utf-8", "replace"))
+                   err)
 
 
 def reasons_of(told):
@@ -304,9 +310,12 @@ def reasons_of(told):
     return [line[2:] for line in told.text.splitlines() if line.startswith("# ")]
 
 
-def verdict(asked, told, status, out):
+def verdict(asked, told, status, out, err):
     """The verdict on a run in short, and its lines."""
     reasons = reasons_of(told)
+    report = REPORT.search(err)
+    if report and status is not None and told.ended != BY_LIBRARY:
+        return "sanitizer", ["sanitizer: %s" % report[0]]
     if status is None:
         return "hang", ["hang: the run takes more than %g seconds" % asked.seconds]
     if told.ended == BY_LIBRARY:

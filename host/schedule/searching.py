@@ -7,12 +7,23 @@ from scheduling import Choice
 MOST_IN_PAIRS = 40
 
 
+# A mix takes these in turn, by the seed, each with its depth of bugs.
+MIX = (("random", 1), ("pct", 2), ("pct", 3))
+
+
+def of_mix(asked):
+    strategy, depth = MIX[asked.seed % len(MIX)]
+    return asked._replace(strategy=strategy, depth=depth)
+
+
 def by_seeds(program, asked, runs):
     """Runs by seeds, one after another: what was asked, and the run."""
-    if asked.strategy == "pct":  # its changes are drawn among as many points as a run without switches has
+    is_mix = asked.strategy == "mix"
+    if is_mix or asked.strategy == "pct":  # its changes are drawn among the points of a run without switches
         asked = asked._replace(length=max(1, program.run(asked._replace(strategy="stay", ends=0)).points))
     for number in range(runs):
         one = asked._replace(seed=asked.seed + number)
+        one = of_mix(one) if is_mix else one
         yield one, program.run(one)
 
 
