@@ -189,6 +189,7 @@ class Program:
         self.file = program_named(words[0])
         self.made = ""
         self.forks = self.others = 0  # the most children of a run, and other processes that wanted to be scheduled
+        self.outside = set()  # the calls that went on outside of the schedule
         self.room = tempfile.TemporaryDirectory(prefix="pif-schedule.", dir="/dev/shm" if os.access("/dev/shm", os.W_OK)
                                                 else None)
         self.folder = Path(self.room.name)
@@ -300,6 +301,7 @@ class Program:
         out = whole(self.out)
         err = whole(self.err).decode("utf-8", "replace")
         kind, reasons = verdict(asked, told, status, out, err)
+        self.outside |= {line[2:] for line in told.text.splitlines() if line.startswith("~ ")}
         self.forks, self.others = max(self.forks, told.forks), max(self.others, told.takers - 1)
         return Run(kind, reasons, told.points, told.switches, made, story.text, story.is_full, out,
                    err)

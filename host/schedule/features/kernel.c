@@ -1,8 +1,12 @@
 /* Waits for files, signals and children. */
 #include <errno.h>
+#include <fcntl.h>
 #include <poll.h>
+#include <sched.h>
 #include <signal.h>
+#include <stdlib.h>
 #include <string.h>
+#include <sys/file.h>
 #include <sys/select.h>
 #include <sys/wait.h>
 #include <unistd.h>
@@ -67,6 +71,29 @@ static void full_pipe(void)
     run_two(write_much, read_all);
 }
 
+/* A lock of a file, which only the other thread gives up. */
+static char path[] = "/tmp/pif-schedule-XXXXXX";
+
+static void *lock_file(void *unused)
+{
+    int file = open(path, O_RDWR);
+
+    CHECK(file >= 0 && flock(file, LOCK_EX) == 0);
+    for (int i = 0; i < 3; i++)
+        sched_yield();
+    CHECK(flock(file, LOCK_UN) == 0 && close(file) == 0);
+    return unused;
+}
+
+static void locks_of_files(void)
+{
+    int made = mkstemp(path);
+
+    CHECK(made >= 0);
+    run_two(lock_file, lock_file);
+    CHECK(unlink(path) == 0 && close(made) == 0);
+}
+
 static sigset_t wanted;
 static pthread_t waiter;
 
@@ -123,5 +150,6 @@ static void *have_child(void *unused)
 static void children(void) { run_two(have_child, set_nothing); }
 
 const Feature kernel_features[] = {
-    {"pipes", pipes}, {"full_pipe", full_pipe}, {"signals", signals}, {"children", children}, {NULL, NULL},
+    {"pipes", pipes},     {"full_pipe", full_pipe}, {"locks_of_files", locks_of_files},
+    {"signals", signals}, {"children", children},   {NULL, NULL},
 };

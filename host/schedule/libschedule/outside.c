@@ -7,12 +7,16 @@
 #include <poll.h>
 #include <signal.h>
 #include <sys/epoll.h>
+#include <sys/file.h>
+#include <sys/msg.h>
 #include <sys/select.h>
+#include <sys/sem.h>
 #include <sys/socket.h>
 #include <sys/stat.h>
 #include <sys/syscall.h>
 #include <sys/uio.h>
 #include <sys/wait.h>
+#include <termios.h>
 #include <unistd.h>
 
 #include "schedule.h"
@@ -315,6 +319,37 @@ int sigtimedwait(const sigset_t *restrict wanted, siginfo_t *restrict signal, co
         return BELOW(sigtimedwait)(wanted, signal, time);
     return wait_for_signal(me, wanted, length_of(time)) ? BELOW(sigtimedwait)(wanted, signal, &no_time) : -1;
 }
+
+/* OUTSIDE: the call is made without the turn, so that others go on meanwhile. When it comes back is no part of the
+   schedule, and the tool says that. */
+
+#define OUTSIDE_CALL(type, call, parameters, arguments) \
+    type call parameters \
+    { \
+        Thread *me = enter_if_on(#call, CALLER); \
+\
+        if (me == NULL) \
+            return BELOW(call) arguments; \
+        point(me); \
+        tell_outside(#call); \
+        pass_order(me, &of_kernel); \
+        bool has_left = leave_turn(me); \
+        type answer = BELOW(call) arguments; \
+        int number = errno; \
+        come_back(me, has_left); \
+        take_order(me, &of_kernel); \
+        leave(me); \
+        errno = number; \
+        return answer; \
+    }
+OUTSIDE_CALL(int, flock, (int file, int how), (file, how))
+OUTSIDE_CALL(int, lockf, (int file, int how, off_t length), (file, how, length))
+OUTSIDE_CALL(int, connect, (int file, __CONST_SOCKADDR_ARG to, socklen_t length), (file, to, length))
+OUTSIDE_CALL(int, tcdrain, (int file), (file))
+OUTSIDE_CALL(int, msgsnd, (int queue, const void *message, size_t size, int flags), (queue, message, size, flags))
+OUTSIDE_CALL(ssize_t, msgrcv, (int queue, void *message, size_t size, long type, int flags),
+             (queue, message, size, type, flags))
+OUTSIDE_CALL(int, semop, (int set, struct sembuf *does, size_t count), (set, does, count))
 
 /* CHILDREN */
 

@@ -91,6 +91,7 @@ struct Thread {
     _Atomic uint64_t caught; /* likewise those whose handlers it has to run */
     uint64_t blocked;        /* likewise those that it doesn't take */
     uint32_t handled;        /* how many handlers it has run */
+    _Atomic bool is_back;    /* from a call that it made outside of the schedule */
     pthread_t name;
     void *(*start)(void *);
     void *argument;
@@ -131,6 +132,7 @@ void tell_points(uint64_t points, bool is_switch);
 void tell_choice(const char *line);
 void tell_fork(void);
 void tell_access(void); /* of memory */
+void tell_outside(const char *call);
 void tell_exit(void);
 void tell_verdict(Verdict, const char *reason);
 void tell_reason(const char *format, ...) __attribute__((format(printf, 1, 2)));
@@ -144,6 +146,8 @@ void point(Thread *);                       /* another thread may go first */
 void wait_in_core(Thread *);                /* its call of the core waits */
 void wait_until(Thread *, Condition *, const void *on, const char *how);
 bool wait_or_handle(Thread *, Condition *, const void *on, const char *how); /* false: a handler has run before */
+bool leave_turn(Thread *);                  /* to another thread, if one can go: this one goes outside */
+void come_back(Thread *, bool has_left);
 void first_turn(Thread *);                  /* of a new thread */
 void last_turn(Thread *);                   /* of one that ends */
 void find_nothing(Thread *);                /* its call found nothing to do, as in a loop that waits for others */

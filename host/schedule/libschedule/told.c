@@ -82,6 +82,14 @@ void tell_fork(void) { run->forks++; }
 
 void tell_access(void) { run->accesses++; }
 
+/* `~ flock`: a call that went on outside. */
+void tell_outside(const char *call)
+{
+    put(run, "~ ", 2);
+    put(run, call, strlen(call));
+    put(run, "\n", 1);
+}
+
 void tell_exit(void) { run->ended = BY_EXIT; }
 
 static void put_formatted(Told *told, const char *format, va_list list)

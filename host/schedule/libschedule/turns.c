@@ -388,6 +388,32 @@ bool wait_or_handle(Thread *me, Condition *condition, const void *on, const char
     return holds;
 }
 
+static bool has_come_back(const Thread *thread) { return thread->is_back; }
+
+/* Until it comes back it can't be chosen, and nobody is told to wait for good. If nobody else can go it keeps the
+   turn. */
+bool leave_turn(Thread *me)
+{
+    me->is_back = false;
+    me->asks_the_kernel = true;
+    begin_wait(me, has_come_back, NULL, "is outside");
+    find_those_who_can(me);
+    if (can.count == 0)
+        return false;
+    give(choose(me));
+    return true;
+}
+
+void come_back(Thread *me, bool has_left)
+{
+    me->is_back = true;
+    if (has_left)
+        await(me);
+    me->asks_the_kernel = false;
+    end_wait(me);
+    run_handlers(me);
+}
+
 void first_turn(Thread *me) { await(me); }
 
 /* It has left `living`, and doesn't wait for its turn again. */
