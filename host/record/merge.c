@@ -12,7 +12,7 @@ int main(int count, char **words)
         fprintf(stderr, "merge: the words are SHARED HISTORY\n");
         return 1;
     }
-    int why = read_run(words[1]);
+    int why = read_run(words[1], SHARED_RUN);
     if (why == EILSEQ)
         say_error("this is no recording", words[1], 0);
     else if (why != 0 && why != ENODATA)

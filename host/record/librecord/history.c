@@ -23,16 +23,40 @@ uint64_t time_at(const Record *record, uint64_t place)
     return is_begin(record, place) ? record->begin_time : record->answer_time;
 }
 
-/* Rounded up, so that no implementation is judged early. */
-uint64_t ticks_of(const History *history, uint64_t time)
+uint64_t microseconds_of(const History *history, uint64_t time)
 {
     return time <= history->start ? 0 : (time - history->start + NANOSECONDS_OF_TICK - 1) / NANOSECONDS_OF_TICK;
 }
 
+uint64_t microseconds_of_deadline(const History *history, uint64_t deadline)
+{
+    return deadline <= history->start ? 0 : (deadline - history->start) / NANOSECONDS_OF_TICK;
+}
+
+/* In a long recording times are numbered in their order. */
+static uint64_t numbered(const History *history, uint64_t microseconds)
+{
+    uint64_t least = 0, most = history->time_count;
+
+    if (history->times == NULL)
+        return microseconds;
+    while (least < most) {
+        uint64_t middle = least + (most - least) / 2;
+        if (history->times[middle] < microseconds)
+            least = middle + 1;
+        else
+            most = middle;
+    }
+    return least;
+}
+
+/* Rounded up, so that no implementation is judged early. */
+uint64_t ticks_of(const History *history, uint64_t time) { return numbered(history, microseconds_of(history, time)); }
+
 /* Rounded down, likewise. None behind the last tick is ever reached. */
 uint64_t ticks_of_deadline(const History *history, uint64_t deadline)
 {
-    uint64_t ticks = deadline <= history->start ? 0 : (deadline - history->start) / NANOSECONDS_OF_TICK;
+    uint64_t ticks = numbered(history, microseconds_of_deadline(history, deadline));
 
     return ticks > UINT32_MAX ? UINT32_MAX : ticks;
 }
@@ -52,8 +76,7 @@ bool is_written(const Record *record)
         return false;
     if (!is_kept(record->object) || (is_wait(record) && !is_kept(record->mutex)))
         return false;
-    bool is_use = record->what == CALL_SIGNAL || record->what == CALL_BROADCAST;
-    return !is_use || record->object->first_variable != NULL;
+    return !is_use(record->what) || record->object->first_variable != NULL;
 }
 
 static void collect_thread(History *history, Thread *thread)
@@ -180,27 +203,37 @@ static bool write_text(History *history, bool *is_opened)
     return why == 0;
 }
 
+static bool say_no_memory(void)
+{
+    leave_file(history_file);
+    say("no memory to write the history", 0, NULL);
+    return false;
+}
+
+/* Of records that are in their order. */
+bool write_collected(History *history)
+{
+    if (!make_clock(history))
+        return say_no_memory();
+    cut_by_time(history);
+    note_threads(history);
+    leave_out_cancelled(history);
+    number_all(history);
+    count_missed(history);
+    if (!is_shared_run() && !is_parted_run())
+        read_maps();
+    bool is_opened = false, is_written = write_text(history, &is_opened);
+    if (is_opened)
+        say_left_out(history);
+    return is_written;
+}
+
 static bool make_history(void)
 {
     History history;
 
     memset(&history, 0, sizeof history);
-    if (!collect(&history) || !make_clock(&history)) {
-        leave_file(history_file);
-        say("no memory to write the history", 0, NULL);
-        return false;
-    }
-    cut_by_time(&history);
-    note_threads(&history);
-    leave_out_cancelled(&history);
-    number_all(&history);
-    count_missed(&history);
-    if (!is_shared_run())
-        read_maps();
-    bool is_opened = false, is_written = write_text(&history, &is_opened);
-    if (is_opened)
-        say_left_out(&history);
-    return is_written;
+    return collect(&history) ? write_collected(&history) : say_no_memory();
 }
 
 void say_no_history(void)

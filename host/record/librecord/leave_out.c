@@ -100,7 +100,9 @@ void say_left_out(const History *history)
     say_some(history->missed, "missed: calls on mutexes, since a thread got one that it had: ");
     say_some(history->found_free, "missed: calls on mutexes, since a thread found one free that another one had: ");
     tell_passed(history, say_line);
-    if (lost_place() <= history->cut)
+    if (is_parted_run() && lost_place() != UINT64_MAX)
+        say("cut where a part could not be made, or memory was short", 0, NULL);
+    else if (lost_place() <= history->cut)
         say("cut where a thread had more records than RECORD_MAX, or memory was short: ",
             is_shared_run() ? atomic_load(&run->most_records) : most_records, "");
     if (history->is_late)

@@ -72,9 +72,15 @@ static void find_calls(void)
     find_maps();
 }
 
-/* Once a call of this process is recorded, its children record nothing, but in a shared run. */
+/* Once a call of this process is recorded, its children record nothing, but in a shared run. The parts of a recording
+   are those of the process that made them. */
 static void in_child(void)
 {
+    if (is_parted_run()) {
+        atomic_store(&recording, false);
+        forget_thread();
+        return;
+    }
     if (is_shared_run()) {
         forget_process();
         forget_thread();
@@ -124,22 +130,40 @@ static bool is_one(const char *variable, const char *said)
     return strcmp(word, "1") == 0;
 }
 
+/* The number of a variable; `said` is said if it is none. */
+static unsigned long long number_of(const char *variable, const char *said)
+{
+    const char *word = getenv(variable);
+    unsigned long long number = word == NULL ? 0 : number_in(word);
+
+    if (number == 0 && word != NULL && (getenv("RECORD_FILE") != NULL || getenv("RECORD_DIR") != NULL))
+        say(said, 0, NULL);
+    return number;
+}
+
+/* Of a file or a directory in which something is recorded; NULL if there is none. */
+static const char *target_of(const char *variable, const char *too_long)
+{
+    const char *name = getenv(variable), *path = name == NULL || name[0] == '\0' ? NULL : whole_path(name);
+
+    if (name != NULL && name[0] != '\0' && path == NULL)
+        say(too_long, 0, NULL);
+    return path;
+}
+
 static void read_environment(void)
 {
-    const char *file = getenv("RECORD_FILE"), *most = getenv("RECORD_MAX");
-
     records_all = is_one("RECORD_ALL", "RECORD_ALL is neither 0 nor 1, and is passed over");
     records_where = is_one("RECORD_WHERE", "RECORD_WHERE is neither 0 nor 1, and is passed over");
-    unsigned long long number = most == NULL ? 0 : number_in(most);
+    unsigned long long number = number_of("RECORD_MAX", "RECORD_MAX is no number, and is passed over");
     if (number > 0)
         most_records = number > UINT32_MAX ? UINT32_MAX : (uint32_t)number;
-    else if (most != NULL && file != NULL)
-        say("RECORD_MAX is no number, and is passed over", 0, NULL);
-    if (file == NULL || file[0] == '\0')
-        return;
-    history_file = whole_path(file);
-    if (history_file == NULL)
-        say("nothing is recorded: the path of RECORD_FILE is too long", 0, NULL);
+    kept_parts = number_of("RECORD_KEEP", "RECORD_KEEP is no number, and is passed over");
+    const char *directory = target_of("RECORD_DIR", "nothing is recorded: the path of RECORD_DIR is too long");
+    if (directory != NULL)
+        read_directory(directory);
+    else
+        history_file = target_of("RECORD_FILE", "nothing is recorded: the path of RECORD_FILE is too long");
 }
 
 /* Whether there is something to write to. */
@@ -148,7 +172,7 @@ static bool has_target(void)
     const char *shared = getenv("RECORD_SHARED");
 
     if (shared == NULL || shared[0] == '\0')
-        return history_file != NULL;
+        return history_file != NULL || records_in_parts();
     int why = join_run(shared);
     if (why == EILSEQ)
         say_error("nothing is recorded: RECORD_SHARED is no recording", shared, 0);
@@ -189,7 +213,9 @@ __attribute__((constructor)) void be_ready(void)
 /* A signal that would end the program ends it, with its history written first. */
 static void end_by_signal(int number)
 {
-    if (getpid() == process && !atomic_load(&is_refused))
+    if (getpid() == process && is_parted_run())
+        keep_names();
+    else if (getpid() == process && !atomic_load(&is_refused))
         write_history();
     signal(number, SIG_DFL);
     raise(number);
@@ -240,15 +266,32 @@ void take_the_file(void)
         return;
     }
     for (char **entry = environ; entry != NULL && *entry != NULL; entry++)
-        if (strncmp(*entry, "RECORD_FILE=", 12) == 0)
+        if (strncmp(*entry, "RECORD_FILE=", 12) == 0 || strncmp(*entry, "RECORD_DIR=", 11) == 0)
             (*entry)[0] = '_';
-    open_at_first();
+    if (is_parted_run())
+        atomic_store(&run->has_call, true);
+    else
+        open_at_first();
     for (size_t i = 0; i < sizeof last_signals / sizeof *last_signals; i++)
         write_at_signal(last_signals[i]);
 }
 
+static void end_parts(void)
+{
+    if (!atomic_load(&taken)) {
+        say_no_history();
+        return;
+    }
+    keep_names();
+    atomic_store(&run->has_ended, true);
+}
+
 __attribute__((destructor)) static void end_of_program(void)
 {
+    if (getpid() == process && records_in_parts()) {
+        end_parts();
+        return;
+    }
     if (is_shared_run()) {
         end_process();
         return;

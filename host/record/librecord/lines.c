@@ -57,17 +57,15 @@ static void write_answer(const Thread *thread, int answer)
     end_line();
 }
 
-static bool is_use(const Record *record) { return record->what == CALL_SIGNAL || record->what == CALL_BROADCAST; }
-
 /* A signal that is under way when its variable is bound anew may be one of the new variable: there is one of each. */
 static void bind_anew(Object *object)
 {
     for (Thread *thread = atomic_load(&run->threads); thread != NULL; thread = thread->next)
-        if (thread->open != NULL && is_use(thread->open) && thread->open->object == object)
+        if (thread->open != NULL && is_use(thread->open->what) && thread->open->object == object)
             write_answer(thread, 0);
     object->variable = variable_of(object)->next;
     for (Thread *thread = atomic_load(&run->threads); thread != NULL; thread = thread->next)
-        if (thread->open != NULL && is_use(thread->open) && thread->open->object == object)
+        if (thread->open != NULL && is_use(thread->open->what) && thread->open->object == object)
             write_use(thread->open);
 }
 
@@ -116,7 +114,7 @@ static void write_begin(const History *history, const Record *record)
         write_setprio(record);
         return;
     }
-    if (is_use(record)) {
+    if (is_use(record->what)) {
         write_use(record);
         return;
     }
@@ -184,6 +182,8 @@ static void write_comment(const char *line)
 
 void write_lines(History *history)
 {
+    if (history->about != NULL)
+        write_comment(history->about);
     tell_passed(history, write_comment);
     write_objects(history);
     for (uint64_t place = 1; place < history->cut; place++)

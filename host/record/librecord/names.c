@@ -23,7 +23,7 @@ static void use_process(Process *process)
 
 static void write_process(const Process *process)
 {
-    if (process == NULL)
+    if (!is_shared_run())
         return;
     put_text(" of process ");
     put_number((uint64_t)process->number);
@@ -61,7 +61,7 @@ void write_name_of_thread(Thread *thread)
         read_name(thread);
     bool is_own = name[0] != '\0' && strcmp(name, thread->inherited) != 0;
     const char *runs = is_own || thread->start == NULL ? NULL : name_of_object((uintptr_t)thread->start);
-    if (!is_own && runs == NULL && thread->process == NULL)
+    if (!is_own && runs == NULL && !is_shared_run())
         return;
     begin_name('t', thread->number);
     put_text(is_own ? name : runs != NULL ? runs : thread->process->name);

@@ -74,12 +74,12 @@ static void keep_maps(Process *of)
         munmap(text, room);
 }
 
-/* NULL if the run isn't shared, or there is no memory. */
+/* NULL if what is recorded is in this process's own memory, or there is none. */
 Process *the_process(void)
 {
     Process *present = present_process(), *made;
 
-    if (present != NULL || !is_shared_run())
+    if (present != NULL || (!is_shared_run() && !is_parted_run()))
         return present;
     made = take_of_run(sizeof *made);
     if (made == NULL)
@@ -116,7 +116,7 @@ static void stamp_ends(Process *ended)
 
     for (Thread *thread = atomic_load(&run->threads); maker != NULL && thread != NULL; thread = thread->next)
         if (thread->process == ended && !atomic_load(&thread->joined))
-            record_of(maker, THREAD_ENDED, thread);
+            note_thread(maker, THREAD_ENDED, thread);
     errno = number;
 }
 
@@ -174,14 +174,18 @@ static void stamp_alive(const Process *of)
 
     for (Thread *thread = atomic_load(&run->threads); maker != NULL && thread != NULL; thread = thread->next) {
         bool is_asked = thread->process == of && may_be_alive(thread);
-        Record *record = is_asked ? record_of(maker, THREAD_ALIVE, thread) : NULL;
-        if (record != NULL)
-            atomic_store(&record->is_alive, is_alive(thread));
+        Record *record = is_asked ? new_record(maker, THREAD_ALIVE) : NULL;
+        if (record == NULL)
+            continue;
+        record->named = thread;
+        stamp_begin(record);
+        atomic_store(&record->is_alive, is_alive(thread));
     }
     errno = number;
 }
 
-void end_process(void)
+/* Names are those at the end, as far as that is seen. */
+void keep_names(void)
 {
     Process *own = present_process();
 
@@ -191,7 +195,13 @@ void end_process(void)
     for (Thread *thread = atomic_load(&run->threads); thread != NULL; thread = thread->next)
         if (thread->process == own && thread->name[0] == '\0')
             read_name(thread);
-    stamp_alive(own);
+}
+
+void end_process(void)
+{
+    keep_names();
+    if (present_process() != NULL)
+        stamp_alive(present_process());
 }
 
 int kill(pid_t number, int signal)

@@ -21,6 +21,7 @@ typedef enum {
     THREAD_DYING,
     THREAD_ENDED,
     THREAD_ALIVE, /* of a shared run: it was alive here, if it is said so */
+    DETAIL,       /* of a recording in parts: more of the call that this thread begins next */
 } What;
 
 /* Why a mutex or a variable is left out, with all calls on it. */
@@ -105,6 +106,21 @@ typedef struct Variable {
     struct Variable *next_line; /* in the order of their lines */
 } Variable;
 
+typedef enum { FINE, INCONSISTENT, UNUSABLE, UNSURE } Health;
+
+/* What stands with a mutex or a variable between two lines, by the lines before alone. */
+typedef struct {
+    struct Thread *owner; /* NULL: it is free */
+    uint32_t count;       /* how often the owner has it */
+    uint8_t health;       /* a Health */
+    struct Object *bound; /* of a variable: the mutex of its last wait */
+    uint32_t waits;       /* open ones */
+    uint32_t uses;        /* signals and broadcasts that are open */
+    uint64_t wakes;       /* signals since it last had no wait */
+    uint64_t returns;     /* waits that were answered 0 since then */
+    bool is_unsure;       /* whom they woke can't be told by these numbers */
+} StandingObject;
+
 /* A mutex or a condition variable of the program, from its initialisation to the next one at this address. */
 typedef struct Object {
     int kind;        /* of a mutex: bits of glibc's __kind */
@@ -114,6 +130,10 @@ typedef struct Object {
     Process *process; /* of a shared run: which made it */
     uintptr_t address;
     uintptr_t first_used; /* where a call returns to that used it first; 0: it isn't known */
+    StandingObject standing; /* of a recording in parts */
+    struct Object *next_standing;
+    bool is_standing;  /* in the list of those with which something may stand */
+    uint64_t last_use; /* the place of the last line that names it, of those that are kept */
 
     /* while the history is written */
     uint32_t number; /* of a mutex; 0: it isn't used */
@@ -141,6 +161,7 @@ typedef struct {
     };
     Object *mutex;         /* of a wait */
     struct Thread *thread; /* which made the call */
+    uintptr_t caller;      /* of a recording in parts; 0: it isn't known */
     uint8_t what;          /* a What */
     bool found_free;       /* of a lock: its mutex was free between the begin's stamp and the real call */
     int16_t answer;
@@ -149,9 +170,61 @@ typedef struct {
     bool takes_from_others; /* while the history is written: it is one of its mutex's takers */
 } Record;
 
+/* A begin, an answer, or what befell a thread. */
+typedef struct {
+    uint64_t place; /* from 1; 0: there is none */
+    uint64_t time;  /* of CLOCK_MONOTONIC, in nanoseconds, read after the stamp */
+    struct Thread *thread; /* which made it */
+    union {
+        Object *object;
+        struct Thread *named;
+    };
+    Object *mutex; /* of a wait */
+    union {
+        uint64_t deadline;
+        int64_t priority;
+    };
+    uintptr_t caller; /* 0: it isn't known */
+    int16_t answer;
+    uint8_t what; /* a What */
+    bool is_answer, bad_time, found_free;
+} Event;
+
+/* The same as a part has it, at its place. Threads and objects have their numbers in the run's file, from 1. */
+typedef struct {
+    union {
+        uint64_t time;
+        uint64_t deadline; /* of a detail */
+    };
+    uint32_t thread, object;
+    union {
+        struct {
+            uint32_t mutex;
+            int32_t priority;
+        };
+        uint64_t caller; /* of a detail */
+    };
+    int16_t answer;
+    uint8_t what;
+    bool is_answer, bad_time, found_free;
+    _Atomic uint8_t is_there; /* it is published */
+} Slot;
+
+/* What stands with a thread between two lines, by the lines before alone. */
+typedef struct {
+    Event open;            /* the begin of its call that is open; place 0: none is */
+    int64_t priority;      /* the last that it was given, if it was given one */
+    uint32_t setting;      /* open calls that give it one */
+    bool has_priority;
+    bool overlaps;         /* one of them began while another one was open */
+    bool is_unsure;        /* the last priority that it was given is one of several */
+    bool began_as_owner;   /* of an unlock: the thread had the mutex; of a wait: once, and nothing was wrong with it */
+    bool is_dying, has_ended;
+} StandingThread;
+
 typedef struct Thread {
     struct Thread *next;
-    Process *process; /* NULL: the run isn't shared */
+    Process *process; /* NULL: what is recorded is in this process's own memory */
     uint32_t room;    /* for so many records */
     _Atomic(Record *) records;
     _Atomic(uintptr_t *) callers; /* with RECORD_WHERE: for each record where its call returns to */
@@ -162,6 +235,16 @@ typedef struct Thread {
     _Atomic bool in_call;
     _Atomic bool joined;
     _Atomic int rounds; /* of the keys' destructors */
+    Record present;           /* of a recording in parts: the call that is open */
+    uint64_t deadline_of_next; /* in a process that reads one: the detail of the next begin */
+    uintptr_t caller_of_next;
+    StandingThread standing;
+    struct Thread *next_standing;
+    bool is_standing;   /* in the list of those with which something may stand */
+    uint64_t last_use;    /* the place of the last line that names it, of those that are kept; but for its end */
+    uint64_t added_place; /* of those places; 0: it was there before them */
+    bool is_seen_dying, is_seen_ended; /* at one of them */
+    bool is_needed;       /* a history that begins there has it */
     pid_t number_of_kernel;
     char name[MOST_OF_NAME], inherited[MOST_OF_NAME]; /* the kernel's for it: at its end, and at first */
     void *(*start)(void *);
@@ -182,7 +265,7 @@ typedef struct {
     _Alignas(64) _Atomic uint64_t of[KINDS_PASSED];
 } Shard;
 
-enum { SHARDS = 64, SLOTS_OF_PLACES = 4096 };
+enum { SHARDS = 64, SLOTS_OF_PLACES = 4096, MOST_OF_RUN = 48 };
 
 /* What all recorded processes write, or this one alone. All is 0 at first. */
 typedef struct {
@@ -197,7 +280,38 @@ typedef struct {
     _Atomic(Place *) places[SLOTS_OF_PLACES];
     _Atomic uint64_t counts[COUNTS], reasons[REASONS];
     Shard shards[SHARDS];
+
+    /* of a recording in parts */
+    char name[MOST_OF_RUN];
+    _Atomic uint64_t first_part; /* the first that is kept */
+    _Atomic uint64_t last_part;  /* the last that was made */
+    _Atomic bool has_ended;      /* the program has, in a way that could be seen */
 } Run;
+
+/* How large a part is: its head, so many events, and room for what stands before them. Of that room the first bytes are
+   on the disk from the beginning, and all before it. */
+enum { EVENTS_OF_PART = 65536, SIZE_OF_HEAD = 4096, SIZE_OF_STANDING = 1 << 20, PRESENT_OF_STANDING = 1 << 14 };
+enum { SIZE_OF_PART = SIZE_OF_HEAD + EVENTS_OF_PART * (int)sizeof(Slot) + SIZE_OF_STANDING };
+
+/* With which thread or object something stands. */
+typedef struct {
+    Thread *thread; /* NULL: it is of the object */
+    Object *object;
+    union {
+        StandingThread of_thread;
+        StandingObject of_object;
+    };
+} Standing;
+
+/* The head of a part, of which the first line is text. What stands before it is known when all events of the part
+   before are published. */
+typedef struct {
+    char line[MOST_OF_LINE + 8]; /* `part K of RUN` */
+    uint64_t number, first_place;
+    uint64_t time_before; /* the greatest time before it, in nanoseconds of CLOCK_MONOTONIC */
+    uint64_t standing;    /* so many stand behind its events */
+    _Atomic bool has_standing;
+} Head;
 
 /* The calls of the library below this one. */
 typedef struct {
@@ -235,13 +349,46 @@ void rest(void);
 void count(Count);
 uint64_t counted(Count);
 
-/* run.c: 0, or the number of an error */
+/* run.c: 0, or the number of an error; EILSEQ: the file is something else */
+typedef enum { OWN_RUN, SHARED_RUN, PARTED_RUN } RunKind;
 extern Run *run;
 int join_run(const char *file);
-int read_run(const char *file);
+int make_parted_run(int file);
+int read_run(const char *file, RunKind);
 bool is_shared_run(void);
+bool is_parted_run(void);
 void *take_of_run(size_t size);
-bool make_present(const void *memory, size_t size); /* false: there is none */
+uint32_t number_in_run(const void *); /* 0: of NULL */
+void *of_run(uint32_t number, size_t size); /* NULL: there is no such thing */
+bool may_be_large(uint64_t size);
+bool make_present(const void *memory, size_t size); /* false: there is no room in the file */
+
+/* directory.c: the files of a recording in parts */
+void read_directory(const char *path);
+bool records_in_parts(void); /* it is wanted */
+bool open_directory(void);   /* at the first thing that is noted; false: nothing is recorded */
+Head *make_part(uint64_t number, int *why);
+void drop_part(uint64_t number);
+void say_no_part(uint64_t number, int why);
+
+/* parts.c */
+extern uint64_t kept_parts;
+void publish(uint64_t place, Slot); /* if there is no room the recording ends before it */
+uint64_t part_of(uint64_t place);
+Slot *slots_of(Head *);
+bool read_slot(const Slot *, uint64_t place, Event *); /* false: it is no event */
+Standing *standing_of(Head *);
+
+/* standing.c */
+extern uint64_t time_before;
+void pass_event(const Event *);
+uint64_t count_standing(void);
+void tell_standing(Standing *); /* as many */
+void take_standing(const Standing *, uint64_t count);
+Thread *standing_threads(void);
+Object *standing_objects(void);
+bool is_wait_as(What);
+bool is_use(What);
 
 /* processes.c */
 void find_waits(void);
@@ -249,6 +396,7 @@ Process *present_process(void); /* NULL: it has no record yet, or the run isn't 
 Process *the_process(void);
 void forget_process(void);
 void end_older(void);   /* says the end of what had this process's number before */
+void keep_names(void);
 void end_process(void); /* before its own end */
 
 /* shared.c */
@@ -280,6 +428,7 @@ void forget_reasons(void);
 
 /* stamps.c */
 uint64_t lost_place(void); /* UINT64_MAX: there was room for all */
+void lose(uint64_t place);
 uint64_t now(void);
 void stop_recording(void);
 Record *new_record(Thread *, What);
@@ -293,7 +442,7 @@ void leave_call(void *record);
 
 /* threads.c */
 Thread *this_thread(void);
-Record *record_of(Thread *maker, What, Thread *);
+bool note_thread(Thread *maker, What, Thread *); /* false: there was no room for it */
 void forget_thread(void); /* in a child: its thread is a new one */
 bool make_key(void);
 
@@ -311,17 +460,23 @@ typedef struct {
     uint32_t waiting_count;
     uint64_t least_deadline, greatest_time;
     uint64_t tick; /* the time at this line */
+    uint64_t *times;     /* of a long recording: all times, rising, of which each stands as its number */
+    uint64_t time_count;
+    const char *about;   /* a comment for the first line, or NULL */
     uint64_t missed;     /* answers that a thread got what it owns by all that was seen */
     uint64_t found_free; /* answers that a thread got what it found free, and another one owns by all that was seen */
 } History;
 
 bool write_history(void); /* whether it is written */
+bool write_collected(History *);
 void say_no_history(void); /* what was left out, where nothing else was called */
 bool is_call(const Record *);
 bool is_begin(const Record *, uint64_t place);
 bool is_wait(const Record *);
 bool is_written(const Record *);
 uint64_t time_at(const Record *, uint64_t place);
+uint64_t microseconds_of(const History *, uint64_t time);
+uint64_t microseconds_of_deadline(const History *, uint64_t deadline);
 uint64_t ticks_of(const History *, uint64_t time);
 uint64_t ticks_of_deadline(const History *, uint64_t deadline);
 

@@ -1,6 +1,7 @@
 /* What is recorded of a run: in this process's own memory, or, with RECORD_SHARED, in a file that all processes of the
    run map at the same address. There a pointer means the same to each of them, and a process that is killed loses
-   nothing that it published. A file of zeros is an empty run, so that nobody has to make it before another one. */
+   nothing that it published. A file of zeros is an empty run, so that nobody has to make it before another one.
+   With RECORD_DIR there is such a file of one process, which has all but the events. */
 #define _GNU_SOURCE
 #include <errno.h>
 #include <fcntl.h>
@@ -18,58 +19,77 @@
 
 enum { LARGE = 1 << 20, LINE = 64, PAGE = 4096 };
 
-/* The file is sparse. Neither loaders nor sanitizers put anything at this address. */
-static const uint64_t size_of_run = (uint64_t)1 << 36;
+/* The files are sparse. Neither loaders nor sanitizers put anything at this address. */
+static const uint64_t sizes[] = {[SHARED_RUN] = (uint64_t)1 << 36, [PARTED_RUN] = (uint64_t)1 << 28};
 static const uintptr_t address_of_run = (uintptr_t)0x200000000000;
-static const char mark_of_run[MOST_OF_MARK] = "pif recording 1";
+static const char marks[][MOST_OF_MARK] = {[SHARED_RUN] = "pif recording 2", [PARTED_RUN] = "pif parts 1"};
 
 static Run own;
 Run *run = &own;
+static RunKind kind = OWN_RUN;
 
-bool is_shared_run(void) { return run != &own; }
+bool is_shared_run(void) { return kind == SHARED_RUN; }
 
-static void *map_run(int file, int rights, int way)
+bool is_parted_run(void) { return kind == PARTED_RUN; }
+
+static void *map_run(int file, uint64_t size, int way)
 {
     void *wanted = (void *)address_of_run;
-    void *mapped = mmap(wanted, size_of_run, rights, way | MAP_FIXED_NOREPLACE | MAP_NORESERVE, file, 0);
+    void *mapped = mmap(wanted, size, PROT_READ | PROT_WRITE, way | MAP_FIXED_NOREPLACE | MAP_NORESERVE, file, 0);
 
     if (mapped == wanted || mapped == MAP_FAILED)
         return mapped;
-    munmap(mapped, size_of_run); /* an older Linux takes the address as a hint */
+    munmap(mapped, size); /* an older Linux takes the address as a hint */
     errno = EEXIST;
     return MAP_FAILED;
 }
 
 /* Else a signal would end the program. */
-static bool may_be_large(void)
+bool may_be_large(uint64_t size)
 {
     struct rlimit most;
 
-    return getrlimit(RLIMIT_FSIZE, &most) == 0 && most.rlim_cur >= size_of_run;
+    return getrlimit(RLIMIT_FSIZE, &most) == 0 && most.rlim_cur >= size;
 }
 
-/* 0, or the number of an error; EILSEQ: the file is something else. */
-static int map_file_of_run(int file, int way)
+static int map_file_of_run(int file, int way, RunKind wanted)
 {
     struct stat present;
+    uint64_t size = sizes[wanted];
 
     if (fstat(file, &present) != 0)
         return errno;
-    if (!S_ISREG(present.st_mode) || (present.st_size != 0 && (uint64_t)present.st_size != size_of_run))
+    if (!S_ISREG(present.st_mode) || (present.st_size != 0 && (uint64_t)present.st_size != size))
         return EILSEQ;
     if (present.st_size == 0 && way == MAP_PRIVATE)
         return ENODATA;
-    if (present.st_size == 0 && (!may_be_large() || ftruncate(file, (off_t)size_of_run) != 0))
-        return may_be_large() ? errno : EFBIG;
-    Run *mapped = map_run(file, PROT_READ | PROT_WRITE, way);
+    if (present.st_size == 0 && (!may_be_large(size) || ftruncate(file, (off_t)size) != 0))
+        return may_be_large(size) ? errno : EFBIG;
+    Run *mapped = map_run(file, size, way);
     if (mapped == MAP_FAILED)
         return errno;
-    if (mapped->mark[0] != '\0' && memcmp(mapped->mark, mark_of_run, sizeof mark_of_run) != 0) {
-        munmap(mapped, size_of_run);
+    if (mapped->mark[0] != '\0' && memcmp(mapped->mark, marks[wanted], MOST_OF_MARK) != 0) {
+        munmap(mapped, size);
         return EILSEQ;
     }
     run = mapped;
+    kind = wanted;
     return 0;
+}
+
+static int make_run(int file, RunKind wanted)
+{
+    int why = map_file_of_run(file, MAP_SHARED, wanted);
+
+    if (why == 0 && !make_present(run, sizeof *run))
+        why = ENOSPC;
+    if (why == 0) {
+        memcpy(run->mark, marks[wanted], MOST_OF_MARK);
+        return 0;
+    }
+    run = &own;
+    kind = OWN_RUN;
+    return why;
 }
 
 int join_run(const char *name)
@@ -78,25 +98,31 @@ int join_run(const char *name)
 
     if (file < 0)
         return errno;
-    int why = map_file_of_run(file, MAP_SHARED);
-    if (why == 0 && !make_present(run, sizeof *run))
-        why = ENOSPC;
-    if (why == 0)
-        memcpy(run->mark, mark_of_run, sizeof mark_of_run);
-    else
-        run = &own;
+    int why = make_run(file, SHARED_RUN);
     close(file);
     return why;
 }
 
+/* What was counted before goes on. */
+int make_parted_run(int file)
+{
+    int why = make_run(file, PARTED_RUN);
+
+    if (why == 0) {
+        memcpy(run->counts, own.counts, sizeof own.counts);
+        memcpy(run->shards, own.shards, sizeof own.shards);
+    }
+    return why;
+}
+
 /* To be written as a history, which leaves the file as it is. */
-int read_run(const char *name)
+int read_run(const char *name, RunKind wanted)
 {
     int file = open(name, O_RDONLY | O_CLOEXEC);
 
     if (file < 0)
         return errno;
-    int why = map_file_of_run(file, MAP_PRIVATE);
+    int why = map_file_of_run(file, MAP_PRIVATE, wanted);
     close(file);
     return why;
 }
@@ -107,9 +133,6 @@ bool make_present(const void *memory, size_t size)
 {
     uintptr_t first = (uintptr_t)memory & ~(uintptr_t)(PAGE - 1), end = (uintptr_t)memory + size;
     int number = errno;
-
-    if (!is_shared_run())
-        return true;
     bool is_present = madvise((void *)first, end - first, MADV_POPULATE_WRITE) == 0 || errno == EINVAL;
     errno = number;
     return is_present;
@@ -120,14 +143,30 @@ void *take_of_run(size_t size)
 {
     uint64_t first = (sizeof *run + LINE - 1) / LINE * LINE;
 
-    if (!is_shared_run())
+    if (records_in_parts() && !open_directory())
+        return NULL;
+    uint64_t most = sizes[kind] - first;
+    if (kind == OWN_RUN)
         return size >= LARGE ? map_memory(size) : take_memory(size);
     size = (size + LINE - 1) / LINE * LINE;
-    if (atomic_load(&run->taken) > size_of_run - first - size)
+    if (atomic_load(&run->taken) > most - size)
         return NULL;
     uint64_t before = atomic_fetch_add(&run->taken, size);
-    if (before > size_of_run - first - size)
+    if (before > most - size)
         return NULL;
     unsigned char *taken = (unsigned char *)run + first + before;
     return size >= LARGE || make_present(taken, size) ? taken : NULL;
+}
+
+uint32_t number_in_run(const void *memory)
+{
+    return memory == NULL ? 0 : (uint32_t)(((uintptr_t)memory - (uintptr_t)run) / LINE);
+}
+
+/* What was read may be damaged. */
+void *of_run(uint32_t number, size_t size)
+{
+    uint64_t at = (uint64_t)number * LINE;
+
+    return at < sizeof *run || at > sizes[kind] - size ? NULL : (char *)run + at;
 }

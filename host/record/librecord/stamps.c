@@ -39,14 +39,16 @@ uint64_t now(void)
 }
 
 /* From the first record that finds no room on, nothing is recorded: the history ends before it. */
-void stop_recording(void)
+void lose(uint64_t place)
 {
-    uint64_t place = atomic_fetch_add(&run->next_place, 1) + 1, present = atomic_load(&run->lost_place);
+    uint64_t present = atomic_load(&run->lost_place);
 
     while ((present == 0 || place < present) && !atomic_compare_exchange_weak(&run->lost_place, &present, place))
         ;
     atomic_store(&recording, false);
 }
+
+void stop_recording(void) { lose(atomic_fetch_add(&run->next_place, 1) + 1); }
 
 static bool make_callers(Thread *thread)
 {
@@ -83,6 +85,8 @@ uintptr_t caller_of(const Record *record)
 {
     uintptr_t *callers = atomic_load(&record->thread->callers);
 
+    if (is_parted_run())
+        return record->caller;
     return callers == NULL ? 0 : callers[record - atomic_load(&record->thread->records)];
 }
 
@@ -92,7 +96,7 @@ static bool are_present(const Thread *thread, uint32_t at)
     uint32_t blocks = at == 0 ? 2 : 1, first = at == 0 ? 0 : at + BLOCK;
     uintptr_t *callers = atomic_load(&thread->callers);
 
-    if (at % BLOCK != 0 || first >= thread->room)
+    if (!is_shared_run() || at % BLOCK != 0 || first >= thread->room)
         return true;
     uint32_t count = thread->room - first < blocks * BLOCK ? thread->room - first : blocks * BLOCK;
     return make_present(atomic_load(&thread->records) + first, count * sizeof(Record))
@@ -117,11 +121,46 @@ Record *new_record(Thread *thread, What what)
     return record;
 }
 
+/* Of a recording in parts: what was stamped is published. */
+static void publish_record(const Record *record, uint64_t place, bool is_answer)
+{
+    publish(place, (Slot){
+        .time = is_answer ? record->answer_time : record->begin_time,
+        .thread = number_in_run(record->thread),
+        .object = number_in_run(record->object),
+        .mutex = number_in_run(record->mutex),
+        .priority = record->what == CALL_SETPRIO ? (int32_t)record->priority : 0,
+        .answer = record->answer,
+        .what = record->what,
+        .is_answer = is_answer,
+        .bad_time = record->bad_time,
+        .found_free = record->found_free,
+    });
+}
+
+/* What few calls have stands at a place of its own. */
+static void publish_detail(const Record *record)
+{
+    bool is_timed = record->what == CALL_TIMEDLOCK || record->what == CALL_TIMEDWAIT;
+
+    if (is_timed || record->caller != 0)
+        publish(take_place(), (Slot){
+            .deadline = is_timed ? record->deadline : 0,
+            .thread = number_in_run(record->thread),
+            .caller = record->caller,
+            .what = DETAIL,
+        });
+}
+
 void stamp_begin(Record *record)
 {
+    if (is_parted_run())
+        publish_detail(record);
     uint64_t place = take_place();
 
     record->begin_time = now();
+    if (is_parted_run())
+        publish_record(record, place, false);
     atomic_store_explicit(&record->begin_place, place, memory_order_release);
 }
 
@@ -147,6 +186,15 @@ static void leave_call_out(Object *object, Object *mutex)
         pass_by(OF_CALLS_IN_CALLS);
 }
 
+/* In a recording in parts a thread has one record, of the call that is open. */
+static Record *record_for_call(Thread *thread, What what)
+{
+    if (!is_parted_run())
+        return new_record(thread, what);
+    thread->present = (Record){.thread = thread, .what = (uint8_t)what};
+    return &thread->present;
+}
+
 /* The record of a call on this object, and of a wait with this mutex; NULL if it isn't recorded. The thread is inside
    the call before it has the record, since a signal's handler may come between. */
 static Record *new_call(What what, Object *object, Object *mutex, uintptr_t caller)
@@ -161,14 +209,17 @@ static Record *new_call(What what, Object *object, Object *mutex, uintptr_t call
     }
     set_in_call(thread, true);
     take_the_file();
-    Record *record = new_record(thread, what);
+    Record *record = record_for_call(thread, what);
     if (record == NULL) {
         set_in_call(thread, false);
         return NULL;
     }
     record->object = object;
     record->mutex = mutex;
-    note_caller(record, caller);
+    if (is_parted_run())
+        record->caller = records_where ? caller : 0;
+    else
+        note_caller(record, caller);
     return record;
 }
 
@@ -232,6 +283,8 @@ void answer_call(Record *record, int answer)
     uint64_t place = take_place();
     record->answer_time = now();
     record->answer = (int16_t)answer;
+    if (is_parted_run())
+        publish_record(record, place, true);
     atomic_store_explicit(&record->answer_place, place, memory_order_release);
     set_in_call(record->thread, false);
 }

@@ -39,16 +39,17 @@ static Thread *new_thread(int priority)
     return thread;
 }
 
-/* A record of what befalls a thread, made by this one. */
-Record *record_of(Thread *maker, What what, Thread *thread)
+/* What befalls a thread, seen by this one. */
+bool note_thread(Thread *maker, What what, Thread *thread)
 {
-    Record *record = new_record(maker, what);
+    Record own = {.thread = maker, .what = (uint8_t)what};
+    Record *record = is_parted_run() ? &own : new_record(maker, what);
 
     if (record == NULL)
-        return NULL;
+        return false;
     record->named = thread;
     stamp_begin(record);
-    return record;
+    return true;
 }
 
 /* The thread's own first steps. It is the only one that has this pthread_t now. Its priority is what it finds, unless
@@ -69,7 +70,7 @@ static Thread *add_itself(Thread *thread)
 {
     Thread *present = NULL;
 
-    record_of(thread, THREAD_ADDED, thread);
+    note_thread(thread, THREAD_ADDED, thread);
     if (!atomic_compare_exchange_strong(&self, &present, thread)) {
         atomic_store(&thread->never_started, true);
         return present;
@@ -111,7 +112,7 @@ static void round_of_destructors(void *value)
     if (atomic_fetch_add(&thread->rounds, 1) + 1 < PTHREAD_DESTRUCTOR_ITERATIONS)
         pthread_setspecific(key, thread);
     else
-        record_of(thread, THREAD_DYING, thread);
+        note_thread(thread, THREAD_DYING, thread);
 }
 
 /* The parent's is none of the child's. */
@@ -150,7 +151,7 @@ static Thread *add_thread(const pthread_attr_t *attributes, void *(*start)(void 
     added->start = start;
     added->argument = argument;
     prctl(PR_GET_NAME, added->inherited);
-    return record_of(maker, THREAD_ADDED, added) != NULL ? added : NULL;
+    return note_thread(maker, THREAD_ADDED, added) ? added : NULL;
 }
 
 /* For those that name the thread before it runs. Where it runs already it has done so, and may have ended since. */
@@ -188,7 +189,7 @@ int pthread_join(pthread_t name, void **result)
     replace_object(&threads, (uintptr_t)name, ended, NULL);
     Thread *joiner = this_thread();
     if (joiner != NULL)
-        record_of(joiner, THREAD_ENDED, ended);
+        note_thread(joiner, THREAD_ENDED, ended);
     return answer;
 }
 
