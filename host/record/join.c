@@ -267,6 +267,7 @@ int main(int count, char **words)
 {
     uint64_t first = 0, last = 0;
 
+    read_directory(NULL); /* this process isn't recorded itself */
     if (!take_words(count, words, &first, &last))
         return refuse_by("the words are DIRECTORY HISTORY; join --help has all");
     int status = run_name[0] == '\0' ? find_run() : WRITTEN;

@@ -288,10 +288,10 @@ static void end_parts(void)
 
 __attribute__((destructor)) static void end_of_program(void)
 {
-    if (getpid() == process && records_in_parts()) {
+    if (records_in_parts() && getpid() == process)
         end_parts();
+    if (records_in_parts() || is_parted_run())
         return;
-    }
     if (is_shared_run()) {
         end_process();
         return;
