@@ -28,8 +28,8 @@ typedef struct {
     uint64_t time;  /* of the first event there */
     uint64_t last;  /* so many places of the history are taken */
     Record *next, *end;
-    bool has_no_room;
-    const char *why;
+    bool has_no_room, has_call;
+    const char *why; /* what stood in the way at last */
 } Joining;
 
 enum { ROOM_FOR_STANDING = 1 << 22 };
@@ -140,10 +140,10 @@ static const char *in_the_way(uint64_t place)
 {
     const char *why = NULL;
 
-    for (const Thread *thread = standing_threads(); why == NULL && thread != NULL; thread = thread->next_standing)
-        why = in_the_way_of_thread(thread, place);
     for (const Object *object = standing_objects(); why == NULL && object != NULL; object = object->next_standing)
         why = in_the_way_of_mutex(object, place);
+    for (const Thread *thread = standing_threads(); why == NULL && thread != NULL; thread = thread->next_standing)
+        why = in_the_way_of_thread(thread, place);
     return why;
 }
 
@@ -331,6 +331,7 @@ static void put_call(Joining *joining, const Event *event)
 static void put_event(Joining *joining, const Event *event)
 {
     if (event->what <= CALL_SETPRIO) {
+        joining->has_call = true;
         put_call(joining, event);
         return;
     }
@@ -344,8 +345,9 @@ static void put_event(Joining *joining, const Event *event)
 static void find_or_put(Joining *joining, const Event *event)
 {
     if (joining->begin == 0) {
-        joining->why = event->place == 1 ? NULL : in_the_way(event->place);
-        if (joining->why != NULL) {
+        const char *why = event->place == 1 ? NULL : in_the_way(event->place);
+        if (why != NULL) {
+            joining->why = why;
             pass_event(event);
             return;
         }
@@ -367,6 +369,7 @@ Joined join_parts(const Parts *parts, History *history, uint64_t *begin, const c
     joining.end = joining.next + room;
     if (history->at == NULL || joining.next == NULL)
         return NO_MEMORY;
+    read_standing();
     take_standing(standing_of(head), head->standing);
     time_before = head->time_before;
     visit_all(&joining, note_use);
@@ -376,7 +379,7 @@ Joined join_parts(const Parts *parts, History *history, uint64_t *begin, const c
     *why = joining.why;
     for (Thread *thread = run->threads; thread != NULL; thread = thread->next)
         thread->open = NULL;
-    return joining.has_no_room ? NO_MEMORY : joining.begin == 0 && joining.why != NULL ? NO_BEGIN : JOINED;
+    return joining.has_no_room ? NO_MEMORY : joining.why != NULL && !joining.has_call ? NO_BEGIN : JOINED;
 }
 
 static int by_size(const void *first, const void *second)

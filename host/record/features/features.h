@@ -16,7 +16,7 @@ typedef struct {
 } Feature;
 
 extern const Feature mutex_features[], variable_features[], thread_features[], left_out_features[], end_features[],
-    handler_features[], difference_features[], passed_features[], process_features[];
+    handler_features[], difference_features[], passed_features[], process_features[], part_features[];
 
 /* Adds to CLOCK_MONOTONIC, as the recorder reads it. */
 extern time_t skipped_seconds;

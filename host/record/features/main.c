@@ -14,7 +14,8 @@ time_t skipped_seconds;
 bool hides_maps;
 
 static const Feature *const all[] = {mutex_features,   variable_features,   thread_features, left_out_features, end_features,
-                                     handler_features, difference_features, passed_features, process_features};
+                                     handler_features, difference_features, passed_features, process_features,
+                                     part_features};
 
 /* Stands before the library's in the recorder's eyes. */
 int clock_gettime(clockid_t clock, struct timespec *time)

@@ -278,12 +278,12 @@ void take_the_file(void)
 
 static void end_parts(void)
 {
-    if (!atomic_load(&taken)) {
+    if (atomic_load(&taken)) {
+        keep_names();
+        atomic_store(&run->has_ended, true);
+    } else if (lost_place() == UINT64_MAX) {
         say_no_history();
-        return;
     }
-    keep_names();
-    atomic_store(&run->has_ended, true);
 }
 
 __attribute__((destructor)) static void end_of_program(void)

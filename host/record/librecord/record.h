@@ -132,7 +132,7 @@ typedef struct Object {
     uintptr_t first_used; /* where a call returns to that used it first; 0: it isn't known */
     StandingObject standing; /* of a recording in parts */
     struct Object *next_standing;
-    bool is_standing;  /* in the list of those with which something may stand */
+    uint8_t standing_in; /* whose list of those with which something may stand has it */
     uint64_t last_use; /* the place of the last line that names it, of those that are kept */
 
     /* while the history is written */
@@ -240,7 +240,7 @@ typedef struct Thread {
     uintptr_t caller_of_next;
     StandingThread standing;
     struct Thread *next_standing;
-    bool is_standing;   /* in the list of those with which something may stand */
+    uint8_t standing_in;  /* whose list of those with which something may stand has it */
     uint64_t last_use;    /* the place of the last line that names it, of those that are kept; but for its end */
     uint64_t added_place; /* of those places; 0: it was there before them */
     bool is_seen_dying, is_seen_ended; /* at one of them */
@@ -290,7 +290,12 @@ typedef struct {
 
 /* How large a part is: its head, so many events, and room for what stands before them. Of that room the first bytes are
    on the disk from the beginning, and all before it. */
-enum { EVENTS_OF_PART = 65536, SIZE_OF_HEAD = 4096, SIZE_OF_STANDING = 1 << 20, PRESENT_OF_STANDING = 1 << 14 };
+#ifdef SMALL_PARTS /* for tests */
+enum { EVENTS_OF_PART = 128 };
+#else
+enum { EVENTS_OF_PART = 65536 };
+#endif
+enum { SIZE_OF_HEAD = 4096, SIZE_OF_STANDING = 1 << 20, PRESENT_OF_STANDING = 1 << 14 };
 enum { SIZE_OF_PART = SIZE_OF_HEAD + EVENTS_OF_PART * (int)sizeof(Slot) + SIZE_OF_STANDING };
 
 /* With which thread or object something stands. */
@@ -381,6 +386,7 @@ Standing *standing_of(Head *);
 
 /* standing.c */
 extern uint64_t time_before;
+void read_standing(void); /* by who reads a recording: what its program had in its lists is none of this one's */
 void pass_event(const Event *);
 uint64_t count_standing(void);
 void tell_standing(Standing *); /* as many */

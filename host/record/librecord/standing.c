@@ -8,6 +8,9 @@
 
 uint64_t time_before;
 
+enum { NOWHERE, RECORDER, READER };
+
+static uint8_t present = RECORDER;
 static Thread *first_thread;
 static Object *first_object;
 
@@ -15,10 +18,18 @@ Thread *standing_threads(void) { return first_thread; }
 
 Object *standing_objects(void) { return first_object; }
 
+void read_standing(void)
+{
+    present = READER;
+    for (Thread *thread = atomic_load(&run->threads); thread != NULL; thread = thread->next)
+        thread->standing = (StandingThread){.priority = 0};
+}
+
 static StandingThread *with_thread(Thread *thread)
 {
-    if (!thread->is_standing) {
-        thread->is_standing = true;
+    if (thread->standing_in != present) {
+        thread->standing = (StandingThread){.priority = 0};
+        thread->standing_in = present;
         thread->next_standing = first_thread;
         first_thread = thread;
     }
@@ -27,8 +38,9 @@ static StandingThread *with_thread(Thread *thread)
 
 static StandingObject *with_object(Object *object)
 {
-    if (!object->is_standing) {
-        object->is_standing = true;
+    if (object->standing_in != present) {
+        object->standing = (StandingObject){.owner = NULL};
+        object->standing_in = present;
         object->next_standing = first_object;
         first_object = object;
     }
@@ -222,7 +234,7 @@ static void forget_threads(void)
             continue;
         }
         *at = thread->next_standing;
-        thread->is_standing = false;
+        thread->standing_in = NOWHERE;
     }
 }
 
@@ -237,7 +249,7 @@ static void forget_objects(void)
             continue;
         }
         *at = object->next_standing;
-        object->is_standing = false;
+        object->standing_in = NOWHERE;
     }
 }
 
