@@ -22,6 +22,7 @@ static const char help[] =
     "  --seed N         what they choose; 1 without it\n"
     "  --kinds          normal, errorcheck and recursive mutexes; without it all are normal\n"
     "  --robust         every other mutex is robust; without it none is\n"
+    "  --all-robust     each one is\n"
     "  --trylock P      of a hundred locks P are trylocks; 20 without it\n"
     "  --timed P        of a hundred locks and waits P have a deadline of up to 2 ms; 20 without it\n"
     "  --waits P        of a hundred calls with a mutex held P wait, without one P signal; 20 without it\n"
@@ -42,8 +43,8 @@ static const char help[] =
     "  RECORD_FILE=a.history LD_PRELOAD=host/record/librecord.so host/record/hammer --robust --ends 1\n"
     "\n"
     "Those of Rust and of a library have neither robustness nor priorities, so that they take none of --kinds,\n"
-    "--robust, --ends, --fifo and --plain. They need no LD_PRELOAD: with RECORD_FILE the hammer writes the history, also\n"
-    "when SIGALRM ends it.\n";
+    "--robust, --all-robust, --ends, --fifo and --plain. They need no LD_PRELOAD: with RECORD_FILE the hammer writes the\n"
+    "history, also when SIGALRM ends it.\n";
 
 Orders orders = {
     .threads = 4, .mutexes = 2, .variables = 1, .calls = 500, .seconds = 20, .seed = 1,
@@ -78,6 +79,7 @@ static const Option options[] = {
     {"seconds", &orders.seconds, 1, 3600, NULL, NULL},
     {"kinds", NULL, 0, 0, &orders.kinds, NULL},
     {"robust", NULL, 0, 0, &orders.robust, NULL},
+    {"all-robust", NULL, 0, 0, &orders.all_robust, NULL},
     {"fifo", NULL, 0, 0, &orders.fifo, NULL},
     {"plain", NULL, 0, 0, &orders.plain, NULL},
     {"std", NULL, 0, 0, &orders.std, NULL},
@@ -229,7 +231,8 @@ static bool are_together(void)
     int others = orders.std + orders.parking_lot + (orders.library != NULL);
 
     return others <= 1 &&
-           !(others == 1 && (orders.kinds || orders.robust || orders.ends > 0 || orders.fifo || orders.plain));
+           !(others == 1 && (orders.kinds || orders.robust || orders.all_robust || orders.ends > 0 || orders.fifo
+                             || orders.plain));
 }
 
 /* Whether all that is asked for can be asked here. */
@@ -254,7 +257,7 @@ int main(int count, char **words)
         return STATUS_CANNOT_ASK;
     alarm(orders.seconds);
     for (unsigned i = 0; i < orders.mutexes; i++)
-        make_mutex(&mutexes[i], type_of(i), orders.robust && i % 2 == 0);
+        make_mutex(&mutexes[i], type_of(i), orders.all_robust || (orders.robust && i % 2 == 0));
     for (unsigned i = 0; i < orders.variables; i++)
         pthread_cond_init(&variables[i], NULL);
     int status = start_all();

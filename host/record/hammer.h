@@ -14,7 +14,7 @@ typedef struct {
     unsigned threads, mutexes, variables, calls, seconds;
     unsigned seed;
     unsigned trylocks, timed, waits, ends, priorities; /* per cent */
-    bool fifo, kinds, robust, plain;
+    bool fifo, kinds, robust, all_robust, plain;
     bool std, parking_lot;
     bool recursive; /* all mutexes are: a library has only such */
     const char *library;
