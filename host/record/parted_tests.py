@@ -1,14 +1,15 @@
 """The tests of recordings in parts. `test` makes them, and gives what all tests use."""
 
+import os
+import platform
 import re
 import shutil
 import signal
 import subprocess
 import time
 
-# Their records are too many for one thread, or too late: recordings in parts have no such end. One makes a child whose
-# parent has recorded something.
-OTHERWISE = ("many_calls", "later_than_all")
+# Their records are too many for one thread, or too late: recordings in parts have no such end.
+OTHERWISE = ("many_calls", "cut_in_a_call", "later_than_all")
 
 
 def names_of(kit, place, besides=None):
@@ -88,6 +89,29 @@ def test_own_end(kit, place, name, number, is_stored):
     done = kit.run([kit.FEATURES, name], env=names_of(kit, place))
     kit.demand(done.returncode == -number, "status %d" % done.returncode)
     kit.compare(name, kit.plain(joined(kit, place)[0]), "", is_stored)
+
+
+def test_handler(kit, place, _):
+    if platform.machine() != "x86_64":
+        raise kit.NotAsked("this isn't x86-64")
+    done = kit.run([kit.FEATURES, "handler_everywhere"], env=names_of(kit, place))
+    kit.demand(done.returncode == 0, "status %d" % done.returncode)
+    text, told = joined(kit, place)
+    return kit.demand_whole_calls(text, int(done.stdout), kit.parted(told)[1])
+
+
+def test_rights(kit, place, _):
+    """Later parts need no rights to the directory's path, and the program may have closed what is open."""
+    if os.geteuid() != 0:
+        raise kit.NotAsked("the test has no rights to give up")
+    (place / "parts").mkdir()
+    (place / "parts").chmod(0o777)
+    place.chmod(0o700)
+    done = small(kit, place, "drops_rights_early")
+    kit.demand(done.returncode == 0 and kit.parted(done)[1] == [], "it says %s" % done.stderr.strip())
+    kit.demand(len(numbers_of(place)[0]) > 10, "later parts aren't there")
+    demand_joined(kit, join_small(kit, place), 0)
+    kit.demand(kit.checked(place / "history").count("begin ") == 1004, "lines are lost")
 
 
 def test_exits_at_once(kit, place, _):
@@ -290,6 +314,8 @@ ALL = {
     "aborts": lambda kit, place, keep: test_own_end(kit, place, "aborts", signal.SIGABRT, keep),
     "faults": lambda kit, place, keep: test_own_end(kit, place, "faults", signal.SIGSEGV, keep),
     "exits_at_once": test_exits_at_once,
+    "handler": test_handler,
+    "rights": test_rights,
     "flight": test_flight,
     "from_each": test_every_part,
     "nowhere": test_nowhere,

@@ -1,4 +1,5 @@
 /* How a history ends, and of which program it is. */
+#include <stdatomic.h>
 #include <stdio.h>
 #include <stdlib.h>
 #include <sys/wait.h>
@@ -13,6 +14,34 @@ static void many_calls(void)
     make_inheriting(&mutex);
     for (int i = 0; i < 20; i++)
         lock_and_unlock(&mutex);
+}
+
+static sem_t is_there;
+static _Atomic pid_t waiter;
+
+static void *wait_for_it(void *unused)
+{
+    atomic_store(&waiter, gettid());
+    sem_post(&is_there);
+    lock_and_unlock(&mutex);
+    return unused;
+}
+
+/* The first thread has no record left when it gives the mutex up, for which the second one waits. */
+static void cut_in_a_call(void)
+{
+    pthread_mutex_t other;
+
+    make_inheriting(&mutex);
+    make_inheriting(&other);
+    pthread_mutex_lock(&mutex);
+    pthread_t thread = start(wait_for_it, NULL);
+    until(&is_there);
+    until_blocked(atomic_load(&waiter));
+    for (int i = 0; i < 5; i++)
+        lock_and_unlock(&other);
+    pthread_mutex_unlock(&mutex);
+    pthread_join(thread, NULL);
 }
 
 static void *lock_it(void *unused)
@@ -109,6 +138,7 @@ static void no_call(void) { run_to_end(do_nothing, NULL); }
 
 const Feature end_features[] = {
     {"many_calls", "twenty locks and unlocks, for RECORD_MAX", many_calls},
+    {"cut_in_a_call", "a thread waits in a lock when another one has made all its records, for RECORD_MAX", cut_in_a_call},
     {"hangs", "two threads wait for good", hangs},
     {"alarm_of_its_own", "the same, up to SIGALRM", alarm_of_its_own},
     {"aborts", "a program that ends by abort", aborts},

@@ -21,6 +21,9 @@ extern const Feature mutex_features[], variable_features[], thread_features[], l
 /* Adds to CLOCK_MONOTONIC, as the recorder reads it. */
 extern time_t skipped_seconds;
 
+/* If it isn't 0, each look at a clock finds it so many nanoseconds later than the one before, from 1 s on. */
+extern long step_of_clock;
+
 /* Then /proc/self/maps can't be opened. */
 extern bool hides_maps;
 

@@ -11,6 +11,7 @@
 #include "features.h"
 
 time_t skipped_seconds;
+long step_of_clock;
 bool hides_maps;
 
 static const Feature *const all[] = {mutex_features,   variable_features,   thread_features, left_out_features, end_features,
@@ -20,8 +21,13 @@ static const Feature *const all[] = {mutex_features,   variable_features,   thre
 /* Stands before the library's in the recorder's eyes. */
 int clock_gettime(clockid_t clock, struct timespec *time)
 {
-    int answer = (int)syscall(SYS_clock_gettime, clock, time);
+    static long passed;
 
+    if (step_of_clock != 0) {
+        *time = (struct timespec){1, passed += step_of_clock};
+        return 0;
+    }
+    int answer = (int)syscall(SYS_clock_gettime, clock, time);
     if (answer == 0 && clock == CLOCK_MONOTONIC)
         time->tv_sec += skipped_seconds;
     return answer;

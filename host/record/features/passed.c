@@ -204,6 +204,13 @@ static void drops_rights(void)
     lock_and_unlock(&kept);
 }
 
+static void drops_rights_early(void)
+{
+    drops_rights();
+    for (int i = 0; i < 500; i++)
+        lock_and_unlock(&kept);
+}
+
 static void leaves_at_once(void)
 {
     make_inheriting(&kept);
@@ -216,6 +223,7 @@ const Feature passed_features[] = {
     {"made_anew_while_held", "a static initialiser over a mutex that another thread holds", made_anew_while_held},
     {"names", "threads and objects with names, and without", names},
     {"drops_rights", "a program that gives its rights up between two calls", drops_rights},
+    {"drops_rights_early", "the same, and a thousand calls more", drops_rights_early},
     {"leaves_at_once", "_exit after a call", leaves_at_once},
     {NULL, NULL, NULL},
 };

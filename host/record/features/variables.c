@@ -57,6 +57,18 @@ static void timed_waits(void)
     pthread_mutex_unlock(&mutex);
 }
 
+/* The deadline is reached within a tick, and the answer is seen in the next one. */
+static void within_a_tick(void)
+{
+    make_inheriting(&mutex);
+    pthread_cond_init(&variable, NULL);
+    step_of_clock = 300;
+    pthread_mutex_lock(&mutex);
+    struct timespec deadline = {1, 2300};
+    pthread_cond_clockwait(&variable, &mutex, CLOCK_MONOTONIC, &deadline);
+    pthread_mutex_unlock(&mutex);
+}
+
 static void wait_with(pthread_mutex_t *with)
 {
     struct timespec deadline = {0, 0};
@@ -113,6 +125,7 @@ static void never_waited(void)
 
 const Feature variable_features[] = {
     {"waits_and_uses", "a signal, and a broadcast", waits_and_uses},
+    {"within_a_tick", "a deadline that is reached within a microsecond", within_a_tick},
     {"timed_waits", "deadlines on both clocks", timed_waits},
     {"bound_anew", "one variable with two mutexes, and a signal before both", bound_anew},
     {"bound_in_a_signal", "a variable is bound anew while a signal is under way", bound_under_a_signal},
