@@ -44,12 +44,16 @@ def test_feature(kit, place, feature, is_stored):
     kit.compare(name, kit.plain(text), how, is_stored)
 
 
-def small(kit, place, name, besides=None, before=()):
-    """Records a feature in parts of few events; the program's result."""
+def small_run(kit, place, words, besides=None):
+    """Records a program in parts of few events; its result."""
     libraries = (kit.HERE / "out" / "small_parts.so", kit.HERE / "out" / "failing.so")
     (place / "parts").mkdir(exist_ok=True)
     names = kit.environment(place / "unused", {"RECORD_DIR": str(place / "parts"), **(besides or {})}, libraries)
-    return kit.run([*before, kit.FEATURES, name], env=names)
+    return kit.run(words, env=names)
+
+
+def small(kit, place, name, besides=None, before=()):
+    return small_run(kit, place, [*before, kit.FEATURES, name], besides)
 
 
 def join_small(kit, place, *words):
@@ -146,10 +150,10 @@ answer t1 0
 
 def test_flight(kit, place, _):
     """The last parts alone are kept, and the history begins with what stood at their first line."""
-    done = small(kit, place, "flight", {"RECORD_KEEP": "2"})
+    done = small(kit, place, "flight", {"RECORD_KEEP": "4"})
     kit.demand(done.returncode == 0 and done.stderr == "", "it says %s" % done.stderr.strip())
     found, _ = numbers_of(place)
-    kit.demand(2 <= len(found) <= 4 and found[0] > 10, "there are the parts %s" % found)
+    kit.demand(4 <= len(found) <= 6 and found[0] > 10, "there are the parts %s" % found)
     demand_joined(kit, join_small(kit, place), 0)
     text = kit.checked(place / "history")
     kit.demand(text.startswith("# begins at place "), "it doesn't say where it begins")
@@ -172,6 +176,31 @@ def test_every_part(kit, place, _):
     demand_joined(kit, join_small(kit, place, "--last", 3), 0)
     kit.demand(len(kit.without_comments(kit.checked(place / "history")).splitlines()) < 400, "--last is passed over")
     demand_legal(kit, place / "history")
+
+
+def test_hammer(kit, place, _):
+    """Many threads make parts at once, and no answer is lost."""
+    words = "--threads 16 --mutexes 4 --variables 3 --calls 500 --kinds --robust --ends 1 --seed 1".split()
+    done = small_run(kit, place, [kit.HERE / "hammer", *words])
+    kit.demand(done.returncode == 0 and kit.parted(done)[1] == [], "it says %s" % done.stderr.strip())
+    demand_joined(kit, join_small(kit, place), 0)
+    answers = sum(int(number) for number in re.findall(r" \d+: (\d+)", done.stdout.split("answers")[1]))
+    recorded = kit.checked(place / "history").count("\nanswer ")
+    kit.demand(recorded >= answers, "%d answers and not %d" % (recorded, answers))
+    return "%d parts" % len(numbers_of(place)[0])
+
+
+def test_begins(kit, place, _):
+    """If the whole is legal, so is what begins in each part."""
+    words = "--threads 2 --mutexes 1 --variables 1 --robust --ends 1 --calls 120 --seed 1".split()
+    small_run(kit, place, [kit.HERE / "hammer", *words])
+    begun = 0
+    for number in numbers_of(place)[0]:
+        if join_small(kit, place, "--first", number).returncode == 0:
+            demand_legal(kit, place / "history")
+            begun += 1
+    kit.demand(begun > 0, "no history begins anywhere")
+    return "%d histories" % begun
 
 
 def test_nowhere(kit, place, _):
@@ -318,6 +347,8 @@ ALL = {
     "rights": test_rights,
     "flight": test_flight,
     "from_each": test_every_part,
+    "hammer": test_hammer,
+    "begins": test_begins,
     "nowhere": test_nowhere,
     "all_day": test_all_day,
     "wrong": test_wrong_parts,

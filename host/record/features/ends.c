@@ -132,6 +132,42 @@ static void starts_another(void)
     pthread_mutex_unlock(&mutex);
 }
 
+/* A history of the child's would take the place of its parent's. */
+static void outlive(pid_t parent)
+{
+    while (getppid() == parent)
+        sleep_ms(1);
+}
+
+static void child_outlives(void)
+{
+    pid_t parent = getpid();
+
+    make_inheriting(&mutex);
+    lock_and_unlock(&mutex);
+    if (fork() == 0) {
+        outlive(parent);
+        lock_and_unlock(&mutex);
+        lock_and_unlock(&mutex);
+    }
+}
+
+static void another_outlives(void)
+{
+    char path[4096];
+    pid_t parent = getpid();
+    ssize_t length = readlink("/proc/self/exe", path, sizeof path - 1);
+
+    path[length < 0 ? 0 : length] = '\0';
+    make_inheriting(&mutex);
+    lock_and_unlock(&mutex);
+    if (fork() == 0) {
+        outlive(parent);
+        execl(path, path, "many_calls", (char *)NULL);
+        abort();
+    }
+}
+
 static void *do_nothing(void *unused) { return unused; }
 
 static void no_call(void) { run_to_end(do_nothing, NULL); }
@@ -145,6 +181,8 @@ const Feature end_features[] = {
     {"faults", "a program that writes where there is no memory", faults},
     {"later_than_all", "calls after 2^32 microseconds", later_than_all},
     {"child_of_recorded", "a fork after the first call", child_of_recorded},
+    {"child_outlives", "a child that ends after its recorded parent", child_outlives},
+    {"another_outlives", "a program that a recorded one has started, and which ends after it", another_outlives},
     {"child_alone", "a fork before the first call", child_alone},
     {"starts_another", "a recorded program starts another one", starts_another},
     {"no_call", "a program with a thread and no call", no_call},

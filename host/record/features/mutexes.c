@@ -160,8 +160,10 @@ static void initialised_again(void)
     }
     make_inheriting(&mutex);
     pthread_mutex_lock(&mutex);
-    make_mutex(&mutex, PTHREAD_MUTEX_RECURSIVE, false, PTHREAD_PRIO_INHERIT);
-    lock_and_unlock(&mutex);
+    for (int i = 0; i < 2; i++) {
+        make_mutex(&mutex, PTHREAD_MUTEX_RECURSIVE, false, PTHREAD_PRIO_INHERIT);
+        lock_and_unlock(&mutex);
+    }
 }
 
 const Feature mutex_features[] = {
