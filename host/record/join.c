@@ -20,8 +20,8 @@ enum { MOST_OF_HISTORY = 268435456 };
 static const char help[] =
     "join [OPTION..] DIRECTORY HISTORY: makes one history of the parts of a recording\n"
     "\n"
-    "The parts are those of RECORD_DIR=DIRECTORY. Of a flight recorder's the history begins at the first place at which\n"
-    "that is sound, and says in its first comment where it is.\n"
+    "The parts are those of RECORD_DIR=DIRECTORY. Of a flight recorder's the history begins at the first place at\n"
+    "which that is sound, and says in its first comment where it is.\n"
     "\n"
     "  --run RUN     which run, if the directory has several; RUN.run is its file\n"
     "  --first K     it begins in part K or behind it\n"
@@ -193,7 +193,7 @@ static int write_joined(const Parts *parts)
         history.about = about;
     }
     if (history.times != NULL)
-        refuse_by("it takes more than 71 minutes: times stand as their numbers in their order, and not in microseconds");
+        refuse_by("it takes more than 71 minutes: times stand as their numbers in their order, not in microseconds");
     return write_collected(&history) ? WRITTEN : WRONG_WORDS;
 }
 
@@ -240,7 +240,8 @@ static uint64_t number_in(const char *word)
 static bool take_words(int count, char **words, uint64_t *first, uint64_t *last)
 {
     static const struct option known[] = {
-        {"run", 1, NULL, 'r'}, {"first", 1, NULL, 'f'}, {"last", 1, NULL, 'l'}, {"help", 0, NULL, 'h'}, {NULL, 0, NULL, 0},
+        {"run", 1, NULL, 'r'},  {"first", 1, NULL, 'f'}, {"last", 1, NULL, 'l'},
+        {"help", 0, NULL, 'h'}, {NULL, 0, NULL, 0},
     };
     int option;
 

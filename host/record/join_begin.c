@@ -8,8 +8,8 @@
      as many signals as waits that returned 0, and no broadcast. Each waiter owned its mutex once when its wait began,
      and no clock has reached its deadline. Then a lock of the mutex and the begin of the wait bring it to where it is,
      in the order of these begins: a second waiter owned the mutex only after the first one had released it.
-   - Whoever owns a mutex got it by lines, is alive, and so many locks bring it there. No robust mutex is inconsistent or
-     of no use, and none is left by an owner that ended.
+   - Whoever owns a mutex got it by lines, is alive, and so many locks bring it there. No robust mutex is inconsistent
+     or of no use, and none is left by an owner that ended.
    - The last call that gave a thread a priority overlapped no other one.
    - Who is dying or has ended owns nothing.
 

@@ -218,23 +218,28 @@ def test_nowhere(kit, place, _):
 
 def test_all_day(kit, place, _):
     small(kit, place, "all_day")
-    told = "it takes more than 71 minutes: times stand as their numbers in their order, and not in microseconds"
+    told = "it takes more than 71 minutes: times stand as their numbers in their order, not in microseconds"
     demand_joined(kit, join_small(kit, place), 0, told)
     text = kit.without_comments(kit.checked(place / "history"))
-    first, tick, second = re.search(r"timedlock m1 (\d+)\ntick (\d+)\nanswer t1 110\n.*\n.*\n.* m1 (\d+)\n", text).groups()
+    wanted = r"timedlock m1 (\d+)\ntick (\d+)\nanswer t1 110\n.*\n.*\n.* m1 (\d+)\n"
+    first, tick, second = re.search(wanted, text).groups()
     kit.demand(0 < int(first) < int(tick) < int(second) < 30, "the times are %s, %s, %s" % (first, tick, second))
     demand_legal(kit, place / "history")
 
 
 def test_wrong_parts(kit, place, _):
     """A part that is missing, cut or of something else is named."""
+    (place / "others").mkdir()
+    small(kit, place, "flight", {"RECORD_DIR": str(place / "others")})
     small(kit, place, "flight")
     found, run = numbers_of(place)
+    (foreign,) = (place / "others").glob("*.2")
     second, third = (run.with_name("%s.%d" % (run.name, number)) for number in (2, 3))
     whole = second.read_bytes()
     for bytes, why in (
         (None, "this part is missing"),
         (whole[:5000], "this part is cut: it has 5000 bytes, and not %d" % len(whole)),
+        (foreign.read_bytes(), "this is no part 2 of the run %s" % run.name),
         (third.read_bytes(), "this is no part 2 of the run %s" % run.name),
         (b"x" * len(whole), "this is no part 2 of the run %s" % run.name),
     ):
@@ -250,7 +255,8 @@ def test_wrong_parts(kit, place, _):
         demand_joined(kit, join_small(kit, place, "--run", "other"), 2, why)
     demand_joined(kit, join_small(kit, place), 1, "%s: there are 2 runs; name one by --run" % (place / "parts"))
     demand_joined(kit, join_small(kit, place, "--run", run.name), 0)
-    demand_joined(kit, join_small(kit, place, "--run", run.name, "--first", 999), 1, "there are parts 1 to %d" % (found[-1] - 1))
+    too_late = join_small(kit, place, "--run", run.name, "--first", 999)
+    demand_joined(kit, too_late, 1, "there are parts 1 to %d" % (found[-1] - 1))
 
 
 def test_words(kit, place, _):

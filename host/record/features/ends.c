@@ -174,7 +174,7 @@ static void no_call(void) { run_to_end(do_nothing, NULL); }
 
 const Feature end_features[] = {
     {"many_calls", "twenty locks and unlocks, for RECORD_MAX", many_calls},
-    {"cut_in_a_call", "a thread waits in a lock when another one has made all its records, for RECORD_MAX", cut_in_a_call},
+    {"cut_in_a_call", "a lock waits when another thread has made all its records, for RECORD_MAX", cut_in_a_call},
     {"hangs", "two threads wait for good", hangs},
     {"alarm_of_its_own", "the same, up to SIGALRM", alarm_of_its_own},
     {"aborts", "a program that ends by abort", aborts},

@@ -14,9 +14,9 @@ time_t skipped_seconds;
 long step_of_clock;
 bool hides_maps;
 
-static const Feature *const all[] = {mutex_features,   variable_features,   thread_features, left_out_features, end_features,
-                                     handler_features, difference_features, passed_features, process_features,
-                                     part_features};
+static const Feature *const all[] = {mutex_features,      variable_features, thread_features,  left_out_features,
+                                     end_features,        handler_features,  difference_features, passed_features,
+                                     process_features,    part_features};
 
 /* Stands before the library's in the recorder's eyes. */
 int clock_gettime(clockid_t clock, struct timespec *time)

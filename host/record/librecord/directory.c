@@ -1,6 +1,6 @@
 /* The files of a recording in parts: in the directory RECORD_DIR, for each run one with all but the events, as
-   4711-65f3a2b1.run, and the parts, as 4711-65f3a2b1.1. The directory is opened once, so that later parts need no rights
-   to its path. */
+   4711-65f3a2b1.run, and the parts, as 4711-65f3a2b1.1. The directory is opened once, so that later parts need no
+   rights to its path. */
 #define _GNU_SOURCE
 #include <errno.h>
 #include <fcntl.h>

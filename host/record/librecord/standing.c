@@ -1,6 +1,6 @@
-/* What stands between two lines of a recording in parts, by the lines before alone: open calls, who has which mutex, the
-   last priorities. So a part says what there was before it, and a history may begin in the middle. An owner is one by
-   its answers up to the begin of the call by which it may give the mutex up. */
+/* What stands between two lines of a recording in parts, by the lines before alone: open calls, who has which mutex,
+   the last priorities. So a part says what there was before it, and a history may begin in the middle. An owner is one
+   by its answers up to the begin of the call by which it may give the mutex up. */
 #define _GNU_SOURCE
 #include <errno.h>
 
