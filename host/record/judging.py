@@ -45,7 +45,8 @@ def preloaded(library):
 def environment(history, besides=None, variable="RECORD_FILE"):
     """The variables with which a program is recorded. What it preloads itself comes after the recorder."""
     libraries = " ".join(filter(None, [preloaded(LIBRARY), os.environ.get("LD_PRELOAD")]))
-    return {**os.environ, variable: str(history), "LD_PRELOAD": libraries, **(besides or {})}
+    names = {name: value for name, value in os.environ.items() if name != "RECORD_DIR"}  # it would come first
+    return {**names, variable: str(history), "LD_PRELOAD": libraries, **(besides or {})}
 
 
 def merge(shared, history):
