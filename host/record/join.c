@@ -182,7 +182,7 @@ static int write_joined(const Parts *parts)
 
     if (joined == NO_BEGIN) {
         refuse_by("a history may begin nowhere in parts %lu to %lu: at the last place %s", (unsigned long)parts->first,
-                  (unsigned long)(parts->first + parts->count - 1), why);
+                  (unsigned long)parts->last, why);
         return NOWHERE;
     }
     if (joined == NO_MEMORY || number_times(&history) == NO_MEMORY)
@@ -212,14 +212,12 @@ static int join_all(uint64_t first, uint64_t last)
 
     if (parts.cut <= 1)
         return NO_CALL;
-    if (last == 0 || last > part_of(parts.cut - 1))
-        last = part_of(parts.cut - 1);
-    if (last > run->last_part)
-        last = run->last_part;
+    uint64_t made = part_of(parts.cut - 1) < run->last_part ? part_of(parts.cut - 1) : run->last_part;
+    parts.last = last == 0 || last > made ? made : last;
     first = first > run->first_part ? first : run->first_part;
-    if (first > last)
-        return refuse_by("there are parts %lu to %lu", (unsigned long)run->first_part, (unsigned long)last);
-    int status = read_parts(&parts, first, last);
+    if (first > parts.last)
+        return refuse_by("there are parts %lu to %lu", (unsigned long)run->first_part, (unsigned long)made);
+    int status = read_parts(&parts, first, made);
     if (status == WRITTEN)
         status = write_joined(&parts);
     if (status == WRITTEN)

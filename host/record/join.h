@@ -9,6 +9,7 @@ typedef struct {
     Head **heads;
     uint64_t first, count; /* the number of the first, and how many */
     uint64_t cut;          /* the place behind the last that may be read */
+    uint64_t last;         /* the number of the last part that the history has; those behind it say who ends later */
 } Parts;
 
 typedef enum { JOINED, NO_MEMORY, NO_BEGIN } Joined;

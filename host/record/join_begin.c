@@ -4,10 +4,11 @@
    added, and with lines that bring them to what stood at that place. That is sound if the real state there can be
    reached by these lines, so that what an implementation may do behind it is never judged illegal:
 
-   - No call is open but waits, and signals have woken none of these: since their variable last had no wait there were
-     as many signals as waits that returned 0, and no broadcast. Each waiter owned its mutex once when its wait began,
-     and no clock has reached its deadline. Then a lock of the mutex and the begin of the wait bring it to where it is,
-     in the order of these begins: a second waiter owned the mutex only after the first one had released it.
+   - No call is open but waits, and nothing has woken these. All that began before their variable's last broadcast was
+     answered have returned. Since then, or since it last had no wait, there were as many signals as waits that returned
+     0. Each waiter owned its mutex once when its wait began, and no clock has reached its deadline. Then a lock of the
+     mutex and the begin of the wait bring it to where it is, in the order of these begins: a second waiter owned the
+     mutex only after the first one had released it.
    - Whoever owns a mutex got it by lines, is alive, and so many locks bring it there. No robust mutex is inconsistent
      or of no use, and none is left by an owner that ended.
    - The last call that gave a thread a priority overlapped no other one.
@@ -61,7 +62,7 @@ static void note_use(Joining *joining, const Event *event)
         event->named->added_place = event->place;
     if (event->what > CALL_SETPRIO)
         return;
-    event->thread->last_use = event->place;
+    event->thread->last_use = event->thread->last_call = event->place;
     if (event->what == CALL_SETPRIO) {
         event->named->last_use = event->place;
         return;
@@ -84,17 +85,18 @@ static bool is_open(const Thread *thread)
            || (is_kept(open->object) && (!is_wait_as(open->what) || is_kept(open->mutex)));
 }
 
-static bool has_ended(const Thread *thread)
+/* Of what ended before the parts that are read there is no line, but it makes no call in them. */
+static bool has_ended(const Thread *thread, uint64_t place)
 {
-    return thread->standing.has_ended || (thread->joined && !thread->is_seen_ended);
+    return thread->standing.has_ended || (thread->joined && !thread->is_seen_ended && thread->last_call < place);
 }
 
 /* Also one that has ended. */
-static bool is_over(const Thread *thread)
+static bool is_over(const Thread *thread, uint64_t place)
 {
-    bool is_before = thread->rounds >= PTHREAD_DESTRUCTOR_ITERATIONS && !thread->is_seen_dying;
+    bool is_last_round = thread->rounds >= PTHREAD_DESTRUCTOR_ITERATIONS && thread->last_call < place;
 
-    return has_ended(thread) || thread->standing.is_dying || is_before;
+    return has_ended(thread, place) || thread->standing.is_dying || (is_last_round && !thread->is_seen_dying);
 }
 
 /* What stands in the way of a beginning; NULL: nothing. */
@@ -104,7 +106,8 @@ static const char *in_the_way_of_wait(const Event *open, const StandingThread *t
 
     if (!thread->began_as_owner)
         return "a wait with a mutex that its thread didn't own once is open";
-    if (variable->is_unsure || variable->uses > 0 || variable->wakes != variable->returns)
+    bool is_told = !variable->is_unsure && variable->uses == 0 && variable->woken == 0;
+    if (!is_told || variable->wakes != variable->returns)
         return "it isn't known whom a signal or broadcast has woken";
     if (open->what == CALL_TIMEDWAIT && (open->bad_time || open->deadline <= time_before))
         return "a wait is open whose deadline is reached";
@@ -133,7 +136,7 @@ static const char *in_the_way_of_mutex(const Object *object, uint64_t place)
     if (standing->health != FINE)
         return standing->health == UNSURE ? "it isn't known who has a mutex"
                                           : "a robust mutex is inconsistent, or of no use any more";
-    return standing->owner != NULL && is_over(standing->owner) ? "a mutex is held by a thread that has ended" : NULL;
+    return standing->owner != NULL && is_over(standing->owner, place) ? "a mutex is held by a thread that has ended" : NULL;
 }
 
 static const char *in_the_way(uint64_t place)
@@ -250,9 +253,9 @@ static void put_threads(Joining *joining)
         if (thread->standing.has_priority)
             thread->priority = (int)thread->standing.priority;
         put_thread(joining, THREAD_ADDED, thread);
-        if (is_over(thread))
+        if (is_over(thread, joining->begin))
             put_thread(joining, THREAD_DYING, thread);
-        if (has_ended(thread))
+        if (has_ended(thread, joining->begin))
             put_thread(joining, THREAD_ENDED, thread);
     }
 }
@@ -344,6 +347,8 @@ static void put_event(Joining *joining, const Event *event)
 /* Up to the first place at which a history may begin; behind it the events are put into the history. */
 static void find_or_put(Joining *joining, const Event *event)
 {
+    if (part_of(event->place) > joining->parts->last)
+        return;
     if (joining->begin == 0) {
         const char *why = event->place == 1 ? NULL : in_the_way(event->place);
         if (why != NULL) {

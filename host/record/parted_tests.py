@@ -79,11 +79,12 @@ def demand_legal(kit, history):
 
 
 def test_killed(kit, place, is_stored):
-    """A program that is killed loses nothing that was published."""
+    """A program that is killed loses nothing that was published. It may be joined before that, too."""
     with subprocess.Popen([kit.FEATURES, "hangs"], env=names_of(kit, place)) as program:
         end = time.monotonic() + kit.MOST_SECONDS
         while kit.blocked_threads(program.pid) < 2 and time.monotonic() < end:
             time.sleep(0.01)
+        kit.compare("hangs", kit.plain(joined(kit, place)[0]), "", is_stored)
         program.kill()
         kit.demand(program.wait(kit.MOST_SECONDS) == -signal.SIGKILL, "it isn't killed")
     kit.compare("hangs", kit.plain(joined(kit, place)[0]), "", is_stored)
@@ -164,6 +165,22 @@ def test_flight(kit, place, _):
     kit.demand(lines[8:14] == FLIGHT.splitlines()[8:14], "the waits are %s" % lines[8:14])
     kit.demand(sorted(lines[14:22]) == sorted(FLIGHT.splitlines()[14:22]), "the locks are %s" % lines[14:22])
     demand_legal(kit, place / "history")
+
+
+def test_woken(kit, place, _):
+    """A history begins while nobody is woken that still waits, though all were woken before; else that is said."""
+    small(kit, place, "woken_before")
+    for first, may_begin in ((5, False), (38, True), (45, True), (70, False)):
+        done = join_small(kit, place, "--first", first, "--last", first + 15)
+        if may_begin:
+            demand_joined(kit, done, 0)
+            begun = re.search(r"in part (\d+) of", (place / "history").read_text())[1]
+            kit.demand(int(begun) == first, "it begins in part %s and not %d" % (begun, first))
+            demand_legal(kit, place / "history")
+        else:
+            kit.demand(done.returncode == 7, "it begins in part %d" % first)
+            kit.demand("whom a signal or broadcast has woken" in done.stderr or "a call is open" in done.stderr,
+                       "join says %s" % done.stderr.strip())
 
 
 def test_every_part(kit, place, _):
@@ -352,6 +369,7 @@ ALL = {
     "handler": test_handler,
     "rights": test_rights,
     "flight": test_flight,
+    "woken": test_woken,
     "from_each": test_every_part,
     "hammer": test_hammer,
     "begins": test_begins,

@@ -57,6 +57,58 @@ static void flight(void)
     pthread_mutex_unlock(&held);
 }
 
+static _Atomic pid_t pool[2];
+
+static void *wait_twice(void *place)
+{
+    atomic_store((_Atomic pid_t *)place, gettid());
+    pthread_mutex_lock(&mutex);
+    for (int i = 0; i < 2; i++) {
+        sem_post(&is_there);
+        pthread_cond_wait(&variable, &mutex);
+    }
+    pthread_mutex_unlock(&mutex);
+    return NULL;
+}
+
+static void until_all_wait(void)
+{
+    for (int i = 0; i < 2; i++)
+        until(&is_there);
+    for (int i = 0; i < 2; i++)
+        until_blocked(atomic_load(&pool[i]));
+}
+
+/* Who is woken returns when the mutex is given up, after much else. */
+static void work_with(int (*use)(pthread_cond_t *))
+{
+    pthread_mutex_lock(&mutex);
+    use(&variable);
+    work();
+    pthread_mutex_unlock(&mutex);
+}
+
+/* A broadcast wakes both, which wait again, and a signal one of them. */
+static void woken_before(void)
+{
+    pthread_t waiters[2];
+
+    make_inheriting(&mutex);
+    make_inheriting(&busy);
+    pthread_cond_init(&variable, NULL);
+    for (int i = 0; i < 2; i++)
+        waiters[i] = start(wait_twice, &pool[i]);
+    until_all_wait();
+    work_with(pthread_cond_broadcast);
+    until_all_wait();
+    work();
+    work_with(pthread_cond_signal);
+    sleep_ms(SHORT_MS);
+    pthread_cond_broadcast(&variable);
+    for (int i = 0; i < 2; i++)
+        pthread_join(waiters[i], NULL);
+}
+
 static void *lock_held(void *unused)
 {
     atomic_store(&waiter, gettid());
@@ -114,6 +166,7 @@ static void all_day(void)
 
 const Feature part_features[] = {
     {"flight", "two threads wait, and two mutexes are held, all the time", flight},
+    {"woken_before", "two threads that were woken wait again, all the time", woken_before},
     {"waits_for_a_lock", "a thread waits for a mutex all the time", waits_for_a_lock},
     {"stays_inconsistent", "a robust mutex is inconsistent all the time", stays_inconsistent},
     {"all_day", "more than 71 minutes, with deadlines", all_day},

@@ -116,8 +116,10 @@ typedef struct {
     struct Object *bound; /* of a variable: the mutex of its last wait */
     uint32_t waits;       /* open ones */
     uint32_t uses;        /* signals and broadcasts that are open */
-    uint64_t wakes;       /* signals since it last had no wait */
-    uint64_t returns;     /* waits that were answered 0 since then */
+    uint64_t woken_up_to; /* the place of its last broadcast's answer: each wait before it may be woken */
+    uint32_t woken;       /* those of them that are open */
+    uint64_t wakes;       /* signals since then, or since it last had no wait */
+    uint64_t returns;     /* waits that were answered 0 since then, and began since then */
     bool is_unsure;       /* whom they woke can't be told by these numbers */
 } StandingObject;
 
@@ -242,6 +244,7 @@ typedef struct Thread {
     struct Thread *next_standing;
     uint8_t standing_in;  /* whose list of those with which something may stand has it */
     uint64_t last_use;    /* the place of the last line that names it, of those that are kept; but for its end */
+    uint64_t last_call;   /* likewise of the lines of its own calls */
     uint64_t added_place; /* of those places; 0: it was there before them */
     bool is_seen_dying, is_seen_ended; /* at one of them */
     bool is_needed;       /* a history that begins there has it */

@@ -81,6 +81,7 @@ static void begin_wait(const Event *event)
     if (variable->waits == 0) {
         variable->wakes = variable->uses;
         variable->returns = 0;
+        variable->woken = 0;
         variable->is_unsure = false;
     } else if (variable->bound != event->mutex) {
         variable->is_unsure = true;
@@ -99,8 +100,13 @@ static void answer_wait(const Event *event, const Event *begin)
     StandingObject *variable = with_object(begin->object), *mutex = with_object(begin->mutex);
     bool has_it = event->answer == 0 || event->answer == ETIMEDOUT || event->answer == EOWNERDEAD;
 
+    bool is_woken = begin->place < variable->woken_up_to;
+
     variable->waits -= variable->waits > 0;
-    variable->returns += event->answer == 0;
+    if (is_woken)
+        variable->woken -= variable->woken > 0;
+    else
+        variable->returns += event->answer == 0;
     variable->is_unsure |= event->answer != 0 && event->answer != ETIMEDOUT;
     if (has_it && with_thread(event->thread)->began_as_owner)
         take(mutex, event->thread, event->answer);
@@ -113,8 +119,21 @@ static void begin_use(const Event *event)
     StandingObject *variable = with_object(event->object);
 
     variable->uses++;
-    variable->wakes++;
-    variable->is_unsure |= event->what == CALL_BROADCAST && variable->waits > 0;
+    variable->wakes += event->what == CALL_SIGNAL;
+}
+
+/* A signal that was answered before a broadcast is can't have woken a wait that began behind it. One that is open may. */
+static void answer_use(const Event *event, const Event *begin)
+{
+    StandingObject *variable = with_object(begin->object);
+
+    variable->uses -= variable->uses > 0;
+    if (begin->what == CALL_SIGNAL)
+        return;
+    variable->woken_up_to = event->place;
+    variable->woken = variable->waits;
+    variable->wakes = variable->uses;
+    variable->returns = 0;
 }
 
 static void begin_setting(const Event *event)
@@ -189,7 +208,7 @@ static void answer(const Event *event)
     else if (is_wait_as(begun.what))
         answer_wait(event, &begun);
     else if (is_use(begun.what))
-        with_object(begun.object)->uses -= with_object(begun.object)->uses > 0;
+        answer_use(event, &begun);
     else
         answer_mutex(event, &begun);
     thread->open.place = 0;
