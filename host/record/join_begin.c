@@ -136,7 +136,8 @@ static const char *in_the_way_of_mutex(const Object *object, uint64_t place)
     if (standing->health != FINE)
         return standing->health == UNSURE ? "it isn't known who has a mutex"
                                           : "a robust mutex is inconsistent, or of no use any more";
-    return standing->owner != NULL && is_over(standing->owner, place) ? "a mutex is held by a thread that has ended" : NULL;
+    bool is_stalled = standing->owner != NULL && is_over(standing->owner, place);
+    return is_stalled ? "a mutex is held by a thread that has ended" : NULL;
 }
 
 static const char *in_the_way(uint64_t place)
@@ -285,12 +286,23 @@ static Thread *next_waiter(uint64_t behind)
     return found;
 }
 
+/* What the thread owns. */
+static void put_owned(Joining *joining, Thread *owner)
+{
+    for (Object *object = standing_objects(); object != NULL; object = object->next_standing)
+        for (uint32_t i = 0; i < object->standing.count && is_held(object, joining->begin); i++)
+            if (object->standing.owner == owner)
+                put_lock(joining, owner, object);
+}
+
+/* A waiter may own other mutexes. */
 static void put_waits(Joining *joining)
 {
     Thread *waiter = next_waiter(0);
 
     while (waiter != NULL) {
         const Event *open = &waiter->standing.open;
+        put_owned(joining, waiter);
         put_lock(joining, waiter, open->mutex);
         Record *record = record_of_begin(joining, open);
         put_begin(joining, record, joining->time);
@@ -299,11 +311,12 @@ static void put_waits(Joining *joining)
     }
 }
 
+/* Of those with no call open. */
 static void put_owners(Joining *joining)
 {
-    for (Object *object = standing_objects(); object != NULL; object = object->next_standing)
-        for (uint32_t i = 0; i < object->standing.count && is_held(object, joining->begin); i++)
-            put_lock(joining, object->standing.owner, object);
+    for (Thread *thread = atomic_load(&run->threads); thread != NULL; thread = thread->next)
+        if (!is_open(thread))
+            put_owned(joining, thread);
 }
 
 static void put_what_stood(Joining *joining)

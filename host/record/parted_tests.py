@@ -127,24 +127,27 @@ def test_exits_at_once(kit, place, _):
 FLIGHT = """mutex normal
 mutex normal
 mutex normal
+mutex normal
 mutex recursive
-cond m1
+cond m2
 thread 1
 thread 1
 thread 1
 begin t2 lock m1
 answer t2 0
-begin t2 wait c1 m1
-begin t3 lock m1
+begin t2 lock m2
+answer t2 0
+begin t2 wait c1 m2
+begin t3 lock m2
 answer t3 0
-begin t3 wait c1 m1
-begin t1 lock m2
-answer t1 0
+begin t3 wait c1 m2
 begin t1 lock m3
 answer t1 0
 begin t1 lock m4
 answer t1 0
-begin t1 lock m4
+begin t1 lock m5
+answer t1 0
+begin t1 lock m5
 answer t1 0
 """
 
@@ -158,12 +161,13 @@ def test_flight(kit, place, _):
     demand_joined(kit, join_small(kit, place), 0)
     text = kit.checked(place / "history")
     kit.demand(text.startswith("# begins at place "), "it doesn't say where it begins")
-    kept = sorted(set(kit.without_comments(text).splitlines()[:8])), sorted(set(FLIGHT.splitlines()[:8]))
-    kit.demand(kept[0] == kept[1], "what there is stands otherwise")
-    # The mutexes that are held are given in any order.
     lines = kit.without_comments(text).splitlines()
-    kit.demand(lines[8:14] == FLIGHT.splitlines()[8:14], "the waits are %s" % lines[8:14])
-    kit.demand(sorted(lines[14:22]) == sorted(FLIGHT.splitlines()[14:22]), "the locks are %s" % lines[14:22])
+    # The mutexes that the first thread holds are given in any order.
+    numbers = [re.sub(r"(?<=t1 lock )m\d", "m", line) for line in lines[9:]]
+    wanted = [re.sub(r"(?<=t1 lock )m\d", "m", line) for line in FLIGHT.splitlines()]
+    kit.demand(sorted(lines[:9]) == sorted(wanted[:9]), "what there is stands otherwise: %s" % lines[:9])
+    kit.demand(numbers[:16] == wanted[9:], "what stood is given otherwise: %s" % numbers[:16])
+    kit.demand(len(set(lines[17:24:2])) == 3, "the locks are %s" % lines[17:25])
     demand_legal(kit, place / "history")
 
 

@@ -7,7 +7,7 @@
 
 enum { MANY = 1000 };
 
-static pthread_mutex_t mutex, held, twice, busy;
+static pthread_mutex_t mutex, held, twice, busy, of_waiter;
 static pthread_cond_t variable;
 static sem_t is_there;
 static _Atomic pid_t waiter;
@@ -18,14 +18,18 @@ static void work(void)
         lock_and_unlock(&busy);
 }
 
-static void *wait_for_a_job(void *unused)
+/* The first of the waiters owns another mutex, too. */
+static void *wait_for_a_job(void *owned)
 {
-    (void)unused;
     atomic_store(&waiter, gettid());
+    if (owned != NULL)
+        pthread_mutex_lock(owned);
     pthread_mutex_lock(&mutex);
     sem_post(&is_there);
     pthread_cond_wait(&variable, &mutex);
     pthread_mutex_unlock(&mutex);
+    if (owned != NULL)
+        pthread_mutex_unlock(owned);
     return NULL;
 }
 
@@ -37,10 +41,11 @@ static void flight(void)
     make_inheriting(&mutex);
     make_inheriting(&held);
     make_inheriting(&busy);
+    make_inheriting(&of_waiter);
     make_mutex(&twice, PTHREAD_MUTEX_RECURSIVE, false, PTHREAD_PRIO_INHERIT);
     pthread_cond_init(&variable, NULL);
     for (int i = 0; i < 2; i++) {
-        waiters[i] = start(wait_for_a_job, NULL);
+        waiters[i] = start(wait_for_a_job, i == 0 ? &of_waiter : NULL);
         until(&is_there);
         until_blocked(atomic_load(&waiter));
     }

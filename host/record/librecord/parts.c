@@ -63,7 +63,7 @@ static Part *find_part(uint64_t number)
 static Part *make_or_find(uint64_t number, int *why)
 {
     sigset_t all, before;
-    int state;
+    int state, error = errno;
 
     sigfillset(&all);
     pthread_sigmask(SIG_BLOCK, &all, &before);
@@ -76,6 +76,7 @@ static Part *make_or_find(uint64_t number, int *why)
     atomic_store(&is_made, false);
     pthread_setcancelstate(state, NULL);
     pthread_sigmask(SIG_SETMASK, &before, NULL);
+    errno = error;
     return found;
 }
 
@@ -206,12 +207,11 @@ static void end_at(uint64_t place, int why)
 void publish(uint64_t place, Slot slot)
 {
     uint64_t number = part_of(place);
-    int before = errno, why = 0;
+    int why = 0;
     Part *part = the_part(number, &why);
 
     if (part == NULL) {
         end_at(place, why);
-        errno = before;
         return;
     }
     Slot *at = &slots_of(part->head)[(place - 1) % EVENTS_OF_PART];

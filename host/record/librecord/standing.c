@@ -122,7 +122,7 @@ static void begin_use(const Event *event)
     variable->wakes += event->what == CALL_SIGNAL;
 }
 
-/* A signal that was answered before a broadcast is can't have woken a wait that began behind it. One that is open may. */
+/* A signal that was answered before a broadcast can't have woken a wait that began behind it. One that is open may. */
 static void answer_use(const Event *event, const Event *begin)
 {
     StandingObject *variable = with_object(begin->object);
