@@ -111,6 +111,9 @@ bool open_directory(void)
     return atomic_load(&stage) == OPENED;
 }
 
+/* By another thread; in the child of a fork that one isn't there. */
+bool is_being_opened(void) { return atomic_load(&stage) == IS_BEING_OPENED; }
+
 static void name_part(char name[MOST_OF_RUN + MOST_DIGITS + 2], uint64_t number)
 {
     strcpy(name, run->name);

@@ -76,7 +76,7 @@ static void find_calls(void)
    are those of the process that made them. */
 static void in_child(void)
 {
-    if (is_parted_run()) {
+    if (is_parted_run() || is_being_opened()) {
         atomic_store(&recording, false);
         forget_thread();
         return;

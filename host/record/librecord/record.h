@@ -375,7 +375,8 @@ bool make_present(const void *memory, size_t size); /* false: there is no room i
 void read_directory(const char *path);
 bool records_in_parts(void); /* it is wanted */
 bool open_directory(void);   /* at the first thing that is noted; false: nothing is recorded */
-Head *make_part(uint64_t number, int *why);
+bool is_being_opened(void);
+Head *make_part(uint64_t number, int *why); /* mapped; NULL: it can't be made, and `why` is the number of an error */
 void drop_part(uint64_t number);
 void say_no_part(uint64_t number, int why);
 
