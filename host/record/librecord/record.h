@@ -366,8 +366,24 @@ int read_run(const char *file, RunKind);
 bool is_shared_run(void);
 bool is_parted_run(void);
 void *take_of_run(size_t size);
-uint32_t number_in_run(const void *); /* 0: of NULL */
-void *of_run(uint32_t number, size_t size); /* NULL: there is no such thing */
+extern uint64_t size_of_run;
+
+enum { LINE = 64 };
+
+/* What is taken of a run has a number there; 0: of NULL. */
+static inline uint32_t number_in_run(const void *memory)
+{
+    return memory == NULL ? 0 : (uint32_t)(((uintptr_t)memory - (uintptr_t)run) / LINE);
+}
+
+/* What was read may be damaged: NULL, if there is no such thing. */
+static inline void *of_run(uint32_t number, size_t size)
+{
+    uint64_t at = (uint64_t)number * LINE;
+
+    return at < sizeof *run || at > size_of_run - size ? NULL : (char *)run + at;
+}
+
 bool may_be_large(uint64_t size);
 bool make_present(const void *memory, size_t size); /* false: there is no room in the file */
 

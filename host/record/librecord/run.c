@@ -17,7 +17,7 @@
 #define MADV_POPULATE_WRITE 23
 #endif
 
-enum { LARGE = 1 << 20, LINE = 64, PAGE = 4096 };
+enum { LARGE = 1 << 20, PAGE = 4096 };
 
 /* The files are sparse. Neither loaders nor sanitizers put anything at this address. */
 static const uint64_t sizes[] = {[SHARED_RUN] = (uint64_t)1 << 36, [PARTED_RUN] = (uint64_t)1 << 28};
@@ -27,6 +27,7 @@ static const char marks[][MOST_OF_MARK] = {[SHARED_RUN] = "pif recording 2", [PA
 static Run own;
 Run *run = &own;
 static RunKind kind = OWN_RUN;
+uint64_t size_of_run;
 
 bool is_shared_run(void) { return kind == SHARED_RUN; }
 
@@ -74,6 +75,7 @@ static int map_file_of_run(int file, int way, RunKind wanted)
     }
     run = mapped;
     kind = wanted;
+    size_of_run = size;
     return 0;
 }
 
@@ -156,17 +158,4 @@ void *take_of_run(size_t size)
         return NULL;
     unsigned char *taken = (unsigned char *)run + first + before;
     return size >= LARGE || make_present(taken, size) ? taken : NULL;
-}
-
-uint32_t number_in_run(const void *memory)
-{
-    return memory == NULL ? 0 : (uint32_t)(((uintptr_t)memory - (uintptr_t)run) / LINE);
-}
-
-/* What was read may be damaged. */
-void *of_run(uint32_t number, size_t size)
-{
-    uint64_t at = (uint64_t)number * LINE;
-
-    return at < sizeof *run || at > sizes[kind] - size ? NULL : (char *)run + at;
 }
