@@ -49,11 +49,11 @@ def environment(history, besides=None, variable="RECORD_FILE"):
     return {**names, variable: str(history), "LD_PRELOAD": libraries, **(besides or {})}
 
 
-def merge(shared, history):
-    """Writes what all processes of a run have recorded as one history, if that is anything."""
-    status = subprocess.run([HERE / "merge", shared, history]).returncode
+def made_of(program, recording, history):
+    """Writes a recording of several processes by `merge`, or one in parts by `join`, as one history, if it is anything."""
+    status = subprocess.run([HERE / program, recording, history]).returncode
     if status not in (LEGAL, UNREAD):
-        raise OSError(0, "it cannot be written as a history", str(shared))
+        raise OSError(0, "it cannot be written as a history", str(recording))
 
 
 def with_time(words, seconds, *options):

@@ -119,6 +119,14 @@ def test_rights(kit, place, _):
     kit.demand(kit.checked(place / "history").count("begin ") == 1004, "lines are lost")
 
 
+def test_judge(kit, place, is_stored):
+    kept = place / "kept"
+    kit.demand_judged(kit.judge_words("--parts", "--keep", kept, kit.FEATURES, "leaves_at_once"), 0, ["legal 7"])
+    kit.demand_judged(kit.judge_words("--parts", kit.FEATURES, "names_used_again"), 0, ["legal 28"])
+    kit.demand_judged(kit.judge_words("--parts", kit.FEATURES, "no_call"), 3, [])
+    kit.demand_judged(kit.judge_words("--parts", "--shared", kit.FEATURES, "no_call"), 1, [])
+
+
 def test_exits_at_once(kit, place, _):
     kit.run([kit.FEATURES, "leaves_at_once"], env=names_of(kit, place))
     kit.demand("begin t1 lock m1" in joined(kit, place)[0], "_exit loses lines")
@@ -369,6 +377,7 @@ ALL = {
     "killed": test_killed,
     "aborts": lambda kit, place, keep: test_own_end(kit, place, "aborts", signal.SIGABRT, keep),
     "faults": lambda kit, place, keep: test_own_end(kit, place, "faults", signal.SIGSEGV, keep),
+    "judge": test_judge,
     "exits_at_once": test_exits_at_once,
     "handler": test_handler,
     "rights": test_rights,
