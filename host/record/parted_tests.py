@@ -44,6 +44,18 @@ def test_feature(kit, place, feature, is_stored):
     kit.compare(name, kit.plain(text), how, is_stored)
 
 
+def test_names(kit, place, is_stored):
+    kit.run([kit.FEATURES, "names"], env=names_of(kit, place))
+    kit.compare("names.text", kit.with_comments(joined(kit, place)[0]), "", is_stored)
+
+
+def test_where(kit, place, _):
+    kit.run([kit.FEATURES, "timed_locks"], env=names_of(kit, place, {"RECORD_WHERE": "1"}))
+    text = joined(kit, place)[0]
+    places = len(re.findall(r"\nbegin .*\n# at \S+ in \S+\n", text))
+    kit.demand(text.count("\nbegin ") == places, "a begin without a place")
+
+
 def small_run(kit, place, words, besides=None):
     """Records a program in parts of few events; its result."""
     libraries = (kit.HERE / "out" / "small_parts.so", kit.HERE / "out" / "failing.so")
@@ -377,6 +389,8 @@ ALL = {
     "killed": test_killed,
     "aborts": lambda kit, place, keep: test_own_end(kit, place, "aborts", signal.SIGABRT, keep),
     "faults": lambda kit, place, keep: test_own_end(kit, place, "faults", signal.SIGSEGV, keep),
+    "names": test_names,
+    "where": test_where,
     "judge": test_judge,
     "exits_at_once": test_exits_at_once,
     "handler": test_handler,

@@ -23,8 +23,8 @@ static int present_priority(void)
 
 static Thread *new_thread(int priority)
 {
+    Thread *thread = take_of_run(sizeof *thread); /* which may make the run */
     Process *process = the_process();
-    Thread *thread = take_of_run(sizeof *thread);
 
     if (thread == NULL) {
         stop_recording();
