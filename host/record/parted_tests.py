@@ -96,8 +96,10 @@ def test_killed(kit, place, is_stored):
         end = time.monotonic() + kit.MOST_SECONDS
         while kit.blocked_threads(program.pid) < 2 and time.monotonic() < end:
             time.sleep(0.01)
-        kit.compare("hangs", kit.plain(joined(kit, place)[0]), "", is_stored)
-        program.kill()
+        try:
+            kit.compare("hangs", kit.plain(joined(kit, place)[0]), "", is_stored)
+        finally:
+            program.kill()
         kit.demand(program.wait(kit.MOST_SECONDS) == -signal.SIGKILL, "it isn't killed")
     kit.compare("hangs", kit.plain(joined(kit, place)[0]), "", is_stored)
 
