@@ -104,6 +104,23 @@ def test_killed(kit, place, is_stored):
     kit.compare("hangs", kit.plain(joined(kit, place)[0]), "", is_stored)
 
 
+def test_killed_anywhere(kit, place, _):
+    """Threads are killed in the midst of their calls."""
+    (place / "parts").mkdir()
+    besides = {"RECORD_DIR": str(place / "parts")}
+    names = kit.environment(place / "unused", besides, (kit.HERE / "out" / "small_parts.so",))
+    words = "--threads 3 --mutexes 2 --variables 1 --calls 1000000".split()
+    with subprocess.Popen([kit.HERE / "hammer", *words], env=names) as program:
+        end = time.monotonic() + kit.MOST_SECONDS
+        while len(list((place / "parts").iterdir())) < 9 and time.monotonic() < end:
+            time.sleep(0.01)
+        program.kill()
+        program.wait(kit.MOST_SECONDS)
+    demand_joined(kit, join_small(kit, place, "--last", 9), 0)
+    kit.demand(kit.checked(place / "history").count("\nanswer ") > 300, "lines are lost")
+    demand_legal(kit, place / "history")
+
+
 def test_own_end(kit, place, name, number, is_stored):
     done = kit.run([kit.FEATURES, name], env=names_of(kit, place))
     kit.demand(done.returncode == -number, "status %d" % done.returncode)
@@ -389,6 +406,7 @@ def test_measure(kit, place, _):
 
 ALL = {
     "killed": test_killed,
+    "killed_anywhere": test_killed_anywhere,
     "aborts": lambda kit, place, keep: test_own_end(kit, place, "aborts", signal.SIGABRT, keep),
     "faults": lambda kit, place, keep: test_own_end(kit, place, "faults", signal.SIGSEGV, keep),
     "names": test_names,
