@@ -33,7 +33,7 @@ use Rattle.pif_cli_words.specs.declared.jobs.Job.{Job}
 use Rattle.pif_cli_words.specs.declared.jobs.Job.TheVariants.{Run, Replay, Trace, Migrate, Show, Picture, Draw, Shell, Check, Strict, Fill, FillSeveral, Judge, Explore, Random, Drive}
 use Rattle.pif_cli_words.specs.Words.{files_of, inputs_of, job_of, refusals_of, rewrites, standard_name}
 use Rattle.pif_cli_messages.specs.declared.statuses.JobFault.{JobFault}
-use Rattle.pif_cli_messages.specs.declared.statuses.JobFault.TheVariants.{Cli, PosixAllows, Undecided}
+use Rattle.pif_cli_messages.specs.declared.statuses.JobFault.TheVariants.{Cli, NotOnCore, PosixAllows, Undecided}
 use Rattle.pif_cli_messages.specs.Messages.{TellsLine, TellsOf}
 use Rattle.pif_cli.specs.Names.{shown_name}
 use Rattle.pif_cli.specs.Random.{WritesRandom}
@@ -85,6 +85,7 @@ abbrev pub as_explored : Result (Unit {0}) ExploreFault → Result (Unit {0}) Jo
 as_explored (Ok x) = Ok x
 as_explored (Err (explore_fault.Cli e)) = Err (Cli e)
 as_explored (Err explore_fault.Undecided) = Err (Undecided 1)
+as_explored (Err (explore_fault.NotOnCore mutex)) = Err (NotOnCore mutex)
 
 -- a program was explored
 abbrev pub ExploresAsked : Exploring → (before after held holds : Option (List ℕ)) → Result (Unit {0}) JobFault → Type 0

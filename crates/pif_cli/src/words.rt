@@ -51,6 +51,7 @@ fn as_explored(done: Result<(), ExploreFault>) -> Result<(), JobFault>
         Ok(()) => Ok(()),
         Err(ExploreFault::Cli(fault)) => Err(JobFault::Cli(fault)),
         Err(ExploreFault::Undecided) => Err(JobFault::Undecided(1)),
+        Err(ExploreFault::NotOnCore(mutex)) => Err(JobFault::NotOnCore(mutex)),
     }
 }
 

@@ -76,6 +76,7 @@ impl<'n, 's> Given<'n, 's> {
                     "POSIX allows it, and the machine doesn't",
                 )
             }
+            JobFault::NotOnCore(mutex) => off_core_message(self.name, mutex),
         }
     }
 
@@ -248,6 +249,18 @@ fn story_difference(notice: &Notice) -> &'static str {
 fn words_message(words: &str) -> Message {
     let mut message = Message::new();
     message.say(words);
+    message
+}
+
+/// What is told of a program of this name that has this mutex of PTHREAD_PRIO_NONE, and was to be played on the core.
+fn off_core_message(name: &str, mutex: u32) -> Message {
+    let words = "the core has no mutex of PTHREAD_PRIO_NONE, as ";
+    let mut message = if name == STANDARD_NAME {
+        words_message(words)
+    } else {
+        file_message(name, words)
+    };
+    let _ = write!(message, "m{mutex} is");
     message
 }
 

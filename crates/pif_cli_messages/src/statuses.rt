@@ -17,10 +17,13 @@ pub enum JobFault {
     Undecided(u64),
     /// At the line of this number, from 1, no run shows a history, or the search was given up, and POSIX allows it.
     PosixAllows(u64),
+    /// A program was to be played on the core, which has no mutex as this one: of PTHREAD_PRIO_NONE.
+    NotOnCore(u32),
 }
 
 /// The status of the program after this fault of a job: 6 if a thread could not be started, or the desk didn't settle, 7
 /// if a history was not decided, or not all states of a program were found, and 8 if POSIX allows what the machine doesn't.
+/// It is 2 for a program that the core can't play.
 pub fn job_fault_status(fault: JobFault) -> u8
     ensures { result ≡ job_fault_status fault }
 {
@@ -29,6 +32,7 @@ pub fn job_fault_status(fault: JobFault) -> u8
         JobFault::Threads | JobFault::Unsettled => 6,
         JobFault::Undecided(_) => 7,
         JobFault::PosixAllows(_) => 8,
+        JobFault::NotOnCore(_) => 2,
     }
 }
 

@@ -367,8 +367,9 @@ pub const MORE_JUDGE: &str =
 in which it was seen. Its lines:
   limits T M C S              first, or not at all
   allow RULE ..               before the first 'begin': rules, by their names
-  thread P, mutex K [robust], cond mN
-                              as in scripts, before the first use
+  thread P, mutex K [robust] [none], cond mN
+                              as in scripts, before the first use; who waits for
+                              a mutex with 'none' lends nothing
   begin tN CALL               the thread entered the call, as 'begin t1 lock m1'
   answer tN A                 its call returned 0, or an error: 16 or EBUSY
   dying tN, later end tN      the thread ended somewhere between these lines
@@ -432,8 +433,8 @@ pub const MORE_EXPLORE: &str =
 lines:
   limits T M C S              first, or not at all
   allow RULE ..               as in histories, before all programs
-  thread P, mutex K [robust], cond mN
-                              as in scripts, before all programs
+  thread P, mutex K [robust] [none], cond mN
+                              as in histories, before all programs
   do tN: S; S; ..             what the thread does. S is a call, as 'lock m1',
                               'set x1 1' or 'add x1 1' for a cell of 0 to 255,
                               or has a block: 'if T { .. } else { .. }' and
@@ -465,7 +466,7 @@ It begins with 'undecided: ' if there are more states than --states. The first
 line that is a fault is told by 'fault L CAUSE', alone. With --core a line for
 each outcome follows, 'outcome K: seen on the core' or 'not seen on the core',
 one for each claim, and 'N schedules on the core', where N is 10000 if no number
-stands after --core.
+stands after --core. The core has no mutex with 'none'.
 
 Example:
   printf 'thread 10\\nmutex normal\\ndo t1: lock m1\\n' | pif explore

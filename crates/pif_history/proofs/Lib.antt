@@ -7,3 +7,4 @@ mod Searched
 mod Keeping
 mod Mapped
 mod Narrowing
+mod Inheriting

@@ -11,8 +11,8 @@ use Rattle.pif_posix_steps.proofs.DoingLists.{in_one_from}
 use Rattle.pif_posix_steps.proofs.DoingEntries.{entered_to}
 use Rattle.pif_rules_model.specs.declared.rules.Rules.{Rules}
 use Rattle.pif_rules_model.specs.Rules.{Wide, WideMoves, WideEnters, end_of}
-use Rattle.pif_rules_model.specs.Rules.WideMoves.{plain}
 use Rattle.pif_rules_model.specs.Rules.WideEnters.{other}
+use Rattle.pif_rules_model.proofs.Sets.{moves_widely}
 use Rattle.pif_search.specs.declared.machine.Stop.{Stop}
 use Rattle.pif_search.specs.Runs.{Runs, shown}
 use Rattle.pif_history_model.specs.declared.lines.Line.{Line}
@@ -20,7 +20,7 @@ use Rattle.pif_history_model.specs.declared.labels.Label.{Label}
 use Rattle.pif_history_model.specs.declared.labels.Label.TheVariants.{Shown, Moves}
 use Rattle.pif_history_model.specs.Lines.{is_line_among, dying_after, ended_by}
 use Rattle.pif_history_model.specs.Listed.{entry_for, is_seen}
-use Rattle.pif_history_model.specs.Searched.{Configuration, Advances, hides, start_of}
+use Rattle.pif_history_model.specs.Searched.{Configuration, Advances, hides, start_of, told_of}
 use Rattle.pif_history_model.specs.Searched.Advances.{moves, enters, sees}
 use Rattle.pif_history_model.specs.Verdicts.{IsLegal}
 use Rattle.pif_history_model.proofs.Judging.{labels_of, legal-from_run}
@@ -55,9 +55,11 @@ module _ (r : Rules) (l : Bounds) (p q : Player) (x : Label) (a : Advances r l p
 
 -- A STEP IN PLACE
 
--- a plain move, of the state with what rules remember
-pub moves_from : (r : Rules) (s t : Wide) (n : ℕ) (v : World) → t ≡ s → MovesOnce n t.world v → WideMoves r n s (record t { world = v })
-moves_from r s t n v same m = subst (λ (u : Wide). WideMoves r n u (record t { world = v })) same (plain v m refl)
+-- a plain move, of the state with what rules remember, if each mutex inherits
+pub moves_from : (r : Rules) (s t : Wide) (n : ℕ) (v : World) → t ≡ s → s.prio_none ≡ [] → MovesOnce n t.world v
+    → WideMoves r n s (record t { world = v })
+moves_from r s t n v same none m =
+    subst (λ (u : Wide). WideMoves r n u (record t { world = v })) same (moves_widely r n t v (ap (λ (u : Wide). u.prio_none) same ∙ none) m)
 
 -- an entry that is no end of a thread, and has one result
 pub enters_from : (r : Rules) (l : Bounds) (s t : Wide) (e : Entry) (v : World) → t ≡ s → end_of e ≡ None → entered l t.world e ≡ v ∷ []
@@ -94,9 +96,9 @@ module _ (r : Rules) (l : Bounds) (line : Line) where
 
   -- what the line tells is so
   pub tells : (s : Configuration) → is_line_among s.dying line ≡ false → dying_after line s.dying ≡ s.dying
-      → is_seen s.wide.world line ≡ true → Advances r l s (Shown line) s
+      → is_seen (told_of line s.wide) line ≡ true → Advances r l s (Shown line) s
   tells s among kept seen =
-      sees line refl among (seen-to s.wide.world line seen) (λ i. record { wide = s.wide; dying = sym kept i })
+      sees line refl among (seen-to (told_of line s.wide) line seen) (λ i. record { wide = s.wide; dying = sym kept i })
 
 -- ALL LINES
 

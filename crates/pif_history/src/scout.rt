@@ -8,7 +8,7 @@ use crate::stepping::scene_of;
 use pif_history_machine::{HistoryMachine, Later, Leaving, Position, thread_numbered};
 use pif_history_model::{HistoryLimits, Label, Line};
 use pif_posix::Progress;
-use pif_rules_model::no_rules;
+use pif_rules_model::Rules;
 use pif_search::{Stop, WatchLines, push};
 use std::alloc::Global;
 
@@ -168,6 +168,23 @@ impl Scout {
         Ok(true)
     }
 
+    /// The open call of a thread makes its only move, in place if each mutex inherits.
+    fn go_on(
+        &mut self,
+        alloc: Global,
+        machine: &HistoryMachine,
+        later: &Later,
+        thread: usize,
+        line: usize,
+    ) -> Result<bool, Stop> {
+        let thread = thread_numbered(thread)?;
+        if self.position.wide.inherits() {
+            return stepping::go(&mut self.position, alloc, thread);
+        }
+        let label = Label::Moves(thread);
+        stepping::switch(&mut self.position, alloc, machine, later, &label, line)
+    }
+
     /// The open call of a thread goes on, if it may.
     fn go(
         &mut self,
@@ -189,7 +206,7 @@ impl Scout {
             Need::Signals(_) | Need::Broadcasts(_) if scene.may_succeed(thread) => {
                 self.use_variable(alloc, machine, later, thread, line)
             }
-            _ => stepping::go(&mut self.position, alloc, thread_numbered(thread)?),
+            _ => self.go_on(alloc, machine, later, thread, line),
         }
     }
 
@@ -305,6 +322,7 @@ impl Scout {
 /// none: no run has shown it.
 pub(crate) fn scouted<W: WatchLines>(
     alloc: Global,
+    rules: &Rules,
     limits: HistoryLimits,
     lines: &[Line],
     moves: usize,
@@ -312,7 +330,7 @@ pub(crate) fn scouted<W: WatchLines>(
 ) -> Result<Option<Vec<usize>>, Stop> {
     let mut later = Later::of(alloc, lines)?;
     later.leaving = Leaving::for_scout(alloc);
-    let machine = HistoryMachine::new(limits, no_rules());
+    let machine = HistoryMachine::new(limits, *rules);
     let mut scout = Scout::new(alloc, limits)?;
     if !scout.reach_all(alloc, &machine, &mut later, lines, moves, watch)? {
         return Ok(None);

@@ -10,7 +10,7 @@ ghost use Rattle.pif_history_model.specs.Searched.{Advances};
 
 use crate::scene::Scene;
 use pif_history_machine::{HistoryMachine, Later, Position, entry_of, is_line_among, is_seen};
-use pif_history_model::{HistoryLimits, Label, Line};
+use pif_history_model::{HistoryLimits, Label, Line, Protocol};
 use pif_model::{Entry, Event};
 use pif_posix::Wide;
 use pif_search::{Stop, unless_many};
@@ -46,26 +46,40 @@ fn used_by(scene: &Scene<'_>, label: &Label) -> u32 {
     }
 }
 
-/// Whether a line is neither the end of a thread nor tells that one is dying. It then leaves it as it is who is dying.
-fn keeps_dying(line: &Line) -> bool
+/// Whether a line comes in place, if it may: it is neither the end of a thread, nor tells that one is dying, nor adds a
+/// mutex that lends nothing. It then leaves it as it is who is dying.
+fn comes_in_place(line: &Line) -> bool
     ensures kept { result ≡ true → (us : List ℕ) → dying_after line.now us ≡ us }
     ensures no_end { result ≡ true → ended_by line.now ≡ None }
 {
     match *line {
         Line::Dying(_) => false,
         Line::End(_) => false,
-        _ => true,
+        Line::Mutex(_, _, Protocol::PrioNone) => false,
+        Line::Mutex(_, _, Protocol::PrioInherit)
+        | Line::Thread(_)
+        | Line::Cond(_)
+        | Line::Begin(_, _)
+        | Line::Answer(_, _)
+        | Line::Tick(_)
+        | Line::Rests(_)
+        | Line::Prio(_, _) => true,
     }
 }
 
-/// The open call of a thread makes the only plain move that it can make; false if it has none, or a choice.
+/// The open call of a thread makes the only plain move that it can make; false if it has none, or a choice, or if some
+/// mutex lends nothing.
 fn go_on(wide: &mut Wide, alloc: Global, thread: Tid) -> Result<bool, Stop>
     ensures { IfOk result (λ b. b ≡ true → (r : Rules) → WideMoves r thread wide.old wide.new) }
 {
+    if !wide.inherits() {
+        return Ok(false);
+    }
     wide.state.go(alloc, thread.get())
 }
 
-/// The open call of a thread makes the only plain move that it can make; false if it has none, or a choice.
+/// The open call of a thread makes the only plain move that it can make; false if it has none, or a choice, or if some
+/// mutex lends nothing.
 pub(crate) fn go(position: &mut Position, alloc: Global, thread: Tid) -> Result<bool, Stop>
     ensures { IfOk result (λ b. b ≡ true → (r : Rules) (l : Bounds) → Advances r l position.old (Moves thread) position.new) }
 {
@@ -104,13 +118,18 @@ fn come(
 }
 
 /// Whether the line tells of the state, and what it tells is so.
-fn tells(position: &Position, limits: &HistoryLimits, line: &Line) -> bool
+fn tells(
+    position: &Position,
+    alloc: Global,
+    limits: &HistoryLimits,
+    line: &Line,
+) -> Result<bool, Stop>
     requires among { is_line_among position.now.dying line.now ≡ false }
     requires kept { dying_after line.now position.now.dying ≡ position.now.dying }
-    ensures { result ≡ true → (r : Rules) → Advances r limits.now position.now (Shown line.now) position.now }
+    ensures { IfOk result (λ b. b ≡ true → (r : Rules) → Advances r limits.now position.now (Shown line.now) position.now) }
 {
     let _limits = limits;
-    is_seen(position.world(), line)
+    is_seen(alloc, position.wide(), line)
 }
 
 /// The best position to which a step of this label leads, in place of this one; false if there is none.
@@ -154,7 +173,7 @@ fn show_kept(
     let _no_event: Option<Event> = None;
     match entry_of(position.world(), line)? {
         Some(entry) => come(position, alloc, limits, line, &entry),
-        None => Ok(tells(position, limits, line)),
+        None => tells(position, alloc, limits, line),
     }
 }
 
@@ -169,7 +188,7 @@ pub(crate) fn show(
 ) -> Result<bool, Stop>
     ensures { IfOk result (λ b. b ≡ true → Advances machine.now.rules machine.now.limits position.old (Shown line.now) position.new) }
 {
-    if !keeps_dying(line) {
+    if !comes_in_place(line) {
         return switch(position, alloc, machine, later, &Label::Shown(*line), place);
     }
     if is_line_among(position.dying(), line) {

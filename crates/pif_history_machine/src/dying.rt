@@ -33,7 +33,7 @@ pub fn thread_of(line: &Line) -> Option<Tid>
         Line::End(t) => Some(t),
         Line::Rests(t) => Some(t),
         Line::Prio(t, _) => Some(t),
-        Line::Thread(_) | Line::Mutex(_, _) | Line::Cond(_) | Line::Tick(_) => None,
+        Line::Thread(_) | Line::Mutex(_, _, _) | Line::Cond(_) | Line::Tick(_) => None,
     }
 }
 

@@ -76,7 +76,7 @@ impl Told {
     {
         match line {
             Line::Thread(_) => return add_one(&mut self.threads),
-            Line::Mutex(_, _) => return add_one(&mut self.mutexes),
+            Line::Mutex(_, _, _) => return add_one(&mut self.mutexes),
             Line::Cond(_) => return add_one(&mut self.conds),
             Line::Tick(time) => self.time = time,
             Line::Begin(t, _) => self.open_call = self.open_call || t == thread,
@@ -208,7 +208,7 @@ impl Told {
                 Some(LineRefusal::Addition(AddFault::BadPrio))
             }
             Line::Thread(_) => room_refusal(self.threads, limits.threads),
-            Line::Mutex(_, _) => room_refusal(self.mutexes, limits.mutexes),
+            Line::Mutex(_, _, _) => room_refusal(self.mutexes, limits.mutexes),
             Line::Cond(mutex) => self.cond_refusal(limits, mutex),
             Line::Begin(t, request) => of_event(self.begin_refusal(t, request)),
             Line::Answer(t, _) => of_event(self.answer_refusal(t)),

@@ -199,7 +199,7 @@ still_apart : (t : ℕ) (k : Line) (us : List ℕ) → is_over t k ≡ false →
 still_apart t (line.Dying u) us o a = or_from (u == t) (is_among us t) o a
 still_apart t (line.End u) us o a = left_out us u t a
 still_apart t (line.Thread p) us o a = a
-still_apart t (line.Mutex i r) us o a = a
+still_apart t (line.Mutex i r p) us o a = a
 still_apart t (line.Cond m) us o a = a
 still_apart t (line.Begin u q) us o a = a
 still_apart t (line.Answer u b) us o a = a

@@ -20,6 +20,7 @@ mod Noting
 mod Needed
 pub mod Taking
 pub mod LineLemmas
+pub mod Lent
 pub mod Labelled
 pub mod Listing
 pub mod Selections
@@ -27,6 +28,7 @@ pub mod Numbers
 pub mod ShownLines
 mod NoRules
 pub mod Widening
+pub mod Gated
 pub mod Judging
 pub mod Covered
 pub mod Answered

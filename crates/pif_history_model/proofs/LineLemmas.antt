@@ -14,6 +14,7 @@ use Rattle.pif_model_lemmas.proofs.kernel.Settled.{priority-from_range}
 use Rattle.pif_posix_steps.specs.Once.{Enters}
 use Rattle.pif_posix_steps.specs.Once.Enters.{answered as by_answer, other}
 use Rattle.pif_rules_model.specs.Rules.{end_of}
+use Rattle.pif_history_model.specs.declared.lines.Protocol.TheVariants.{PrioInherit, PrioNone}
 use Rattle.pif_history_model.specs.declared.lines.Line.{Line}
 use Rattle.pif_history_model.specs.declared.lines.Line.TheVariants.{Thread, Mutex, Cond, Begin, Answer, Dying, End, Tick, Rests, Prio}
 use Rattle.pif_history_model.specs.Lines.{line_of, ended_by}
@@ -28,7 +29,8 @@ shows-entry_for w (Thread p) e h = thread (is_priority p) h
     thread : (b : Bool) → (if b then Some (entry.Thread (length w.threads) p) else None) ≡ Some e → line_of e ≡ Some (Thread p)
     thread true h = cc
     thread false h = absurd (cc)
-shows-entry_for w (Mutex k r) e h = cc
+shows-entry_for w (Mutex k r PrioInherit) e h = cc
+shows-entry_for w (Mutex k r PrioNone) e h = absurd (cc)
 shows-entry_for w (Cond m) e h = cc
 shows-entry_for w (Begin t q) e h = cc
 shows-entry_for w (Answer t a) e h = cc
@@ -45,7 +47,8 @@ no_end w (Thread p) e h k = thread (is_priority p) h
     thread : (b : Bool) → (if b then Some (entry.Thread (length w.threads) p) else None) ≡ Some e → end_of e ≡ None
     thread true h = let is : e ≡ entry.Thread (length w.threads) p = cc in ap end_of is
     thread false h = absurd (cc)
-no_end w (Mutex k r) e h i = let is : e ≡ entry.Mutex (length w.mutexes) k r = cc in ap end_of is
+no_end w (Mutex k r PrioNone) e h i = absurd (cc)
+no_end w (Mutex k r PrioInherit) e h i = let is : e ≡ entry.Mutex (length w.mutexes) k r = cc in ap end_of is
 no_end w (Cond m) e h k = let is : e ≡ entry.Cond (length w.variables) m = cc in ap end_of is
 no_end w (Begin t q) e h k = let is : e ≡ entry.Step (event.Begin t q) seen.Begun = cc in ap end_of is
 no_end w (Answer t a) e h k = let is : e ≡ entry.Step (event.Go t) (seen.Answered a) = cc in ap end_of is
@@ -107,7 +110,7 @@ entry_for-from_enters l w v (entry.Thread t p) line h (other g r x) =
 entry_for-from_enters l w v (entry.Mutex m k s) line h (by_answer u a e x) = absurd (cc)
 entry_for-from_enters l w v (entry.Mutex m k s) line h (other g r x) =
     let n : m ≡ length w.mutexes = mutex_step l w v m k s x in
-    let is : line ≡ Mutex k s = cc in
+    let is : line ≡ Mutex k s PrioInherit = cc in
     rw is (ap (λ (j : ℕ). Some (entry.Mutex j k s)) (sym n))
 entry_for-from_enters l w v (entry.Cond c m) line h (by_answer u a e x) = absurd (cc)
 entry_for-from_enters l w v (entry.Cond c m) line h (other g r x) =
@@ -121,10 +124,10 @@ entry_for-from_enters l w v (entry.Step (event.Tick n) seen.Ticked) line h x = c
 entry_for-from_enters l w v _ line h x = absurd (cc)
 
 -- a line that tells of the state shows no entry
-pub no_entry-from_seen : (w : World) (line : Line) → IsSeen line w → entry_for w line ≡ None
-no_entry-from_seen w line (by_rests t e a b) = rw e refl
-no_entry-from_seen w line (by_prio t p e a b) = rw e refl
-no_entry-from_seen w line (by_dying t e a) = rw e refl
+pub no_entry-from_seen : (w v : World) (line : Line) → IsSeen line v → entry_for w line ≡ None
+no_entry-from_seen w v line (by_rests t e a b) = rw e refl
+no_entry-from_seen w v line (by_prio t p e a b) = rw e refl
+no_entry-from_seen w v line (by_dying t e a) = rw e refl
 
 -- what a line tells of the state is so
 pub seen-from : (w : World) (line : Line) → IsSeen line w → is_seen w line ≡ true

@@ -21,6 +21,7 @@ use Rattle.pif_posix_steps.specs.Once as once
 use Rattle.pif_posix_steps.specs.Once.{Enters, Answers}
 use Rattle.pif_posix_steps.specs.Once.Enters.{answered as enters_answered, other}
 use Rattle.pif_search.specs.Runs.{Runs}
+use Rattle.pif_history_model.specs.declared.lines.Protocol.TheVariants.{PrioInherit}
 use Rattle.pif_history_model.specs.declared.lines.Line.{Line}
 use Rattle.pif_history_model.specs.declared.lines.Line.TheVariants as line
 use Rattle.pif_history_model.specs.declared.labels.Label.{Label}
@@ -102,9 +103,9 @@ one_thread {l = l} {lines = lines} {w = w} {d = d} p x room low high after =
 
 one_mutex : {l : Bounds} {lines : List Line} {w v : World} {d : List ℕ} (k : Kind) (r : Bool) (z : Mutex)
     → Tells lines w d → length w.mutexes ≤ l.mutexes → v ≡ record w { mutexes = w.mutexes ++ z ∷ [] }
-    → Follows l lines (line.Mutex k r) v d
+    → Follows l lines (line.Mutex k r PrioInherit) v d
 one_mutex {l = l} {lines = lines} {w = w} {d = d} k r z x room after =
-    subst (λ (y : World). Follows l lines (line.Mutex k r) y d) (sym after) (record {
+    subst (λ (y : World). Follows l lines (line.Mutex k r PrioInherit) y d) (sym after) (record {
       tells = record {
         threads = x.threads;
         mutexes = length_push w.mutexes z ∙ ap (λ k. k + 1) x.mutexes;
@@ -351,7 +352,7 @@ follows-from_entry {l} {lines} {w} {v} {d} y e x is apart (other no_go no_refusa
         at (line.Thread p) (line_is e (entry.Thread t p) y (line.Thread p) same is refl)
         (λ k. one_thread p x (subst (λ i. i ≤ l.threads) is_next room) low high after)
     by_step (mutex_added m k r same is_next room after) =
-        at (line.Mutex k r) (line_is e (entry.Mutex m k r) y (line.Mutex k r) same is refl)
+        at (line.Mutex k r PrioInherit) (line_is e (entry.Mutex m k r) y (line.Mutex k r PrioInherit) same is refl)
         (λ _. one_mutex k r _ x (subst (λ i. i ≤ l.mutexes) is_next room) after)
     by_step (cond_added c m same there is_next room after) =
         at (line.Cond m) (line_is e (entry.Cond c m) y (line.Cond m) same is refl)

@@ -18,6 +18,7 @@ use Rattle.pif_posix_steps.specs.Once.{Enters}
 use Rattle.pif_posix_steps.specs.Once.Enters.{answered as enters_answered, other}
 use Rattle.pif_history_model.proofs.Leading.{AreWaiting}
 use Rattle.pif_history_model.proofs.KnownMoving.{follows_Passes}
+use Rattle.pif_history_model.specs.declared.lines.Protocol.TheVariants.{PrioInherit}
 use Rattle.pif_history_model.specs.declared.lines.Line.{Line}
 use Rattle.pif_history_model.specs.declared.lines.Line.TheVariants as line
 use Rattle.pif_history_model.specs.Lines.{line_of}
@@ -138,9 +139,9 @@ told_entry {lines} l w v e k ok told of (other no_go no_refusal step) = by_step 
         (subst (λ (x : Line). AreTold (x ∷ lines) (record w { threads = w.threads ++ new_thread p ∷ [] })) is
         (told_by_others (line.Thread p) (λ _. refl) (told_added p told)))
     by_step (mutex_added m i r same next room after) =
-        let is : line.Mutex i r ≡ k = (let here : Some (line.Mutex i r) ≡ Some k = sym (ap line_of same) ∙ of in cc) in
+        let is : line.Mutex i r PrioInherit ≡ k = (let here : Some (line.Mutex i r PrioInherit) ≡ Some k = sym (ap line_of same) ∙ of in cc) in
         subst (λ (x : Line). AreTold (x ∷ lines) v) is
-        (told_by_others (line.Mutex i r) (λ _. refl) (told_same told (ap (λ (z : World). z.threads) after)))
+        (told_by_others (line.Mutex i r PrioInherit) (λ _. refl) (told_same told (ap (λ (z : World). z.threads) after)))
     by_step (cond_added i m same there next room after) =
         let is : line.Cond m ≡ k = (let here : Some (line.Cond m) ≡ Some k = sym (ap line_of same) ∙ of in cc) in
         subst (λ (x : Line). AreTold (x ∷ lines) v) is

@@ -1,24 +1,30 @@
 -- What lines say by themselves: which entry of the POSIX machine a line shows, whose line it is, and who is dying.
-use Rattle.std.specs.Prelude.{ℕ, Bool, false, ◌==◌, List, [], ◌∷◌, Option, Some, None, filter, not}
+use Rattle.std.specs.Prelude.{ℕ, Bool, true, false, ◌==◌, List, [], ◌∷◌, Option, Some, None, filter, not}
 use Rattle.std.specs.List.{list_any}
 use Rattle.pif_model.specs.declared.events.Event.TheVariants as event
 use Rattle.pif_model.specs.declared.events.Seen.TheVariants as seen
 use Rattle.pif_model.specs.declared.events.Entry.{Entry}
 use Rattle.pif_model.specs.declared.events.Entry.TheVariants as entry
+use Rattle.pif_history_model.specs.declared.lines.Protocol.TheVariants.{PrioInherit, PrioNone}
 use Rattle.pif_history_model.specs.declared.lines.Line.{Line}
 use Rattle.pif_history_model.specs.declared.lines.Line.TheVariants.{Thread, Mutex, Cond, Begin, Answer, Dying, End, Tick, Rests, Prio}
 
 -- the line that shows an entry: an addition, the begin of a call, its answer, the end of a thread, or a tick. A step
--- that went or waited has none, nor has a refused event
+-- that went or waited has none, nor has a refused event. Each mutex of the machine inherits
 abbrev pub line_of : Entry → Option Line
 line_of (entry.Thread t p) = Some (Thread p)
-line_of (entry.Mutex m k r) = Some (Mutex k r)
+line_of (entry.Mutex m k r) = Some (Mutex k r PrioInherit)
 line_of (entry.Cond c m) = Some (Cond m)
 line_of (entry.Step (event.Begin t q) seen.Begun) = Some (Begin t q)
 line_of (entry.Step (event.Go t) (seen.Answered a)) = Some (Answer t a)
 line_of (entry.Step (event.End t) seen.Ended) = Some (End t)
 line_of (entry.Step (event.Tick n) seen.Ticked) = Some (Tick n)
 line_of _ = None
+
+-- whether a line adds no mutex of PTHREAD_PRIO_NONE
+abbrev pub adds_no_none : Line → Bool
+adds_no_none (Mutex k r PrioNone) = false
+adds_no_none _ = true
 
 -- the thread that a line says has ended
 abbrev pub ended_by : Line → Option ℕ

@@ -22,7 +22,7 @@ threads_in (x ∷ xs) = threads_in xs
 
 abbrev pub mutexes_in : List Line → ℕ
 mutexes_in [] = 0
-mutexes_in (Mutex k r ∷ xs) = mutexes_in xs + 1
+mutexes_in (Mutex k r p ∷ xs) = mutexes_in xs + 1
 mutexes_in (x ∷ xs) = mutexes_in xs
 
 abbrev pub conds_in : List Line → ℕ
@@ -71,7 +71,7 @@ living_refused before t = event_refused (end_refused (is_known (threads_in befor
 abbrev pub refusal_of_line : Bounds → List Line → Line → Option LineRefusal
 refusal_of_line l before (Thread p) =
     if is_priority p then room_refused (threads_in before) l.threads else Some (Addition BadPrio)
-refusal_of_line l before (Mutex k r) = room_refused (mutexes_in before) l.mutexes
+refusal_of_line l before (Mutex k r p) = room_refused (mutexes_in before) l.mutexes
 refusal_of_line l before (Cond m) =
     if is_known (mutexes_in before) m then room_refused (conds_in before) l.conds else Some (Addition NoSuch)
 refusal_of_line l before (Begin t q) =

@@ -1,14 +1,22 @@
-ghost use Rattle.std.specs.Prelude.{◌≡◌, List};
+ghost use Rattle.std.specs.Prelude.{◌≡◌, Bool, true, List};
+ghost use Rattle.std.specs.List.{list_all};
 ghost use Rattle.pif_types.specs.Bounds.{Bounds};
 ghost use Rattle.pif_rules_model.specs.declared.rules.Rules.{Rules};
 ghost use Rattle.pif_rules_model.specs.Sets.{AreAmong, no_rules};
 ghost use Rattle.pif_history_model.specs.declared.lines.Line.{Line};
+ghost use Rattle.pif_history_model.specs.Lines.{adds_no_none};
 ghost use Rattle.pif_history_model.specs.Shown.{IsShown};
 ghost use Rattle.pif_history_model.specs.Searched.{IsShownWith};
 
 /// A law: lines that some run shows by rules are shown with more rules too. So what is legal stays legal.
 pub fn more_rules_show_more()
     ensures { (a b : Rules) → AreAmong a b → (limits : Bounds) (lines : List Line) → IsShownWith a limits lines → IsShownWith b limits lines }
+{}
+
+/// A law: whether mutexes of PTHREAD_PRIO_NONE may be added doesn't matter to lines that add none. So what such lines
+/// show is as it is without them.
+pub fn only_what_lends_nothing_is_gated()
+    ensures { (rules : Rules) (allowed : Bool) (limits : Bounds) (lines : List Line) → list_all adds_no_none lines ≡ true → IsShownWith rules limits lines → IsShownWith (record rules { prio_none = allowed }) limits lines }
 {}
 
 /// A law: lines that some run of the POSIX machine shows are shown with any rules, and with none there are no others.

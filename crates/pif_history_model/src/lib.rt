@@ -5,6 +5,7 @@
 //! | Type | What it is |
 //! |---|---|
 //! | `Line` | one line of a history |
+//! | `Protocol` | what those that wait for a mutex lend to its owner |
 //! | `HistoryLimits` | how much the machine takes |
 //! | `LineRefusal` | why no run has a line, whatever was answered |
 //! | `Label` | one step of the machine that is searched: a line, or a move that no line shows |
@@ -30,7 +31,9 @@ mod lines;
 mod refusals;
 mod wakeups_laws;
 
-pub use allowed_laws::{more_rules_show_more, without_rules_lines_are_plain};
+pub use allowed_laws::{
+    more_rules_show_more, only_what_lends_nothing_is_gated, without_rules_lines_are_plain,
+};
 pub use known_laws::{
     failing_trylocks_are_taken_at_once, known_answers_are_kept_thread_by_thread,
     known_answers_forget_as_much, known_answers_judge_all_lines, known_answers_show_as_much,
@@ -43,7 +46,7 @@ pub use laws::{
     waiters_show_nothing_more, what_no_step_sees_is_forgotten,
 };
 pub use lazy_laws::lines_come_before_hidden_steps;
-pub use lines::Line;
+pub use lines::{Line, Protocol};
 pub use pif_posix_steps::HistoryLimits;
 pub use refusals::LineRefusal;
 pub use wakeups_laws::waits_return_once_woken;

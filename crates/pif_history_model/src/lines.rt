@@ -1,5 +1,15 @@
 use pif_types::{Answer, Kind, MutexId, Request, Tid};
 
+/// What the threads that wait for a mutex lend to its owner (POSIX.1-2017, pthread_mutexattr_getprotocol).
+#[derive(Clone, Copy, PartialEq, Eq)]
+pub enum Protocol {
+    /// PTHREAD_PRIO_INHERIT: the owner runs at the greatest effective priority of those that wait for the mutex, if that
+    /// is above its own.
+    PrioInherit,
+    /// PTHREAD_PRIO_NONE: owning the mutex does not affect the priority of its owner.
+    PrioNone,
+}
+
 /// One line of a history: what was seen of an implementation, in the order in which it was seen.
 ///
 /// A line may name any thread, mutex or variable, also one that was never added: then no run shows it. Threads, mutexes
@@ -8,8 +18,9 @@ use pif_types::{Answer, Kind, MutexId, Request, Tid};
 pub enum Line {
     /// `thread P`: a thread of this base priority, which may be out of range.
     Thread(u32),
-    /// `mutex K` or `mutex K robust`: a mutex of this kind, robust if the second value is true.
-    Mutex(Kind, bool),
+    /// `mutex K`, `mutex K robust`, `mutex K none` or `mutex K robust none`: a mutex of this kind, robust if the second
+    /// value is true, with this protocol. One of PTHREAD_PRIO_NONE is added only if `Rules::prio_none` is set.
+    Mutex(Kind, bool, Protocol),
     /// `cond mN`: a condition variable that is bound to this mutex.
     Cond(MutexId),
     /// `begin tN Q`: the thread entered this call.

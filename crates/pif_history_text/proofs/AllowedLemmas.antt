@@ -1,5 +1,5 @@
 -- A text has words, so that the rules which it names are some.
-use Rattle.std.proofs.Common.{ℕ, ◌≡◌, ◌≤◌, ◌==◌, ◌∙◌, true, false, List, [], ◌∷◌, Option, Some, None, Ok, Err, length, refl, ap, arith, bytes_eq, codes}
+use Rattle.std.proofs.Common.{ℕ, ◌≡◌, ◌≤◌, ◌==◌, ◌∙◌, true, false, List, [], ◌∷◌, Some, Ok, Err, length, refl, ap, arith, bytes_eq, codes}
 use Rattle.std.specs.List.{list_any}
 use Rattle.std.proofs.lemmas.List.Splits.{length-slice_split}
 use Rattle.pif_text_model.specs.Words.{words}

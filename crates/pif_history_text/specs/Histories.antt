@@ -8,6 +8,7 @@ use Rattle.pif_script_model.specs.Verdicts.{Fault}
 use Rattle.std.specs.List.{list_any}
 use Rattle.pif_rules_model.specs.declared.rules.Rules.{Rules}
 use Rattle.pif_rules_model.specs.Sets.{no_rules}
+use Rattle.pif_history_model.specs.Lines.{adds_no_none}
 use Rattle.pif_history_model.specs.declared.lines.Line.{Line}
 use Rattle.pif_history_model.specs.declared.lines.Line.TheVariants.{Begin}
 use Rattle.pif_rules.specs.Sets.{both, have_common, is_any}
@@ -66,10 +67,18 @@ after_allow h r =
     else if are_beyond r.recursion then Err OutOfRange
     else Ok (record h { allowed = both h.allowed r; count = next_number h })
 
+-- These rules, and whether mutexes of PTHREAD_PRIO_NONE may be added: a line that adds one allows it.
+abbrev pub allowed_by : Rules → Line → Rules
+allowed_by r l = record r { prio_none = r.prio_none || not (adds_no_none l) }
+
 -- One line more that is shown by runs, or by none.
 abbrev pub after_shown : Heard → Line → Heard
-after_shown h l =
-    record h { shown = h.shown ++ l ∷ []; numbers = h.numbers ++ next_number h ∷ []; count = next_number h }
+after_shown h l = record h {
+  allowed = allowed_by h.allowed l;
+  shown = h.shown ++ l ∷ [];
+  numbers = h.numbers ++ next_number h ∷ [];
+  count = next_number h;
+}
 
 -- One more line of the text, by what it says.
 abbrev pub after_said : Heard → Option Said → Result Heard Cause

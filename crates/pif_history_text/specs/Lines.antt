@@ -1,5 +1,5 @@
 -- The lines of a history: what each of them says.
-use Rattle.std.specs.Prelude.{ℕ, ◌==◌, nat_lt, Bool, List, [], ◌∷◌, length, Option, Some, None, option_map, if◌then◌else◌, bytes_eq, codes}
+use Rattle.std.specs.Prelude.{ℕ, ◌==◌, ◌-◌, nat_lt, Bool, List, [], ◌∷◌, drop, length, take, Option, Some, None, option_map, if◌then◌else◌, bytes_eq, codes}
 use Rattle.std.specs.Str.Lines.{strip_carriage_return}
 use Rattle.pif_types.specs.Numbers.{number_of}
 use Rattle.pif_model.specs.declared.events.Event.{Event}
@@ -14,6 +14,7 @@ use Rattle.pif_text_model.specs.Errors.{error_named}
 use Rattle.pif_text_model.specs.Numbers.{number_in, thread_in}
 use Rattle.pif_text_model.specs.Words.{words}
 use Rattle.pif_script_model.specs.Lines.{is_passed, without_mark}
+use Rattle.pif_history_model.specs.declared.lines.Protocol.TheVariants.{PrioInherit, PrioNone}
 use Rattle.pif_history_model.specs.declared.lines.Line.{Line}
 use Rattle.pif_history_model.specs.declared.lines.Line.TheVariants as line
 use Rattle.pif_history_text.specs.Allowed.{allowed_in}
@@ -32,10 +33,10 @@ event_said (event.End t) = Some (Shown (line.End t))
 event_said (event.Tick n) = Some (Shown (line.Tick n))
 event_said (event.Go t) = None
 
--- What an addition says.
+-- What an addition says. The mutexes of scripts inherit.
 abbrev pub addition_said : Addition → Said
 addition_said (addition.Thread p) = Shown (line.Thread p)
-addition_said (addition.Mutex k robust) = Shown (line.Mutex k robust)
+addition_said (addition.Mutex k robust) = Shown (line.Mutex k robust PrioInherit)
 addition_said (addition.Cond m) = Shown (line.Cond m)
 
 -- What a command of scripts says in a history, if it stands there: limits, additions, begins, ends and ticks do.
@@ -45,6 +46,23 @@ command_said (command.Add a) = Some (addition_said a)
 command_said (command.Event e) = event_said e
 command_said (command.Run t q) = None
 command_said (command.Ask q) = None
+
+-- The line of a mutex that lends nothing, if this command adds a mutex.
+abbrev pub lending_nothing : Command → Option Line
+lending_nothing (command.Add (addition.Mutex k robust)) = Some (line.Mutex k robust PrioNone)
+lending_nothing _ = None
+
+-- The line of a mutex that lends nothing, if a text is the command that adds a mutex.
+abbrev pub none_before : List ℕ → Option Line
+none_before front = command_in front >>= lending_nothing
+
+-- A mutex of PTHREAD_PRIO_NONE: `mutex K none` or `mutex K robust none`. In front of the last word stands the command that
+-- adds it to a script.
+unfoldable pub none_in : List ℕ → Option Line
+none_in text =
+    if nat_lt (length text) 5 then None
+    else if bytes_eq (drop (length text - 5) text) (codes " none")
+    then none_before (take (length text - 5) text) else None
 
 -- A line of two words that is no command of scripts: `dying tN` or `rests tN`.
 unfoldable pub line_of_two : List ℕ → List ℕ → Option Line
@@ -76,11 +94,15 @@ line_of_words more = None
 abbrev pub said_by_words : List (List ℕ) → Option Said
 said_by_words ws = elim (line_of_words ws) [ Some l ↦ Some (Shown l) | None ↦ option_map Allow (allowed_in ws) ]
 
+-- What a text says that is no command of scripts: what its words say, or else a mutex of PTHREAD_PRIO_NONE.
+abbrev pub said_by_text : List ℕ → Option Said
+said_by_text text = elim (said_by_words (words text)) [ Some said ↦ Some said | None ↦ option_map Shown (none_in text) ]
+
 -- What the text of a line says, if it is no fault: an empty line and a comment say nothing.
 unfoldable pub said_in : List ℕ → Option Said
 said_in text =
     if is_passed text then Some Nothing
-    else elim (command_in text) [ Some c ↦ command_said c | None ↦ said_by_words (words text) ]
+    else elim (command_in text) [ Some c ↦ command_said c | None ↦ said_by_text text ]
 
 -- ---- the text of a line
 

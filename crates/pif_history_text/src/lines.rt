@@ -1,17 +1,20 @@
 ghost use Rattle.std.specs.Prelude.{◌≡◌, ◌∷◌, ◌+◌, ◌≤◌, ◌<◌, ◌↔◌, ◌==◌, IsTrue, length, option_map};
 ghost use Rattle.pif_types.specs.Numbers.{number_of};
 ghost use Rattle.pif_text_model.specs.Words.{words};
-ghost use Rattle.pif_history_text.specs.Lines.{addition_said, answer_in, command_said, event_said, is_long, line_of_three, line_of_two, line_of_words, said_by_words, said_in, text_of_line};
+ghost use Rattle.pif_history_text.specs.Lines.{addition_said, answer_in, command_said, event_said, is_long, lending_nothing, line_of_three, line_of_two, line_of_words, none_before, none_in, said_by_text, said_by_words, said_in, text_of_line};
 
 use crate::Said;
 use crate::allowed::allowed_of;
 use crate::texts::is_passed;
-use pif_history_model::Line;
+use pif_history_model::{Line, Protocol};
 use pif_model::Event;
 use pif_text::{
     Addition, Command, command_of, errno_named, is_word, number_of, split_first, thread_of,
 };
 use pif_types::Answer;
+
+/// What stands behind a mutex of PTHREAD_PRIO_NONE, and how long it is.
+const NONE: &[u8; 5] = b" none";
 
 /// What a call returned, as a word says it: the number that it writes, or that of the error which it names. `None` if the
 /// word is neither.
@@ -37,13 +40,15 @@ fn said_by_event(event: Event) -> Option<Said>
     }
 }
 
-/// What an addition says.
+/// What an addition says. The mutexes of scripts inherit.
 fn said_by_addition(addition: Addition) -> Said
     ensures { result ≡ addition_said addition }
 {
     match addition {
         Addition::Thread(priority) => Said::Shown(Line::Thread(priority)),
-        Addition::Mutex(kind, robust) => Said::Shown(Line::Mutex(kind, robust)),
+        Addition::Mutex(kind, robust) => {
+            Said::Shown(Line::Mutex(kind, robust, Protocol::PrioInherit))
+        }
         Addition::Cond(mutex) => Said::Shown(Line::Cond(mutex)),
     }
 }
@@ -59,6 +64,44 @@ fn said_by_command(command: Command) -> Option<Said>
         Command::Add(addition) => Some(said_by_addition(addition)),
         Command::Event(event) => said_by_event(event),
         Command::Run(..) | Command::Ask(_) => None,
+    }
+}
+
+/// The line of a mutex that lends nothing, if this command adds a mutex.
+fn lending_nothing(command: Command) -> Option<Line>
+    ensures { result ≡ lending_nothing command }
+{
+    match command {
+        Command::Add(Addition::Mutex(kind, robust)) => {
+            Some(Line::Mutex(kind, robust, Protocol::PrioNone))
+        }
+        _ => None,
+    }
+}
+
+/// The line of a mutex that lends nothing, if a text is the command that adds a mutex.
+fn none_before(front: &[u8]) -> Option<Line>
+    ensures { result ≡ none_before front.now }
+{
+    match command_of(front) {
+        Some(command) => lending_nothing(command),
+        None => None,
+    }
+}
+
+/// The line of a mutex of PTHREAD_PRIO_NONE, if a text adds one.
+#[tactic(auto, unfolding(crate::specs::Lines::none_in))]
+fn none_of(text: &[u8]) -> Option<Line>
+    ensures { result ≡ none_in text.now }
+{
+    if text.len() < NONE.len() {
+        return None;
+    }
+    let (front, last) = text.split_at(text.len() - NONE.len());
+    if is_word(last, NONE) {
+        none_before(front)
+    } else {
+        None
     }
 }
 
@@ -128,6 +171,16 @@ fn said_by_words(text: &[u8]) -> Option<Said>
     }
 }
 
+/// What a text says that is no command of scripts: what its words say, or else a mutex of PTHREAD_PRIO_NONE.
+fn said_by_text(text: &[u8]) -> Option<Said>
+    ensures { result ≡ said_by_text text.now }
+{
+    match said_by_words(text) {
+        Some(said) => Some(said),
+        None => Some(Said::Shown(none_of(text)?)),
+    }
+}
+
 /// What the text of a line says, or `None` if the line is a fault.
 #[tactic(auto, unfolding(crate::specs::Lines::said_in))]
 pub fn said_of(text: &[u8]) -> Option<Said>
@@ -138,6 +191,6 @@ pub fn said_of(text: &[u8]) -> Option<Said>
     }
     match command_of(text) {
         Some(command) => said_by_command(command),
-        None => said_by_words(text),
+        None => said_by_text(text),
     }
 }

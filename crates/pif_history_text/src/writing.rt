@@ -1,18 +1,19 @@
 ghost use Rattle.std.specs.Prelude.{◌≡◌, ℕ, ◌+◌, ◌≤◌, ◌++◌, List, Some, codes, decimal, length};
 ghost use Rattle.arrayvec.specs.ArrayVec.{array_vec_len};
+ghost use Rattle.pif_text_model.specs.CommandTexts.{mutex_text};
 ghost use Rattle.pif_text_model.specs.Replies.{thread_name};
 ghost use Rattle.pif_history_model.specs.declared.lines.Line.{Line};
 ghost use Rattle.pif_history_text.specs.declared.said.Said.TheVariants.{Shown};
 ghost use Rattle.pif_history_text.specs.Lines.{said_in};
-ghost use Rattle.pif_history_text.specs.Texts.{IsLineWritten, line_text};
+ghost use Rattle.pif_history_text.specs.Texts.{IsLineWritten, line_text, protocol_text};
 
-use pif_history_model::Line;
+use pif_history_model::{Line, Protocol};
 use pif_model::Event;
 use pif_text::{
     Addition, COMMAND_ROOM, Command, TEXT_ROOM, Text, append, append_number, append_thread,
-    command_text,
+    command_text, mutex_text,
 };
-use pif_types::Tid;
+use pif_types::{Kind, Tid};
 
 /// Appends a name of at most seven letters with its space, and a thread.
 fn append_of_thread(out: &mut Text, name: &[u8], thread: Tid)
@@ -34,6 +35,19 @@ fn append_last(out: &mut Text, number: u32)
     append_number(out, number);
 }
 
+/// Appends the addition of a mutex.
+fn append_mutex(out: &mut Text, kind: Kind, robust: bool, protocol: Protocol)
+    requires { array_vec_len out.old + COMMAND_ROOM ≤ TEXT_ROOM }
+    ensures items { out.new.items ≡ out.old.items ++ (mutex_text kind robust ++ protocol_text protocol) }
+    ensures len { array_vec_len out.new ≤ array_vec_len out.old + COMMAND_ROOM }
+{
+    mutex_text(kind, robust, out);
+    match protocol {
+        Protocol::PrioInherit => {}
+        Protocol::PrioNone => append(out, b" none"),
+    }
+}
+
 /// Appends a line of a history, with no line feed, at most `COMMAND_ROOM` bytes. What stands in `out` stays.
 #[tactic(auto, unfolding(crate::specs::Texts::line_text))]
 pub fn line_text(line: Line, out: &mut Text)
@@ -43,7 +57,7 @@ pub fn line_text(line: Line, out: &mut Text)
 {
     match line {
         Line::Thread(priority) => command_text(Command::Add(Addition::Thread(priority)), out),
-        Line::Mutex(kind, robust) => command_text(Command::Add(Addition::Mutex(kind, robust)), out),
+        Line::Mutex(kind, robust, protocol) => append_mutex(out, kind, robust, protocol),
         Line::Cond(mutex) => command_text(Command::Add(Addition::Cond(mutex)), out),
         Line::Begin(thread, request) => {
             command_text(Command::Event(Event::Begin(thread, request)), out)

@@ -1,9 +1,10 @@
 -- What is appended piece by piece.
 use Rattle.std.proofs.Common.{◌≡◌, ◌∙◌, ◌-◌, ℕ, Bool, List, ◌++◌, length, ap, append_assoc, Result, Ok, Err, OnOk, is_ok, if◌then◌else◌}
 use Rattle.pif_model.specs.World.{World, effective_of, is_living, rests, thread_at}
+use Rattle.pif_rules_model.specs.Rules.{Wide}
 use Rattle.pif_history_model.specs.declared.lines.Line.{Line}
 use Rattle.pif_history_text.specs.Texts.{line_text}
-use Rattle.pif_history_told.specs.StateObjects.{call_members, change_lists, change_members, thread_object, thread_text}
+use Rattle.pif_history_told.specs.StateObjects.{call_members, change_lists, change_members, seen_of, thread_object, thread_text}
 use Rattle.pif_history_told.specs.Runs.{line_members, line_object}
 
 -- Bytes that grew by these.
@@ -41,18 +42,23 @@ thread_appended w t old new name at living priority resting call named there liv
     ∙ ap (λ l. old ++ thread_text t (is_living w t) (effective_of w t) (rests w t) l)
     (called ∙ ap (λ u. call_members t (thread_at w u).call) there)
 
--- What a step changes, by the numbers of the last things.
-pub changes_appended : (whole : Bool) (w v : World) (old new : List ℕ) (threads mutexes conds : ℕ)
+-- What a step changes, by the states that are told and the numbers of the last things.
+pub changes_appended : (whole : Bool) (s n : Wide) (a b w v : World) (old new : List ℕ) (threads mutexes conds : ℕ)
+    → a ≡ seen_of s → b ≡ seen_of n → w ≡ s.world → v ≡ n.world
     → threads ≡ length v.threads - 1 → mutexes ≡ length v.mutexes - 1 → conds ≡ length v.variables - 1
-    → new ≡ old ++ change_lists whole w v threads mutexes conds → new ≡ old ++ change_members whole w v
+    → new ≡ old ++ change_lists whole a b w v threads mutexes conds → new ≡ old ++ change_members whole s n
 unfolding change_members
-changes_appended whole w v old new threads mutexes conds ts ms cs all =
-    all ∙ ap (λ n. old ++ change_lists whole w v n mutexes conds) ts
-    ∙ ap (λ n. old ++ change_lists whole w v (length v.threads - 1) n conds) ms
-    ∙ ap (λ n. old ++ change_lists whole w v (length v.threads - 1) (length v.mutexes - 1) n) cs
+changes_appended whole s n a b w v old new threads mutexes conds before behind from to ts ms cs all =
+    all ∙ ap (λ (k : ℕ). old ++ change_lists whole a b w v k mutexes conds) ts
+    ∙ ap (λ (k : ℕ). old ++ change_lists whole a b w v (length v.threads - 1) k conds) ms
+    ∙ ap (λ (k : ℕ). old ++ change_lists whole a b w v (length v.threads - 1) (length v.mutexes - 1) k) cs
+    ∙ ap (λ (u : World). old ++ change_lists whole a b w u (length u.threads - 1) (length u.mutexes - 1) (length u.variables - 1)) to
+    ∙ ap (λ (u : World). old ++ change_lists whole u b w n.world (length n.world.threads - 1) (length n.world.mutexes - 1) (length n.world.variables - 1)) before
+    ∙ ap (λ (u : World). old ++ change_lists whole (seen_of s) u w n.world (length n.world.threads - 1) (length n.world.mutexes - 1) (length n.world.variables - 1)) behind
+    ∙ ap (λ (u : World). old ++ change_lists whole (seen_of s) (seen_of n) u n.world (length n.world.threads - 1) (length n.world.mutexes - 1) (length n.world.variables - 1)) from
 
 -- A line, by its number and its text.
-pub line_appended : (whole : Bool) (number : ℕ) (line : Line) (moves names : List ℕ) (w v : World)
+pub line_appended : (whole : Bool) (number : ℕ) (line : Line) (moves names : List ℕ) (w v : Wide)
     (old new : List ℕ) (n : ℕ) (text : List ℕ) → n ≡ number → text ≡ line_text line
     → new ≡ old ++ line_members whole n text moves names w v → new ≡ old ++ line_object whole number line moves names w v
 unfolding line_object

@@ -12,7 +12,7 @@ use Rattle.pif_history_told.specs.Runs.IsTold.{start, then}
 -- One step more.
 pub IsTold-step : (r : Rules) (l : Bounds) (ns : List ℕ) (from : ℕ) (xs ys : List Label) (x : Label) (q : Rules)
     (s to : Configuration) (t u : Telling) → ys ≡ x ∷ xs → IsStepBy r l s x q to
-    → u ≡ with_step from ns x (names_of q) s.wide.world to.wide.world t → IsTold r l ns from xs s t → IsTold r l ns from ys to u
+    → u ≡ with_step from ns x (names_of q) s.wide to.wide t → IsTold r l ns from xs s t → IsTold r l ns from ys to u
 IsTold-step r l ns from xs ys x q s to t u more by grown told =
     subst (λ (zs : List Label). IsTold r l ns from zs to u) (sym more)
     (subst (λ (v : Telling). IsTold r l ns from (x ∷ xs) to v) (sym grown) (then x q to told by))

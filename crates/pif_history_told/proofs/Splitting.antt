@@ -9,22 +9,26 @@ use Rattle.pif_rules_model.specs.declared.rules.Rule.{Rule}
 use Rattle.pif_rules_model.specs.declared.rules.Rule.TheVariants.{Steal, AnyWaiter, Spurious, Recursion, OwnErrorcheck, AnyConsistent, HeldWait, LostSignal, Revives, Barge, CycleWaits, CycleRefused, TimeoutConsumes, EndsApart, StaysLocked, Rebinds, MoreUses, RefusesSetprio, ConsistentByAny, CutUnlock}
 use Rattle.pif_rules_model.specs.declared.rules.Rules.{Rules}
 use Rattle.pif_rules_model.specs.Sets.{has, no_rules, rules_in_order}
-use Rattle.pif_rules_model.specs.Rules.{Wide, WideEnters, WideEndsApart, MovesByRule, DoesBy, EndsBy, HasReleased, MayRevive, FindsHealth, PassesBy, ReleasesBy}
+use Rattle.pif_rules_model.specs.Lending.{not_owned}
+use Rattle.pif_rules_model.specs.Rules.{Wide, hidden_from, WideEnters, WideEnds, EndsInSteps, WideEndsApart, MovesByRule, DoesBy, EndsBy, HasReleased, MayRevive, FindsHealth, PassesBy, ReleasesBy}
 use Rattle.pif_rules_model.specs.Rules.WideMoves.{plain, ruled}
 use Rattle.pif_rules_model.specs.Rules.WideEnters.{ended as wide_end, other as wide_other}
-use Rattle.pif_rules_model.specs.Rules.WideEndsApart.{leaves, passes as wide_passes}
+use Rattle.pif_rules_model.specs.Rules.EndsInSteps.{leaves, passes as wide_passes}
 use Rattle.pif_rules_model.specs.Rules.MayRevive.{revives, cut}
 use Rattle.pif_rules_model.specs.Rules.FindsHealth.{as_it_is, one}
 use Rattle.pif_rules_model.specs.Rules.PassesBy.{passes, left_free}
 use Rattle.pif_rules_model.specs.Rules.ReleasesBy.{none_left, they_stay, one_more}
 use Rattle.pif_rules_model.specs.Rules.HasReleased.{at_once as released_at_once, none_left as released_none, they_stay as released_staying}
+use Rattle.pif_rules_model.proofs.Lending.{sees_more}
 use Rattle.pif_rules.specs.Sets.{both, only}
 use Rattle.pif_history_model.specs.declared.lines.Line.{Line}
+use Rattle.pif_history_model.specs.declared.lines.Line.TheVariants.{Mutex}
+use Rattle.pif_history_model.specs.declared.lines.Protocol.TheVariants.{PrioNone}
 use Rattle.pif_history_model.specs.declared.labels.Label.{Label}
 use Rattle.pif_history_model.specs.declared.labels.Label.TheVariants.{Shown, Moves, Ends}
 use Rattle.pif_history_model.specs.Searched.{Configuration, Advances, IsThrough}
 use Rattle.pif_history_model.specs.Searched.IsThrough.{at_once as through_at_once, released as through_released}
-use Rattle.pif_history_model.specs.Searched.Advances.{moves, ends, ends_apart, enters, sees, has_ended}
+use Rattle.pif_history_model.specs.Searched.Advances.{moves, ends, ends_apart, enters, adds_none, sees, has_ended}
 use Rattle.pif_history_told.specs.Sets.{sets_but_all, sets_in_order}
 use Rattle.pif_history_told.specs.Steps.{IsStepBy, asked_with, of_ends, of_lines, sets_for}
 
@@ -63,12 +67,16 @@ ends_by a b h t w v e = record {
   releases = releases a b h t _ v e.releases;
 }
 
+wide_ends_by : (a b : Rules) → EndsAlike a b → (t : ℕ) (s n : Wide) → WideEnds a t s n → WideEnds b t s n
+wide_ends_by a b h t s n x = record { world = x.world; ends = ends_by a b h t s.world x.world x.ends; same = x.same }
+
 enters_by : (a b : Rules) → EndsAlike a b → (l : Bounds) (s : Wide) (e : Entry) (n : Wide) → WideEnters a l s e n → WideEnters b l s e n
-enters_by a b h l s e n (wide_end t v q x f) = wide_end t v q (ends_by a b h t s.world v x) f
+enters_by a b h l s e n (wide_end t q x) =
+    wide_end t q (sees_more (WideEnds a t) (WideEnds b t) (wide_ends_by a b h t) (not_owned s.world t s.prio_none) s n x)
 enters_by a b h l s e n (wide_other v q x f) = wide_other v q x f
 
-apart_by : (a b : Rules) → EndsAlike a b → (t : ℕ) (s n : Wide) → WideEndsApart a t s n → WideEndsApart b t s n
-apart_by a b h t s n (leaves v x f) =
+in_steps_by : (a b : Rules) → EndsAlike a b → (t : ℕ) (s n : Wide) → EndsInSteps a t s n → EndsInSteps b t s n
+in_steps_by a b h t s n (leaves v x f) =
     leaves v (record {
       apart = h.ends_apart ∙ x.apart;
       allowed = x.allowed;
@@ -76,7 +84,7 @@ apart_by a b h t s n (leaves v x f) =
       finds = finds a b h t s.world x.found x.finds;
       leaves = x.leaves;
     }) f
-apart_by a b h t s n (wide_passes v there x f) =
+in_steps_by a b h t s n (wide_passes v there x f) =
     wide_passes v there (record {
       apart = h.ends_apart ∙ x.apart;
       ended = x.ended;
@@ -85,6 +93,9 @@ apart_by a b h t s n (wide_passes v there x f) =
       robust = x.robust;
       passes = passes_on a b h x.mutex _ v x.passes;
     }) f
+
+apart_by : (a b : Rules) → EndsAlike a b → (t : ℕ) (s n : Wide) → WideEndsApart a t s n → WideEndsApart b t s n
+apart_by a b h t s n x = sees_more (EndsInSteps a t) (EndsInSteps b t) (in_steps_by a b h t) (not_owned s.world t s.prio_none) s n x
 
 has_released : (a b : Rules) → EndsAlike a b → (t : ℕ) (s : Wide) → HasReleased a t s → HasReleased b t s
 has_released a b h t s (released_at_once e) = released_at_once e
@@ -199,7 +210,7 @@ moves_alone : (r : Rules) (t : ℕ) (s n : Wide) (m : MovesByRule r t s n) → M
 moves_alone r t s n m = record {
   rule = m.rule;
   allowed = has_alone r m.rule m.allowed;
-  does = does_alone r m.rule t s n m.does;
+  does = sees_more (DoesBy r m.rule t) (DoesBy (only r m.rule) m.rule t) (does_alone r m.rule t) (hidden_from m.rule t s) s n m.does;
 }
 
 alone_listed : (r : Rules) (rule : Rule) → has r rule ≡ true → Contains (no_rules ∷ map (only r) (filter (has r) rules_in_order)) (only r rule)
@@ -211,31 +222,35 @@ alone_listed r rule e =
 
 -- a step that is no move is there with rules that change an end alike
 no_move : (a b : Rules) → EndsAlike a b → (l : Bounds) (s : Configuration) (x : Label) (n : Configuration)
-    → ((t : ℕ) → x ≡ Moves t → ⊥) → Advances a l s x n → Advances b l s x n
-no_move a b h l s x n none (moves t v i m e) = absurd (none t i)
-no_move a b h l s x n none (ends t v i d g e) = ends t v i d (enters_by a b h l s.wide _ v g) e
-no_move a b h l s x n none (ends_apart t v i d g e) = ends_apart t v i d (apart_by a b h t s.wide v g) e
-no_move a b h l s x n none (enters line c v i k d g e) = enters line c v i k d (enters_by a b h l s.wide c v g) e
-no_move a b h l s x n none (sees line i d g e) = sees line i d g e
-no_move a b h l s x n none (has_ended t i d g q e) = has_ended t i d g (is_through a b h t s.wide q) e
+    → ((t : ℕ) → x ≡ Moves t → ⊥) → ((line : Line) → x ≡ Shown line → b.prio_none ≡ a.prio_none) → Advances a l s x n
+    → Advances b l s x n
+no_move a b h l s x n none adds (moves t v i m e) = absurd (none t i)
+no_move a b h l s x n none adds (ends t v i d g e) = ends t v i d (enters_by a b h l s.wide _ v g) e
+no_move a b h l s x n none adds (ends_apart t v i d g e) = ends_apart t v i d (apart_by a b h t s.wide v g) e
+no_move a b h l s x n none adds (enters line c v i k d g e) = enters line c v i k d (enters_by a b h l s.wide c v g) e
+no_move a b h l s x n none adds (adds_none m k c v i g w e) =
+    adds_none m k c v i (adds (Mutex k c PrioNone) i ∙ g) (enters_by a b h l s.wide _ v w) e
+no_move a b h l s x n none adds (sees line i d g e) = sees line i d g e
+no_move a b h l s x n none adds (has_ended t i d g q e) = has_ended t i d g (is_through a b h t s.wide q) e
 
 pub by_set : (r : Rules) (l : Bounds) (s : Configuration) (x : Label) (n : Configuration) → Advances r l s x n
     → (q : Rules) × IsStepBy r l s x q n
 unfolding sets_for
-by_set r l s (Moves t) n (moves u v i (plain w g f) e) =
-    (no_rules, (in_first no_rules (map (only r) (filter (has r) rules_in_order)), moves u v i (plain w g f) e))
+by_set r l s (Moves t) n (moves u v i (plain m) e) =
+    (no_rules, (in_first no_rules (map (only r) (filter (has r) rules_in_order)), moves u v i (plain m) e))
 by_set r l s (Moves t) n (moves u v i (ruled a m) e) =
     (only r m.rule, (alone_listed r m.rule m.allowed, moves u v i (ruled a (moves_alone r u s.wide v m)) e))
 by_set r l s (Moves t) n (ends u v i d h e) = absurd (cc)
 by_set r l s (Moves t) n (ends_apart u v i d h e) = absurd (cc)
 by_set r l s (Moves t) n (enters line c v i k d h e) = absurd (cc)
+by_set r l s (Moves t) n (adds_none m k b v i a h e) = absurd (cc)
 by_set r l s (Moves t) n (sees line i d h e) = absurd (cc)
 by_set r l s (Moves t) n (has_ended u i d h g e) = absurd (cc)
 by_set r l s (Shown line) n a = (
   last_of (of_lines r),
-  (last_shown (of_lines r), no_move r _ (lines_alike r line) l s (Shown line) n (λ t i. cc) a),
+  (last_shown (of_lines r), no_move r _ (lines_alike r line) l s (Shown line) n (λ t i. cc) (λ other i. refl) a),
 )
 by_set r l s (Ends u) n a = (
   last_of (of_ends r),
-  (last_shown (of_ends r), no_move r _ (ends_alike r u) l s (Ends u) n (λ t i. cc) a),
+  (last_shown (of_ends r), no_move r _ (ends_alike r u) l s (Ends u) n (λ t i. cc) (λ line i. absurd (cc)) a),
 )

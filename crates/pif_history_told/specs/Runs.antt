@@ -1,11 +1,11 @@
 -- A run that shows a history, as lines of JSON: one for each line of the history, with the moves that come before it.
 use Rattle.std.specs.Prelude.{ℕ, ◌+◌, ◌-◌, ◌%◌, ◌==◌, Bool, false, nat_lt, List, [], ◌∷◌, ◌++◌, get_or, codes, decimal, if◌then◌else◌}
 use Rattle.pif_types.specs.Bounds.{Bounds}
-use Rattle.pif_model.specs.World.{World}
 use Rattle.pif_history_model.specs.declared.labels.Label.{Label}
 use Rattle.pif_history_model.specs.declared.labels.Label.TheVariants.{Shown, Moves, Ends}
 use Rattle.pif_history_model.specs.declared.lines.Line.{Line}
 use Rattle.pif_rules_model.specs.declared.rules.Rules.{Rules}
+use Rattle.pif_rules_model.specs.Rules.{Wide}
 use Rattle.pif_history_model.specs.Searched.{Configuration, start_of}
 use Rattle.pif_rules.specs.Sets.{names_of}
 use Rattle.pif_history_told.specs.Steps.{IsStepBy}
@@ -37,17 +37,17 @@ rule_members (space ∷ names) = codes ",\"rule\":" ++ quoted names
 
 -- A line of the history that has this text: its number in the file, the text, the moves before it, the rules that it needs
 -- itself, and what it changes itself.
-abbrev pub line_members : (whole : Bool) → (number : ℕ) → (text moves names : List ℕ) → World → World → List ℕ
+abbrev pub line_members : (whole : Bool) → (number : ℕ) → (text moves names : List ℕ) → Wide → Wide → List ℕ
 line_members whole number text moves names w v =
     codes "{\"line\":" ++ decimal number ++ codes ",\"text\":" ++ quoted text ++ codes ",\"moves\":[" ++ moves
     ++ codes "],\"whole\":" ++ bool_text whole ++ rule_members names ++ change_members whole w v ++ codes "}\n"
 
 -- The same of a line.
-unfoldable pub line_object : (whole : Bool) → (number : ℕ) → Line → (moves names : List ℕ) → World → World → List ℕ
+unfoldable pub line_object : (whole : Bool) → (number : ℕ) → Line → (moves names : List ℕ) → Wide → Wide → List ℕ
 line_object whole number line moves names w v = line_members whole number (line_text line) moves names w v
 
 -- A move that no line shows, of a thread: by its open call, or its end; and the rules that it needs.
-unfoldable pub move_object : (name : List ℕ) → (t : ℕ) → (names : List ℕ) → World → World → List ℕ
+unfoldable pub move_object : (name : List ℕ) → (t : ℕ) → (names : List ℕ) → Wide → Wide → List ℕ
 move_object name t names w v =
     codes "{\"" ++ name ++ codes "\":" ++ name_text thread_letter t ++ rule_members names ++ change_members false w v
     ++ codes "}"
@@ -58,13 +58,13 @@ comma_behind [] = []
 comma_behind (x ∷ xs) = codes ","
 
 -- The line at a place of the history, if it is told: the first `from` lines are left out.
-abbrev pub told_line : (from : ℕ) → (numbers : List ℕ) → (place : ℕ) → Line → (moves names : List ℕ) → World → World
+abbrev pub told_line : (from : ℕ) → (numbers : List ℕ) → (place : ℕ) → Line → (moves names : List ℕ) → Wide → Wide
     → List ℕ
 told_line from numbers place line moves names w v =
     if nat_lt place from then [] else line_object (is_whole from place) (get_or numbers place 0) line moves names w v
 
 -- With a line more.
-abbrev pub with_line : (from : ℕ) → (numbers : List ℕ) → Line → (names : List ℕ) → World → World → Telling → Telling
+abbrev pub with_line : (from : ℕ) → (numbers : List ℕ) → Line → (names : List ℕ) → Wide → Wide → Telling → Telling
 with_line from numbers line names w v t = record {
   place = t.place + 1;
   done = t.done ++ told_line from numbers t.place line t.pending names w v;
@@ -72,13 +72,13 @@ with_line from numbers line names w v t = record {
 }
 
 -- With a move more. Moves before the first line that is told are left out.
-abbrev pub with_move : (from : ℕ) → (name : List ℕ) → (thread : ℕ) → (names : List ℕ) → World → World → Telling → Telling
+abbrev pub with_move : (from : ℕ) → (name : List ℕ) → (thread : ℕ) → (names : List ℕ) → Wide → Wide → Telling → Telling
 with_move from name u names w v t = record t {
   pending = if nat_lt from t.place then t.pending ++ comma_behind t.pending ++ move_object name u names w v else t.pending;
 }
 
 -- With a step more, from w to v, by the rules of these names.
-unfoldable pub with_step : (from : ℕ) → (numbers : List ℕ) → Label → (names : List ℕ) → World → World → Telling → Telling
+unfoldable pub with_step : (from : ℕ) → (numbers : List ℕ) → Label → (names : List ℕ) → Wide → Wide → Telling → Telling
 with_step from numbers (Shown line) names w v t = with_line from numbers line names w v t
 with_step from numbers (Moves u) names w v t = with_move from (codes "move") u names w v t
 with_step from numbers (Ends u) names w v t = with_move from (codes "end") u names w v t
@@ -89,4 +89,4 @@ pub data IsTold (r : Rules) (l : Bounds) (numbers : List ℕ) (from : ℕ) : Lis
   start : IsTold r l numbers from [] (start_of l) untold
   then : {xs : List Label} {s : Configuration} {t : Telling} (x : Label) (by : Rules) (n : Configuration)
       → IsTold r l numbers from xs s t → IsStepBy r l s x by n
-      → IsTold r l numbers from (x ∷ xs) n (with_step from numbers x (names_of by) s.wide.world n.wide.world t)
+      → IsTold r l numbers from (x ∷ xs) n (with_step from numbers x (names_of by) s.wide n.wide t)

@@ -6,6 +6,8 @@ use Rattle.pif_model.specs.World.{World, Call, Mutex, Progress, Health, effectiv
 use Rattle.pif_model.specs.World.Progress.{Fresh, Waiting, Stuck, Leaving, Has, Checked, Enlisted, Blocked, Reacquiring, Used}
 use Rattle.pif_model.specs.World.Health.{Fine, Inconsistent, Unusable}
 use Rattle.pif_text_model.specs.Replies.{health_text}
+use Rattle.pif_rules_model.specs.Lending.{looking_free}
+use Rattle.pif_rules_model.specs.Rules.{Wide}
 use Rattle.pif_history_model.specs.declared.lines.Line.TheVariants.{Begin}
 use Rattle.pif_history_text.specs.Texts.{line_text}
 use Rattle.pif_text.specs.Json.{bool_text, name_or_null, name_text, numbers, quoted, separated}
@@ -105,19 +107,27 @@ cond_object w c =
 unfoldable pub is_cond_changed : World → World → (c : ℕ) → Bool
 is_cond_changed w v c = not (nat_lt c (length w.variables))
 
--- The objects of those numbers from 1 to `most` of which this holds, or of all, with a comma between them.
-abbrev pub objects : (is_whole : Bool) → (ℕ → Bool) → (ℕ → List ℕ) → (most : ℕ) → List ℕ
-objects is_whole is_changed object most =
-    separated (map object (filter (λ n. is_whole || is_changed n) (numbers most)))
+-- The objects of those numbers from 1 to `most` of which this holds, or of all; and the same with a comma between them.
+abbrev pub told : (is_whole : Bool) → (ℕ → Bool) → (ℕ → List ℕ) → (most : ℕ) → List (List ℕ)
+told is_whole is_changed object most = map object (filter (λ n. is_whole || is_changed n) (numbers most))
 
--- What is there in v, up to these numbers, and is another than it was in w, as members; or all that is there.
-abbrev pub change_lists : (is_whole : Bool) → World → World → (threads mutexes conds : ℕ) → List ℕ
-change_lists is_whole w v threads mutexes conds =
-    codes ",\"threads\":[" ++ objects is_whole (is_thread_changed w v) (thread_object v) threads
+abbrev pub objects : (is_whole : Bool) → (ℕ → Bool) → (ℕ → List ℕ) → (most : ℕ) → List ℕ
+objects is_whole is_changed object most = separated (told is_whole is_changed object most)
+
+-- What is there in v, up to these numbers, and is another than it was in w, as members; or all that is there. Of threads
+-- it is told of other states, from a to b.
+abbrev pub change_lists : (is_whole : Bool) → (a b w v : World) → (threads mutexes conds : ℕ) → List ℕ
+change_lists is_whole a b w v threads mutexes conds =
+    codes ",\"threads\":[" ++ objects is_whole (is_thread_changed a b) (thread_object b) threads
     ++ codes "],\"mutexes\":[" ++ objects is_whole (is_mutex_changed w v) (mutex_object v) mutexes
     ++ codes "],\"conds\":[" ++ objects is_whole (is_cond_changed w v) (cond_object v) conds ++ codes "]"
 
--- The same up to the last ones of v.
-unfoldable pub change_members : (is_whole : Bool) → World → World → List ℕ
-change_members is_whole w v =
-    change_lists is_whole w v (length v.threads - 1) (length v.mutexes - 1) (length v.variables - 1)
+-- The state that is told of threads: who waits for a mutex that lends nothing adds nothing to a priority.
+abbrev pub seen_of : Wide → World
+seen_of s = looking_free s.prio_none s.world
+
+-- What is there in n, and is another than it was in s; or all that is there.
+unfoldable pub change_members : (is_whole : Bool) → (s n : Wide) → List ℕ
+change_members is_whole s n =
+    change_lists is_whole (seen_of s) (seen_of n) s.world n.world (length n.world.threads - 1) (length n.world.mutexes - 1)
+    (length n.world.variables - 1)

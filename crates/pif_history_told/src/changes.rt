@@ -1,29 +1,45 @@
-ghost use Rattle.std.specs.Prelude.{◌≡◌, ◌-◌, ◌≤◌, ◌++◌, ◌||◌, IfOk, OnOk};
-ghost use Rattle.pif_history_told.specs.StateObjects.{change_members, cond_object, is_cond_changed, is_mutex_changed, is_thread_changed, mutex_object, thread_object};
+ghost use Rattle.std.specs.Prelude.{◌≡◌, ◌-◌, ◌≤◌, ◌++◌, ◌||◌, IfOk, OnOk, codes};
+ghost use Rattle.pif_text.specs.Members.{array_member};
+ghost use Rattle.pif_history_told.specs.StateObjects.{change_members, cond_object, is_cond_changed, is_mutex_changed, is_thread_changed, mutex_object, thread_object, told};
 
 use crate::state_objects::{
     append_cond, append_mutex, append_thread, is_mutex_changed, is_thread_changed,
 };
-use pif_posix::State;
+use pif_posix::{State, Wide};
 use pif_search::Stop;
 use pif_text::{Listed, append_array};
 use pif_types::Tid;
-use std::alloc::AllocError;
+use std::alloc::{AllocError, Global};
 
 /// A step from a state to a state, of which what it changes is told, or the whole state behind it.
 #[derive(Clone, Copy)]
 pub struct Change<'a> {
     /// The state before it.
-    pub from: &'a State,
+    pub from: &'a Wide,
     /// The state behind it.
-    pub to: &'a State,
+    pub to: &'a Wide,
     /// Whether the whole state is told.
     pub is_whole: bool,
 }
 
+/// Two states, of which what is other in the second is told, or all that is there.
+#[derive(Clone, Copy)]
+struct Pair<'a> {
+    from: &'a State,
+    to: &'a State,
+    is_whole: bool,
+}
+
+/// The state of the POSIX machine.
+fn world(wide: &Wide) -> &State
+    ensures { result.now ≡ wide.now.world }
+{
+    &wide.state
+}
+
 /// The threads that are told.
 #[derive(Clone, Copy)]
-struct Threads<'a>(Change<'a>);
+struct Threads<'a>(Pair<'a>);
 
 impl Listed for Threads<'_> {
     ghost stands = { λ list number. list.0.is_whole || is_thread_changed list.0.from.now list.0.to.now number };
@@ -32,7 +48,7 @@ impl Listed for Threads<'_> {
 
     fn stands(&self, number: u32) -> bool {
         match Tid::new(number) {
-            Some(thread) => self.0.is_whole || is_thread_changed(self.0.from, self.0.to, thread),
+            Some(thread) => { self.0.is_whole || is_thread_changed(self.0.from, self.0.to, thread) }
             None => false,
         }
     }
@@ -47,7 +63,7 @@ impl Listed for Threads<'_> {
 
 /// The mutexes that are told.
 #[derive(Clone, Copy)]
-struct Mutexes<'a>(Change<'a>);
+struct Mutexes<'a>(Pair<'a>);
 
 impl Listed for Mutexes<'_> {
     ghost stands = { λ list number. list.0.is_whole || is_mutex_changed list.0.from.now list.0.to.now number };
@@ -65,7 +81,7 @@ impl Listed for Mutexes<'_> {
 
 /// The condition variables that are told.
 #[derive(Clone, Copy)]
-struct Conds<'a>(Change<'a>);
+struct Conds<'a>(Pair<'a>);
 
 /// Whether a condition variable was not there before.
 #[tactic(auto, unfolding(crate::specs::StateObjects::is_cond_changed))]
@@ -99,16 +115,64 @@ fn last(count: usize) -> Result<u32, Stop>
     }
 }
 
-/// Appends what a step changes, or the whole state behind it, as members.
-#[tactic(auto, unfolding(crate::specs::StateObjects::change_members))]
-pub fn append_changes(change: &Change<'_>, out: &mut Vec<u8>) -> Result<(), Stop>
+/// Appends the threads that are told, up to this number, as a member.
+fn append_threads<'a>(
+    from: &'a State,
+    to: &'a State,
+    is_whole: bool,
+    most: u32,
+    out: &mut Vec<u8>,
+) -> Result<(), AllocError>
+    ensures { OnOk result (out.new.items ≡ out.old.items ++ array_member (codes "threads") (told is_whole (is_thread_changed from.now to.now) (thread_object to.now) most)) }
+{
+    let threads = Threads(Pair { from, to, is_whole });
+    append_array(out, "threads", &threads, most)
+}
+
+/// Appends the mutexes that are told, up to this number, as a member.
+fn append_mutexes<'a>(
+    from: &'a State,
+    to: &'a State,
+    is_whole: bool,
+    most: u32,
+    out: &mut Vec<u8>,
+) -> Result<(), AllocError>
+    ensures { OnOk result (out.new.items ≡ out.old.items ++ array_member (codes "mutexes") (told is_whole (is_mutex_changed from.now to.now) (mutex_object to.now) most)) }
+{
+    let mutexes = Mutexes(Pair { from, to, is_whole });
+    append_array(out, "mutexes", &mutexes, most)
+}
+
+/// Appends the condition variables that are told, up to this number, as a member.
+fn append_conds<'a>(
+    from: &'a State,
+    to: &'a State,
+    is_whole: bool,
+    most: u32,
+    out: &mut Vec<u8>,
+) -> Result<(), AllocError>
+    ensures { OnOk result (out.new.items ≡ out.old.items ++ array_member (codes "conds") (told is_whole (is_cond_changed from.now to.now) (cond_object to.now) most)) }
+{
+    let conds = Conds(Pair { from, to, is_whole });
+    append_array(out, "conds", &conds, most)
+}
+
+/// Appends what a step changes, or the whole state behind it, as members. Of threads the states as lending sees them are
+/// told, in which they have their priorities.
+pub fn append_changes(alloc: Global, change: &Change<'_>, out: &mut Vec<u8>) -> Result<(), Stop>
     ensures { OnOk result (out.new.items ≡ out.old.items ++ change_members change.now.is_whole change.now.from.now change.now.to.now) }
 {
-    let threads = last(change.to.thread_count())?;
-    let mutexes = last(change.to.mutex_count())?;
-    let conds = last(change.to.variable_count())?;
-    append_array(out, "threads", &Threads(*change), threads)?;
-    append_array(out, "mutexes", &Mutexes(*change), mutexes)?;
-    append_array(out, "conds", &Conds(*change), conds)?;
+    let from = change.from.as_lending_sees(alloc)?;
+    let to = change.to.as_lending_sees(alloc)?;
+    let seen_from = world(&from);
+    let seen_to = world(&to);
+    let before = world(change.from);
+    let behind = world(change.to);
+    let threads = last(behind.thread_count())?;
+    let mutexes = last(behind.mutex_count())?;
+    let conds = last(behind.variable_count())?;
+    append_threads(seen_from, seen_to, change.is_whole, threads, out)?;
+    append_mutexes(before, behind, change.is_whole, mutexes, out)?;
+    append_conds(before, behind, change.is_whole, conds, out)?;
     Ok(())
 }

@@ -91,13 +91,14 @@ fn sets_for(alloc: Global, rules: &Rules, label: &Label) -> Result<Vec<Rules>, S
 }
 
 /// The rules with which a step of a label is one by these alone. If `ends_apart` is allowed, the line of an end asks
-/// whether the thread has released its mutexes.
+/// whether the thread has released its mutexes. A line adds a mutex of PTHREAD_PRIO_NONE if these rules let one be added.
 fn asked_with(rules: &Rules, label: &Label, by: &Rules) -> Rules
     ensures { result ≡ asked_with rules.now label.now by.now }
 {
     match *label {
         Label::Shown(_) => Rules {
             ends_apart: rules.ends_apart,
+            prio_none: rules.prio_none,
             ..*by
         },
         Label::Moves(_) | Label::Ends(_) => *by,

@@ -4,7 +4,7 @@ ghost use Rattle.pif_history_told.specs.Runs.{comma_behind, line_object, move_ob
 use crate::changes::{Change, append_changes};
 use pif_history_model::{Label, Line};
 use pif_history_text::line_text;
-use pif_posix::State;
+use pif_posix::Wide;
 use pif_search::{Stop, at_or};
 use pif_text::{Member, Text, append_members};
 use pif_types::Tid;
@@ -45,9 +45,9 @@ pub struct Leap<'a> {
     /// The names of the rules that it needs, each behind a space.
     pub names: &'a [u8],
     /// The state before it.
-    pub from: &'a State,
+    pub from: &'a Wide,
     /// The state behind it.
-    pub to: &'a State,
+    pub to: &'a Wide,
 }
 
 /// Appends a comma, unless there is nothing yet.
@@ -73,7 +73,13 @@ fn append_rules(names: &[u8], out: &mut Vec<u8>) -> Result<(), AllocError>
 
 /// Appends a move of a thread that no line shows, as an object.
 #[tactic(auto, unfolding(crate::specs::Runs::move_object))]
-fn append_move(name: &str, thread: Tid, step: &Leap<'_>, out: &mut Vec<u8>) -> Result<(), Stop>
+fn append_move(
+    alloc: Global,
+    name: &str,
+    thread: Tid,
+    step: &Leap<'_>,
+    out: &mut Vec<u8>,
+) -> Result<(), Stop>
     ensures { OnOk result (out.new.items ≡ out.old.items ++ move_object name.now thread step.now.names.now step.now.from.now step.now.to.now) }
 {
     append_members(out, b'{', &[Member::Name(name, b't', thread.get())])?;
@@ -83,7 +89,7 @@ fn append_move(name: &str, thread: Tid, step: &Leap<'_>, out: &mut Vec<u8>) -> R
         to: step.to,
         is_whole: false,
     };
-    append_changes(&change, out)?;
+    append_changes(alloc, &change, out)?;
     out.extend_from_slice(b"}")?;
     Ok(())
 }
@@ -91,6 +97,7 @@ fn append_move(name: &str, thread: Tid, step: &Leap<'_>, out: &mut Vec<u8>) -> R
 /// Appends a line of the history with this number, the moves before it, the rules that it needs, and what it changes.
 #[tactic(auto, unfolding(crate::specs::Runs::line_object))]
 fn append_line(
+    alloc: Global,
     number: u32,
     line: &Line,
     moves: &[u8],
@@ -119,13 +126,14 @@ fn append_line(
         ],
     )?;
     append_rules(names, out)?;
-    append_changes(change, out)?;
+    append_changes(alloc, change, out)?;
     out.extend_from_slice(b"}\n")?;
     Ok(())
 }
 
 /// Appends the line at a place of the history, with the moves before it, unless it is left out.
 fn append_told(
+    alloc: Global,
     frame: &Frame<'_>,
     place: usize,
     line: &Line,
@@ -144,6 +152,7 @@ fn append_told(
         is_whole: (place - frame.from) % WHOLE_LINES == 0,
     };
     append_line(
+        alloc,
         at_or(frame.numbers, place, 0),
         line,
         moves,
@@ -173,10 +182,17 @@ impl Telling {
     }
 
     /// Adds a line of the history.
-    fn add_line(&mut self, frame: &Frame<'_>, line: &Line, step: &Leap<'_>) -> Result<(), Stop>
+    fn add_line(
+        &mut self,
+        alloc: Global,
+        frame: &Frame<'_>,
+        line: &Line,
+        step: &Leap<'_>,
+    ) -> Result<(), Stop>
         ensures { OnOk result (self.new ≡ with_line frame.now.from frame.now.numbers.now line.now step.now.names.now step.now.from.now step.now.to.now self.old) }
     {
         append_told(
+            alloc,
             frame,
             self.place,
             line,
@@ -192,6 +208,7 @@ impl Telling {
     /// Adds a move of a thread that no line shows.
     fn add_move(
         &mut self,
+        alloc: Global,
         frame: &Frame<'_>,
         name: &str,
         thread: Tid,
@@ -203,18 +220,24 @@ impl Telling {
             return Ok(());
         }
         append_comma(&mut self.pending)?;
-        append_move(name, thread, step, &mut self.pending)
+        append_move(alloc, name, thread, step, &mut self.pending)
     }
 
     /// Adds a step of a run.
     #[tactic(auto, unfolding(crate::specs::Runs::with_step))]
-    pub fn add(&mut self, frame: &Frame<'_>, label: &Label, step: &Leap<'_>) -> Result<(), Stop>
+    pub fn add(
+        &mut self,
+        alloc: Global,
+        frame: &Frame<'_>,
+        label: &Label,
+        step: &Leap<'_>,
+    ) -> Result<(), Stop>
         ensures { OnOk result (self.new ≡ with_step frame.now.from frame.now.numbers.now label.now step.now.names.now step.now.from.now step.now.to.now self.old) }
     {
         match *label {
-            Label::Shown(line) => self.add_line(frame, &line, step),
-            Label::Moves(thread) => self.add_move(frame, "move", thread, step),
-            Label::Ends(thread) => self.add_move(frame, "end", thread, step),
+            Label::Shown(line) => self.add_line(alloc, frame, &line, step),
+            Label::Moves(thread) => self.add_move(alloc, frame, "move", thread, step),
+            Label::Ends(thread) => self.add_move(alloc, frame, "end", thread, step),
         }
     }
 }

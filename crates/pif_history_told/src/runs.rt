@@ -33,17 +33,17 @@ fn take_step(
     ensures come { IfOk result (λ to. HasCome rules.now limits labels.now choices.now (left - 1) to) }
     ensures told { IfOk result (λ to. (x : Label) × (q : TheRules) × (drop (left - 1) labels.now ≡ x ∷ drop left labels.now)
         × IsStepBy rules.now limits from.now x q to
-        × (told.new ≡ with_step frame.now.from frame.now.numbers.now x (names_of q) from.now.wide.world to.wide.world told.old)) }
+        × (told.new ≡ with_step frame.now.from frame.now.numbers.now x (names_of q) from.now.wide to.wide told.old)) }
 {
     let step = next_step(alloc, rules, limits, labels, choices, left, from)?;
     let mut names = Vec::new(alloc);
     push_names(&step.by, &mut names)?;
     let leap = Leap {
         names: names.as_slice(),
-        from: from.world(),
-        to: step.position.world(),
+        from: from.wide(),
+        to: step.position.wide(),
     };
-    told.add(frame, &labels[left - 1], &leap)?;
+    told.add(alloc, frame, &labels[left - 1], &leap)?;
     Ok(step.position)
 }
 

@@ -7,4 +7,7 @@ pub enum ExploreFault {
     Cli(CliFault),
     /// There are more states than may be kept or made at once, and no claim was found to be broken.
     Undecided,
+    /// The programs were to be played on cores. This mutex is of PTHREAD_PRIO_NONE, and the core has none. Nothing was
+    /// written.
+    NotOnCore(u32),
 }

@@ -7,4 +7,5 @@ pub mod Matching
 pub mod Nobody
 pub mod Results
 pub mod Waits
+pub mod SeeingLending
 pub mod Listed

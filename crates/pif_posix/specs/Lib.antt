@@ -4,3 +4,4 @@ pub mod Shapes
 pub mod Beside
 pub mod Waiting
 pub mod Mending
+pub mod Deeds

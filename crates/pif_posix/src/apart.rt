@@ -1,7 +1,9 @@
 ghost use Rattle.std.specs.Prelude.{◌≡◌, [], map, if◌then◌else◌, All, Contains, IfOk};
+ghost use Rattle.pif_rules_model.specs.Lending.{not_owned};
 ghost use Rattle.pif_rules_model.specs.Rules.{Wide as Widened, WideEndsApart, has_ended_apart};
-ghost use Rattle.pif_rules_model.specs.Ruled.{beside, passed_apart, ended_apart, has_released};
+ghost use Rattle.pif_rules_model.specs.Ruled.{beside, seeing_lending, passed_apart, ended_in_steps, ended_apart, has_released};
 
+use crate::deeds::Deed;
 use crate::ruled_ends::{left_apart, passed_apart};
 use crate::wide::Wide;
 use crate::wide_lists::joined;
@@ -22,6 +24,22 @@ impl Wide {
         self.beside(alloc, passed)
     }
 
+    /// The states to which a step of a thread's end leads that no line shows, if each mutex inherits.
+    pub(crate) fn ended_in_steps(
+        &self,
+        alloc: Global,
+        thread: u32,
+        rules: &Rules,
+    ) -> Result<Vec<Wide>, Stop>
+        ensures { IfOk result (λ v. v.items ≡ ended_in_steps rules.now thread self.now) }
+    {
+        let left = left_apart(alloc, &self.state, rules, thread);
+        joined(
+            self.remembering_apart(alloc, thread, left),
+            self.passed_apart(alloc, thread, rules),
+        )
+    }
+
     /// By `ends_apart`: the states to which a step of a thread's end leads that no line shows.
     fn ended_apart(&self, alloc: Global, thread: u32, rules: &Rules) -> Result<Vec<Wide>, Stop>
         ensures { IfOk result (λ v. v.items ≡ ended_apart rules.now thread self.now) }
@@ -29,11 +47,21 @@ impl Wide {
         if !rules.ends_apart {
             return Ok(Vec::new(alloc));
         }
-        let left = left_apart(alloc, &self.state, rules, thread);
-        joined(
-            self.remembering_apart(alloc, thread, left),
-            self.passed_apart(alloc, thread, rules),
-        )
+        self.ended_seeing_lending(alloc, thread, rules)
+    }
+
+    /// The same as `ended_in_steps`, in this state as lending sees it.
+    fn ended_seeing_lending(
+        &self,
+        alloc: Global,
+        thread: u32,
+        rules: &Rules,
+    ) -> Result<Vec<Wide>, Stop>
+        ensures { IfOk result (λ v. v.items ≡ seeing_lending (not_owned self.now.world thread self.now.prio_none) (ended_in_steps rules.now thread) self.now) }
+    {
+        let none = self.prio_none.as_slice();
+        let hidden = self.state.not_owned(alloc, thread, none);
+        self.seeing_lending(alloc, thread, rules, &Deed::EndsInSteps, hidden)
     }
 
     /// The states to which one step of a thread's end leads that no line shows, by the rule `ends_apart`: the thread

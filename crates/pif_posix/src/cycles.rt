@@ -13,7 +13,7 @@ use pif_types::{Errno, Kind};
 use std::alloc::Global;
 
 /// Whether another thread owns a mutex, which isn't orphaned.
-fn is_held_by_another(state: &State, thread: u32, mutex: usize) -> bool
+pub(crate) fn is_held_by_another(state: &State, thread: u32, mutex: usize) -> bool
     requires { mutex < length state.now.mutexes }
     ensures { result ≡ is_held_by_another thread state.now mutex }
 {

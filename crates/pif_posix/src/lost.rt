@@ -57,20 +57,30 @@ pub(crate) fn lost_by(
     }
 }
 
-/// These states, with the same variables and the same threads remembered beside each.
+/// These states, with the same variables, threads and mutexes remembered beside each.
 pub(crate) fn all_beside(
     alloc: Global,
     states: Vec<State>,
     lost: &[u32],
     apart: &[u32],
+    prio_none: &[u32],
 ) -> Result<Vec<Wide>, Stop>
-    ensures { IfOk result (λ v. v.items ≡ map (with_lists lost.now apart.now) states.items) }
+    ensures { IfOk result (λ v. v.items ≡ map (with_lists lost.now apart.now prio_none.now) states.items) }
 {
     let mut all = Vec::new(alloc);
     for state in states {
         let lost = Vec::from_slice(alloc, lost)?;
         let apart = Vec::from_slice(alloc, apart)?;
-        push(&mut all, Wide { state, lost, apart })?;
+        let prio_none = Vec::from_slice(alloc, prio_none)?;
+        push(
+            &mut all,
+            Wide {
+                state,
+                lost,
+                apart,
+                prio_none,
+            },
+        )?;
     }
     Ok(all)
 }

@@ -1,7 +1,8 @@
 ghost use Rattle.std.specs.Prelude.{◌≡◌, All, Contains, IfOk};
 ghost use Rattle.pif_rules_model.specs.Rules.{Wide as Widened, WideEnters, end_of};
-ghost use Rattle.pif_rules_model.specs.Ruled.{widely_ended, widely_entered};
+ghost use Rattle.pif_rules_model.specs.Ruled.{ended_remembering, widely_ended, widely_entered};
 
+use crate::deeds::Deed;
 use crate::ruled_ends::ended_by;
 use crate::wide::Wide;
 use pif_model::{Entry, Event, Seen};
@@ -22,12 +23,26 @@ fn end_of(entry: &Entry) -> Option<u32>
 
 /// Where entries of a history lead, with rules.
 impl Wide {
+    /// A thread ends, and it is remembered: all states to which that leads, if each mutex inherits.
+    pub(crate) fn ended_remembering(
+        &self,
+        alloc: Global,
+        thread: u32,
+        rules: &Rules,
+    ) -> Result<Vec<Wide>, Stop>
+        ensures { IfOk result (λ v. v.items ≡ ended_remembering rules.now thread self.now) }
+    {
+        let states = ended_by(alloc, &self.state, rules, thread);
+        self.remembering(alloc, thread, states)
+    }
+
     /// A thread ends: all states to which that leads.
     fn widely_ended(&self, alloc: Global, thread: u32, rules: &Rules) -> Result<Vec<Wide>, Stop>
         ensures { IfOk result (λ v. v.items ≡ widely_ended rules.now thread self.now) }
     {
-        let states = ended_by(alloc, &self.state, rules, thread);
-        self.remembering(alloc, thread, states)
+        let none = self.prio_none.as_slice();
+        let hidden = self.state.not_owned(alloc, thread, none);
+        self.seeing_lending(alloc, thread, rules, &Deed::Ends, hidden)
     }
 
     /// One entry: all states to which it leads.

@@ -2,13 +2,16 @@ ghost use Rattle.std.specs.Prelude.{◌≡◌, ◌==◌, ◌<◌, ℕ, length, A
 ghost use Rattle.std.specs.List.{list_any};
 ghost use Rattle.pif_model.specs.World.{with_progress};
 ghost use Rattle.pif_model.specs.World.Progress.{Has};
-ghost use Rattle.pif_rules_model.specs.Rules.{Wide as Widened, WideMoves, without_one};
-ghost use Rattle.pif_rules_model.specs.Ruled.{one_if, signal_lost, done_by, moved_by_rule, widely_moved};
+ghost use Rattle.pif_rules_model.specs.Lending.{not_named};
+ghost use Rattle.pif_rules_model.specs.Rules.{Wide as Widened, WideMoves, hidden_from, without_one};
+ghost use Rattle.pif_rules_model.specs.Ruled.{one_if, seeing_lending, plainly_moved, signal_lost, done_by, moved_by_rule, widely_moved};
 
 use crate::Progress;
 use crate::barging::barged;
 use crate::cycles::{refused_cycle, waiting_in_cycle};
+use crate::deeds::Deed;
 use crate::health::{mended_by_any, mended_or_refused};
+use crate::lending::moved_or_waiting;
 use crate::locks::{locked_within, stolen_by, tried_own};
 use crate::lost::{is_there, without_one};
 use crate::next::signalled_next;
@@ -35,7 +38,16 @@ impl Wide {
         state.set_progress(thread as usize, Progress::Has(0));
         let lost = without_one(alloc, variable, self.lost.as_slice())?;
         let apart = Vec::from_slice(alloc, self.apart.as_slice())?;
-        one(alloc, Wide { state, lost, apart })
+        let prio_none = Vec::from_slice(alloc, self.prio_none.as_slice())?;
+        one(
+            alloc,
+            Wide {
+                state,
+                lost,
+                apart,
+                prio_none,
+            },
+        )
     }
 
     /// The state once a signal of a thread is lost; none if it can't be lost.
@@ -50,7 +62,7 @@ impl Wide {
     }
 
     /// What a thread does by a rule: all states to which it leads.
-    fn done_by(
+    pub(crate) fn done_by(
         &self,
         alloc: Global,
         thread: u32,
@@ -86,30 +98,77 @@ impl Wide {
         }
     }
 
+    /// The mutexes that look free to what a thread does by a rule.
+    fn hidden_from(&self, alloc: Global, thread: u32, rule: Rule) -> Result<Vec<u32>, Stop>
+        ensures { IfOk result (λ v. v.items ≡ hidden_from rule thread self.now) }
+    {
+        let none = self.prio_none.as_slice();
+        self.state.hidden_from(alloc, thread, &rule, none)
+    }
+
+    /// What a thread does by a rule in this state as lending sees it: all states to which it leads.
+    fn done_seeing_lending(
+        &self,
+        alloc: Global,
+        thread: u32,
+        rules: &Rules,
+        rule: Rule,
+    ) -> Result<Vec<Wide>, Stop>
+        ensures { IfOk result (λ v. v.items ≡ seeing_lending (hidden_from rule thread self.now) (done_by rules.now rule thread) self.now) }
+    {
+        let hidden = self.hidden_from(alloc, thread, rule);
+        self.seeing_lending(alloc, thread, rules, &Deed::By(rule), hidden)
+    }
+
     /// A move of a thread by a rule: all states to which it leads.
     fn moved_by_rule(&self, alloc: Global, thread: u32, rules: &Rules) -> Result<Vec<Wide>, Stop>
-        requires { thread < length self.now.world.threads }
         ensures { IfOk result (λ v. v.items ≡ moved_by_rule rules.now thread self.now) }
     {
         let mut all = Vec::new(alloc);
         for rule in &RULES {
             if has(rules, *rule) {
-                append(&mut all, self.done_by(alloc, thread, rules, *rule))?;
+                append(
+                    &mut all,
+                    self.done_seeing_lending(alloc, thread, rules, *rule),
+                )?;
             }
         }
         Ok(all)
+    }
+
+    /// A move of a thread by the plain machine, or its waiting in a cycle that nobody sees, if these mutexes lend nothing.
+    pub(crate) fn plainly_moved(
+        &self,
+        alloc: Global,
+        thread: u32,
+        none: &[u32],
+    ) -> Result<Vec<Wide>, Stop>
+        ensures { IfOk result (λ v. v.items ≡ plainly_moved thread none.now self.now) }
+    {
+        self.beside(alloc, moved_or_waiting(alloc, &self.state, none, thread))
+    }
+
+    /// The same in this state as lending sees it.
+    fn moved_seeing_lending(
+        &self,
+        alloc: Global,
+        thread: u32,
+        rules: &Rules,
+    ) -> Result<Vec<Wide>, Stop>
+        ensures { IfOk result (λ v. v.items ≡ seeing_lending (not_named self.now.world thread self.now.prio_none) (plainly_moved thread self.now.prio_none) self.now) }
+    {
+        let none = self.prio_none.as_slice();
+        let hidden = self.state.not_named(alloc, thread, none);
+        self.seeing_lending(alloc, thread, rules, &Deed::Moves, hidden)
     }
 
     /// A move of a thread, by the plain machine or by a rule: all states to which it leads.
     fn widely_moved(&self, alloc: Global, thread: u32, rules: &Rules) -> Result<Vec<Wide>, Stop>
         ensures { IfOk result (λ v. v.items ≡ widely_moved rules.now thread self.now) }
     {
-        let plain = self.beside(alloc, self.state.moves(alloc, thread));
+        let plain = self.moved_seeing_lending(alloc, thread, rules);
         if self.state.go_refusal(thread).is_some() {
             return plain;
-        }
-        if thread as usize >= self.state.thread_count() {
-            return Err(Stop::Range);
         }
         joined(plain, self.moved_by_rule(alloc, thread, rules))
     }

@@ -89,6 +89,7 @@ both a b = record {
   refuses_setprio = a.refuses_setprio || b.refuses_setprio;
   consistent_by_any = a.consistent_by_any || b.consistent_by_any;
   cut_unlock = a.cut_unlock || b.cut_unlock;
+  prio_none = a.prio_none || b.prio_none;
 }
 
 -- Whether a rule is one of both.

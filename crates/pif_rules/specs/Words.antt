@@ -31,6 +31,7 @@ all_rules = record {
   refuses_setprio = true;
   consistent_by_any = true;
   cut_unlock = true;
+  prio_none = false;
 }
 
 -- Whether bounds stand behind the name of a rule.

@@ -6,7 +6,8 @@ use crate::rules::name_of;
 use pif_rules_model::{HoldLimits, RULES, Rule, Rules, has, no_rules};
 use std::alloc::AllocError;
 
-/// All that POSIX allows. It names no greatest number of holds.
+/// All that POSIX allows. It names no greatest number of holds. Whether there are mutexes of PTHREAD_PRIO_NONE is said
+/// beside it.
 pub fn posix_rules() -> Rules
     ensures { result ≡ posix_rules }
 {
@@ -34,6 +35,7 @@ pub fn posix_rules() -> Rules
         refuses_setprio: true,
         consistent_by_any: true,
         cut_unlock: true,
+        prio_none: false,
     }
 }
 
@@ -102,7 +104,8 @@ fn either(a: bool, b: bool) -> bool
     a || b
 }
 
-/// The rules of both. Of two bounds of `recursion` the wider count, on each side.
+/// The rules of both. Of two bounds of `recursion` the wider count, on each side. Mutexes of PTHREAD_PRIO_NONE may be added
+/// if either has them.
 pub fn both(a: &Rules, b: &Rules) -> Rules
     ensures { result ≡ both a.now b.now }
 {
@@ -127,6 +130,7 @@ pub fn both(a: &Rules, b: &Rules) -> Rules
         refuses_setprio: either(a.refuses_setprio, b.refuses_setprio),
         consistent_by_any: either(a.consistent_by_any, b.consistent_by_any),
         cut_unlock: either(a.cut_unlock, b.cut_unlock),
+        prio_none: either(a.prio_none, b.prio_none),
     }
 }
 

@@ -46,6 +46,7 @@ pub fn all_rules() -> Rules
         refuses_setprio: true,
         consistent_by_any: true,
         cut_unlock: true,
+        prio_none: false,
     }
 }
 

@@ -16,17 +16,19 @@ use Rattle.pif_posix_steps.proofs.DoingMoves.{allowed_from, allowed_to, end_is_o
 use Rattle.pif_posix_steps.proofs.DoingEnds.{robust_of_to, robust_of_from, owns_none_to, owns_none_from, stays_unnamed, new_owner, one_robust_less, all_inherited_from, all_inherited_to, unnamed_at_end}
 use Rattle.pif_posix_steps.proofs.DoingEntries.{entered_from, entered_to}
 use Rattle.pif_rules_model.specs.declared.rules.Rules.{Rules}
-use Rattle.pif_rules_model.specs.Rules.{Wide, MayRevive, FindsHealth, PassesBy, ReleasesBy, EndsBy, EndsApartBy, PassesApart, HasReleased, WideEnters, WideEndsApart, of_call, unlocked_next_by, is_unusable, revived, has_ended_apart, end_of}
+use Rattle.pif_rules_model.specs.Lending.{not_owned}
+use Rattle.pif_rules_model.specs.Rules.{Wide, seen_by_lending, WideEnds, EndsInSteps, MayRevive, FindsHealth, PassesBy, ReleasesBy, EndsBy, EndsApartBy, PassesApart, HasReleased, WideEnters, WideEndsApart, of_call, unlocked_next_by, is_unusable, revived, has_ended_apart, end_of}
 use Rattle.pif_rules_model.specs.Rules.MayRevive.{revives, cut}
 use Rattle.pif_rules_model.specs.Rules.FindsHealth.{as_it_is, one}
 use Rattle.pif_rules_model.specs.Rules.PassesBy.{passes, left_free}
 use Rattle.pif_rules_model.specs.Rules.ReleasesBy.{none_left, they_stay, one_more}
 use Rattle.pif_rules_model.specs.Rules.HasReleased.{at_once, none_left as none_kept, they_stay as they_are_kept}
 use Rattle.pif_rules_model.specs.Rules.WideEnters.{ended as wide_end, other as wide_other}
-use Rattle.pif_rules_model.specs.Rules.WideEndsApart.{leaves, passes as passes_later}
-use Rattle.pif_rules_model.specs.Ruled.{beside, remembering, remembering_apart, is_mutex_of, is_some_of, one_if, may_revive, revived_if, found_by, passed_by, passed_by_death, released_by, all_released, ended_found, ended_by, widely_ended, left_apart, passed_apart, ended_apart, has_released, entered_as, widely_entered}
+use Rattle.pif_rules_model.specs.Rules.EndsInSteps.{leaves, passes as passes_later}
+use Rattle.pif_rules_model.specs.Ruled.{beside, seeing_lending, ended_remembering, ended_in_steps, remembering, remembering_apart, is_mutex_of, is_some_of, one_if, may_revive, revived_if, found_by, passed_by, passed_by_death, released_by, all_released, ended_found, ended_by, widely_ended, left_apart, passed_apart, ended_apart, has_released, entered_as, widely_entered}
 use Rattle.pif_rules_model.proofs.Listing.{in_one_if, in_one_if_from, some_is_there, none_is_there}
 use Rattle.pif_rules_model.proofs.Moves.{is_mutex_of-is, is_mutex_of-from}
+use Rattle.pif_rules_model.proofs.Lending.{sees_to, sees_from}
 
 module _ (r : Rules) (t : ℕ) where
   -- THE HEALTH THAT AN END FINDS
@@ -247,35 +249,50 @@ module _ (r : Rules) (t : ℕ) where
       (in_flat_map_from (passed_by_death r w) (robust_of w t) h.mutex v (robust_of_from w t h.mutex h.robust h.owns)
       (passed_by_from h.mutex (after_owner_death h.mutex w) v h.passes))
 
+  -- one step of an end that happens in steps
   module _ (s : Wide) where
-    abbrev apart : List Wide
-    apart = map (remembering_apart t s) (left_apart r t s.world) ++ (if has_ended_apart s t then map (beside s) (passed_apart r t s.world) else [])
+    abbrev leaving : List Wide
+    leaving = map (remembering_apart t s) (left_apart r t s.world)
 
-    pub ended_apart_to : (n : Wide) → Contains (ended_apart r t s) n → WideEndsApart r t s n
-    ended_apart_to n k =
-        let a = in_then r.ends_apart apart n k in
-        elim (Contains-append_cases (map (remembering_apart t s) (left_apart r t s.world)) (if has_ended_apart s t then map (beside s) (passed_apart r t s.world) else []) n a.1) [
-          | inl c ↦ (
-              let x = in_map (remembering_apart t s) (left_apart r t s.world) n c in
-              leaves x.0 (left_apart_to a.0 s.world x.0 x.1) (sym x.2))
-          | inr c ↦ (
-              let y = in_then (has_ended_apart s t) (map (beside s) (passed_apart r t s.world)) n c in
-              let x = in_map (beside s) (passed_apart r t s.world) n y.1 in
-              passes_later x.0 y.0 (passed_apart_to a.0 s.world x.0 x.1) (sym x.2))
-        ]
+    abbrev passing_later : List Wide
+    passing_later = if has_ended_apart s t then map (beside s) (passed_apart r t s.world) else []
 
-    pub ended_apart_from : (n : Wide) → WideEndsApart r t s n → Contains (ended_apart r t s) n
-    ended_apart_from n (leaves v h e) =
-        in_then_from r.ends_apart apart n h.apart
-        (Contains-append_left (map (remembering_apart t s) (left_apart r t s.world)) _ n
-        (subst (Contains (map (remembering_apart t s) (left_apart r t s.world))) (sym e)
-        (in_map_from (remembering_apart t s) (left_apart r t s.world) v (left_apart_from s.world v h))))
-    ended_apart_from n (passes_later v b h e) =
-        in_then_from r.ends_apart apart n h.apart
-        (Contains-append_right (map (remembering_apart t s) (left_apart r t s.world)) _ n
+    in_steps_to : r.ends_apart ≡ true → (n : Wide) → Contains (ended_in_steps r t s) n → EndsInSteps r t s n
+    in_steps_to a n k = elim (Contains-append_cases leaving passing_later n k) [
+      | inl c ↦ (
+          let x = in_map (remembering_apart t s) (left_apart r t s.world) n c in
+          leaves x.0 (left_apart_to a s.world x.0 x.1) (sym x.2))
+      | inr c ↦ (
+          let y = in_then (has_ended_apart s t) (map (beside s) (passed_apart r t s.world)) n c in
+          let x = in_map (beside s) (passed_apart r t s.world) n y.1 in
+          passes_later x.0 y.0 (passed_apart_to a s.world x.0 x.1) (sym x.2))
+    ]
+
+    in_steps_from : (n : Wide) → EndsInSteps r t s n → Contains (ended_in_steps r t s) n
+    in_steps_from n (leaves v h e) =
+        Contains-append_left leaving passing_later n
+        (subst (Contains leaving) (sym e) (in_map_from (remembering_apart t s) (left_apart r t s.world) v (left_apart_from s.world v h)))
+    in_steps_from n (passes_later v b h e) =
+        Contains-append_right leaving passing_later n
         (in_then_from (has_ended_apart s t) (map (beside s) (passed_apart r t s.world)) n b
         (subst (Contains (map (beside s) (passed_apart r t s.world))) (sym e)
-        (in_map_from (beside s) (passed_apart r t s.world) v (passed_apart_from s.world v h)))))
+        (in_map_from (beside s) (passed_apart r t s.world) v (passed_apart_from s.world v h))))
+
+    needs_apart : (n : Wide) → EndsInSteps r t s n → r.ends_apart ≡ true
+    needs_apart n (leaves v h e) = h.apart
+    needs_apart n (passes_later v b h e) = h.apart
+
+  module _ (s : Wide) where
+    pub ended_apart_to : (n : Wide) → Contains (ended_apart r t s) n → WideEndsApart r t s n
+    ended_apart_to n k =
+        let a = in_then r.ends_apart (seeing_lending (not_owned s.world t s.prio_none) (ended_in_steps r t) s) n k in
+        sees_to (EndsInSteps r t) (ended_in_steps r t) (λ m. in_steps_to m a.0) (not_owned s.world t s.prio_none) s n a.1
+
+    pub ended_apart_from : (n : Wide) → WideEndsApart r t s n → Contains (ended_apart r t s) n
+    ended_apart_from n h =
+        in_then_from r.ends_apart (seeing_lending (not_owned s.world t s.prio_none) (ended_in_steps r t) s) n
+        (needs_apart (seen_by_lending (not_owned s.world t s.prio_none) s) h.after h.step)
+        (sees_from (EndsInSteps r t) (ended_in_steps r t) in_steps_from (not_owned s.world t s.prio_none) s n h)
 
     -- whether all that has to be released is
     pub released_is : has_released r t s ≡ true → HasReleased r t s
@@ -318,6 +335,17 @@ module _ (r : Rules) (t : ℕ) where
 
 -- ENTRIES
 
+module _ (r : Rules) (t : ℕ) (s : Wide) where
+  wide_ends_to : (n : Wide) → Contains (ended_remembering r t s) n → WideEnds r t s n
+  wide_ends_to n c =
+      let x = in_map (remembering t s) (ended_by r t s.world) n c in
+      record { world = x.0; ends = ended_by_to r t s.world x.0 x.1; same = sym x.2 }
+
+  wide_ends_from : (n : Wide) → WideEnds r t s n → Contains (ended_remembering r t s) n
+  wide_ends_from n h =
+      subst (Contains (ended_remembering r t s)) (sym h.same)
+      (in_map_from (remembering t s) (ended_by r t s.world) h.world (ended_by_from r t s.world h.world h.ends))
+
 module _ (r : Rules) (l : Bounds) (s : Wide) (e : Entry) where
   pub widely_entered_to : (n : Wide) → Contains (widely_entered r l s e) n → WideEnters r l s e n
   widely_entered_to n k = by_end (end_of e) refl k
@@ -325,14 +353,12 @@ module _ (r : Rules) (l : Bounds) (s : Wide) (e : Entry) where
       by_end : (o : Option ℕ) → end_of e ≡ o → Contains (entered_as r l s e o) n → WideEnters r l s e n
       by_end None is c = let x = in_map (beside s) (entered l s.world e) n c in wide_other x.0 is (entered_to l s.world e x.0 x.1) (sym x.2)
       by_end (Some t) is c =
-          let x = in_map (remembering t s) (ended_by r t s.world) n c in
-          wide_end t x.0 is (ended_by_to r t s.world x.0 x.1) (sym x.2)
+          wide_end t is (sees_to (WideEnds r t) (ended_remembering r t) (wide_ends_to r t) (not_owned s.world t s.prio_none) s n c)
 
   pub widely_entered_from : (n : Wide) → WideEnters r l s e n → Contains (widely_entered r l s e) n
-  widely_entered_from n (wide_end t v is h f) =
+  widely_entered_from n (wide_end t is h) =
       subst (λ (o : Option ℕ). Contains (entered_as r l s e o) n) (sym is)
-      (subst (Contains (widely_ended r t s)) (sym f)
-      (in_map_from (remembering t s) (ended_by r t s.world) v (ended_by_from r t s.world v h)))
+      (sees_from (WideEnds r t) (ended_remembering r t) (wide_ends_from r t) (not_owned s.world t s.prio_none) s n h)
   widely_entered_from n (wide_other v is h f) =
       subst (λ (o : Option ℕ). Contains (entered_as r l s e o) n) (sym is)
       (subst (Contains (map (beside s) (entered l s.world e))) (sym f) (in_map_from (beside s) (entered l s.world e) v (entered_from l s.world e v h)))

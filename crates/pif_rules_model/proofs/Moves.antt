@@ -236,7 +236,7 @@ module _ (t : ℕ) (w : World) where
 
   -- CYCLES
 
-  held_to : (m : ℕ) → is_held_by_another t w m ≡ true → IsHeldByAnother w t m
+  pub held_to : (m : ℕ) → is_held_by_another t w m ≡ true → IsHeldByAnother w t m
   held_to m e = by_owner (cases_Bool (o == t))
     where
       o : ℕ
@@ -257,7 +257,7 @@ module _ (t : ℕ) (w : World) where
       by_owner (inl a) = absurd (both_ways (is_held_by_another t w m) (choose_then (o == t) false _ a) e)
       by_owner (inr a) = by_free (eqb-false o t a) (sym (choose_else (o == t) false _ a) ∙ e) (cases_Bool (o == 0))
 
-  held_from : (m : ℕ) → IsHeldByAnother w t m → is_held_by_another t w m ≡ true
+  pub held_from : (m : ℕ) → IsHeldByAnother w t m → is_held_by_another t w m ≡ true
   held_from m h =
       choose_else ((mutex_at w m).owner == t) false _ (ne_eqb (mutex_at w m).owner t h.0)
       ∙ choose_else ((mutex_at w m).owner == 0) false _ (ne_eqb (mutex_at w m).owner 0 h.1) ∙ choose_else (is_orphaned w m) false true h.2

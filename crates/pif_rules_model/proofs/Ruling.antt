@@ -3,16 +3,18 @@ use Rattle.std.proofs.Common.{ℕ, List, [], map, refl, sym, subst, inl, inr, ar
 use Rattle.std.proofs.lemmas.List.Elements.{Contains-append_left, Contains-append_right, Contains-append_cases}
 use Rattle.pif_model.specs.declared.events.Event.TheVariants.{Go}
 use Rattle.pif_model.specs.Posix.{World}
-use Rattle.pif_posix_steps.specs.Doing.{moved, is_allowed}
+use Rattle.pif_posix_steps.specs.Doing.{is_allowed}
 use Rattle.pif_posix_steps.proofs.DoingLists.{not_in_none, in_then, in_then_from, in_map, in_map_from, in_flat_map, in_flat_map_from}
-use Rattle.pif_posix_steps.proofs.DoingMoves.{moved_from, moved_to, allowed_from, allowed_to}
+use Rattle.pif_posix_steps.proofs.DoingMoves.{allowed_from, allowed_to}
 use Rattle.pif_rules_model.specs.declared.rules.Rule.{Rule}
 use Rattle.pif_rules_model.specs.declared.rules.Rule.TheVariants.{Steal, AnyWaiter, Spurious, Recursion, OwnErrorcheck, AnyConsistent, HeldWait, LostSignal, Revives, Barge, CycleWaits, CycleRefused, TimeoutConsumes, EndsApart, StaysLocked, Rebinds, MoreUses, RefusesSetprio, ConsistentByAny, CutUnlock}
 use Rattle.pif_rules_model.specs.declared.rules.Rules.{Rules}
 use Rattle.pif_rules_model.specs.Sets.{has, rules_in_order}
-use Rattle.pif_rules_model.specs.Rules.{Wide, InWorld, DoesBy, MovesByRule, WideMoves, Steals, WakesAny, WakesItself, LocksWithin, TriesOwn, Barges, WaitsInCycle, RefusesCycle, ConsumesSignal, WaitsHolding, BindsAnew, UsesUncounted, MakesConsistentByAny, MakesAnyConsistent, RefusesPriority}
+use Rattle.pif_rules_model.specs.Lending.{not_named}
+use Rattle.pif_rules_model.specs.Rules.{Wide, InWorld, MovesOrWaits, hidden_from, DoesBy, MovesByRule, WideMoves, Steals, WakesAny, WakesItself, LocksWithin, TriesOwn, Barges, WaitsInCycle, RefusesCycle, ConsumesSignal, WaitsHolding, BindsAnew, UsesUncounted, MakesConsistentByAny, MakesAnyConsistent, RefusesPriority}
 use Rattle.pif_rules_model.specs.Rules.WideMoves.{plain, ruled}
-use Rattle.pif_rules_model.specs.Ruled.{beside, done_by, done_if_allowed, moved_by_rule, widely_moved, stolen_by, any_woken, woken_by_itself, locked_within, tried_own, mended_or_refused, waiting_held, barged, waiting_in_cycle, refused_cycle, signal_consumed, bound_anew, used_by, priority_refused, mended_by_any}
+use Rattle.pif_rules_model.specs.Ruled.{beside, seeing_lending, moved_or_waiting, plainly_moved, done_by, done_if_allowed, moved_by_rule, widely_moved, stolen_by, any_woken, woken_by_itself, locked_within, tried_own, mended_or_refused, waiting_held, barged, waiting_in_cycle, refused_cycle, signal_consumed, bound_anew, used_by, priority_refused, mended_by_any}
+use Rattle.pif_rules_model.proofs.Lending.{sees_to, sees_from, moves_or_waits_to, moves_or_waits_from}
 use Rattle.pif_rules_model.proofs.Moves.{steals_to, steals_from, wakes_any_to, wakes_any_from, wakes_itself_to, wakes_itself_from, locks_within_to, locks_within_from, tries_own_to, tries_own_from, makes_any_to, makes_any_from, waits_to, waits_from, loses_to, loses_from, barges_to, barges_from, waits_in_cycle_to, waits_in_cycle_from, refuses_cycle_to, refuses_cycle_from, consumes_to, consumes_from, binds_to, binds_from, uses_to, uses_from, refuses_priority_to, refuses_priority_from, makes_by_any_to, makes_by_any_from}
 
 -- each rule stands in the order
@@ -96,24 +98,43 @@ module _ (r : Rules) (t : ℕ) (s : Wide) where
   pub ruled_to : (n : Wide) → Contains (moved_by_rule r t s) n → MovesByRule r t s n
   ruled_to n k =
       let x = in_flat_map (done_if_allowed r t s) rules_in_order n k in
-      let y = in_then (has r x.0) (done_by r x.0 t s) n x.2 in
-      record { rule = x.0; allowed = y.0; does = does_to t s r x.0 n y.1 }
+      let y = in_then (has r x.0) (seeing_lending (hidden_from x.0 t s) (done_by r x.0 t) s) n x.2 in
+      record {
+        rule = x.0;
+        allowed = y.0;
+        does = sees_to (DoesBy r x.0 t) (done_by r x.0 t) (λ m. does_to t m r x.0) (hidden_from x.0 t s) s n y.1;
+      }
 
   pub ruled_from : (n : Wide) → MovesByRule r t s n → Contains (moved_by_rule r t s) n
   ruled_from n h =
       in_flat_map_from (done_if_allowed r t s) rules_in_order h.rule n (each_is_in_order h.rule)
-      (in_then_from (has r h.rule) (done_by r h.rule t s) n h.allowed (does_from t s r h.rule n h.does))
+      (in_then_from (has r h.rule) (seeing_lending (hidden_from h.rule t s) (done_by r h.rule t) s) n h.allowed
+      (sees_from (DoesBy r h.rule t) (done_by r h.rule t) (λ m. does_from t m r h.rule) (hidden_from h.rule t s) s n h.does))
+
+  -- a move by the plain machine, or by waiting in a cycle that nobody sees
+  plainly_to : (m n : Wide) → Contains (map (beside m) (moved_or_waiting s.prio_none t m.world)) n
+      → InWorld (MovesOrWaits s.prio_none t) m n
+  plainly_to m n k =
+      in_world_to t m (MovesOrWaits s.prio_none t) (moved_or_waiting s.prio_none t m.world) (moves_or_waits_to s.prio_none t m.world) n k
+
+  plainly_from : (m n : Wide) → InWorld (MovesOrWaits s.prio_none t) m n
+      → Contains (map (beside m) (moved_or_waiting s.prio_none t m.world)) n
+  plainly_from m n h =
+      in_world_from t m (MovesOrWaits s.prio_none t) (moved_or_waiting s.prio_none t m.world) (moves_or_waits_from s.prio_none t m.world) n h
+
+  abbrev plain_list : List Wide
+  plain_list = seeing_lending (not_named s.world t s.prio_none) (plainly_moved t s.prio_none) s
 
   pub widely_to : (n : Wide) → Contains (widely_moved r t s) n → WideMoves r t s n
-  widely_to n k = elim (Contains-append_cases (map (beside s) (moved t s.world)) (if is_allowed s.world (Go t) then moved_by_rule r t s else []) n k) [
-    | inl c ↦ (let x = in_map (beside s) (moved t s.world) n c in plain x.0 (moved_to t s.world x.0 x.1) (sym x.2))
+  widely_to n k = elim (Contains-append_cases plain_list (if is_allowed s.world (Go t) then moved_by_rule r t s else []) n k) [
+    | inl c ↦ plain (sees_to (InWorld (MovesOrWaits s.prio_none t)) (plainly_moved t s.prio_none) plainly_to (not_named s.world t s.prio_none) s n c)
     | inr c ↦ (let x = in_then (is_allowed s.world (Go t)) (moved_by_rule r t s) n c in ruled (allowed_to s.world (Go t) x.0) (ruled_to n x.1))
   ]
 
   pub widely_from : (n : Wide) → WideMoves r t s n → Contains (widely_moved r t s) n
-  widely_from n (plain v h e) =
-      Contains-append_left (map (beside s) (moved t s.world)) _ n
-      (subst (Contains (map (beside s) (moved t s.world))) (sym e) (in_map_from (beside s) (moved t s.world) v (moved_from t s.world v h)))
+  widely_from n (plain h) =
+      Contains-append_left plain_list _ n
+      (sees_from (InWorld (MovesOrWaits s.prio_none t)) (plainly_moved t s.prio_none) plainly_from (not_named s.world t s.prio_none) s n h)
   widely_from n (ruled a h) =
-      Contains-append_right (map (beside s) (moved t s.world)) _ n
+      Contains-append_right plain_list _ n
       (in_then_from (is_allowed s.world (Go t)) (moved_by_rule r t s) n (allowed_from s.world (Go t) a) (ruled_from n h))

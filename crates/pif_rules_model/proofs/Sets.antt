@@ -1,5 +1,5 @@
 -- With more rules there is each step that there is with fewer, and with none there are those of the plain machine.
-use Rattle.std.proofs.Common.{ℕ, ◌≡◌, false, Option, Some, None, refl, sym, subst, inl, inr, arith}
+use Rattle.std.proofs.Common.{ℕ, ◌≡◌, false, [], Option, Some, None, refl, sym, subst, inl, inr, arith}
 use Rattle.std.proofs.lemmas.Bool.{both_ways}
 use Rattle.pif_types.specs.Bounds.{Bounds}
 use Rattle.pif_model.specs.declared.events.Event.{Event}
@@ -19,7 +19,8 @@ use Rattle.pif_rules_model.specs.declared.rules.Rule.{Rule}
 use Rattle.pif_rules_model.specs.declared.rules.Rule.TheVariants.{Steal, AnyWaiter, Spurious, Recursion, OwnErrorcheck, AnyConsistent, HeldWait, LostSignal, Revives, Barge, CycleWaits, CycleRefused, TimeoutConsumes, EndsApart, StaysLocked, Rebinds, MoreUses, RefusesSetprio, ConsistentByAny, CutUnlock}
 use Rattle.pif_rules_model.specs.declared.rules.Rules.{Rules}
 use Rattle.pif_rules_model.specs.Sets.{has, no_rules, AreAmong, AreWithin}
-use Rattle.pif_rules_model.specs.Rules.{Wide, LocksBeyond, LocksWithin, DoesBy, MovesByRule, WideMoves, MayRevive, FindsHealth, PassesBy, ReleasesBy, EndsBy, EndsApartBy, PassesApart, HasReleased, WideEnters, WideEndsApart, end_of, lost_by}
+use Rattle.pif_rules_model.specs.Lending.{not_owned}
+use Rattle.pif_rules_model.specs.Rules.{Wide, seen_by_lending, hidden_from, WideEnds, EndsInSteps, LocksBeyond, LocksWithin, DoesBy, MovesByRule, WideMoves, MayRevive, FindsHealth, PassesBy, ReleasesBy, EndsBy, EndsApartBy, PassesApart, HasReleased, WideEnters, WideEndsApart, end_of, lost_by}
 use Rattle.pif_rules_model.specs.Rules.WideMoves.{plain, ruled}
 use Rattle.pif_rules_model.specs.Rules.MayRevive.{revives, cut}
 use Rattle.pif_rules_model.specs.Rules.FindsHealth.{as_it_is, one}
@@ -27,8 +28,9 @@ use Rattle.pif_rules_model.specs.Rules.PassesBy.{passes, left_free}
 use Rattle.pif_rules_model.specs.Rules.ReleasesBy.{none_left, they_stay, one_more}
 use Rattle.pif_rules_model.specs.Rules.HasReleased.{at_once, none_left as none_kept, they_stay as they_are_kept}
 use Rattle.pif_rules_model.specs.Rules.WideEnters.{ended, other}
-use Rattle.pif_rules_model.specs.Rules.WideEndsApart.{leaves, passes as passes_later}
+use Rattle.pif_rules_model.specs.Rules.EndsInSteps.{leaves, passes as passes_later}
 use Rattle.pif_rules_model.proofs.Entries.{plainly_released, widely_released}
+use Rattle.pif_rules_model.proofs.Lending.{sees_more, moves_plainly, plain_moves_are_seen, ends_plainly, plain_ends_are_seen}
 
 module _ (a b : Rules) (more : AreAmong a b) where
   beyond_more : (x y : HoldLimits) → AreWithin x y → (t : ℕ) (w v : World) → LocksBeyond x t w v → LocksBeyond y t w v
@@ -72,10 +74,14 @@ module _ (a b : Rules) (more : AreAmong a b) where
   does_more _ t s n h = h
 
   ruled_more : (t : ℕ) (s n : Wide) → MovesByRule a t s n → MovesByRule b t s n
-  ruled_more t s n h = record { rule = h.rule; allowed = more.among h.rule h.allowed; does = does_more h.rule t s n h.does }
+  ruled_more t s n h = record {
+    rule = h.rule;
+    allowed = more.among h.rule h.allowed;
+    does = sees_more (DoesBy a h.rule t) (DoesBy b h.rule t) (does_more h.rule t) (hidden_from h.rule t s) s n h.does;
+  }
 
   pub moves_more : (t : ℕ) (s n : Wide) → WideMoves a t s n → WideMoves b t s n
-  moves_more t s n (plain v h e) = plain v h e
+  moves_more t s n (plain h) = plain h
   moves_more t s n (ruled i h) = ruled i (ruled_more t s n h)
 
   revives_more : (t m : ℕ) (w : World) → MayRevive a t m w → MayRevive b t m w
@@ -123,17 +129,24 @@ module _ (a b : Rules) (more : AreAmong a b) where
     passes = passes_more h.mutex (after_owner_death h.mutex w) v h.passes;
   }
 
+  in_steps_more : (t : ℕ) (s n : Wide) → EndsInSteps a t s n → EndsInSteps b t s n
+  in_steps_more t s n (leaves v h e) = leaves v (leaves_more t s.world v h) e
+  in_steps_more t s n (passes_later v i h e) = passes_later v i (passes_apart_more t s.world v h) e
+
   pub ends_apart_more : (t : ℕ) (s n : Wide) → WideEndsApart a t s n → WideEndsApart b t s n
-  ends_apart_more t s n (leaves v h e) = leaves v (leaves_more t s.world v h) e
-  ends_apart_more t s n (passes_later v i h e) = passes_later v i (passes_apart_more t s.world v h) e
+  ends_apart_more t s n h = sees_more (EndsInSteps a t) (EndsInSteps b t) (in_steps_more t) (not_owned s.world t s.prio_none) s n h
 
   pub released_more : (t : ℕ) (s : Wide) → HasReleased a t s → HasReleased b t s
   released_more t s (at_once e) = at_once e
   released_more t s (none_kept h) = none_kept h
   released_more t s (they_are_kept e) = they_are_kept (more.among StaysLocked e)
 
+  wide_ends_more : (t : ℕ) (s n : Wide) → WideEnds a t s n → WideEnds b t s n
+  wide_ends_more t s n h = record { world = h.world; ends = ends_more t s.world h.world h.ends; same = h.same }
+
   pub enters_more : (l : Bounds) (s : Wide) (e : Entry) (n : Wide) → WideEnters a l s e n → WideEnters b l s e n
-  enters_more l s e n (ended t v is h f) = ended t v is (ends_more t s.world v h) f
+  enters_more l s e n (ended t is h) =
+      ended t is (sees_more (WideEnds a t) (WideEnds b t) (wide_ends_more t) (not_owned s.world t s.prio_none) s n h)
   enters_more l s e n (other v is h f) = other v is h f
 
 -- NO RULES
@@ -166,19 +179,25 @@ pub none_among : (r : Rules) → AreAmong no_rules r
 none_among r = record {
   among = λ x e. absurd (both_ways (has no_rules x) (none_is_among x) e);
   recursion = λ x e. absurd (cc);
+  prio_none = λ e. absurd (cc);
 }
 
 no_rule_moves : (t : ℕ) (s n : Wide) → MovesByRule no_rules t s n → ⊥
 no_rule_moves t s n h = both_ways (has no_rules h.rule) (none_is_among h.rule) h.allowed
 
-pub plain_moves : (t : ℕ) (s n : Wide) → WideMoves no_rules t s n → MovesOnce t s.world n.world
-plain_moves t s n (plain v h e) = subst (λ (x : Wide). MovesOnce t s.world x.world) (sym e) h
-plain_moves t s n (ruled i h) = absurd (no_rule_moves t s n h)
+pub plain_moves : (t : ℕ) (s n : Wide) → s.prio_none ≡ [] → WideMoves no_rules t s n → MovesOnce t s.world n.world
+plain_moves t s n none (plain h) =
+    let x = moves_plainly t s.prio_none none s n h in
+    subst (λ (x : Wide). MovesOnce t s.world x.world) (sym x.2) x.1
+plain_moves t s n none (ruled i h) = absurd (no_rule_moves t s n h)
 
 -- no thread ends apart
 pub none_ends_apart : (t : ℕ) (s n : Wide) → WideEndsApart no_rules t s n → ⊥
-none_ends_apart t s n (leaves v h e) = both_ways false refl h.apart
-none_ends_apart t s n (passes_later v i h e) = both_ways false refl h.apart
+none_ends_apart t s n h = by_step (seen_by_lending (not_owned s.world t s.prio_none) s) h.after h.step
+  where
+    by_step : (u v : Wide) → EndsInSteps no_rules t u v → ⊥
+    by_step u v (leaves x i e) = both_ways false refl i.apart
+    by_step u v (passes_later x a i e) = both_ways false refl i.apart
 
 -- AN ENTRY OF THE PLAIN MACHINE
 
@@ -215,12 +234,13 @@ module _ (l : Bounds) (s : Wide) (e : Entry) where
       by_health x (one m (revives f) o r u g) = absurd (both_ways false refl f)
       by_health x (one m (cut f k) o r u g) = absurd (both_ways false refl f)
 
-  pub plain_enters : (n : Wide) → WideEnters no_rules l s e n → Enters l s.world e n.world
-  plain_enters n (ended t v is h f) =
+  pub plain_enters : (n : Wide) → s.prio_none ≡ [] → WideEnters no_rules l s e n → Enters l s.world e n.world
+  plain_enters n none (ended t is h) =
       let this : e ≡ Happened (End t) Ended = end_is e t is in
-      subst (λ (x : Wide). Enters l s.world e x.world) (sym f)
-      (subst (λ (x : Entry). Enters l s.world x v) (sym this) (entered refl refl (ends t refl (ends_as_ever t s.world v h))))
-  plain_enters n (other v is h f) = subst (λ (x : Wide). Enters l s.world e x.world) (sym f) h
+      let x = ends_plainly (WideEnds no_rules t) t s.prio_none none s n h in
+      subst (λ (y : Wide). Enters l s.world e y.world) (sym x.same)
+      (subst (λ (y : Entry). Enters l s.world y x.world) (sym this) (entered refl refl (ends t refl (ends_as_ever t s.world x.world x.ends))))
+  plain_enters n none (other v is h f) = subst (λ (x : Wide). Enters l s.world e x.world) (sym f) h
 
   ends_widely : (r : Rules) (t : ℕ) (w v : World) → Ends t w v → EndsBy r t w v
   ends_widely r t w v h = record {
@@ -230,16 +250,21 @@ module _ (l : Bounds) (s : Wide) (e : Entry) where
     releases = widely_released r t (after_end t w) v h.releases;
   }
 
-  -- what is remembered of threads that ended apart stays
-  pub enters_widely : (r : Rules) (v : World) → Enters l s.world e v → (n : Wide) × WideEnters r l s e n × (n.world ≡ v) × (n.apart ≡ s.apart)
-  enters_widely r v h = by_end (end_of e) refl
+  -- what is remembered of threads that ended apart stays, and so do the mutexes that lend nothing
+  pub enters_widely : (r : Rules) (v : World) → s.prio_none ≡ [] → Enters l s.world e v
+      → (n : Wide) × WideEnters r l s e n × (n.world ≡ v) × (n.apart ≡ s.apart) × (n.prio_none ≡ s.prio_none)
+  enters_widely r v none h = by_end (end_of e) refl
     where
-      by_end : (o : Option ℕ) → end_of e ≡ o → (n : Wide) × WideEnters r l s e n × (n.world ≡ v) × (n.apart ≡ s.apart)
-      by_end None is = (record s { world = v }, other v is h refl, refl, refl)
+      by_end : (o : Option ℕ) → end_of e ≡ o
+          → (n : Wide) × WideEnters r l s e n × (n.world ≡ v) × (n.apart ≡ s.apart) × (n.prio_none ≡ s.prio_none)
+      by_end None is = (record s { world = v }, other v is h refl, refl, refl, refl)
       by_end (Some t) is =
           let this : Enters l s.world (Happened (End t) Ended) v = subst (λ (x : Entry). Enters l s.world x v) (end_is e t is) h in
           let end : Ends t s.world v = ended_to t s.world v (entered_from l s.world (Happened (End t) Ended) v this) in
-          (record s { world = v; lost = lost_by s.world t s.lost }, ended t v is (ends_widely r t s.world v end) refl, refl, refl)
+          let n : Wide = record s { world = v; lost = lost_by s.world t s.lost } in
+          let ends : WideEnds r t s n = record { world = v; ends = ends_widely r t s.world v end; same = refl } in
+          (n, ended t is (plain_ends_are_seen (WideEnds r t) t s.prio_none none s n ends), refl, refl, refl)
 
-pub moves_widely : (r : Rules) (t : ℕ) (s : Wide) (v : World) → MovesOnce t s.world v → WideMoves r t s (record s { world = v })
-moves_widely r t s v h = plain v h refl
+pub moves_widely : (r : Rules) (t : ℕ) (s : Wide) (v : World) → s.prio_none ≡ [] → MovesOnce t s.world v
+    → WideMoves r t s (record s { world = v })
+moves_widely r t s v none h = plain (plain_moves_are_seen t s.prio_none none s v h)

@@ -1,3 +1,4 @@
 pub mod Sets
+pub mod Lending
 pub mod Rules
 pub mod Ruled

@@ -19,7 +19,8 @@ use Rattle.pif_rules_model.specs.declared.rules.Rule.{Rule}
 use Rattle.pif_rules_model.specs.declared.rules.Rule.TheVariants.{Steal, AnyWaiter, Spurious, Recursion, OwnErrorcheck, AnyConsistent, HeldWait, LostSignal, Barge, CycleWaits, CycleRefused, TimeoutConsumes, Rebinds, MoreUses, RefusesSetprio, ConsistentByAny}
 use Rattle.pif_rules_model.specs.declared.rules.Rules.{Rules}
 use Rattle.pif_rules_model.specs.Sets.{has, rules_in_order}
-use Rattle.pif_rules_model.specs.Rules.{Wide, of_call, locked_next_by, locked_first_by, got_by, waited_for_by, tried_next_by, mended_next_by, given_next_by, unlocked_next_by, waited_next_by, used_next_by, signalled_next_by, signalling_by, blocked_by, set_next_by, stolen, is_recursive, is_errorcheck, never_goes_on, bound_to, used_uncounted, without_one, lost_by, revived, is_unusable, has_ended_apart, end_of}
+use Rattle.pif_rules_model.specs.Lending.{not_named, not_owned}
+use Rattle.pif_rules_model.specs.Rules.{Wide, seen_by_lending, owned_as_before, hidden_from, of_call, locked_next_by, locked_first_by, got_by, waited_for_by, tried_next_by, mended_next_by, given_next_by, unlocked_next_by, waited_next_by, used_next_by, signalled_next_by, signalling_by, blocked_by, set_next_by, stolen, is_recursive, is_errorcheck, never_goes_on, bound_to, used_uncounted, without_one, lost_by, revived, is_unusable, has_ended_apart, end_of}
 
 -- what f lists of what is there, or nothing
 abbrev pub listed_of : {A B : Type 0} → Option A → (A → List B) → List B
@@ -239,9 +240,36 @@ done_by r RefusesSetprio t s = map (beside s) (priority_refused t s.world)
 done_by r ConsistentByAny t s = map (beside s) (mended_by_any t s.world)
 done_by r _ t s = []
 
--- the same, if the rule is allowed
+-- what f lists of the state as lending sees it, if these mutexes look free
+abbrev pub seeing_lending : List ℕ → (Wide → List Wide) → Wide → List Wide
+seeing_lending [] f s = f s
+seeing_lending (m ∷ ms) f s = map (owned_as_before (m ∷ ms) s) (f (seen_by_lending (m ∷ ms) s))
+
+-- whether t, which is about to lock m, closes a cycle that nobody sees
+abbrev pub closes_unseen_with : List ℕ → ℕ → World → ℕ → Bool
+closes_unseen_with none t w m =
+    if list_any (λ x. x == m) none
+    then (if is_held_by_another t w m then leads_to w (mutex_at w m).owner t else false) else false
+
+abbrev pub closes_unseen : List ℕ → ℕ → World → Bool
+closes_unseen none t w = elim (of_call locked_next_by w t) [ None ↦ false | Some m ↦ closes_unseen_with none t w m ]
+
+-- t waits in such a cycle, if it may go on
+abbrev pub waiting_unseen : ℕ → World → List World
+waiting_unseen t w = if is_allowed w (Go t) then waiting_in_cycle t w else []
+
+-- a move of t by the plain machine, or by waiting in such a cycle: all results
+abbrev pub moved_or_waiting : List ℕ → ℕ → World → List World
+moved_or_waiting [] t w = moved t w
+moved_or_waiting (m ∷ ms) t w = if closes_unseen (m ∷ ms) t w then waiting_unseen t w else moved t w
+
+-- the same, with what is remembered beside
+abbrev pub plainly_moved : ℕ → List ℕ → Wide → List Wide
+plainly_moved t none s = map (beside s) (moved_or_waiting none t s.world)
+
+-- what t does by a rule, if it is allowed
 abbrev pub done_if_allowed : Rules → ℕ → Wide → Rule → List Wide
-done_if_allowed r t s x = if has r x then done_by r x t s else []
+done_if_allowed r t s x = if has r x then seeing_lending (hidden_from x t s) (done_by r x t) s else []
 
 -- a move of t by one of the rules: all results
 abbrev pub moved_by_rule : Rules → ℕ → Wide → List Wide
@@ -250,7 +278,8 @@ moved_by_rule r t s = flat_map (done_if_allowed r t s) rules_in_order
 -- a move of t, by the plain machine or by a rule: all results
 abbrev pub widely_moved : Rules → ℕ → Wide → List Wide
 widely_moved r t s =
-    map (beside s) (moved t s.world) ++ (if is_allowed s.world (Go t) then moved_by_rule r t s else [])
+    seeing_lending (not_named s.world t s.prio_none) (plainly_moved t s.prio_none) s
+    ++ (if is_allowed s.world (Go t) then moved_by_rule r t s else [])
 
 -- ENDS
 
@@ -299,8 +328,11 @@ ended_by r t w = if is_allowed w (End t) then flat_map (ended_found r t) (found_
 abbrev pub remembering : ℕ → Wide → World → Wide
 remembering t s w = record s { world = w; lost = lost_by s.world t s.lost }
 
+abbrev pub ended_remembering : Rules → ℕ → Wide → List Wide
+ended_remembering r t s = map (remembering t s) (ended_by r t s.world)
+
 abbrev pub widely_ended : Rules → ℕ → Wide → List Wide
-widely_ended r t s = map (remembering t s) (ended_by r t s.world)
+widely_ended r t s = seeing_lending (not_owned s.world t s.prio_none) (ended_remembering r t) s
 
 -- by `ends_apart`, t lives no more: all results
 abbrev pub left_apart : Rules → ℕ → World → List World
@@ -312,14 +344,16 @@ passed_apart r t w = if is_living w t then [] else flat_map (passed_by_death r w
 
 -- the same with what is remembered beside
 abbrev pub remembering_apart : ℕ → Wide → World → Wide
-remembering_apart t s w = record { world = w; lost = lost_by s.world t s.lost; apart = t ∷ s.apart }
+remembering_apart t s w = record s { world = w; lost = lost_by s.world t s.lost; apart = t ∷ s.apart }
+
+abbrev pub ended_in_steps : Rules → ℕ → Wide → List Wide
+ended_in_steps r t s =
+    map (remembering_apart t s) (left_apart r t s.world)
+    ++ (if has_ended_apart s t then map (beside s) (passed_apart r t s.world) else [])
 
 abbrev pub ended_apart : Rules → ℕ → Wide → List Wide
 ended_apart r t s =
-    if r.ends_apart
-    then map (remembering_apart t s) (left_apart r t s.world)
-    ++ (if has_ended_apart s t then map (beside s) (passed_apart r t s.world) else [])
-    else []
+    if r.ends_apart then seeing_lending (not_owned s.world t s.prio_none) (ended_in_steps r t) s else []
 
 -- whether t, who has ended, has released its robust mutexes as it has to
 abbrev pub has_released : Rules → ℕ → Wide → Bool

@@ -99,6 +99,8 @@ pub struct Rules {
     pub consistent_by_any: bool,
     /// `cut_unlock`.
     pub cut_unlock: bool,
+    /// Whether mutexes of PTHREAD_PRIO_NONE may be added. That is no rule: it stands here since the plain machine has none.
+    pub prio_none: bool,
 }
 
 /// All rules, in the order in which they are told and tried.
@@ -150,6 +152,7 @@ pub fn no_rules() -> Rules
         refuses_setprio: false,
         consistent_by_any: false,
         cut_unlock: false,
+        prio_none: false,
     }
 }
 

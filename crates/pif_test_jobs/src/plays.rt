@@ -4,7 +4,7 @@ use crate::numbers::{cond, thread};
 use crate::told::Told;
 use pif_history::{find_run, judge_lines};
 use pif_history_machine::Verdict;
-use pif_history_model::{HistoryLimits, Line};
+use pif_history_model::{HistoryLimits, Line, Protocol};
 use pif_rules_model::no_rules;
 use pif_search::{Stop, push};
 use pif_types::{Answer, Kind, MutexId, Request};
@@ -193,7 +193,10 @@ fn lines_of(alloc: Global, parts: &[&[Sight]]) -> Result<Vec<Line>, Stop> {
     for _ in 0..THREADS {
         push(&mut lines, Line::Thread(10))?;
     }
-    push(&mut lines, Line::Mutex(Kind::Normal, false))?;
+    push(
+        &mut lines,
+        Line::Mutex(Kind::Normal, false, Protocol::PrioInherit),
+    )?;
     push(&mut lines, Line::Cond(MutexId::default()))?;
     for sights in parts {
         for (thread, seen) in *sights {

@@ -13,6 +13,10 @@ pub enum Part {
     Number,
     /// The word `robust`.
     Robust,
+    /// The word `robust` or `none`.
+    Modifier,
+    /// The word `none`.
+    Lending,
     /// The number of an answer, or the name of an error.
     Answer,
     /// How deep a recursive mutex may be locked, by a rule.
@@ -57,7 +61,8 @@ impl Part {
             Part::Mutex => "a mutex is wanted here, as m1",
             Part::Cond => "a condition variable is wanted here, as c1",
             Part::Number => "a number from 0 to 4294967295 is wanted, with no zero in front",
-            Part::Robust | Part::OfThread | Part::OfMutex => "another word is wanted here",
+            Part::Robust | Part::Modifier | Part::Lending => "another word is wanted here",
+            Part::OfThread | Part::OfMutex => "another word is wanted here",
             Part::Answer => "a number or the name of an error is wanted here, as 0 or EBUSY",
             Part::Recursion => "recursion takes 256 to 4294967295, or bounds as 1..300",
             Part::Priority => "a priority is a number from 1 to 99, with no zero in front",
@@ -88,6 +93,8 @@ pub enum Rest {
     Begin,
     /// A kind of mutex.
     Kind,
+    /// The same, of a mutex that may be of PTHREAD_PRIO_NONE.
+    KindOfProtocol,
     /// The rules that are allowed.
     Rules,
     /// Statements.

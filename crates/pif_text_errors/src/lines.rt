@@ -2,7 +2,7 @@ use crate::Wrong;
 use crate::calls::{BEHIND_BEGIN, Table, calls, statements};
 use crate::forms::{Form, Part, Parts, Rest, Shape};
 use crate::parts::{is_answer, is_cell, near_part, number_named, wrong_with_part, wrong_with_word};
-use crate::tables::{KINDS, OF_CELL, OF_MUTEXES, OF_THREADS, RULE_COUNT, RULES};
+use crate::tables::{KINDS, KINDS_OF_PROTOCOL, OF_CELL, OF_MUTEXES, OF_THREADS, RULE_COUNT, RULES};
 use arrayvec::ArrayVec;
 use pif_text::number_of;
 
@@ -73,8 +73,10 @@ enum Next {
     Call,
     /// A kind of mutex.
     Kind,
-    /// `robust`, or the end.
-    Robust,
+    /// The same, of a mutex that may be of PTHREAD_PRIO_NONE.
+    KindOfProtocol,
+    /// The next part, or the end.
+    Optional,
     /// A rule.
     Rule,
     /// A rule, or the end.
@@ -149,6 +151,7 @@ fn after_parts(rest: Rest) -> Next {
         Rest::End => Next::End,
         Rest::Call | Rest::Begin => Next::Call,
         Rest::Kind => Next::Kind,
+        Rest::KindOfProtocol => Next::KindOfProtocol,
         Rest::Rules => Next::Rule,
         Rest::Statements => Next::Statement,
         Rest::Test => Next::Guard(true),
@@ -177,13 +180,13 @@ impl LineSoFar {
         line
     }
 
-    /// Behind a word whose parts follow, and then this. `robust` may be left out.
+    /// Behind a word whose parts follow, and then this. `robust` and `none` may be left out.
     fn begin(&mut self, parts: Parts, behind: Next) {
         self.parts = parts;
         self.behind = behind;
         self.next = match parts.split() {
             None => behind,
-            Some((Part::Robust, _)) => Next::Robust,
+            Some((Part::Robust | Part::Modifier | Part::Lending, _)) => Next::Optional,
             Some(_) => Next::Part,
         };
     }
@@ -213,7 +216,9 @@ impl LineSoFar {
         if self.added.lacks(word, part) {
             return Err(self.slip(Wrong::NotAdded(part), None));
         }
-        self.begin(more, self.behind);
+        // Behind `none` a line ends.
+        let is_last = word == b"none".as_slice();
+        self.begin(if is_last { Parts::Of(&[]) } else { more }, self.behind);
         Ok(())
     }
 
@@ -376,7 +381,7 @@ impl LineSoFar {
     /// Takes the next word, unless it is wrong.
     pub fn take(&mut self, word: &[u8]) -> Result<(), Slip> {
         match self.next {
-            Next::Part | Next::Robust => self.take_part(word),
+            Next::Part | Next::Optional => self.take_part(word),
             Next::End => Err(self.slip(Wrong::TooMany, None)),
             Next::Call => {
                 let call = self.take_form(word, calls(), Wrong::NoCall, Next::End)?;
@@ -385,6 +390,14 @@ impl LineSoFar {
             }
             Next::Kind => self
                 .take_form(word, Table::of(&KINDS), Wrong::NoKind, Next::End)
+                .map(|_| ()),
+            Next::KindOfProtocol => self
+                .take_form(
+                    word,
+                    Table::of(&KINDS_OF_PROTOCOL),
+                    Wrong::NoKind,
+                    Next::End,
+                )
                 .map(|_| ()),
             Next::Rule | Next::Rules => self.take_rule(word),
             Next::Tick => self.take_tick(word),
@@ -412,7 +425,7 @@ impl LineSoFar {
     /// Ends the line, unless another word is wanted.
     pub fn end(&self) -> Result<(), Slip> {
         let wrong = match self.next {
-            Next::End | Next::Robust | Next::Rules | Next::Tick => return Ok(()),
+            Next::End | Next::Optional | Next::Rules | Next::Tick => return Ok(()),
             Next::Statement | Next::Semicolon | Next::Closed | Next::Else
                 if self.blocks.is_empty() => {
                 return Ok(());

@@ -2,7 +2,7 @@ use crate::Wrong;
 use crate::calls::Table;
 use crate::forms::Part;
 use crate::near::nearest_name;
-use crate::tables::ROBUST;
+use crate::tables::{LENDING, MODIFIERS, ROBUST};
 use pif_text::{ERRORS, errno_named, number_behind, number_of};
 
 /// What is wrong with a word where a name with this letter is wanted.
@@ -74,6 +74,8 @@ fn is_plain(word: &[u8], part: Part) -> bool {
         Part::Value => is_between(word, 0, 255),
         Part::Processors => is_between(word, 1, 64),
         Part::Robust => word == b"robust".as_slice(),
+        Part::Modifier => word == b"robust".as_slice() || word == b"none".as_slice(),
+        Part::Lending => word == b"none".as_slice(),
         Part::Colon => word == b":".as_slice(),
         Part::Equals => word == b"=".as_slice(),
         Part::By => word == b"by".as_slice(),
@@ -97,6 +99,8 @@ pub fn wrong_with_part(word: &[u8], part: Part) -> Option<Wrong> {
         Part::Cond => wrong_with_name(word, b'c', part),
         _ if is_plain(word, part) => None,
         Part::Robust => Some(wrong_with_word(word, Table::of(&ROBUST), Wrong::Not(part))),
+        Part::Modifier => Some(wrong_with_word(word, Table::of(&MODIFIERS), Wrong::Not(part))),
+        Part::Lending => Some(wrong_with_word(word, Table::of(&LENDING), Wrong::Not(part))),
         Part::Answer => Some(wrong_with_answer(word)),
         _ => Some(Wrong::Not(part)),
     }
@@ -106,6 +110,8 @@ pub fn wrong_with_part(word: &[u8], part: Part) -> Option<Wrong> {
 pub fn near_part(word: &[u8], part: Part) -> Option<&'static str> {
     match part {
         Part::Robust => nearest_name(word, ROBUST.as_slice()),
+        Part::Modifier => nearest_name(word, MODIFIERS.as_slice()),
+        Part::Lending => nearest_name(word, LENDING.as_slice()),
         Part::Answer => nearest_name(word, ERRORS.as_slice()),
         _ => None,
     }

@@ -22,6 +22,17 @@ const MUTEX: Form = Form {
     rest: Rest::Kind,
 };
 
+/// The same in histories and programs, which have mutexes of PTHREAD_PRIO_NONE.
+const MUTEX_OF_PROTOCOL: Form = Form {
+    name: "mutex",
+    text: MUTEX_TEXT,
+    parts: Parts::Of(&[]),
+    rest: Rest::KindOfProtocol,
+};
+
+/// A mutex of histories and programs.
+const MUTEX_TEXT: &str = "mutex KIND [robust] [none]";
+
 const COND: Form = Form {
     name: "cond",
     text: "cond mN",
@@ -121,7 +132,7 @@ pub static HISTORY: [Form; 12] = [
     LIMITS,
     ALLOW,
     THREAD,
-    MUTEX,
+    MUTEX_OF_PROTOCOL,
     COND,
     BEGIN,
     Form {
@@ -162,7 +173,7 @@ pub static PROGRAM: [Form; 12] = [
         parts: Parts::Of(&[Part::Priority]),
         rest: Rest::End,
     },
-    MUTEX,
+    MUTEX_OF_PROTOCOL,
     COND,
     Form {
         name: "schedule",
@@ -240,6 +251,58 @@ pub static KINDS: [Form; 4] = [
 pub static ROBUST: [Form; 1] = [Form {
     name: "robust",
     text: "mutex KIND [robust]",
+    parts: Parts::Of(&[]),
+    rest: Rest::End,
+}];
+
+/// The kinds of mutexes of histories and programs. Behind a kind the line ends, or `robust` or `none` is wanted.
+pub static KINDS_OF_PROTOCOL: [Form; 4] = [
+    Form {
+        name: NORMAL_WORD,
+        text: MUTEX_TEXT,
+        parts: Parts::Of(&[Part::Modifier, Part::Lending]),
+        rest: Rest::End,
+    },
+    Form {
+        name: DEFAULT_WORD,
+        text: MUTEX_TEXT,
+        parts: Parts::Of(&[Part::Modifier, Part::Lending]),
+        rest: Rest::End,
+    },
+    Form {
+        name: ERROR_CHECK_WORD,
+        text: MUTEX_TEXT,
+        parts: Parts::Of(&[Part::Modifier, Part::Lending]),
+        rest: Rest::End,
+    },
+    Form {
+        name: RECURSIVE_WORD,
+        text: MUTEX_TEXT,
+        parts: Parts::Of(&[Part::Modifier, Part::Lending]),
+        rest: Rest::End,
+    },
+];
+
+/// What is wanted behind such a kind.
+pub static MODIFIERS: [Form; 2] = [
+    Form {
+        name: "robust",
+        text: MUTEX_TEXT,
+        parts: Parts::Of(&[]),
+        rest: Rest::End,
+    },
+    Form {
+        name: "none",
+        text: MUTEX_TEXT,
+        parts: Parts::Of(&[]),
+        rest: Rest::End,
+    },
+];
+
+/// What is wanted behind `robust` there.
+pub static LENDING: [Form; 1] = [Form {
+    name: "none",
+    text: MUTEX_TEXT,
     parts: Parts::Of(&[]),
     rest: Rest::End,
 }];

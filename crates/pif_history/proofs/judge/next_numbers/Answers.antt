@@ -1,13 +1,14 @@
-use Rattle.std.proofs.Common.{◌∙◌, List, ap}
+use Rattle.std.proofs.Common.{◌∙◌, List, sym, ap}
 use Rattle.pif_history_model.specs.declared.labels.Label.{Label}
 use Rattle.pif_history_model.specs.Numbers.{numbers_in}
+use Rattle.pif_history_model.specs.Searched.{start_of}
 use Rattle.pif_history_model.proofs.Covered.{enough_by_covering}
 use Rattle.pif_history.proofs.Settling.{next_by}
 use Rattle.pif_history_model.proofs.ShownLines.{lines_shown}
 use Rattle.pif_history.proofs.judge.next_numbers.Goals as goal
 
 pub possible-requires-clause-enough : goal.possible-requires-clause-enough
-possible-requires-clause-enough g c = enough_by_covering _ _ _
+possible-requires-clause-enough g c = enough_by_covering _ _ _ (c.in_ok-start.ensures ∙ ap start_of (sym c.new-machine.ensures.limits))
 
 pub possible-requires-clause-shown : goal.possible-requires-clause-shown
 possible-requires-clause-shown g c = rw (c.as_slice.ensures.value ∙ c.in_ok-lines.ensures) (lines_shown c.args.before.now)

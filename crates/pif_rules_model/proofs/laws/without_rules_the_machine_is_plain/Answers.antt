@@ -5,13 +5,13 @@ pub returns-clause-moves : goal.returns-clause-moves
 returns-clause-moves c = moves_widely
 
 pub returns-clause-entries : goal.returns-clause-entries
-returns-clause-entries c = λ r l s e v h. let x = enters_widely l s e r v h in (x.0, x.1, x.2)
+returns-clause-entries c = λ r l s e v none h. let x = enters_widely l s e r v none h in (x.0, x.1, x.2)
 
 pub returns-clause-plain_moves : goal.returns-clause-plain_moves
 returns-clause-plain_moves c = plain_moves
 
 pub returns-clause-plain_entries : goal.returns-clause-plain_entries
-returns-clause-plain_entries c = plain_enters
+returns-clause-plain_entries c = λ l s e n none h. plain_enters l s e n none h
 
 pub returns-clause-no_ends : goal.returns-clause-no_ends
 returns-clause-no_ends c = none_ends_apart

@@ -1,0 +1,6 @@
+use Rattle.std.proofs.Common.{◌≡◌, take}
+use Rattle.pif_rules_model.specs.Lending.{not_named}
+use Rattle.pif_posix.proofs.state.State.not_named.Given as goal
+
+abbrev pub invariant-loop-i : goal.invariant-loop-i
+invariant-loop-i l = l.all.items ≡ not_named l.self l.thread (take l.i l.mutexes)
