@@ -65,7 +65,7 @@ differs (a history is illegal) or undecided:
     possible there: 0
     its call began at 3: begin t1 lock m1
     >>> print(judge("# seen\\nthread 10\\nprio t1 10\\n", witness=True), end="")
-    legal 3
+    legal 3, with no call
     thread 10
     prio t1 10
 

@@ -75,7 +75,8 @@ int main(void)
     long run = requests_of(runs, "thread 10\nmutex normal\ncall t1 lock m1\n", "t1\nm1\nanswer 0\n");
     long replay = requests_of(replays, "pif-trace 2\nthread 10 = t1\n", "same 1\n");
     long check = requests_of(checks, "thread 10 = t1\n", "ok mine 1\n");
-    long judge = requests_of(judges_with_witness, "thread 10\ntick 5\n", "legal 2\nthread 10\ntick 5\n");
+    long judge = requests_of(judges_with_witness, "thread 10\nbegin t1 setprio t1 20\n",
+                              "legal 2, 1 call\nthread 10\nbegin t1 setprio t1 20\n");
 
     TRUE(core > 1 && run > 1 && replay > 1 && check > 1 && judge > 1);
     printf("requests: a core %ld, a script %ld, a trace %ld, a story %ld, a history %ld\n", core, run, replay, check,

@@ -40,14 +40,14 @@ int main(void)
     TEXT(replays, "pif-trace 2\nthread 10 = t1\n", PIF_WHOLE, "same 1\n");
     TEXT(replays, "pif-trace 2\nthread 10 = t2\n", PIF_DIFFERS, "differs 2 t1\n");
     TEXT(replays, "thread 10 = t1\n", PIF_FAULT, "fault 1 command\n");
-    TEXT(judges, "thread 10\nmutex normal\nbegin t1 lock m1\nanswer t1 0\n", PIF_WHOLE, "legal 4\n");
+    TEXT(judges, "thread 10\nmutex normal\nbegin t1 lock m1\nanswer t1 0\n", PIF_WHOLE, "legal 4, 1 call\n");
     TEXT(judges, "thread 10\nmutex normal\nbegin t1 lock m1\nanswer t1 16\n", PIF_DIFFERS,
          "illegal at 4: answer t1 16\npossible there: 0\nits call began at 3: begin t1 lock m1\n");
     TEXT(judges, "tick 5\ntick 4\n", PIF_DIFFERS, "illegal at 2: tick 4\nrefused past\n");
     TEXT(judges_in_one_state, "thread 10\nmutex normal\nbegin t1 lock m1\nanswer t1 0\n", PIF_UNDECIDED,
          "undecided at 3\nno witness found from 4 on\nfound there: none\n");
-    TEXT(judges_with_witness, "# seen\nthread 10\ntick 5\nprio t1 10\n", PIF_WHOLE,
-         "legal 4\nthread 10\ntick 5\nprio t1 10\n");
+    TEXT(judges_with_witness, "# seen\nthread 10\ntick 5\nprio t1 10\n", PIF_UNDECIDED,
+         "legal 4, with no call\nthread 10\ntick 5\nprio t1 10\n");
     TEXT(judges, "thread 10\nlock m1\n", PIF_FAULT, "fault 2 command\n");
     return outcome();
 }

@@ -180,10 +180,10 @@ def verdict_of(history, asked):
     if first == LEGAL or first not in ("illegal", UNDECIDED):
         return (LEGAL if first == LEGAL else told.strip() or "no verdict"), told
     if allowed:
-        return re.sub("=[0-9.]+|, perhaps fewer", "", allowed[1]), told
+        return re.sub("=[0-9.]+|, (perhaps fewer|but for).*", "", allowed[1]), told
     least = judged(history, asked, "--allow", "all", "--least")
     told += "with all rules: " + least
-    with_rules = re.match(r"legal \d+ with (.*)$", least.split("\n")[0])
+    with_rules = re.match(r"legal \d+, .*, with (.*)$", least.split("\n")[0])
     if with_rules:
         return re.sub("=[0-9.]+", "", with_rules[1]), told
     return (FORBIDDEN if least.startswith("illegal") else UNDECIDED), told

@@ -87,7 +87,7 @@ def demand_joined(kit, done, status, *said):
 
 def demand_legal(kit, history):
     said = kit.run([kit.program(), "judge", history]).stdout
-    kit.demand(said == "legal %d\n" % len(history.read_text().splitlines()), "it is %s" % said.splitlines())
+    kit.demand(said == kit.legal_text(history.read_text().splitlines()) + "\n", "it is %s" % said.splitlines())
 
 
 def test_killed(kit, place, is_stored):
@@ -152,8 +152,8 @@ def test_rights(kit, place, _):
 
 def test_judge(kit, place, is_stored):
     kept = place / "kept"
-    kit.demand_judged(kit.judge_words("--parts", "--keep", kept, kit.FEATURES, "leaves_at_once"), 0, ["legal 7"])
-    kit.demand_judged(kit.judge_words("--parts", kit.FEATURES, "names_used_again"), 0, ["legal 28"])
+    kit.demand_judged(kit.judge_words("--parts", "--keep", kept, kit.FEATURES, "leaves_at_once"), 0, ["legal 7, 2 calls"])
+    kit.demand_judged(kit.judge_words("--parts", kit.FEATURES, "names_used_again"), 0, ["legal 28, 6 calls"])
     kit.demand_judged(kit.judge_words("--parts", kit.FEATURES, "no_call"), 3, [])
     kit.demand_judged(kit.judge_words("--parts", "--shared", kit.FEATURES, "no_call"), 1, [])
 

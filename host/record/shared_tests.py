@@ -99,7 +99,7 @@ def test_refused(kit, place, _):
 
 def test_judge(kit, place, is_stored):
     kept = place / "kept"
-    kit.demand_judged(kit.judge_words("--shared", "--keep", kept, kit.FEATURES, "one_is_killed"), 0, ["legal 19"])
+    kit.demand_judged(kit.judge_words("--shared", "--keep", kept, kit.FEATURES, "one_is_killed"), 0, ["legal 19, 5 calls"])
     kit.compare("one_is_killed", kit.plain(kit.checked(kept)), "", is_stored)
     kit.demand_judged(kit.judge_words("--shared", kit.FEATURES, "no_call"), 3, [])
 

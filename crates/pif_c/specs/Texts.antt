@@ -7,7 +7,7 @@ use Rattle.pif_job_judge.specs.declared.forms.Form.{Form}
 use Rattle.pif_job_judge.specs.declared.forms.Form.TheVariants as form
 use Rattle.pif_job_judge.specs.Judging.{JudgesTo}
 use Rattle.pif_job_judge.specs.declared.faults.JudgeFault.{JudgeFault}
-use Rattle.pif_job_judge.specs.declared.faults.JudgeFault.TheVariants.{Cli, PosixAllows, Undecided}
+use Rattle.pif_job_judge.specs.declared.faults.JudgeFault.TheVariants.{Cli, NoCall, PosixAllows, Undecided}
 use Rattle.pif_c_numbers.specs.Codes as pif
 use Rattle.pif_c.specs.declared.texts.PifText.{PifText}
 
@@ -27,6 +27,7 @@ abbrev pub judged_number : Result (Unit {0}) JudgeFault → ℕ
 judged_number (Ok x) = pif.whole
 judged_number (Err (Cli fault)) = fault_number fault
 judged_number (Err (Undecided n)) = pif.undecided
+judged_number (Err NoCall) = pif.undecided
 judged_number (Err (PosixAllows n)) = pif.differs
 
 -- what a job says of a reader and a writer: what the reader had and has left, what the writer held and holds, and how

@@ -53,7 +53,7 @@ fn judged_number(done: Result<(), JudgeFault>) -> u32
     match done {
         Ok(()) => WHOLE,
         Err(JudgeFault::Cli(fault)) => fault_number(fault),
-        Err(JudgeFault::Undecided(_)) => UNDECIDED,
+        Err(JudgeFault::Undecided(_)) | Err(JudgeFault::NoCall) => UNDECIDED,
         // POSIX isn't asked.
         Err(JudgeFault::PosixAllows(_)) => DIFFERS,
     }

@@ -14,6 +14,7 @@ use Rattle.pif_job_judge.specs.declared.faults.JudgeFault.{JudgeFault}
 use Rattle.pif_job_judge.specs.declared.faults.JudgeFault.TheVariants as judge
 use Rattle.pif_job_judge.specs.declared.forms.Form.{Form}
 use Rattle.pif_job_judge.specs.declared.forms.Form.TheVariants as form
+use Rattle.pif_job_judge.specs.Endings.{result_of}
 use Rattle.pif_job_judge.specs.Judging.{Judges, JudgesTo, front_of, heard_allowing}
 use Rattle.pif_job_judge.specs.Least.{JudgesLeast, JudgesLeastTo}
 use Rattle.pif_cli_words.specs.declared.jobs.Job.{Job}
@@ -50,7 +51,7 @@ module _ (text : List ℕ) (done : Done) (held holds : Option (List ℕ)) (resul
   judges-again plain shape r before after (Ok h) front reads judged =
       elim judged [
         | inl none ↦ inl (again-refused unwritten refused text done held holds result again none.0 none.1)
-        | inr told ↦ elim (again-text unwritten refused text done held holds result again _ told.1 told.3) [
+        | inr told ↦ elim (again-text unwritten refused text done held holds result again _ (result_of told.1) told.3) [
           | inl none ↦ inl none
           | inr written ↦ inr (told.0, told.1, told.2, written)
         ]
@@ -68,21 +69,21 @@ module _ (text : List ℕ) (done : Done) (held holds : Option (List ℕ)) (resul
   judges-again plain shape r before after (Err (fault.Differs line)) front reads judged = absurd reads
 
   -- what was told of the rules that it needs
-  least-again : (a : Rules) (before after : Option (List ℕ)) (front : List ℕ)
-      → JudgesLeastTo a before after (Some []) (Some text) front done → JudgesLeastTo a before after held holds front result
-  least-again a before after front judged = (judged.0, judged.1, by_history judged.0 judged.1 judged.2)
+  least-again : (plain : Bool) (a : Rules) (before after : Option (List ℕ)) (front : List ℕ)
+      → JudgesLeastTo plain a before after (Some []) (Some text) front done → JudgesLeastTo plain a before after held holds front result
+  least-again plain a before after front judged = (judged.0, judged.1, by_history judged.0 judged.1 judged.2)
     where
       by_history : (history : Result Heard CliFault) → ReadsHistory before after history
-          → JudgesLeast a history (Some []) (Some text) front done → JudgesLeast a history held holds front result
+          → JudgesLeast plain a history (Some []) (Some text) front done → JudgesLeast plain a history held holds front result
       by_history (Ok h) reads told =
           elim told [
             | inl none ↦ inl (again-refused unwritten refused text done held holds result again none.0 none.1)
-            | inr t ↦ elim (again-text unwritten refused text done held holds result again _ t.1 t.3) [
+            | inr t ↦ elim (again-text unwritten refused text done held holds result again _ (result_of t.1) t.3) [
               | inl none ↦ inl none
               | inr written ↦ inr (t.0, t.1, t.2, written)
             ]
           ]
-      by_history (Err f) reads told = judges-again true form.Text a before after (Err f) front reads told
+      by_history (Err f) reads told = judges-again plain form.Text a before after (Err f) front reads told
 
   -- either
   as-again : (asked : Judging) (name : Option (List ℕ)) (before after : Option (List ℕ))
@@ -90,11 +91,11 @@ module _ (text : List ℕ) (done : Done) (held holds : Option (List ℕ)) (resul
   as-again asked name before after = by_test asked.least
     where
       by_test : (b : Bool)
-          → MatchBool b (JudgesLeastTo asked.allowed before after (Some []) (Some text) (front_of name form.Text) done)
+          → MatchBool b (JudgesLeastTo asked.plain asked.allowed before after (Some []) (Some text) (front_of name form.Text) done)
           (JudgesTo asked.plain (form_of asked) asked.allowed before after (Some []) (Some text) (front_of name (form_of asked)) done)
-          → MatchBool b (JudgesLeastTo asked.allowed before after held holds (front_of name form.Text) result)
+          → MatchBool b (JudgesLeastTo asked.plain asked.allowed before after held holds (front_of name form.Text) result)
           (JudgesTo asked.plain (form_of asked) asked.allowed before after held holds (front_of name (form_of asked)) result)
-      by_test true judged = least-again asked.allowed before after (front_of name form.Text) judged
+      by_test true judged = least-again asked.plain asked.allowed before after (front_of name form.Text) judged
       by_test false judged = (
         judged.0,
         judged.1,
@@ -107,6 +108,7 @@ as-before (Ok x) end is e = cc
 as-before (Err (judge.Cli f)) end is e = cc
 as-before (Err (judge.Undecided line)) end is e = cc
 as-before (Err (judge.PosixAllows line)) end is e = cc
+as-before (Err judge.NoCall) end is e = cc
 
 -- what was judged of a history that is told under this name is written again
 pub written-again : (asked : Judging) (name : Text) (judged : Judged) (held holds : Option (List ℕ)) (result : Result (Unit {0}) JobFault)

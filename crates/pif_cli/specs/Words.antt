@@ -33,7 +33,7 @@ use Rattle.pif_cli_words.specs.declared.jobs.Job.{Job}
 use Rattle.pif_cli_words.specs.declared.jobs.Job.TheVariants.{Run, Replay, Trace, Migrate, Show, Picture, Draw, Shell, Check, Strict, Fill, FillSeveral, Judge, Explore, Random, Drive}
 use Rattle.pif_cli_words.specs.Words.{files_of, inputs_of, job_of, refusals_of, rewrites, standard_name}
 use Rattle.pif_cli_messages.specs.declared.statuses.JobFault.{JobFault}
-use Rattle.pif_cli_messages.specs.declared.statuses.JobFault.TheVariants.{Cli, NotOnCore, PosixAllows, Undecided}
+use Rattle.pif_cli_messages.specs.declared.statuses.JobFault.TheVariants.{Cli, NotOnCore, PosixAllows, Undecided, NoCall}
 use Rattle.pif_cli_messages.specs.Messages.{TellsLine, TellsOf}
 use Rattle.pif_cli.specs.Names.{shown_name}
 use Rattle.pif_cli.specs.Random.{WritesRandom}
@@ -59,6 +59,7 @@ as_judged (Ok x) = Ok x
 as_judged (Err (judge_fault.Cli e)) = Err (Cli e)
 as_judged (Err (judge_fault.Undecided line)) = Err (Undecided line)
 as_judged (Err (judge_fault.PosixAllows line)) = Err (PosixAllows line)
+as_judged (Err judge_fault.NoCall) = Err NoCall
 
 -- the form in which a verdict is told
 abbrev pub form_of : Judging → Form
@@ -69,7 +70,7 @@ form_of asked =
 abbrev pub JudgesAs : Judging → (name : Option (List ℕ)) → (before after held holds : Option (List ℕ))
     → Result (Unit {0}) JudgeFault → Type 0
 JudgesAs asked name before after held holds done =
-    MatchBool asked.least (JudgesLeastTo asked.allowed before after held holds (front_of name form.Text) done)
+    MatchBool asked.least (JudgesLeastTo asked.plain asked.allowed before after held holds (front_of name form.Text) done)
     (JudgesTo asked.plain (form_of asked) asked.allowed before after held holds (front_of name (form_of asked)) done)
 
 -- a history was judged that is told under this name if there are several

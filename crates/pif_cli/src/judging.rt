@@ -20,6 +20,7 @@ fn as_judged(done: Result<(), JudgeFault>) -> Result<(), JobFault>
         Err(JudgeFault::Cli(fault)) => Err(JobFault::Cli(fault)),
         Err(JudgeFault::Undecided(line)) => Err(JobFault::Undecided(line)),
         Err(JudgeFault::PosixAllows(line)) => Err(JobFault::PosixAllows(line)),
+        Err(JudgeFault::NoCall) => Err(JobFault::NoCall),
     }
 }
 

@@ -77,6 +77,9 @@ impl<'n, 's> Given<'n, 's> {
                 )
             }
             JobFault::NotOnCore(mutex) => off_core_message(self.name, mutex),
+            JobFault::NoCall => {
+                line_message(&self.place(1), "no call begins, so that nothing was judged")
+            }
         }
     }
 

@@ -19,18 +19,20 @@ pub enum JobFault {
     PosixAllows(u64),
     /// A program was to be played on the core, which has no mutex as this one: of PTHREAD_PRIO_NONE.
     NotOnCore(u32),
+    /// A history is legal and begins no call, so that nothing was judged.
+    NoCall,
 }
 
 /// The status of the program after this fault of a job: 6 if a thread could not be started, or the desk didn't settle, 7
-/// if a history was not decided, or not all states of a program were found, and 8 if POSIX allows what the machine doesn't.
-/// It is 2 for a program that the core can't play.
+/// if a history was not decided or begins no call, or not all states of a program were found, and 8 if POSIX allows what the
+/// machine doesn't. It is 2 for a program that the core can't play.
 pub fn job_fault_status(fault: JobFault) -> u8
     ensures { result ≡ job_fault_status fault }
 {
     match fault {
         JobFault::Cli(fault) => fault_status(fault),
         JobFault::Threads | JobFault::Unsettled => 6,
-        JobFault::Undecided(_) => 7,
+        JobFault::Undecided(_) | JobFault::NoCall => 7,
         JobFault::PosixAllows(_) => 8,
         JobFault::NotOnCore(_) => 2,
     }

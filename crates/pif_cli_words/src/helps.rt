@@ -384,8 +384,11 @@ Implementations do against POSIX: steal, own_errorcheck, any_consistent,
 lost_signal, revives. Those of the history and of each --allow hold together.
 
 For each history it prints:
-  legal N
-    some run of the POSIX machine, with the rules, shows its N lines
+  legal N, C calls
+    some run of the POSIX machine, with the rules, shows its N lines, which
+    begin C calls; ', but for 41: EPERM of consistent' if it has an answer that
+    no page of POSIX has; 'legal N, with no call' if none begins: nothing was
+    judged
   illegal at L: LINE
     no run shows the lines up to L; 'possible there: A ..' has the answers with
     which one does, and 'refused WORD' says why there is none, whatever was
@@ -397,35 +400,38 @@ For each history it prints:
     claim nothing of others
   fault L CAUSE
     line L is the first that is a fault
-Behind an illegal or undecided one a last line says what POSIX says, unless
---plain, --json, --html or --least is given. It is asked with 'posix' and with
-the rules that are allowed; it knows no mutexes without inheritance:
+Of an illegal or undecided one a line says what POSIX says, unless --plain is
+given. It is asked with 'posix' and with the rules that are allowed; it knows no
+mutexes without inheritance:
   POSIX allows it: RULE ..
     with these of its rules, and no fewer, some run shows the lines; or with
-    these, 'perhaps fewer'
+    these, 'perhaps fewer'; and 'but for 41: ..' as above
   POSIX forbids it from M
-    with all its rules no run shows the lines up to M
+    with all its rules no run shows the lines up to M; what is possible there is
+    told behind it
   POSIX: undecided
 With --json it prints an object for the verdict, and one for each line of a run
 with the moves before it: of a run that shows the history, or the lines before
-line L. With --html they stand in a page, which needs nothing from elsewhere: a
-lane for each thread, and a click on a step shows the state after it. A fault
-has no object and no page.
+line L. Behind them come what POSIX says, and both again with its rules. With
+--html they stand in a page, which needs nothing from elsewhere: a lane for each
+thread, and a click on a step shows the state after it. A fault has no object
+and no page.
 With --least it looks among the rules of --allow for the fewest with which the
-history is legal: 'legal N with steal spurious', or 'legal N' if it needs none.
-If it is illegal with all of them, that is told. If the search is given up for
-some rules, it prints 'undecided at L with' and these rules.
+history is legal, as 'legal N, C calls, with steal spurious'; it names none if
+none is needed. If it is illegal with all of them, that is told as without
+--least. If the search is given up for some rules, it prints 'undecided at L
+with' and these rules.
 Several files are judged side by side, by as many threads as there are
 processors, or as --jobs says. What is printed is the same, in their order.
 
 Example:
   printf 'thread 10\\nmutex normal\\nbegin t1 lock m1\\nanswer t1 0\\n' | pif judge
-prints 'legal 4'.
+prints 'legal 4, 1 call'.
 
 Status, of the first history that is not legal: 0 legal, 1 wrong words, 2 a
-fault, 3 a read or write failed, 4 out of memory, 5 illegal, 7 undecided, 8
-POSIX allows it. With a line of POSIX, 5 and 7 are what it says. Standard error
-says what went wrong, and in which line.";
+fault, 3 a read or write failed, 4 out of memory, 5 illegal, 7 undecided or no
+call, 8 POSIX allows it. With a line of POSIX, 5 and 7 are what it says.
+Standard error says what went wrong, and in which line.";
 
 /// What `explore` reads, and what it answers.
 pub const MORE_EXPLORE: &str =

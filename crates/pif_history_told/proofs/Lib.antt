@@ -3,6 +3,7 @@ mod StepLemmas
 mod WayLemmas
 pub mod Chosen
 mod TellingLemmas
+mod UnlistedLemmas
 mod Appending
 mod RunLemmas
 mod OpenCalls

@@ -88,11 +88,11 @@ first_of rules d some =
     drop_more rules 0 d (omega (arith, some)) ∙ ap (λ (rs : List Rule). get_or rules 0 d ∷ rs) (sym (take_rest rules 1))
 
 -- the line of a verdict, put together
-pub line_told : {T E : Type 0} (r : Result T E) (old one two new head number given names : List ℕ) → one ≡ old ++ head
-    → two ≡ one ++ number → given ≡ names → OnOk r (new ≡ two ++ with_names given)
-    → OnOk r (new ≡ old ++ (head ++ (number ++ with_names names)))
-line_told (Ok x) old one two new head number given names first second same e =
-    e ∙ (ap (λ (ys : List ℕ). two ++ with_names ys) same
-    ∙ (ap (λ (ys : List ℕ). ys ++ with_names names) (second ∙ ap (λ (ys : List ℕ). ys ++ number) first)
-    ∙ (append_assoc (old ++ head) number (with_names names) ∙ append_assoc old head (number ++ with_names names))))
-line_told (Err f) old one two new head number given names first second same e = tt
+pub line_told : {T E : Type 0} (r : Result T E) (old one two new head number word given names : List ℕ) → one ≡ old ++ head
+    → two ≡ one ++ number → given ≡ names → OnOk r (new ≡ two ++ with_names word given)
+    → OnOk r (new ≡ old ++ (head ++ (number ++ with_names word names)))
+line_told (Ok x) old one two new head number word given names first second same e =
+    e ∙ (ap (λ (ys : List ℕ). two ++ with_names word ys) same
+    ∙ (ap (λ (ys : List ℕ). ys ++ with_names word names) (second ∙ ap (λ (ys : List ℕ). ys ++ number) first)
+    ∙ (append_assoc (old ++ head) number (with_names word names) ∙ append_assoc old head (number ++ with_names word names))))
+line_told (Err f) old one two new head number word given names first second same e = tt

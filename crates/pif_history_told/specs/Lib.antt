@@ -9,3 +9,4 @@ pub mod Pages
 pub mod Runs
 pub mod Verdicts
 pub mod WhyTexts
+pub mod Unlisted

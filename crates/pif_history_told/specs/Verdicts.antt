@@ -1,11 +1,14 @@
 -- Verdicts on histories, as lines of JSON.
-use Rattle.std.specs.Prelude.{ℕ, List, [], ◌∷◌, ◌++◌, Option, Some, None, flat_map, codes, decimal}
+use Rattle.std.specs.Prelude.{ℕ, ◌-◌, List, [], ◌∷◌, ◌++◌, Option, Some, None, get_or, flat_map, codes, decimal}
 use Rattle.std.specs.Global.{Vec}
 use Rattle.pif_history_model.specs.declared.lines.Line.{Line}
 use Rattle.pif_history_model.specs.declared.lines.Line.TheVariants.{Begin}
 use Rattle.pif_history_text.specs.Texts.{line_text}
 use Rattle.pif_history_text.specs.Verdicts.{line_refusal_word}
 use Rattle.pif_text.specs.Json.{quoted}
+use Rattle.pif_text_model.specs.Errors.{error_of}
+use Rattle.pif_history_told.specs.declared.unlisted.Unlisted.{Unlisted}
+use Rattle.pif_history_told.specs.Texts.{call_word, error_word}
 use Rattle.pif_history_told.specs.declared.verdicts.Began.{Began}
 use Rattle.pif_history_told.specs.declared.verdicts.Known.{Known}
 use Rattle.pif_history_told.specs.declared.verdicts.Unfound.{Unfound}
@@ -19,9 +22,20 @@ left_out_member lines = codes ",\"left_out\":" ++ decimal lines
 abbrev pub at_number : (head : List ℕ) → (number left_out : ℕ) → List ℕ
 at_number head number left_out = head ++ decimal number ++ left_out_member left_out
 
--- A history of so many lines is legal.
-abbrev pub legal_object : (lines left_out : ℕ) → List ℕ
-legal_object lines left_out = at_number (codes "{\"verdict\":\"legal\",\"lines\":") lines left_out ++ codes "}\n"
+-- The line of an answer that no page has, and the answer and the word of its call, as a member, if there is one. The lines
+-- have these numbers in the text.
+unfoldable pub but_for_member : (numbers : List ℕ) → Option Unlisted → List ℕ
+but_for_member numbers None = []
+but_for_member numbers (Some x) =
+    codes ",\"but_for\":{\"line\":" ++ decimal (get_or numbers (x.line - 1) 0) ++ codes ",\"answer\":"
+    ++ quoted (error_word (error_of x.answer)) ++ codes ",\"call\":" ++ quoted (call_word x.request) ++ codes "}"
+
+-- A history of so many lines, which begin so many calls, is legal, by a run with this answer that no page has, if it has
+-- one.
+abbrev pub legal_object : (lines calls left_out : ℕ) → (numbers : List ℕ) → Option Unlisted → List ℕ
+legal_object lines calls left_out numbers found =
+    (codes "{\"verdict\":\"legal\",\"lines\":" ++ decimal lines ++ at_number (codes ",\"calls\":") calls left_out)
+    ++ but_for_member numbers found ++ codes "}\n"
 
 -- A line of the history, behind its number.
 abbrev pub at_line : (number : ℕ) → Line → List ℕ

@@ -15,6 +15,7 @@
 //! | `changes` | what a step changes of them |
 //! | `run_lines` | a run step by step, as lines of JSON |
 //! | `runs` | a whole run, by the labels of its steps |
+//! | `unlisted` | answers that no page of POSIX has |
 //!
 //! | Module | What it has of a verdict |
 //! |---|---|
@@ -43,6 +44,7 @@ mod sets;
 mod state_objects;
 mod telling;
 mod texts;
+mod unlisted;
 mod verdicts;
 mod ways;
 
@@ -51,6 +53,10 @@ pub use pages::{PAGE_LINES, append_page, first_shown};
 pub use places::{line_at, number_at, unfound_of};
 pub use runs::run_text;
 pub use sets::{added, sets_of_size};
-pub use telling::{began_before, tell_legal, tell_unfound, tell_why};
-pub use texts::{push_legal_with, push_needed, push_undecided_with};
+pub use telling::{began_before, tell_unfound, tell_why};
+pub use texts::{
+    calls_in, push_but_for, push_legal_with, push_needed, push_undecided_with, rule_names,
+    tell_legal,
+};
+pub use unlisted::{Unlisted, first_unlisted};
 pub use verdicts::{Began, Known, Unfound, append_illegal, append_legal, append_undecided};

@@ -4,7 +4,10 @@ pub const SCRIPT: &str = r#"</script>
 'use strict';
 const LANE = 46, TOP = 34;
 const at = id => document.getElementById(id);
-const [verdict, ...lines] = at('lines').textContent.split('\n').filter(Boolean).map(line => JSON.parse(line));
+const objects = at('lines').textContent.split('\n').filter(Boolean).map(line => JSON.parse(line));
+// What POSIX says of a history that isn't legal, if it was asked; behind it come a verdict and a run with its rules.
+const asked = objects.findIndex(one => 'posix' in one), posix = objects[asked];
+const first = objects[0], [verdict, ...lines] = objects.slice(asked + 1);
 const view = at('view'), track = at('track'), svg = track.querySelector('svg');
 
 // A state: its threads, mutexes and condition variables by their names. A whole one takes the place of all.
@@ -285,19 +288,33 @@ function go(by) {
 
 // THE VERDICT
 
-function tell() {
-  const says = {legal: () => 'legal: a run shows all lines', illegal: () => 'illegal at ' + verdict.line + ': ' + verdict.text,
-    undecided: () => 'undecided at ' + verdict.line + ': too many states, or the time was over'};
-  at('verdict').textContent = says[verdict.verdict]();
-  at('verdict').className = verdict.verdict;
-  const why = [];
+function whyOf(verdict) {
+  const why = [], but = verdict.but_for;
+  if (but) why.push('but for ' + but.line + ': ' + but.answer + ' of ' + but.call + ', which no page of POSIX has');
   if (verdict.refused) why.push('refused ' + verdict.refused + ', whatever was answered');
   if (verdict.possible) why.push('possible there: ' + (verdict.possible.join(' ') || 'none'));
   if (verdict.possible === null) why.push('possible there: undecided');
   if (verdict.began) why.push('its call began at ' + verdict.began.line + ': ' + verdict.began.text);
   if (verdict.no_witness_from) why.push('no witness found from ' + verdict.no_witness_from + ' on');
   if (verdict.found) why.push('found there: ' + (verdict.found.join(' ') || 'none'));
-  if (verdict.verdict !== 'legal') why.push('The run shows the lines before it.');
+  return why;
+}
+function posixWords() {
+  const beside = word => posix.with ? word + posix.with : '';
+  if (posix.posix === 'forbids') return 'POSIX' + beside(' and ') + (posix.with ? ' forbid' : ' forbids') + ' it from ' + posix.line;
+  if (posix.posix === 'undecided') return 'POSIX' + beside(' and ') + ': undecided';
+  return 'POSIX allows it' + beside(' with ') + (posix.rules ? ': ' + posix.rules : '') + (posix.least ? '' : ', perhaps fewer');
+}
+function tell() {
+  const calls = {0: 'with no call', 1: '1 call'}[first.calls] || first.calls + ' calls';
+  const says = {legal: () => 'legal, ' + calls + ': a run shows all lines', illegal: () => 'illegal at ' + first.line + ': ' + first.text,
+    undecided: () => 'undecided at ' + first.line + ': too many states, or the time was over'};
+  at('verdict').textContent = says[first.verdict]();
+  at('verdict').className = first.verdict;
+  const isForbidden = posix && posix.posix === 'forbids';
+  const why = posix ? [...(isForbidden ? [] : whyOf(first)), posixWords(), ...whyOf(verdict)] : whyOf(verdict);
+  if (verdict.verdict !== 'legal') why.push('The run shows the lines before ' + verdict.line + '.');
+  else if (posix) why.push('The run shows all lines, by these rules.');
   if (verdict.left_out) why.push('The first ' + verdict.left_out + ' lines of the history are left out.');
   at('why').replaceChildren(...why.map(text => Object.assign(document.createElement('p'), {textContent: text})));
   at('switch').hidden = verdict.verdict !== 'illegal';

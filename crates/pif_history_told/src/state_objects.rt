@@ -111,7 +111,7 @@ pub fn is_mutex_changed(from: &State, to: &State, mutex: usize) -> bool
 }
 
 /// The mutex to which a condition variable is bound; 0 if it was not added.
-fn bound(state: &State, cond: usize) -> u32
+pub fn bound(state: &State, cond: usize) -> u32
     ensures { result ≡ (variable_at state.now cond).mutex }
 {
     if cond < state.variable_count() {

@@ -2,7 +2,6 @@
 ghost use Rattle.std.specs.Prelude.{◌≡◌, ◌≤◌, ◌++◌, OnOk, Some, vec_len};
 ghost use Rattle.pif_history_model.specs.Lines.{thread_of};
 ghost use Rattle.pif_history_text.specs.Reading.{IsPaired, heard_of};
-ghost use Rattle.pif_history_text.specs.Verdicts.{legal_line};
 ghost use Rattle.pif_history_told.specs.Why.{open_of, said_of};
 ghost use Rattle.pif_history_told.specs.WhyTexts.{began_text, known_text, unfound_line, unfound_text, why_text};
 
@@ -10,8 +9,7 @@ use crate::verdicts::{Began, Known, Unfound};
 use pif_history_machine::thread_of;
 use pif_history_model::Line;
 use pif_history_text::{
-    History, push_began, push_found, push_legal, push_possible, push_possible_undecided,
-    push_refused,
+    History, push_began, push_found, push_possible, push_possible_undecided, push_refused,
 };
 use pif_text::{Text, append_number};
 use pif_types::{Request, Tid};
@@ -111,18 +109,6 @@ pub fn tell_why(known: &Known, began: Option<Began>, out: &mut Vec<u8>) -> Resul
         }
         Known::Nothing => tell_began(began, out),
     }
-}
-
-/// Appends the line of a legal history, and what stands behind it.
-///
-/// # Errors
-///
-/// Out of memory.
-pub fn tell_legal(lines: u32, witness: &[u8], out: &mut Vec<u8>) -> Result<(), AllocError>
-    ensures { OnOk result (out.new.items ≡ out.old.items ++ (legal_line lines ++ witness.now)) }
-{
-    push_legal(out, lines)?;
-    out.extend_from_slice(witness)
 }
 
 /// Appends the line that says from the line of which number on no run was found.

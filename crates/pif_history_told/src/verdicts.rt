@@ -1,9 +1,12 @@
 //! Verdicts as lines of JSON. Each is appended to `out`; if out of memory, a part of it may be.
 ghost use Rattle.std.specs.Prelude.{◌≡◌, ◌++◌, OnOk, codes, decimal, flat_map};
-ghost use Rattle.pif_history_told.specs.Verdicts.{began_member, found_member, illegal_object, known_member, legal_object, numbers_text, undecided_object};
+ghost use Rattle.pif_history_told.specs.Verdicts.{began_member, but_for_member, found_member, illegal_object, known_member, legal_object, numbers_text, undecided_object};
 
+use crate::texts::{call_word, error_word};
+use crate::unlisted::Unlisted;
 use pif_history_model::{Line, LineRefusal};
 use pif_history_text::{line_text, refusal_word};
+use pif_search::at_or;
 use pif_text::{Member, Text, append_decimal, append_members, append_object};
 use pif_types::{Request, Tid};
 use std::alloc::AllocError;
@@ -145,23 +148,57 @@ pub fn append_illegal(
     out.extend_from_slice(b"}\n")
 }
 
-/// Appends the verdict on a legal history of so many lines, of which so many are left out behind it.
+/// Appends the line of an answer that no page has, the answer, and the word of its call, as a member, if there is one.
+#[tactic(auto, unfolding(crate::specs::Verdicts::but_for_member))]
+fn append_but_for(
+    numbers: &[u32],
+    found: Option<Unlisted>,
+    out: &mut Vec<u8>,
+) -> Result<(), AllocError>
+    ensures { OnOk result (out.new.items ≡ out.old.items ++ but_for_member numbers.now found) }
+{
+    let Some(it) = found else {
+        return Ok(());
+    };
+    out.extend_from_slice(b",\"but_for\":")?;
+    append_object(
+        out,
+        &[
+            Member::Number("line", at_or(numbers, it.line.saturating_sub(1), 0)),
+            Member::Quoted("answer", error_word(it.answer)),
+            Member::Quoted("call", call_word(&it.request)),
+        ],
+    )
+}
+
+/// Appends the verdict on a legal history of so many lines and calls, with the answer that no page has, if its run has
+/// one. So many lines are left out behind it. The lines have these numbers in the text.
 ///
 /// # Errors
 ///
 /// Out of memory.
-pub fn append_legal(lines: u32, left_out: u32, out: &mut Vec<u8>) -> Result<(), AllocError>
-    ensures { OnOk result (out.new.items ≡ out.old.items ++ legal_object lines left_out) }
+pub fn append_legal(
+    lines: u32,
+    calls: u32,
+    left_out: u32,
+    numbers: &[u32],
+    found: Option<Unlisted>,
+    out: &mut Vec<u8>,
+) -> Result<(), AllocError>
+    ensures { OnOk result (out.new.items ≡ out.old.items ++ legal_object lines calls left_out numbers.now found) }
 {
-    append_object(
+    append_members(
         out,
+        b'{',
         &[
             Member::Quoted("verdict", b"legal"),
             Member::Number("lines", lines),
+            Member::Number("calls", calls),
             Member::Number("left_out", left_out),
         ],
     )?;
-    out.extend_from_slice(b"\n")
+    append_but_for(numbers, found, out)?;
+    out.extend_from_slice(b"}\n")
 }
 
 /// Appends with which numbers, in place of an answer or a priority, a search found a run, as a member, if it looked.

@@ -1,58 +1,82 @@
 -- What is told of a history, put together.
 use Rattle.std.proofs.Common.{◌≡◌, ℕ, ◌-◌, ◌⊎◌, Bool, false, true, inl, inr, List, [], ◌++◌, Vec, Global, Option, None, Some, IfSome, take, sym, Result, Ok, Err, IfOk, refl, ap, ◌∙◌, subst, append_assoc}
 use Rattle.std.specs.Prelude.{slice_get}
-use Rattle.pif_script_model.specs.declared.faults.CliFault.{CliFault}
-use Rattle.pif_script_model.specs.declared.faults.CliFault.TheVariants.{Differs}
+use Rattle.std.proofs.lemmas.Option.{same_Some}
 use Rattle.pif_types.specs.Bounds.{Bounds}
+use Rattle.pif_history_model.specs.declared.labels.Label.{Label}
 use Rattle.pif_history_model.specs.declared.lines.Line.{Line}
 use Rattle.pif_history_model.specs.declared.lines.Line.TheVariants.{Answer, Prio}
 use Rattle.pif_history_model.specs.declared.refusals.LineRefusal.{LineRefusal}
 use Rattle.pif_history_model.specs.Lines.{thread_of}
 use Rattle.pif_history_model.specs.Verdicts.{ArePossibleAnswers, ArePossiblePriorities}
 use Rattle.pif_history_machine.specs.declared.verdicts.Verdict.{Verdict}
-use Rattle.pif_history_machine.specs.declared.verdicts.Verdict.TheVariants.{Illegal, Undecided}
+use Rattle.pif_history_machine.specs.declared.verdicts.Verdict.TheVariants.{Illegal, Legal, Undecided}
 use Rattle.pif_history_machine.specs.Verdicts.{IsVerdictOf, IsRefusalThere}
 use Rattle.pif_history_text.specs.Histories.{Heard, limits_of}
-use Rattle.pif_history_text.specs.Verdicts.{illegal_line, legal_line, undecided_line}
+use Rattle.pif_history_text.specs.Verdicts.{illegal_line, undecided_line}
+use Rattle.pif_history_told.specs.Unlisted.{IsFirstUnlisted}
 use Rattle.pif_history_told.specs.Pages.{IsPageOf}
 use Rattle.pif_history_told.specs.declared.verdicts.Began.{Began}
 use Rattle.pif_history_told.specs.declared.verdicts.Known.{Known}
 use Rattle.pif_history_told.specs.declared.verdicts.Known.TheVariants.{Numbers}
 use Rattle.pif_history_told.specs.declared.verdicts.Unfound.{Unfound}
+use Rattle.pif_search.specs.declared.machine.Stop.{Stop}
+use Rattle.pif_job_judge.specs.declared.faults.Ended.{Ended}
+use Rattle.pif_job_judge.specs.declared.faults.Ended.TheVariants as ended
 use Rattle.pif_job_judge.specs.declared.faults.JudgeFault.{JudgeFault}
-use Rattle.pif_job_judge.specs.declared.faults.JudgeFault.TheVariants as fault
+use Rattle.pif_job_judge.specs.Endings.{result_of}
 use Rattle.pif_job_judge.specs.declared.forms.Form.{Form}
 use Rattle.pif_job_judge.specs.declared.forms.Form.TheVariants.{Text, Witness, Json, Page}
 use Rattle.pif_job_judge.specs.Judging.{AppendsAll, AppendsTold, Judges, WritesText, asks}
 use Rattle.pif_job_judge.specs.Judging.TellsAll.{asked as posix_asked, verdict as verdict_alone}
-use Rattle.pif_job_judge.specs.Posix.{AppendsPosix}
+use Rattle.pif_job_judge.specs.Asked.{AppendsAsked, AppendsBrief, AppendsWhy, is_legal}
+use Rattle.pif_job_judge.specs.Asked.IsBrief.{illegal as illegal_alone, undecided as undecided_alone}
 use Rattle.pif_history_told.specs.WhyTexts.{unfound_text, why_text}
-use Rattle.pif_job_judge.specs.Lines.{AppendsLines, TellsIllegal, TellsUndecided, TellsVerdict}
+use Rattle.pif_job_judge.specs.Lines.{AppendsLines, HasUnlisted, TellsIllegal, TellsIllegalLine, TellsLegal, TellsRun, TellsUndecided, TellsVerdict, TellsWhy}
 use Rattle.pif_job_judge.specs.Lines.IsTold.{legal, illegal, undecided}
 use Rattle.pif_job_judge.specs.Objects.{AppendsObjects, AreObjects}
 use Rattle.pif_history_told.specs.Why.{ArePossible, IsKnown, IsNumbered, IsUnfound, has_number, open_of}
 
+-- what follows of the result of a call that ended well
+pub if_ok : {T E : Type 0} (r : Result T E) (P Q : T → Type 0) → ((x : T) → P x → Q x) → IfOk r P → IfOk r Q
+if_ok (Ok x) P Q f holds = f x holds
+if_ok (Err e) P Q f holds = tt
+
+-- what is known of an illegal line
+pub tells_why : (h : Heard) (n : ℕ) (old new : List ℕ) (line : Line) (known : Known) (began : Option Began)
+    → slice_get h.shown (n - 1) ≡ Some line → IsKnown h (n - 1) line known → began ≡ open_of (thread_of line) h (n - 1)
+    → new ≡ old ++ why_text known began → AppendsWhy h n old new
+tells_why h n old new line known began there is began_is grown =
+    (why_text known began, (line, there, (known, is, ap (λ (o : Option Began). why_text known o) began_is)), grown)
+
 -- the lines of an illegal history
-pub tells_illegal : (h : Heard) (n : ℕ) (old mid new : List ℕ) (number : ℕ) (line : Line) (known : Known)
-    (began : Option Began) → slice_get h.shown (n - 1) ≡ Some line → IsNumbered h n number → IsKnown h (n - 1) line known
-    → began ≡ open_of (thread_of line) h (n - 1) → mid ≡ old ++ illegal_line number line → new ≡ mid ++ why_text known began
-    → TellsIllegal h n old new (fault.Cli (Differs number))
-tells_illegal h n old mid new number line known began there numbered is began_is first second =
-    let why = why_text known began in (
-      number,
-      line,
-      why,
-      there,
-      numbered,
-      (known, is, ap (λ (o : Option Began). why_text known o) began_is),
-      second ∙ ap (λ (l : List ℕ). l ++ why) first ∙ append_assoc old (illegal_line number line) why,
-      refl,
+pub tells_illegal : (h : Heard) (n : ℕ) (old mid new : List ℕ) (end : Ended) → TellsIllegalLine h n old mid end
+    → AppendsWhy h n mid new → TellsIllegal h n old new end
+tells_illegal h n old mid new end t w =
+    let same : w.1.0 ≡ t.1 = same_Some w.1.0 t.1 (sym w.1.1 ∙ t.2) in (
+      t.0,
+      t.1,
+      w.0,
+      t.2,
+      t.3,
+      subst (λ (line : Line). TellsWhy h (n - 1) line w.0) same w.1.2,
+      w.2 ∙ ap (λ (l : List ℕ). l ++ w.0) t.4 ∙ append_assoc old (illegal_line t.0 t.1) w.0,
+      t.5,
     )
+
+-- the verdict alone
+pub brief_illegal : (h : Heard) (n : ℕ) (old new : List ℕ) (end : Ended) → IsVerdictOf h.allowed (limits_of h) h.shown (Illegal n)
+    → TellsIllegalLine h n old new end → AppendsBrief h end old new
+brief_illegal h n old new end is t = (_, illegal_alone n t.0 t.1 is t.2 t.3 refl t.5, t.4)
+
+pub brief_undecided : (h : Heard) (n : ℕ) (old new : List ℕ) (end : Ended) → IsVerdictOf h.allowed (limits_of h) h.shown (Undecided n)
+    → TellsUndecided h n old new end → AppendsBrief h end old new
+brief_undecided h n old new end is t = (_, undecided_alone n t.0 t.1 is t.2 t.3 refl t.5, t.4)
 
 -- the lines of one that was given up
 pub tells_undecided : (h : Heard) (n : ℕ) (old mid new : List ℕ) (number : ℕ) (unfound : Unfound) → IsNumbered h n number
     → IsUnfound h n unfound → mid ≡ old ++ undecided_line number → new ≡ mid ++ unfound_text unfound
-    → TellsUndecided h n old new (fault.Undecided number)
+    → TellsUndecided h n old new (ended.Undecided number)
 tells_undecided h n old mid new number unfound numbered there first second = (
   number,
   unfound,
@@ -63,23 +87,32 @@ tells_undecided h n old mid new number unfound numbered there first second = (
 )
 
 -- a history of each verdict
-pub told_legal : (form : Form) (h : Heard) (v : Verdict) (witness old new : List ℕ) → IsVerdictOf h.allowed (limits_of h) h.shown v
-    → TellsVerdict form h.allowed (limits_of h) v witness → new ≡ old ++ (legal_line h.count ++ witness)
-    → AppendsLines form h (Ok tt) old new
-told_legal form h v witness old new is told e = (_, legal v witness is told refl refl, e)
+pub told_legal : (form : Form) (h : Heard) (v : Verdict) (run : Vec Label Global) (given : List Label) (old new : List ℕ)
+    → given ≡ run.items → v ≡ Legal run → IsVerdictOf h.allowed (limits_of h) h.shown v → (end : Ended)
+    → TellsLegal form h given old new end → AppendsLines form h end old new
+told_legal form h v run given old new same is by end t =
+    let told = subst (λ (ls : List Label). TellsRun form h.allowed (limits_of h) ls t.0) same t.2 in
+    let first = subst (λ (ls : List Label). IsFirstUnlisted h.allowed (limits_of h) ls t.1) same t.3 in (
+      _,
+      legal v t.0 t.1 by (subst (λ (x : Verdict). TellsVerdict form h.allowed (limits_of h) x t.0) (sym is) told)
+          (subst (λ (x : Verdict). HasUnlisted h.allowed (limits_of h) x t.1) (sym is) first) refl t.5,
+      t.4,
+    )
 
-pub told_illegal : (form : Form) (h : Heard) (n : ℕ) (old new : List ℕ) (end : JudgeFault)
-    → IsVerdictOf h.allowed (limits_of h) h.shown (Illegal n) → TellsIllegal h n old new end → AppendsLines form h (Err end) old new
-told_illegal form h n old new end is t =
-    (_, illegal n t.0 t.1 t.2 is t.3 t.4 t.5 refl (ap (λ (e : JudgeFault). Err e) t.7), t.6)
+pub told_illegal : (form : Form) (h : Heard) (n : ℕ) (old new : List ℕ)
+    → IsVerdictOf h.allowed (limits_of h) h.shown (Illegal n) → (end : Ended) → TellsIllegal h n old new end
+    → AppendsLines form h end old new
+told_illegal form h n old new is end t =
+    (_, illegal n t.0 t.1 t.2 is t.3 t.4 t.5 refl t.7, t.6)
 
-pub told_undecided : (form : Form) (h : Heard) (n : ℕ) (old new : List ℕ) (end : JudgeFault)
-    → IsVerdictOf h.allowed (limits_of h) h.shown (Undecided n) → TellsUndecided h n old new end → AppendsLines form h (Err end) old new
-told_undecided form h n old new end is t =
-    (_, undecided n t.0 t.1 is t.2 t.3 refl (ap (λ (e : JudgeFault). Err e) t.5), t.4)
+pub told_undecided : (form : Form) (h : Heard) (n : ℕ) (old new : List ℕ)
+    → IsVerdictOf h.allowed (limits_of h) h.shown (Undecided n) → (end : Ended) → TellsUndecided h n old new end
+    → AppendsLines form h end old new
+told_undecided form h n old new is end t =
+    (_, undecided n t.0 t.1 is t.2 t.3 refl t.5, t.4)
 
 -- what is told in each form
-pub lines_told : (form : Form) (h : Heard) (r : Result (Result (Unit {0}) JudgeFault) CliFault) (old new : List ℕ)
+pub lines_told : (form : Form) (h : Heard) (r : Result Ended Stop) (old new : List ℕ)
     → (form ≡ Text) ⊎ (form ≡ Witness) → IfOk r (λ end. AppendsLines form h end old new)
     → IfOk r (λ end. AppendsTold form h end old new)
 lines_told form h r old new (inl e) told =
@@ -89,13 +122,13 @@ lines_told form h r old new (inr e) told =
     subst (λ (f : Form). IfOk r (λ end. AppendsTold f h end old new)) (sym e)
     (subst (λ (f : Form). IfOk r (λ end. AppendsLines f h end old new)) e told)
 
-pub objects_told : (form : Form) (h : Heard) (r : Result (Result (Unit {0}) JudgeFault) CliFault) (old new : List ℕ)
+pub objects_told : (form : Form) (h : Heard) (r : Result Ended Stop) (old new : List ℕ)
     → form ≡ Json → IfOk r (λ end. AppendsObjects form h end old new) → IfOk r (λ end. AppendsTold form h end old new)
 objects_told form h r old new e told =
     subst (λ (f : Form). IfOk r (λ end. AppendsTold f h end old new)) (sym e)
     (subst (λ (f : Form). IfOk r (λ end. AppendsObjects f h end old new)) e told)
 
-pub page_told : (form : Form) (h : Heard) (end : Result (Unit {0}) JudgeFault) (start lines slice old new : List ℕ)
+pub page_told : (form : Form) (h : Heard) (end : Ended) (start lines slice old new : List ℕ)
     → form ≡ Page → start ≡ [] → slice ≡ lines → AppendsObjects form h end start lines → IsPageOf slice old new
     → AppendsTold form h end old new
 page_told form h end start lines slice old new page empty same told framed =
@@ -108,34 +141,31 @@ page_told form h end start lines slice old new page empty same told framed =
 
 -- what is told of a history was written, behind its front
 pub judged : (plain : Bool) (form : Form) (h : Heard) (held holds : Option (List ℕ)) (front old new : List ℕ)
-    (end result : Result (Unit {0}) JudgeFault) → old ≡ front → AppendsAll plain form h end old new
-    → WritesText held holds new end result → Judges plain form (Ok h) held holds front result
-judged plain form h held holds front old new end result e told w =
+    (end : Ended) (given result : Result (Unit {0}) JudgeFault) → old ≡ front → AppendsAll plain form h end old new
+    → given ≡ result_of end → WritesText held holds new given result → Judges plain form (Ok h) held holds front result
+judged plain form h held holds front old new end given result e told is w =
     inr (
       told.0,
       end,
       told.1,
-      subst (λ (l : List ℕ). WritesText held holds l end result)
-          (told.2 ∙ ap (λ (l : List ℕ). l ++ told.0) e) w,
+      subst (λ (l : List ℕ). WritesText held holds l (result_of end) result)
+          (told.2 ∙ ap (λ (l : List ℕ). l ++ told.0) e)
+          (subst (λ (x : Result (Unit {0}) JudgeFault). WritesText held holds new x result) is w),
     )
 
--- the verdict alone: of a legal history, or if POSIX isn't asked; and with what POSIX says
-pub legal_alone : (plain : Bool) (form : Form) (h : Heard) (old new : List ℕ) → AppendsTold form h (Ok tt) old new
-    → AppendsAll plain form h (Ok tt) old new
-legal_alone plain form h old new told = (told.0, verdict_alone told.1 (inr refl), told.2)
+-- the verdict alone, or with what POSIX says
+pub told_alone : (plain : Bool) (form : Form) (h : Heard) (v : Verdict) (old new : List ℕ) → IsVerdictOf h.allowed (limits_of h) h.shown v
+    → asks plain (is_legal v) ≡ false → (end : Ended) → AppendsTold form h end old new → AppendsAll plain form h end old new
+told_alone plain form h v old new is unasked end told = (told.0, verdict_alone told.1 (v, is, unasked), told.2)
 
-pub not_asked : (plain : Bool) (form : Form) (h : Heard) (fault : JudgeFault) (old new : List ℕ) → asks plain form ≡ false
-    → AppendsTold form h (Err fault) old new → AppendsAll plain form h (Err fault) old new
-not_asked plain form h fault old new none told = (told.0, verdict_alone told.1 (inl none), told.2)
+pub told_asked : (plain : Bool) (form : Form) (h : Heard) (v : Verdict) (old new : List ℕ) → IsVerdictOf h.allowed (limits_of h) h.shown v
+    → asks plain (is_legal v) ≡ true → (end : Ended) → AppendsAsked form h end old new → AppendsAll plain form h end old new
+told_asked plain form h v old new is wanted end told = (told.0, posix_asked told.1 (v, is, wanted), told.2)
 
-pub posix_told : (plain : Bool) (form : Form) (h : Heard) (fault said : JudgeFault) (old mid new : List ℕ)
-    → asks plain form ≡ true → AppendsTold form h (Err fault) old mid → AppendsPosix h fault said mid new
-    → AppendsAll plain form h (Err said) old new
-posix_told plain form h fault said old mid new asks_it told more = (
-  told.0 ++ more.0,
-  posix_asked told.0 more.0 fault said asks_it told.1 more.1 refl refl,
-  more.2 ∙ (ap (λ (l : List ℕ). l ++ more.0) told.2 ∙ append_assoc old told.0 more.0),
-)
+pub asked_wrong : (plain legal : Bool) → asks plain legal ≡ true → legal ≡ false
+asked_wrong true b e = absurd (cc)
+asked_wrong false true e = absurd (cc)
+asked_wrong false false e = refl
 
 -- bytes that grew four times
 pub grown_by_four : (old a b c d one two three four : List ℕ) → one ≡ old ++ a → two ≡ one ++ b → three ≡ two ++ c

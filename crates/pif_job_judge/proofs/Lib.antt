@@ -1,3 +1,4 @@
+mod AskedLemmas
 mod JudgingLemmas
 mod LeastLemmas
 mod ObjectLemmas

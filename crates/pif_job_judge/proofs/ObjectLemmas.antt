@@ -2,7 +2,6 @@
 use Rattle.std.proofs.Common.{◌≡◌, ◌∙◌, ℕ, ◌-◌, inl, inr, List, [], ◌++◌, Option, Some, length, take, Result, Ok, Err, OnOk, refl, sym, ap, subst, append_assoc}
 use Rattle.std.specs.Prelude.{slice_get}
 use Rattle.std.proofs.lemmas.List.{append-nil}
-use Rattle.pif_script_model.specs.declared.faults.CliFault.TheVariants.{Differs}
 use Rattle.pif_types.specs.Bounds.{Bounds}
 use Rattle.pif_history_model.specs.declared.labels.Label.{Label}
 use Rattle.pif_history_model.specs.declared.lines.Line.{Line}
@@ -12,12 +11,17 @@ use Rattle.pif_history_machine.specs.declared.verdicts.Verdict.{Verdict}
 use Rattle.pif_history_machine.specs.declared.verdicts.Verdict.TheVariants.{Illegal, Undecided}
 use Rattle.pif_history_machine.specs.Verdicts.{IsVerdictOf}
 use Rattle.pif_history_text.specs.Histories.{Heard, limits_of}
+use Rattle.pif_history_told.specs.declared.unlisted.Unlisted.{Unlisted}
+use Rattle.pif_history_told.specs.Unlisted.{IsFirstUnlisted}
 use Rattle.pif_history_told.specs.declared.verdicts.Began.{Began}
 use Rattle.pif_history_told.specs.declared.verdicts.Known.{Known}
 use Rattle.pif_history_told.specs.declared.verdicts.Unfound.{Unfound}
+use Rattle.pif_history_told.specs.Texts.{calls_in}
 use Rattle.pif_history_told.specs.Verdicts.{illegal_object, legal_object, undecided_object}
 use Rattle.pif_job_judge.specs.declared.forms.Form.{Form}
-use Rattle.pif_job_judge.specs.declared.faults.JudgeFault.TheVariants as fault
+use Rattle.pif_job_judge.specs.declared.faults.Ended.{Ended}
+use Rattle.pif_job_judge.specs.declared.faults.Ended.TheVariants as ended
+use Rattle.pif_job_judge.specs.Endings.{legal_end}
 use Rattle.pif_job_judge.specs.Objects.{AppendsBefore, AppendsObjects, AppendsSteps, HasNoWitness, began_with, left_out_of}
 use Rattle.pif_job_judge.specs.Objects.AreObjects.{legal, illegal, undecided}
 use Rattle.pif_history_told.specs.Why.{IsKnown, IsNumbered, IsUnfound, open_of}
@@ -59,16 +63,23 @@ both old mid new one two first second =
     second ∙ ap (λ (l : List ℕ). l ++ two) first ∙ append_assoc old one two
 
 -- a history of each verdict
-pub legal_told : (form : Form) (h : Heard) (labels : List Label) (left n : ℕ) (old mid new : List ℕ)
-    → left ≡ left_out_of form (length h.shown) → n ≡ left → IsLegal h.allowed (limits_of h) h.shown labels
-    → mid ≡ old ++ legal_object h.count n → AppendsSteps h left labels mid new → AppendsObjects form h (Ok tt) old new
-legal_told form h labels left n old mid new out written by first told =
+pub legal_told : (form : Form) (h : Heard) (labels : List Label) (calls m left n : ℕ) (l : Bounds) (numbers : List ℕ)
+    (found : Option Unlisted) (end : Ended) (old mid new : List ℕ) → calls ≡ calls_in h → m ≡ calls
+    → left ≡ left_out_of form (length h.shown) → n ≡ left → l ≡ limits_of h → numbers ≡ h.numbers
+    → IsLegal h.allowed (limits_of h) h.shown labels → IsFirstUnlisted h.allowed l labels found
+    → mid ≡ old ++ legal_object h.count m n numbers found → AppendsSteps h left labels mid new → end ≡ legal_end calls
+    → AppendsObjects form h end old new
+legal_told form h labels calls m left n l numbers found end old mid new counted told_as out written limits same by has first told ends =
     let all : ℕ = left_out_of form (length h.shown) in
-    let number = ap (λ (k : ℕ). legal_object h.count k) (written ∙ out) in
+    let object : List ℕ = legal_object h.count (calls_in h) all h.numbers found in
+    let object_is = ap (λ (k : ℕ). legal_object h.count k n numbers found) (told_as ∙ counted)
+    ∙ ap (λ (k : ℕ). legal_object h.count (calls_in h) k numbers found) (written ∙ out)
+    ∙ ap (λ (ns : List ℕ). legal_object h.count (calls_in h) all ns found) same in
+    let has_it = subst (λ (k : Bounds). IsFirstUnlisted h.allowed k labels found) limits has in
     let steps = subst (λ (k : ℕ). AppendsSteps h k labels mid new) out told in (
-      legal_object h.count all ++ steps.0,
-      legal labels steps.0 by steps.1 refl refl,
-      both old mid new (legal_object h.count all) steps.0 (first ∙ ap (λ (l : List ℕ). old ++ l) number) steps.2,
+      object ++ steps.0,
+      legal labels steps.0 found by steps.1 has_it refl (ends ∙ ap (λ (k : ℕ). legal_end k) counted),
+      both old mid new object steps.0 (first ∙ ap (λ (l : List ℕ). old ++ l) object_is) steps.2,
     )
 
 pub illegal_told : (form : Form) (h : Heard) (n number : ℕ) (line : Line) (known : Known) (began : Option Began) (left m : ℕ)
@@ -76,7 +87,7 @@ pub illegal_told : (form : Form) (h : Heard) (n number : ℕ) (line : Line) (kno
     → IsNumbered h n number → IsKnown h (n - 1) line known
     → began ≡ began_with known (open_of (thread_of line) h (n - 1)) → left ≡ left_out_of form (n - 1) → m ≡ left
     → mid ≡ old ++ illegal_object number line known began m → AppendsBefore h (n - 1) left mid new
-    → AppendsObjects form h (Err (fault.Cli (Differs number))) old new
+    → AppendsObjects form h (ended.Illegal number) old new
 illegal_told form h n number line known began left m old mid new is there numbered why call out written first told =
     let open_there : Option Began = began_with known (open_of (thread_of line) h (n - 1)) in
     let object : List ℕ = illegal_object number line known open_there (left_out_of form (n - 1)) in
@@ -92,7 +103,7 @@ pub undecided_told : (form : Form) (h : Heard) (n number : ℕ) (unfound : Unfou
     → IsVerdictOf h.allowed (limits_of h) h.shown (Undecided n) → IsNumbered h n number → IsUnfound h n unfound
     → left ≡ left_out_of form (n - 1) → m ≡ left
     → mid ≡ old ++ undecided_object number unfound m → AppendsBefore h (n - 1) left mid new
-    → AppendsObjects form h (Err (fault.Undecided number)) old new
+    → AppendsObjects form h (ended.Undecided number) old new
 undecided_told form h n number unfound left m old mid new is numbered there out written first told =
     let object : List ℕ = undecided_object number unfound (left_out_of form (n - 1)) in
     let number_is = ap (λ (k : ℕ). undecided_object number unfound k) (written ∙ out) in

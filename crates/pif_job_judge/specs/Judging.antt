@@ -1,5 +1,5 @@
 -- What judging a history over a reader and a writer does: by the bytes that the reader gave, what the writer was given.
-use Rattle.std.specs.Prelude.{ℕ, ◌≡◌, ◌⊎◌, Bool, false, true, not, List, [], ◌++◌, Option, Some, None, Result, Ok, Err, codes}
+use Rattle.std.specs.Prelude.{ℕ, ◌≡◌, ◌⊎◌, Bool, false, true, not, List, [], ◌++◌, Option, Some, None, Result, Ok, Err, codes, if◌then◌else◌}
 use Rattle.std.specs.Io.KnownBytes.{Appends, Keeps}
 use Rattle.pif_text_model.specs.declared.replies.Cause.{Cause}
 use Rattle.pif_script_model.specs.declared.faults.CliFault.{CliFault}
@@ -7,17 +7,21 @@ use Rattle.pif_script_model.specs.declared.faults.CliFault.TheVariants.{NoMemory
 use Rattle.pif_script_model.specs.Runs.{WritesPart}
 use Rattle.pif_rules_model.specs.declared.rules.Rules.{Rules}
 use Rattle.pif_rules.specs.Sets.{both}
-use Rattle.pif_history_text.specs.Histories.{Heard}
+use Rattle.pif_history_machine.specs.declared.verdicts.Verdict.{Verdict}
+use Rattle.pif_history_machine.specs.Verdicts.{IsVerdictOf}
+use Rattle.pif_history_text.specs.Histories.{Heard, limits_of}
 use Rattle.pif_history_text.specs.Reading.{ReadsHistory}
 use Rattle.pif_history_text.specs.Verdicts.{fault_line}
 use Rattle.pif_history_told.specs.Pages.{IsPageOf}
 use Rattle.pif_job_judge.specs.declared.forms.Form.{Form}
 use Rattle.pif_job_judge.specs.declared.forms.Form.TheVariants.{Text, Witness, Json, Page}
+use Rattle.pif_job_judge.specs.declared.faults.Ended.{Ended}
 use Rattle.pif_job_judge.specs.declared.faults.JudgeFault.{JudgeFault}
 use Rattle.pif_job_judge.specs.declared.faults.JudgeFault.TheVariants as fault
+use Rattle.pif_job_judge.specs.Endings.{result_of}
 use Rattle.pif_job_judge.specs.Lines.{IsTold}
 use Rattle.pif_job_judge.specs.Objects.{AreObjects}
-use Rattle.pif_job_judge.specs.Posix.{TellsPosix}
+use Rattle.pif_job_judge.specs.Asked.{TellsAsked, is_legal}
 
 -- What stands in front of what is told: the name, if it is to be told, and if that is told in lines.
 abbrev pub front_of : (name : Option (List ℕ)) → Form → List ℕ
@@ -27,30 +31,32 @@ front_of (Some name) Witness = name ++ codes ": "
 front_of (Some name) form = []
 
 -- What is told of a history in each form, and how that ends.
-abbrev pub Tells : Form → Heard → (text : List ℕ) → (end : Result (Unit {0}) JudgeFault) → Type 0
+abbrev pub Tells : Form → Heard → (text : List ℕ) → (end : Ended) → Type 0
 Tells Text h text end = IsTold Text h text end
 Tells Witness h text end = IsTold Witness h text end
 Tells Json h text end = AreObjects Json h text end
 Tells Page h text end = (lines : List ℕ) × AreObjects Page h lines end × IsPageOf lines [] text
 
 -- Bytes grew by what is told of a history that ends so.
-abbrev pub AppendsTold : Form → Heard → (end : Result (Unit {0}) JudgeFault) → (old new : List ℕ) → Type 0
+abbrev pub AppendsTold : Form → Heard → (end : Ended) → (old new : List ℕ) → Type 0
 AppendsTold form h end old new = (text : List ℕ) × Tells form h text end × (new ≡ old ++ text)
 
--- Whether POSIX is asked of a history that isn't legal.
-abbrev pub asks : (plain : Bool) → Form → Bool
-asks plain Text = not plain
-asks plain Witness = not plain
-asks plain form = false
+-- Whether POSIX is asked: if that is wanted, of a history that isn't legal.
+abbrev pub asks : (plain legal : Bool) → Bool
+asks plain legal = if plain then false else not legal
 
--- All that is told of a history, and how that ends: the verdict, and if it isn't legal and POSIX is asked, what POSIX says.
-pub data TellsAll (plain : Bool) (form : Form) (h : Heard) (text : List ℕ) (end : Result (Unit {0}) JudgeFault) : Type 0 where
-  verdict : Tells form h text end → (asks plain form ≡ false) ⊎ (end ≡ Ok tt) → TellsAll plain form h text end
-  asked : (first more : List ℕ) (fault said : JudgeFault) → asks plain form ≡ true → Tells form h first (Err fault)
-      → TellsPosix h fault more said → text ≡ first ++ more → end ≡ Err said → TellsAll plain form h text end
+-- By a verdict on a history, POSIX is asked; or isn't.
+abbrev pub IsAskedOf : (plain : Bool) → Heard → (asked : Bool) → Type 0
+IsAskedOf plain h asked =
+    (v : Verdict) × IsVerdictOf h.allowed (limits_of h) h.shown v × (asks plain (is_legal v) ≡ asked)
+
+-- All that is told of a history, and how that ends: the verdict, and what POSIX says if it is asked.
+pub data TellsAll (plain : Bool) (form : Form) (h : Heard) (text : List ℕ) (end : Ended) : Type 0 where
+  verdict : Tells form h text end → IsAskedOf plain h false → TellsAll plain form h text end
+  asked : TellsAsked form h text end → IsAskedOf plain h true → TellsAll plain form h text end
 
 -- Bytes grew by all that is told of a history that ends so.
-abbrev pub AppendsAll : (plain : Bool) → Form → Heard → (end : Result (Unit {0}) JudgeFault) → (old new : List ℕ) → Type 0
+abbrev pub AppendsAll : (plain : Bool) → Form → Heard → (end : Ended) → (old new : List ℕ) → Type 0
 AppendsAll plain form h end old new = (text : List ℕ) × TellsAll plain form h text end × (new ≡ old ++ text)
 
 -- What is told of a fault: its line, but nothing in lines of JSON and in a page.
@@ -75,8 +81,8 @@ abbrev pub Judges : (plain : Bool) → Form → (history : Result Heard CliFault
     → Result (Unit {0}) JudgeFault → Type 0
 Judges plain form (Ok h) held holds front result =
     HadNoMemory held holds result
-    ⊎ ((text : List ℕ) × (end : Result (Unit {0}) JudgeFault) × TellsAll plain form h text end
-    × WritesText held holds (front ++ text) end result)
+    ⊎ ((text : List ℕ) × (end : Ended) × TellsAll plain form h text end
+    × WritesText held holds (front ++ text) (result_of end) result)
 Judges plain form (Err (Script line cause)) held holds front result =
     HadNoMemory held holds result
     ⊎ WritesText held holds (front ++ fault_told form line cause) (Err (fault.Cli (Script line cause))) result

@@ -1,3 +1,5 @@
+pub mod Asked
+pub mod Endings
 pub mod Judging
 pub mod Least
 pub mod Lines

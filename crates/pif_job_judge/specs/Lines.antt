@@ -1,6 +1,5 @@
 -- What is told of a history in lines for a person.
-use Rattle.std.specs.Prelude.{ℕ, ◌≡◌, ◌-◌, List, [], ◌++◌, slice_get, Some, Result, Ok, Err}
-use Rattle.pif_script_model.specs.declared.faults.CliFault.TheVariants.{Differs}
+use Rattle.std.specs.Prelude.{ℕ, ◌≡◌, ◌-◌, List, [], ◌++◌, slice_get, Option, Some}
 use Rattle.pif_types.specs.Bounds.{Bounds}
 use Rattle.pif_history_model.specs.declared.labels.Label.{Label}
 use Rattle.pif_history_model.specs.declared.lines.Line.{Line}
@@ -11,14 +10,18 @@ use Rattle.pif_history_machine.specs.Verdicts.{IsVerdictOf}
 use Rattle.pif_history_model.specs.Lines.{thread_of}
 use Rattle.pif_history_model.specs.Searched.{Configuration}
 use Rattle.pif_history_text.specs.Histories.{Heard, limits_of}
-use Rattle.pif_history_text.specs.Verdicts.{illegal_line, legal_line, undecided_line}
+use Rattle.pif_history_text.specs.Verdicts.{illegal_line, undecided_line}
+use Rattle.pif_history_told.specs.declared.unlisted.Unlisted.{Unlisted}
+use Rattle.pif_history_told.specs.Texts.{calls_in, legal_text}
+use Rattle.pif_history_told.specs.Unlisted.{IsFirstUnlisted}
 use Rattle.pif_history_told.specs.Tellings.{IsTold as IsRunTold}
 use Rattle.pif_history_told.specs.declared.verdicts.Known.{Known}
 use Rattle.pif_history_told.specs.declared.verdicts.Unfound.{Unfound}
 use Rattle.pif_job_judge.specs.declared.forms.Form.{Form}
 use Rattle.pif_job_judge.specs.declared.forms.Form.TheVariants.{Witness}
-use Rattle.pif_job_judge.specs.declared.faults.JudgeFault.{JudgeFault}
-use Rattle.pif_job_judge.specs.declared.faults.JudgeFault.TheVariants as fault
+use Rattle.pif_job_judge.specs.declared.faults.Ended.{Ended}
+use Rattle.pif_job_judge.specs.declared.faults.Ended.TheVariants as ended
+use Rattle.pif_job_judge.specs.Endings.{legal_end}
 use Rattle.pif_history_told.specs.Why.{IsKnown, IsNumbered, IsUnfound, open_of}
 use Rattle.pif_history_told.specs.WhyTexts.{unfound_text, why_text}
 
@@ -38,38 +41,56 @@ TellsVerdict form r l (Legal witness) text = TellsRun form r l witness.items tex
 TellsVerdict form r l (Illegal n) text = ⊥
 TellsVerdict form r l (Undecided n) text = ⊥
 
--- What is told of a history in lines, and how that ends: the verdict on it with the rules that it allows. Behind the
--- line of a legal one its witness is told, if it is wanted. If the search was given up, its line or one behind it is
--- named as the first for which no witness was found.
-pub data IsTold (form : Form) (h : Heard) (text : List ℕ) (end : Result (Unit {0}) JudgeFault) : Type 0 where
-  legal : (v : Verdict) (witness : List ℕ) → IsVerdictOf h.allowed (limits_of h) h.shown v
-      → TellsVerdict form h.allowed (limits_of h) v witness → text ≡ legal_line h.count ++ witness → end ≡ Ok tt
+-- The first answer of its run that no page has, if it has one.
+abbrev pub HasUnlisted : Rules → Bounds → Verdict → Option Unlisted → Type 0
+HasUnlisted r l (Legal witness) found = IsFirstUnlisted r l witness.items found
+HasUnlisted r l (Illegal n) found = ⊥
+HasUnlisted r l (Undecided n) found = ⊥
+
+-- What is told of a history in lines, and how that ends: the verdict on it with the rules that it allows. Of a legal one
+-- it is told how many calls it begins, and the first answer of the run that no page has, if it has one; and behind its
+-- line its witness, if it is wanted. If the search was given up, its line or one behind it is named as the first for which
+-- no witness was found.
+pub data IsTold (form : Form) (h : Heard) (text : List ℕ) (end : Ended) : Type 0 where
+  legal : (v : Verdict) (witness : List ℕ) (found : Option Unlisted) → IsVerdictOf h.allowed (limits_of h) h.shown v
+      → TellsVerdict form h.allowed (limits_of h) v witness → HasUnlisted h.allowed (limits_of h) v found
+      → text ≡ legal_text h.count (calls_in h) h.numbers found ++ witness → end ≡ legal_end (calls_in h)
       → IsTold form h text end
   illegal : (n number : ℕ) (line : Line) (why : List ℕ) → IsVerdictOf h.allowed (limits_of h) h.shown (Illegal n)
       → slice_get h.shown (n - 1) ≡ Some line → IsNumbered h n number → TellsWhy h (n - 1) line why
-      → text ≡ illegal_line number line ++ why → end ≡ Err (fault.Cli (Differs number)) → IsTold form h text end
+      → text ≡ illegal_line number line ++ why → end ≡ ended.Illegal number → IsTold form h text end
   undecided : (n number : ℕ) (unfound : Unfound) → IsVerdictOf h.allowed (limits_of h) h.shown (Undecided n)
-      → IsNumbered h n number → IsUnfound h n unfound → text ≡ undecided_line number ++ unfound_text unfound → end ≡ Err (fault.Undecided number) → IsTold form h text end
+      → IsNumbered h n number → IsUnfound h n unfound → text ≡ undecided_line number ++ unfound_text unfound
+      → end ≡ ended.Undecided number → IsTold form h text end
 
 -- Bytes grew by what is told in lines of a history that ends so.
-abbrev pub AppendsLines : Form → Heard → (end : Result (Unit {0}) JudgeFault) → (old new : List ℕ) → Type 0
+abbrev pub AppendsLines : Form → Heard → (end : Ended) → (old new : List ℕ) → Type 0
 AppendsLines form h end old new = (text : List ℕ) × IsTold form h text end × (new ≡ old ++ text)
 
--- Bytes grew by the line of a legal history, and by what is told of the run whose steps have these labels.
-abbrev pub TellsLegal : Form → Heard → List Label → (old new : List ℕ) → Type 0
-TellsLegal form h labels old new =
-    (witness : List ℕ) × TellsRun form h.allowed (limits_of h) labels witness × (new ≡ old ++ (legal_line h.count ++ witness))
+-- Bytes grew by the line of a legal history, and by what is told of the run whose steps have these labels, and this is how
+-- it ends.
+abbrev pub TellsLegal : Form → Heard → List Label → (old new : List ℕ) → Ended → Type 0
+TellsLegal form h labels old new end =
+    (witness : List ℕ) × (found : Option Unlisted) × TellsRun form h.allowed (limits_of h) labels witness
+    × IsFirstUnlisted h.allowed (limits_of h) labels found
+    × (new ≡ old ++ (legal_text h.count (calls_in h) h.numbers found ++ witness)) × (end ≡ legal_end (calls_in h))
+
+-- Bytes grew by the line of a history whose nth line is the first up to which there is no run, and this is how it ends.
+abbrev pub TellsIllegalLine : Heard → (n : ℕ) → (old new : List ℕ) → Ended → Type 0
+TellsIllegalLine h n old new end =
+    (number : ℕ) × (line : Line) × (slice_get h.shown (n - 1) ≡ Some line) × IsNumbered h n number
+    × (new ≡ old ++ illegal_line number line) × (end ≡ ended.Illegal number)
 
 -- Bytes grew by what is told of a history whose nth line is the first up to which there is no run, and this is how it
 -- ends.
-abbrev pub TellsIllegal : Heard → (n : ℕ) → (old new : List ℕ) → JudgeFault → Type 0
+abbrev pub TellsIllegal : Heard → (n : ℕ) → (old new : List ℕ) → Ended → Type 0
 TellsIllegal h n old new end =
     (number : ℕ) × (line : Line) × (why : List ℕ) × (slice_get h.shown (n - 1) ≡ Some line) × IsNumbered h n number
     × TellsWhy h (n - 1) line why × (new ≡ old ++ (illegal_line number line ++ why))
-    × (end ≡ fault.Cli (Differs number))
+    × (end ≡ ended.Illegal number)
 
 -- Bytes grew by what is told of a history whose search was given up at its nth line, and this is how it ends.
-abbrev pub TellsUndecided : Heard → (n : ℕ) → (old new : List ℕ) → JudgeFault → Type 0
+abbrev pub TellsUndecided : Heard → (n : ℕ) → (old new : List ℕ) → Ended → Type 0
 TellsUndecided h n old new end =
     (number : ℕ) × (unfound : Unfound) × IsNumbered h n number × IsUnfound h n unfound
-    × (new ≡ old ++ (undecided_line number ++ unfound_text unfound)) × (end ≡ fault.Undecided number)
+    × (new ≡ old ++ (undecided_line number ++ unfound_text unfound)) × (end ≡ ended.Undecided number)

@@ -1,6 +1,5 @@
 -- What is told of a history in lines of JSON.
-use Rattle.std.specs.Prelude.{⊤, ℕ, ◌≡◌, ◌-◌, ◌⊎◌, List, [], ◌++◌, length, take, slice_get, Option, Some, None, Result, Ok, Err}
-use Rattle.pif_script_model.specs.declared.faults.CliFault.TheVariants.{Differs}
+use Rattle.std.specs.Prelude.{⊤, ℕ, ◌≡◌, ◌-◌, ◌⊎◌, List, [], ◌++◌, length, take, slice_get, Option, Some, None}
 use Rattle.pif_history_model.specs.declared.labels.Label.{Label}
 use Rattle.pif_history_model.specs.declared.lines.Line.{Line}
 use Rattle.pif_history_model.specs.Lines.{thread_of}
@@ -14,13 +13,17 @@ use Rattle.pif_history_told.specs.declared.verdicts.Began.{Began}
 use Rattle.pif_history_told.specs.declared.verdicts.Known.{Known}
 use Rattle.pif_history_told.specs.declared.verdicts.Known.TheVariants.{Refused, Numbers, Nothing}
 use Rattle.pif_history_told.specs.declared.verdicts.Unfound.{Unfound}
+use Rattle.pif_history_told.specs.declared.unlisted.Unlisted.{Unlisted}
+use Rattle.pif_history_told.specs.Unlisted.{IsFirstUnlisted}
 use Rattle.pif_history_told.specs.Runs.{Telling}
 use Rattle.pif_history_told.specs.Runs.{IsTold as IsRunTold}
+use Rattle.pif_history_told.specs.Texts.{calls_in}
 use Rattle.pif_history_told.specs.Verdicts.{illegal_object, legal_object, undecided_object}
 use Rattle.pif_job_judge.specs.declared.forms.Form.{Form}
 use Rattle.pif_job_judge.specs.declared.forms.Form.TheVariants.{Page}
-use Rattle.pif_job_judge.specs.declared.faults.JudgeFault.{JudgeFault}
-use Rattle.pif_job_judge.specs.declared.faults.JudgeFault.TheVariants as fault
+use Rattle.pif_job_judge.specs.declared.faults.Ended.{Ended}
+use Rattle.pif_job_judge.specs.declared.faults.Ended.TheVariants as ended
+use Rattle.pif_job_judge.specs.Endings.{legal_end}
 use Rattle.pif_history_told.specs.Why.{IsKnown, IsNumbered, IsUnfound, open_of}
 
 -- How many lines of a history a page shows at most.
@@ -60,10 +63,11 @@ began_with Nothing began = began
 -- What is told of a history in lines of JSON, and how that ends: the verdict, and behind it a run that shows all lines,
 -- or those before the line of the verdict, if it was found. If the search was given up, its line or one behind it is
 -- named as the first for which no witness was found.
-pub data AreObjects (form : Form) (h : Heard) (text : List ℕ) (end : Result (Unit {0}) JudgeFault) : Type 0 where
-  legal : (labels : List Label) (run : List ℕ) → IsLegal h.allowed (limits_of h) h.shown labels
-      → TellsSteps h (left_out_of form (length h.shown)) labels run
-      → text ≡ legal_object h.count (left_out_of form (length h.shown)) ++ run → end ≡ Ok tt
+pub data AreObjects (form : Form) (h : Heard) (text : List ℕ) (end : Ended) : Type 0 where
+  legal : (labels : List Label) (run : List ℕ) (found : Option Unlisted) → IsLegal h.allowed (limits_of h) h.shown labels
+      → TellsSteps h (left_out_of form (length h.shown)) labels run → IsFirstUnlisted h.allowed (limits_of h) labels found
+      → text ≡ legal_object h.count (calls_in h) (left_out_of form (length h.shown)) h.numbers found ++ run
+      → end ≡ legal_end (calls_in h)
       → AreObjects form h text end
   illegal : (n number : ℕ) (line : Line) (known : Known) (run : List ℕ) → IsVerdictOf h.allowed (limits_of h) h.shown (Illegal n)
       → slice_get h.shown (n - 1) ≡ Some line → IsNumbered h n number → IsKnown h (n - 1) line known
@@ -71,14 +75,14 @@ pub data AreObjects (form : Form) (h : Heard) (text : List ℕ) (end : Result (U
       → text
       ≡ illegal_object number line known (began_with known (open_of (thread_of line) h (n - 1))) (left_out_of form (n - 1))
       ++ run
-      → end ≡ Err (fault.Cli (Differs number)) → AreObjects form h text end
+      → end ≡ ended.Illegal number → AreObjects form h text end
   undecided : (n number : ℕ) (unfound : Unfound) (run : List ℕ) → IsVerdictOf h.allowed (limits_of h) h.shown (Undecided n)
       → IsNumbered h n number → IsUnfound h n unfound → TellsBefore h (n - 1) (left_out_of form (n - 1)) run
-      → text ≡ undecided_object number unfound (left_out_of form (n - 1)) ++ run → end ≡ Err (fault.Undecided number)
+      → text ≡ undecided_object number unfound (left_out_of form (n - 1)) ++ run → end ≡ ended.Undecided number
       → AreObjects form h text end
 
 -- Bytes grew by what is told in lines of JSON of a history that ends so.
-abbrev pub AppendsObjects : Form → Heard → (end : Result (Unit {0}) JudgeFault) → (old new : List ℕ) → Type 0
+abbrev pub AppendsObjects : Form → Heard → (end : Ended) → (old new : List ℕ) → Type 0
 AppendsObjects form h end old new = (text : List ℕ) × AreObjects form h text end × (new ≡ old ++ text)
 
 -- Bytes grew by a run whose steps have these labels.

@@ -1,20 +1,24 @@
 -- What POSIX says of a history that wasn't found to be legal: the machine is asked with the rules that hold and with all
 -- those of POSIX.
-use Rattle.std.specs.Prelude.{⊤, ℕ, ◌≡◌, ◌≤◌, List, [], ◌++◌, length, codes, decimal, if◌then◌else◌}
+use Rattle.std.specs.Prelude.{⊤, ℕ, Bool, true, false, Option, Some, None, IfSome, ◌≡◌, ◌≤◌, List, [], ◌++◌, length, codes, decimal, if◌then◌else◌}
 use Rattle.pif_types.specs.Bounds.{Bounds}
-use Rattle.pif_script_model.specs.declared.faults.CliFault.TheVariants.{Differs}
 use Rattle.pif_rules_model.specs.declared.rules.Rules.{Rules}
 use Rattle.pif_rules_model.specs.Sets.{no_rules, posix_rules}
 use Rattle.pif_rules.specs.Sets.{both, is_any, names_of}
 use Rattle.pif_history_model.specs.declared.lines.Line.{Line}
 use Rattle.pif_history_model.specs.Verdicts.{IsIllegal}
+use Rattle.pif_history_machine.specs.declared.verdicts.Verdict.{Verdict}
+use Rattle.pif_history_machine.specs.declared.verdicts.Verdict.TheVariants as verdict
+use Rattle.pif_history_machine.specs.Verdicts.{IsVerdictOf}
 use Rattle.pif_history_text.specs.Histories.{Heard, limits_of}
-use Rattle.pif_history_told.specs.Texts.{needs_text}
+use Rattle.pif_history_told.specs.declared.unlisted.Unlisted.{Unlisted}
+use Rattle.pif_history_told.specs.Texts.{but_for_text, needs_text, rule_names}
+use Rattle.pif_text.specs.Json.{bool_text, quoted}
 use Rattle.pif_history_told.specs.Why.{IsNumbered}
 use Rattle.pif_job_judge.specs.declared.posix.Says.{Says}
 use Rattle.pif_job_judge.specs.declared.posix.Says.TheVariants.{Least, Found, Forbids, Undecided}
-use Rattle.pif_job_judge.specs.declared.faults.JudgeFault.{JudgeFault}
-use Rattle.pif_job_judge.specs.declared.faults.JudgeFault.TheVariants as fault
+use Rattle.pif_job_judge.specs.declared.faults.Ended.{Ended}
+use Rattle.pif_job_judge.specs.declared.faults.Ended.TheVariants as ended
 use Rattle.pif_job_judge.specs.LeastRules.{IsBehindIllegal, IsLegalSomehow}
 
 -- What is said of lines, if the rules of base hold in any case: the first set of the rules of POSIX with which they are
@@ -47,9 +51,13 @@ against r = record no_rules {
 abbrev pub beside_text : (word : List ℕ) → (base : Rules) → List ℕ
 beside_text word base = if is_any (against base) then word ++ names_of (against base) else []
 
--- POSIX allows it, with rules of r beside those of base, and the line ends so.
-abbrev pub allows_text : (base r : Rules) → (end : List ℕ) → List ℕ
-allows_text base r end = codes "POSIX allows it" ++ beside_text (codes " with") base ++ needs_text base r ++ end
+-- POSIX allows it, with rules of r beside those of base, and perhaps fewer.
+abbrev pub allows_front : (base r : Rules) → (fewer : List ℕ) → List ℕ
+allows_front base r fewer = codes "POSIX allows it" ++ beside_text (codes " with") base ++ needs_text base r ++ fewer
+
+-- It does so by a run with this answer that no page has, if it has one. The lines have these numbers in the text.
+abbrev pub allows_text : (base r : Rules) → (fewer numbers : List ℕ) → Option Unlisted → List ℕ
+allows_text base r fewer numbers found = allows_front base r fewer ++ but_for_text numbers found ++ codes "\n"
 
 -- POSIX forbids it from the line of this number on.
 abbrev pub forbids_text : (base : Rules) → (number : ℕ) → List ℕ
@@ -61,32 +69,78 @@ forbids_text base number =
 abbrev pub undecided_text : (base : Rules) → List ℕ
 undecided_text base = codes "POSIX" ++ beside_text (codes " and") base ++ codes ": undecided\n"
 
--- The line that tells what is said, which names the line of this number if it names one.
-abbrev pub posix_text : (base : Rules) → Says → (number : ℕ) → List ℕ
-posix_text base (Least r) number = allows_text base r (codes "\n")
-posix_text base (Found r) number = allows_text base r (codes ", perhaps fewer\n")
-posix_text base (Forbids n) number = forbids_text base number
-posix_text base (Undecided n) number = undecided_text base
+-- The line that tells what is said, which names the line of this number if it names one; and the first answer that no page
+-- has, if it allows the lines by a run that has one. These have these numbers in the text.
+abbrev pub posix_text : (base : Rules) → Says → (number : ℕ) → (numbers : List ℕ) → Option Unlisted → List ℕ
+posix_text base (Least r) number numbers found = allows_text base r [] numbers found
+posix_text base (Found r) number numbers found = allows_text base r (codes ", perhaps fewer") numbers found
+posix_text base (Forbids n) number numbers found = forbids_text base number
+posix_text base (Undecided n) number numbers found = undecided_text base
 
 -- How it ends if POSIX allows what the machine doesn't.
-abbrev pub allowed_at : JudgeFault → JudgeFault
-allowed_at (fault.Cli (Differs line)) = fault.PosixAllows line
-allowed_at (fault.Undecided line) = fault.PosixAllows line
+abbrev pub allowed_at : Ended → Ended
+allowed_at (ended.Illegal line) = ended.PosixAllows line
+allowed_at (ended.Undecided line) = ended.PosixAllows line
 allowed_at other = other
 
 -- How it ends by what is said, which names the line of this number if it names one.
-abbrev pub posix_end : JudgeFault → Says → (number : ℕ) → JudgeFault
+abbrev pub posix_end : Ended → Says → (number : ℕ) → Ended
 posix_end end (Least r) number = allowed_at end
 posix_end end (Found r) number = allowed_at end
-posix_end end (Forbids n) number = fault.Cli (Differs number)
-posix_end end (Undecided n) number = fault.Undecided number
+posix_end end (Forbids n) number = ended.Illegal number
+posix_end end (Undecided n) number = ended.Undecided number
 
--- What is told behind the verdict on a history that ended with this fault, and how it ends then.
-abbrev pub TellsPosix : Heard → (fault : JudgeFault) → (text : List ℕ) → (end : JudgeFault) → Type 0
-TellsPosix h fault text end =
-    (says : Says) × (number : ℕ) × IsSaid h.allowed (limits_of h) h.shown says × IsNumberedBy h says number
-    × (text ≡ posix_text h.allowed says number) × (end ≡ posix_end fault says number)
+-- Whether it allows the lines; and the line from which on it forbids them, if it does.
+abbrev pub allows : Says → Bool
+allows (Least r) = true
+allows (Found r) = true
+allows other = false
 
--- Bytes grew by that.
-abbrev pub AppendsPosix : Heard → (fault end : JudgeFault) → (old new : List ℕ) → Type 0
-AppendsPosix h fault end old new = (text : List ℕ) × TellsPosix h fault text end × (new ≡ old ++ text)
+abbrev pub forbidden_from : Says → Option ℕ
+forbidden_from (Forbids n) = Some n
+forbidden_from other = None
+
+-- The rules with which POSIX says it: those that make the lines legal, or all of its own beside those of base.
+abbrev pub rules_said : (base : Rules) → Says → Rules
+rules_said base (Least r) = r
+rules_said base (Found r) = r
+rules_said base (Forbids n) = both posix_rules base
+rules_said base (Undecided n) = both posix_rules base
+
+-- A history with these rules.
+abbrev pub under : Says → Heard → Heard
+under says h = record h { allowed = rules_said h.allowed says }
+
+-- What is said, as a verdict with these rules, if it is one: that a line is the first up to which there is no run, or that
+-- the search was given up there.
+abbrev pub verdict_said : Says → Option Verdict
+verdict_said (Forbids n) = Some (verdict.Illegal n)
+verdict_said (Undecided n) = Some (verdict.Undecided n)
+verdict_said other = None
+
+abbrev pub IsSaidOf : Heard → Says → Type 0
+IsSaidOf h says = IfSome (verdict_said says) (λ v. IsVerdictOf h.allowed (limits_of h) h.shown v)
+
+-- IN JSON
+
+-- A word of what is said, and the rules that hold against POSIX.
+unfoldable pub said_front : (word : List ℕ) → (base : Rules) → List ℕ
+said_front word base =
+    codes "{\"posix\":" ++ quoted word ++ codes ",\"with\":" ++ quoted (rule_names no_rules (against base))
+
+-- POSIX allows it, with rules of r beside those of base. Are they the first set?
+abbrev pub allows_object : (base r : Rules) → (least : Bool) → List ℕ
+allows_object base r least =
+    said_front (codes "allows") base
+    ++ (codes ",\"rules\":" ++ quoted (rule_names base r) ++ codes ",\"least\":" ++ bool_text least) ++ codes "}\n"
+
+-- POSIX forbids it from the line of this number on, or the search was given up there.
+abbrev pub line_said_object : (word : List ℕ) → (base : Rules) → (number : ℕ) → List ℕ
+line_said_object word base number = said_front word base ++ (codes ",\"line\":" ++ decimal number) ++ codes "}\n"
+
+-- The line of JSON that tells what is said.
+abbrev pub posix_object : (base : Rules) → Says → (number : ℕ) → List ℕ
+posix_object base (Least r) number = allows_object base r true
+posix_object base (Found r) number = allows_object base r false
+posix_object base (Forbids n) number = line_said_object (codes "forbids") base number
+posix_object base (Undecided n) number = line_said_object (codes "undecided") base number

@@ -26,6 +26,6 @@ pub struct Judging<'a> {
     pub states: u32,
     /// The rules that hold beside those that the history allows.
     pub allowed: Rules,
-    /// Whether POSIX isn't asked. In lines of JSON and in a page it isn't asked either.
+    /// Whether POSIX isn't asked.
     pub plain: bool,
 }

@@ -1,4 +1,4 @@
-ghost use Rattle.std.specs.Prelude.{◌≡◌, ◌≤◌, IfErr, IfOk, None, take, vec_len};
+ghost use Rattle.std.specs.Prelude.{◌≤◌, IfOk, None, take, vec_len};
 ghost use Rattle.pif_history_machine.specs.Verdicts.{IsRefusalThere};
 ghost use Rattle.pif_history_text.specs.Histories.{limits_of};
 ghost use Rattle.pif_history_text.specs.Reading.{heard_of};
@@ -9,8 +9,7 @@ use pif_history_machine::refusal;
 use pif_history_model::Line;
 use pif_history_text::History;
 use pif_history_told::Known;
-use pif_script_model::CliFault;
-use pif_search::WatchLines;
+use pif_search::{Stop, WatchLines};
 use std::alloc::Global;
 
 /// What is known of the line behind the first `before` lines of a history, if it isn't refused.
@@ -21,28 +20,25 @@ fn numbers_of<V: WatchLines>(
     before: usize,
     line: &Line,
     watch: &mut V,
-) -> Result<Known, CliFault>
+) -> Result<Known, Stop>
     requires within { before ≤ vec_len history.now.shown }
     requires refused { IsRefusalThere (limits_of (heard_of history.now)) (take before history.now.shown.items) line.now None }
-    ensures known { IfOk result (IsKnown (heard_of history.now) before line.now) }
-    ensures failed { IfErr result (λ fault. fault ≡ CliFault.NoMemory) }
+    ensures { IfOk result (IsKnown (heard_of history.now) before line.now) }
 {
     let lines = &history.shown.as_slice()[..before];
     let limits = history.limits();
     let rules = &history.allowed;
     match line {
-        Line::Answer(thread, _) => match possible_answers(
-            alloc, rules, limits, lines, *thread, states, watch,
-        ) {
-            Ok(answers) => Ok(Known::Numbers(answers)),
-            Err(_) => Err(CliFault::NoMemory),
-        },
-        Line::Prio(thread, _) => match possible_priorities(
-            alloc, rules, limits, lines, *thread, states, watch,
-        ) {
-            Ok(priorities) => Ok(Known::Numbers(priorities)),
-            Err(_) => Err(CliFault::NoMemory),
-        },
+        Line::Answer(thread, _) => {
+            let answers = possible_answers(alloc, rules, limits, lines, *thread, states, watch)?;
+            Ok(Known::Numbers(answers))
+        }
+        Line::Prio(thread, _) => {
+            let priorities = possible_priorities(
+                alloc, rules, limits, lines, *thread, states, watch,
+            )?;
+            Ok(Known::Numbers(priorities))
+        }
         _ => Ok(Known::Nothing),
     }
 }
@@ -51,7 +47,7 @@ fn numbers_of<V: WatchLines>(
 ///
 /// # Errors
 ///
-/// `NoMemory`.
+/// That of a search.
 pub fn known_of<V: WatchLines>(
     alloc: Global,
     states: usize,
@@ -59,15 +55,13 @@ pub fn known_of<V: WatchLines>(
     before: usize,
     line: &Line,
     watch: &mut V,
-) -> Result<Known, CliFault>
+) -> Result<Known, Stop>
     requires { before ≤ vec_len history.now.shown }
-    ensures known { IfOk result (IsKnown (heard_of history.now) before line.now) }
-    ensures failed { IfErr result (λ fault. fault ≡ CliFault.NoMemory) }
+    ensures { IfOk result (IsKnown (heard_of history.now) before line.now) }
 {
     let lines = &history.shown.as_slice()[..before];
-    match refusal(history.limits(), lines, line) {
-        Ok(Some(why)) => Ok(Known::Refused(why)),
-        Ok(None) => numbers_of(alloc, states, history, before, line, watch),
-        Err(_) => Err(CliFault::NoMemory),
+    match refusal(history.limits(), lines, line)? {
+        Some(why) => Ok(Known::Refused(why)),
+        None => numbers_of(alloc, states, history, before, line, watch),
     }
 }

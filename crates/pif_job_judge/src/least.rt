@@ -1,21 +1,25 @@
-ghost use Rattle.std.specs.Prelude.{◌≡◌, IfErr, IfOk, Ok, option_copied};
+ghost use Rattle.std.specs.Prelude.{◌≡◌, IfOk, Ok, option_copied};
+ghost use Rattle.pif_history_machine.specs.Verdicts.{IsVerdictOf};
 ghost use Rattle.pif_history_text.specs.Histories.{limits_of};
 ghost use Rattle.pif_history_text.specs.Reading.{IsPaired, heard_of};
-ghost use Rattle.pif_job_judge.specs.Judging.{AppendsTold, front_of};
+ghost use Rattle.pif_job_judge.specs.Judging.{front_of};
 ghost use Rattle.pif_job_judge.specs.Least.{JudgesLeast, JudgesLeastTo};
 ghost use Rattle.pif_job_judge.specs.LeastRules.{IsLeast, IsLegalSomehow};
 ghost use Rattle.pif_job_judge.specs.Needed.{AppendsNeeded};
 ghost use Rattle.pif_rules.specs.Sets.{both};
 
-use crate::faults::JudgeFault;
+use crate::faults::{Ended, JudgeFault, fault_of};
 use crate::forms::{Form, Judging};
-use crate::judging::{Numbered, allowing, front, judge_fault, tell_history, write_told};
+use crate::judging::{
+    Numbered, allowing, front, is_legal, judge_fault, judged, write_all, write_told,
+};
 use crate::needed::tell_needed;
 use crate::search::{Needed, least};
+use pif_history_machine::Verdict;
 use pif_history_text::{History, read_history};
 use pif_rules_model::Rules;
 use pif_script_model::CliFault;
-use pif_search::WatchLines;
+use pif_search::{Stop, WatchLines};
 use std::alloc::Global;
 use std::io::{Read, Write};
 
@@ -23,13 +27,14 @@ use std::io::{Read, Write};
 fn in_lines<'a>(asked: &Judging<'a>) -> Judging<'a>
     ensures form { result.form ≡ Form.Text }
     ensures name { option_copied result.name ≡ option_copied asked.now.name }
+    ensures plain { result.plain ≡ asked.now.plain }
 {
     Judging {
         name: asked.name,
         form: Form::Text,
         states: asked.states,
         allowed: asked.allowed,
-        plain: true,
+        plain: asked.plain,
     }
 }
 
@@ -40,15 +45,14 @@ fn needed_of<V: WatchLines>(
     states: u32,
     history: &History,
     watch: &mut V,
-) -> Result<Needed, CliFault>
+) -> Result<Needed, Stop>
     requires { IsLegalSomehow (limits_of (heard_of history.now)) history.now.shown.items (both asked.now history.now.allowed) }
-    ensures found { IfOk result (IsLeast history.now.allowed asked.now (limits_of (heard_of history.now)) history.now.shown.items) }
-    ensures failed { IfErr result (λ fault. fault ≡ CliFault.NoMemory) }
+    ensures { IfOk result (IsLeast history.now.allowed asked.now (limits_of (heard_of history.now)) history.now.shown.items) }
 {
     let limits = history.limits();
     let lines = history.shown.as_slice();
     let mut numbered = Numbered::of(history, watch);
-    match least(
+    least(
         alloc,
         &history.allowed,
         asked,
@@ -56,24 +60,20 @@ fn needed_of<V: WatchLines>(
         lines,
         states as usize,
         &mut numbered,
-    ) {
-        Ok(found) => Ok(found),
-        Err(_) => Err(CliFault::NoMemory),
-    }
+    )
 }
 
-/// Appends what is told of the rules that a history needs, which is legal with all. Answers how that ends.
+/// Appends what is told of the rules that a history needs, which is legal with all. Answers what that is.
 fn tell_least<V: WatchLines>(
     alloc: Global,
     asked: &Judging<'_>,
     history: &History,
     out: &mut Vec<u8>,
     watch: &mut V,
-) -> Result<Result<(), JudgeFault>, CliFault>
+) -> Result<Ended, Stop>
     requires paired { IsPaired history.now }
     requires legal { IsLegalSomehow (limits_of (heard_of history.now)) history.now.shown.items (both asked.now.allowed history.now.allowed) }
-    ensures told { IfOk result (λ end. AppendsNeeded asked.now.allowed (heard_of history.now) end out.old.items out.new.items) }
-    ensures failed { IfErr result (λ fault. fault ≡ CliFault.NoMemory) }
+    ensures { IfOk result (λ end. AppendsNeeded asked.now.allowed (heard_of history.now) end out.old.items out.new.items) }
 {
     let found = needed_of(alloc, &asked.allowed, asked.states, history, watch)?;
     tell_needed(alloc, &asked.allowed, history, found, out)
@@ -89,33 +89,15 @@ fn write_least<W: Write, V: WatchLines>(
 ) -> Result<(), JudgeFault>
     requires paired { IsPaired history.now }
     requires legal { IsLegalSomehow (limits_of (heard_of history.now)) history.now.shown.items (both asked.now.allowed history.now.allowed) }
-    ensures { JudgesLeast asked.now.allowed (Ok (heard_of history.now)) (W.contents writer.old) (W.contents writer.new) (front_of (option_copied asked.now.name) Form.Text) result }
+    ensures { JudgesLeast asked.now.plain asked.now.allowed (Ok (heard_of history.now)) (W.contents writer.old) (W.contents writer.new) (front_of (option_copied asked.now.name) Form.Text) result }
 {
     let Ok(mut out) = front(alloc, asked.name, Form::Text) else {
         return Err(JudgeFault::Cli(CliFault::NoMemory));
     };
     match tell_least(alloc, asked, history, &mut out, watch) {
-        Ok(end) => write_told(out.as_slice(), end, writer),
-        Err(_) => Err(JudgeFault::Cli(CliFault::NoMemory)),
+        Ok(told) => write_told(out.as_slice(), told.as_result(), writer),
+        Err(stop) => Err(fault_of(stop)),
     }
-}
-
-/// What is told of a history that is judged with all rules, behind its name, and how that ends.
-fn told_with_all<V: WatchLines>(
-    alloc: Global,
-    asked: &Judging<'_>,
-    history: &History,
-    watch: &mut V,
-) -> Result<(Vec<u8>, Result<(), JudgeFault>), CliFault>
-    requires paired { IsPaired history.now }
-    ensures told { IfOk result (λ x. AppendsTold Form.Text (heard_of history.now) x.1 (front_of (option_copied asked.now.name) Form.Text) x.0.items) }
-    ensures failed { IfErr result (λ fault. fault ≡ CliFault.NoMemory) }
-{
-    let Ok(mut out) = front(alloc, asked.name, Form::Text) else {
-        return Err(CliFault::NoMemory);
-    };
-    let end = tell_history(alloc, &in_lines(asked), history, &mut out, watch)?;
-    Ok((out, end))
 }
 
 /// Judges a history with all rules, and with sets of them if it is legal. Writes what is told of it.
@@ -127,33 +109,34 @@ fn judge_history<W: Write, V: WatchLines>(
     watch: &mut V,
 ) -> Result<(), JudgeFault>
     requires { IsPaired history }
-    ensures { JudgesLeast asked.now.allowed (Ok (heard_of history)) (W.contents writer.old) (W.contents writer.new) (front_of (option_copied asked.now.name) Form.Text) result }
+    ensures { JudgesLeast asked.now.plain asked.now.allowed (Ok (heard_of history)) (W.contents writer.old) (W.contents writer.new) (front_of (option_copied asked.now.name) Form.Text) result }
 {
     let own = history.allowed;
     let mut history = allowing(&asked.allowed, history);
-    let (text, end) = match told_with_all(alloc, asked, &history, watch) {
-        Ok(told) => told,
-        Err(_) => return Err(JudgeFault::Cli(CliFault::NoMemory)),
+    let (verdict, shown) = match judged(alloc, asked, &history, watch) {
+        Ok(judged) => judged,
+        Err(stop) => return Err(fault_of(stop)),
     };
-    match end {
-        Ok(()) => {
-            history.allowed = own;
-            write_least(alloc, asked, &history, writer, watch)
-        }
-        Err(fault) => write_told(text.as_slice(), Err(fault), writer),
+    if is_legal(&verdict) {
+        history.allowed = own;
+        write_least(alloc, asked, &history, writer, watch)
+    } else {
+        let asked = in_lines(asked);
+        write_all(alloc, &asked, history, verdict, shown, writer, watch)
     }
 }
 
 /// Reads a history, and says which of the rules of `asked` it needs to be legal, beside those that it allows itself. It
-/// is judged with all rules first. If it is legal, sets of them are tried, by the number of rules and then in the order
-/// of `RULES`. All is told in lines for a person, whatever the form. `watch` is told of each search how far it has come.
+/// is judged with all rules first. If it isn't legal, that is told as `judge` does. Else sets of them are tried, by the
+/// number of rules and then in the order of `RULES`. All is told in lines for a person, whatever the form. `watch` is
+/// told of each search how far it has come.
 ///
 /// # Errors
 ///
-/// `Undecided` with the line at which the search was given up, and `Differs` with the first line up to which there is no
-/// run with all rules, which were written, too. `Script` with the line of the first fault, which was written, too. If the
-/// reader fails, `Read`; if memory ran out, `NoMemory`; then nothing was written. `Write`, if the writer fails or takes no
-/// byte.
+/// `NoCall`, if it is legal and begins no call, which was written, too. `PosixAllows` as in `judge`. `Undecided` with the
+/// line at which the search was given up, and `Differs` with the first line up to which there is no run with all rules,
+/// which were written, too. `Script` with the line of the first fault, which was written, too. If the reader fails,
+/// `Read`; if memory ran out, `NoMemory`; then nothing was written. `Write`, if the writer fails or takes no byte.
 pub fn judge_least<R: Read, W: Write, V: WatchLines>(
     alloc: Global,
     asked: &Judging<'_>,
@@ -161,7 +144,7 @@ pub fn judge_least<R: Read, W: Write, V: WatchLines>(
     writer: &mut W,
     watch: &mut V,
 ) -> Result<(), JudgeFault>
-    ensures { JudgesLeastTo asked.now.allowed (R.remaining reader.old) (R.remaining reader.new) (W.contents writer.old) (W.contents writer.new) (front_of (option_copied asked.now.name) Form.Text) result }
+    ensures { JudgesLeastTo asked.now.plain asked.now.allowed (R.remaining reader.old) (R.remaining reader.new) (W.contents writer.old) (W.contents writer.new) (front_of (option_copied asked.now.name) Form.Text) result }
 {
     match read_history(alloc, reader) {
         Ok(history) => judge_history(alloc, asked, history, writer, watch),

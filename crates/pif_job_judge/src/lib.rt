@@ -3,13 +3,14 @@
 //!
 //! | Module | What it has |
 //! |---|---|
-//! | `faults` | why a history was not found to be legal |
+//! | `faults` | what was told of a history, and why it was not found to be legal |
 //! | `forms` | how a history is judged, and in which form that is told |
 //! | `known` | what is known of an illegal line |
 //! | `unfound` | what is found of the first line for which no run was |
 //! | `lines` | verdicts in lines for a person |
 //! | `objects` | a history as lines of JSON: its verdict, and its run |
 //! | `posix` | what POSIX says of a history that isn't legal |
+//! | `asked` | a verdict with what POSIX says, in each form |
 //! | `judging` | a history, read and judged |
 //!
 //! | Module | What it has of the rules that a history needs |
@@ -19,6 +20,7 @@
 //! | `least` | a history, read and judged with sets of rules |
 #![tactic(auto)]
 
+mod asked;
 mod faults;
 mod forms;
 mod judging;

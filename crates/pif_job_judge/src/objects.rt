@@ -1,4 +1,4 @@
-ghost use Rattle.std.specs.Prelude.{◌≡◌, ◌≤◌, ◌-◌, Err, IfErr, IfOk, Ok, OnOk, vec_len};
+ghost use Rattle.std.specs.Prelude.{◌≡◌, ◌≤◌, ◌-◌, IfOk, OnOk, vec_len};
 ghost use Rattle.pif_history_machine.specs.declared.verdicts.Verdict.TheVariants.{Illegal, Undecided};
 ghost use Rattle.pif_history_machine.specs.Verdicts.{IsVerdictOf};
 ghost use Rattle.pif_history_model.specs.Verdicts.{IsLegal};
@@ -7,7 +7,7 @@ ghost use Rattle.pif_history_text.specs.Histories.{limits_of};
 ghost use Rattle.pif_history_text.specs.Reading.{IsPaired, heard_of};
 ghost use Rattle.pif_job_judge.specs.Objects.{AppendsBefore, AppendsObjects, AppendsSteps, began_with, left_out_of};
 
-use crate::faults::JudgeFault;
+use crate::faults::Ended;
 use crate::forms::{Form, Judging};
 use crate::known::known_of;
 use crate::unfound::unfound_at;
@@ -16,11 +16,10 @@ use pif_history_machine::Verdict;
 use pif_history_model::Label;
 use pif_history_text::History;
 use pif_history_told::{
-    Began, Known, append_illegal, append_legal, append_undecided, began_before, first_shown,
-    line_at, number_at, run_text,
+    Began, Known, append_illegal, append_legal, append_undecided, began_before, calls_in,
+    first_shown, first_unlisted, line_at, number_at, run_text,
 };
-use pif_script_model::CliFault;
-use pif_search::WatchLines;
+use pif_search::{Stop, WatchLines};
 use std::alloc::Global;
 
 /// How many lines are left out of a run that shows so many, in this form.
@@ -34,13 +33,12 @@ fn left_out(form: Form, lines: usize) -> usize
 }
 
 /// A number of lines, as it is written.
-fn written(lines: usize) -> Result<u32, CliFault>
-    ensures is { IfOk result (λ n. n ≡ lines) }
-    ensures failed { IfErr result (λ fault. fault ≡ CliFault.NoMemory) }
+fn written(lines: usize) -> Result<u32, Stop>
+    ensures { IfOk result (λ n. n ≡ lines) }
 {
     match u32::try_from(lines) {
         Ok(number) => Ok(number),
-        Err(_) => Err(CliFault::NoMemory),
+        Err(_) => Err(Stop::Range),
     }
 }
 
@@ -61,25 +59,20 @@ fn append_steps(
     left_out: usize,
     labels: &[Label],
     out: &mut Vec<u8>,
-) -> Result<(), CliFault>
-    requires run { IsRun history.now.allowed (limits_of (heard_of history.now)) labels.now }
-    ensures told { OnOk result (AppendsSteps (heard_of history.now) left_out labels.now out.old.items out.new.items) }
-    ensures failed { IfErr result (λ fault. fault ≡ CliFault.NoMemory) }
+) -> Result<(), Stop>
+    requires { IsRun history.now.allowed (limits_of (heard_of history.now)) labels.now }
+    ensures { OnOk result (AppendsSteps (heard_of history.now) left_out labels.now out.old.items out.new.items) }
 {
-    match run_text(
+    let lines = run_text(
         alloc,
         &history.allowed,
         history.limits(),
         history.numbers.as_slice(),
         left_out,
         labels,
-    ) {
-        Ok(lines) => match out.extend_from_slice(lines.as_slice()) {
-            Ok(()) => Ok(()),
-            Err(_) => Err(CliFault::NoMemory),
-        },
-        Err(_) => Err(CliFault::NoMemory),
-    }
+    )?;
+    out.extend_from_slice(lines.as_slice())?;
+    Ok(())
 }
 
 /// Appends the lines of a run that shows the first `before` lines of a history, but for so many of its first lines;
@@ -92,10 +85,9 @@ fn append_before<V: WatchLines>(
     left_out: usize,
     out: &mut Vec<u8>,
     watch: &mut V,
-) -> Result<(), CliFault>
+) -> Result<(), Stop>
     requires { before ≤ vec_len history.now.shown }
-    ensures told { OnOk result (AppendsBefore (heard_of history.now) before left_out out.old.items out.new.items) }
-    ensures failed { IfErr result (λ fault. fault ≡ CliFault.NoMemory) }
+    ensures { OnOk result (AppendsBefore (heard_of history.now) before left_out out.old.items out.new.items) }
 {
     let lines = &history.shown.as_slice()[..before];
     match judge_lines(
@@ -105,38 +97,39 @@ fn append_before<V: WatchLines>(
         lines,
         states,
         watch,
-    ) {
-        Ok(Verdict::Legal(witness)) => {
+    )? {
+        Verdict::Legal(witness) => {
             append_steps(alloc, history, left_out, witness.as_slice(), out)
         }
-        Ok(Verdict::Illegal(_)) => Ok(()),
-        Ok(Verdict::Undecided(_)) => Ok(()),
-        Err(_) => Err(CliFault::NoMemory),
+        Verdict::Illegal(_) => Ok(()),
+        Verdict::Undecided(_) => Ok(()),
     }
 }
 
-/// Appends what is told of a legal history, and of a run that shows it.
+/// Appends what is told of a legal history, and of a run that shows it. Answers what that is.
 fn append_legal_history(
     alloc: Global,
     form: Form,
     history: &History,
     labels: &[Label],
     out: &mut Vec<u8>,
-) -> Result<(), CliFault>
+) -> Result<Ended, Stop>
     requires { IsLegal history.now.allowed (limits_of (heard_of history.now)) history.now.shown.items labels.now }
-    ensures told { OnOk result (AppendsObjects form (heard_of history.now) (Ok tt) out.old.items out.new.items) }
-    ensures failed { IfErr result (λ fault. fault ≡ CliFault.NoMemory) }
+    ensures { IfOk result (λ end. AppendsObjects form (heard_of history.now) end out.old.items out.new.items) }
 {
     let left = left_out(form, history.shown.len());
-    match append_legal(history.count, written(left)?, out) {
-        Ok(()) => {}
-        Err(_) => return Err(CliFault::NoMemory),
-    }
-    append_steps(alloc, history, left, labels, out)
+    let limits = history.limits();
+    let numbers = history.numbers.as_slice();
+    let found = first_unlisted(alloc, &history.allowed, limits, labels)?;
+    let calls = calls_in(history);
+    let count = written(calls)?;
+    append_legal(history.count, count, written(left)?, numbers, found, out)?;
+    append_steps(alloc, history, left, labels, out)?;
+    Ok(Ended::of_legal(calls))
 }
 
 /// Appends what is told of a history whose nth line is the first up to which there is no run, and of a run that shows
-/// the lines before it. Answers how that ends.
+/// the lines before it. Answers what that is.
 fn append_illegal_history<V: WatchLines>(
     alloc: Global,
     asked: &Judging<'_>,
@@ -144,11 +137,10 @@ fn append_illegal_history<V: WatchLines>(
     count: usize,
     out: &mut Vec<u8>,
     watch: &mut V,
-) -> Result<JudgeFault, CliFault>
+) -> Result<Ended, Stop>
     requires paired { IsPaired history.now }
     requires verdict { IsVerdictOf history.now.allowed (limits_of (heard_of history.now)) history.now.shown.items (Illegal count) }
-    ensures told { IfOk result (λ end. AppendsObjects asked.now.form (heard_of history.now) (Err end) out.old.items out.new.items) }
-    ensures failed { IfErr result (λ fault. fault ≡ CliFault.NoMemory) }
+    ensures { IfOk result (λ end. AppendsObjects asked.now.form (heard_of history.now) end out.old.items out.new.items) }
 {
     let states = asked.states as usize;
     let number = number_at(history, count);
@@ -156,16 +148,13 @@ fn append_illegal_history<V: WatchLines>(
     let known = known_of(alloc, states, history, count - 1, &line, watch)?;
     let began = began_with(&known, began_before(history, count - 1, &line));
     let left = left_out(asked.form, count - 1);
-    match append_illegal(number, &line, &known, began, written(left)?, out) {
-        Ok(()) => {}
-        Err(_) => return Err(CliFault::NoMemory),
-    }
+    append_illegal(number, &line, &known, began, written(left)?, out)?;
     append_before(alloc, states, history, count - 1, left, out, watch)?;
-    Ok(JudgeFault::Cli(CliFault::Differs(u64::from(number))))
+    Ok(Ended::Illegal(u64::from(number)))
 }
 
 /// Appends what is told of a history that was given up at its nth line, and of a run that shows the lines before it, if
-/// searches came so far. Answers how that ends.
+/// searches came so far. Answers what that is.
 fn append_undecided_history<V: WatchLines>(
     alloc: Global,
     asked: &Judging<'_>,
@@ -174,30 +163,26 @@ fn append_undecided_history<V: WatchLines>(
     shown: usize,
     out: &mut Vec<u8>,
     watch: &mut V,
-) -> Result<JudgeFault, CliFault>
+) -> Result<Ended, Stop>
     requires paired { IsPaired history.now }
     requires verdict { IsVerdictOf history.now.allowed (limits_of (heard_of history.now)) history.now.shown.items (Undecided count) }
-    ensures told { IfOk result (λ end. AppendsObjects asked.now.form (heard_of history.now) (Err end) out.old.items out.new.items) }
-    ensures failed { IfErr result (λ fault. fault ≡ CliFault.NoMemory) }
+    ensures { IfOk result (λ end. AppendsObjects asked.now.form (heard_of history.now) end out.old.items out.new.items) }
 {
     let states = asked.states as usize;
     let number = number_at(history, count);
     let left = left_out(asked.form, count - 1);
     let unfound = unfound_at(alloc, states, history, count, shown, watch)?;
-    match append_undecided(number, &unfound, written(left)?, out) {
-        Ok(()) => {}
-        Err(_) => return Err(CliFault::NoMemory),
-    }
+    append_undecided(number, &unfound, written(left)?, out)?;
     append_before(alloc, states, history, count - 1, left, out, watch)?;
-    Ok(JudgeFault::Undecided(u64::from(number)))
+    Ok(Ended::Undecided(u64::from(number)))
 }
 
 /// Appends what is told in lines of JSON of a history with this verdict, if searches found runs for so many lines.
-/// `watch` may end what is looked for yet. Answers how that ends.
+/// `watch` may end what is looked for yet. Answers what that is.
 ///
 /// # Errors
 ///
-/// `NoMemory`.
+/// That of a search.
 pub fn tell_objects<V: WatchLines>(
     alloc: Global,
     asked: &Judging<'_>,
@@ -206,24 +191,18 @@ pub fn tell_objects<V: WatchLines>(
     shown: usize,
     out: &mut Vec<u8>,
     watch: &mut V,
-) -> Result<Result<(), JudgeFault>, CliFault>
+) -> Result<Ended, Stop>
     requires paired { IsPaired history.now }
     requires verdict { IsVerdictOf history.now.allowed (limits_of (heard_of history.now)) history.now.shown.items verdict }
-    ensures told { IfOk result (λ end. AppendsObjects asked.now.form (heard_of history.now) end out.old.items out.new.items) }
-    ensures failed { IfErr result (λ fault. fault ≡ CliFault.NoMemory) }
+    ensures { IfOk result (λ end. AppendsObjects asked.now.form (heard_of history.now) end out.old.items out.new.items) }
 {
     match verdict {
         Verdict::Legal(witness) => {
-            append_legal_history(alloc, asked.form, history, witness.as_slice(), out)?;
-            Ok(Ok(()))
+            append_legal_history(alloc, asked.form, history, witness.as_slice(), out)
         }
-        Verdict::Illegal(count) => {
-            let end = append_illegal_history(alloc, asked, history, count, out, watch)?;
-            Ok(Err(end))
-        }
+        Verdict::Illegal(count) => append_illegal_history(alloc, asked, history, count, out, watch),
         Verdict::Undecided(count) => {
-            let end = append_undecided_history(alloc, asked, history, count, shown, out, watch)?;
-            Ok(Err(end))
+            append_undecided_history(alloc, asked, history, count, shown, out, watch)
         }
     }
 }

@@ -1,26 +1,23 @@
-ghost use Rattle.std.specs.Prelude.{◌≡◌, ◌++◌, IfErr, IfOk, OnOk, codes};
+ghost use Rattle.std.specs.Prelude.{◌≡◌, ◌++◌, IfOk, OnOk};
 ghost use Rattle.pif_history_model.specs.Verdicts.{IsLegal};
 ghost use Rattle.pif_history_text.specs.Histories.{limits_of};
 ghost use Rattle.pif_history_text.specs.Reading.{IsPaired, heard_of};
-ghost use Rattle.pif_history_told.specs.Texts.{needs_text};
 ghost use Rattle.pif_rules_model.specs.Sets.{posix_rules};
 ghost use Rattle.pif_rules.specs.Sets.{both};
-ghost use Rattle.pif_job_judge.specs.Posix.{AppendsPosix, IsSaid, IsNumberedBy, against, allowed_at, beside_text, forbids_text, posix_end, posix_text, undecided_text};
+ghost use Rattle.pif_job_judge.specs.Posix.{IsSaid, IsNumberedBy, against, allowed_at, allows, allows_front, allows_object, allows_text, beside_text, forbidden_from, forbids_text, line_said_object, posix_end, posix_object, posix_text, rules_said, said_front, under, undecided_text, verdict_said};
 
-use crate::faults::JudgeFault;
-use crate::forms::Judging;
+use crate::faults::Ended;
 use crate::judging::Numbered;
 use crate::search::{Needed, least};
 use pif_history::judge_lines;
 use pif_history_machine::Verdict;
 use pif_history_model::{HistoryLimits, Label, Line};
 use pif_history_text::History;
-use pif_history_told::{number_at, push_needed, rules_of_run};
+use pif_history_told::{Unlisted, number_at, push_but_for, push_needed, rule_names, rules_of_run};
 use pif_rules::{both, is_any, no_rules, posix_rules, push_names};
 use pif_rules_model::Rules;
-use pif_script_model::CliFault;
 use pif_search::{Stop, WatchLines};
-use pif_text::append_decimal;
+use pif_text::{Member, append_decimal, append_members};
 use std::alloc::Global;
 
 /// What POSIX says of the lines of a history that weren't found to be legal with the rules that hold.
@@ -143,20 +140,38 @@ fn push_beside(word: &[u8], base: &Rules, out: &mut Vec<u8>) -> Result<(), Stop>
     Ok(())
 }
 
-/// Appends that POSIX allows lines with these rules, and how the line ends.
-fn push_allows(
+/// Appends that POSIX allows lines with these rules, and whether perhaps fewer are enough.
+fn push_allows_front(
     alloc: Global,
     base: &Rules,
     rules: &Rules,
-    end: &[u8],
+    fewer: &[u8],
     out: &mut Vec<u8>,
 ) -> Result<(), Stop>
-    ensures { OnOk result (out.new.items ≡ out.old.items ++ (codes "POSIX allows it" ++ beside_text (codes " with") base.now ++ needs_text base.now rules.now ++ end.now)) }
+    ensures { OnOk result (out.new.items ≡ out.old.items ++ allows_front base.now rules.now fewer.now) }
 {
     out.extend_from_slice(b"POSIX allows it")?;
     push_beside(b" with", base, out)?;
     push_needed(alloc, base, rules, out)?;
-    out.extend_from_slice(end)?;
+    out.extend_from_slice(fewer)?;
+    Ok(())
+}
+
+/// Appends that POSIX allows lines with these rules, by a run with this answer that no page has, if it has one.
+fn push_allows(
+    alloc: Global,
+    base: &Rules,
+    rules: &Rules,
+    fewer: &[u8],
+    numbers: &[u32],
+    found: Option<Unlisted>,
+    out: &mut Vec<u8>,
+) -> Result<(), Stop>
+    ensures { OnOk result (out.new.items ≡ out.old.items ++ allows_text base.now rules.now fewer.now numbers.now found) }
+{
+    push_allows_front(alloc, base, rules, fewer, out)?;
+    push_but_for(numbers, found, out)?;
+    out.extend_from_slice(b"\n")?;
     Ok(())
 }
 
@@ -187,7 +202,7 @@ fn push_undecided(base: &Rules, out: &mut Vec<u8>) -> Result<(), Stop>
 }
 
 /// The number in the text of the line that is named, if one is.
-fn number_of(history: &History, says: &Says) -> u32
+pub fn number_of(history: &History, says: &Says) -> u32
     requires paired { IsPaired history.now }
     requires said { IsSaid history.now.allowed (limits_of (heard_of history.now)) history.now.shown.items says.now }
     ensures { IsNumberedBy (heard_of history.now) says.now result }
@@ -199,94 +214,211 @@ fn number_of(history: &History, says: &Says) -> u32
     }
 }
 
-/// Appends what POSIX says, which names the line of this number if it names one.
-fn push_says(
+/// Appends what POSIX says, which names the line of this number if it names one; and this answer that no page has, if there
+/// is one, of a run by which it allows the lines. These have these numbers in the text.
+///
+/// # Errors
+///
+/// Out of memory.
+pub fn push_says(
     alloc: Global,
     base: &Rules,
     says: &Says,
     number: u32,
+    numbers: &[u32],
+    found: Option<Unlisted>,
     out: &mut Vec<u8>,
 ) -> Result<(), Stop>
-    ensures { OnOk result (out.new.items ≡ out.old.items ++ posix_text base.now says.now number) }
+    ensures { OnOk result (out.new.items ≡ out.old.items ++ posix_text base.now says.now number numbers.now found) }
 {
     match says {
-        Says::Least(rules) => push_allows(alloc, base, rules, b"\n", out),
-        Says::Found(rules) => push_allows(alloc, base, rules, b", perhaps fewer\n", out),
+        Says::Least(rules) => push_allows(alloc, base, rules, b"", numbers, found, out),
+        Says::Found(rules) => {
+            push_allows(alloc, base, rules, b", perhaps fewer", numbers, found, out)
+        }
         Says::Forbids(_) => push_forbids(base, number, out),
         Says::Undecided(_) => push_undecided(base, out),
     }
 }
 
 /// How it ends if POSIX allows what the machine doesn't.
-fn allowed_at(fault: JudgeFault) -> JudgeFault
-    ensures { result ≡ allowed_at fault }
+fn allowed_at(told: Ended) -> Ended
+    ensures { result ≡ allowed_at told }
 {
-    match fault {
-        JudgeFault::Cli(CliFault::Differs(line)) | JudgeFault::Undecided(line) => {
-            JudgeFault::PosixAllows(line)
-        }
-        other => other,
+    match told {
+        Ended::Illegal(line) | Ended::Undecided(line) => Ended::PosixAllows(line),
+        Ended::Legal | Ended::NoCall | Ended::PosixAllows(_) => told,
     }
 }
 
 /// How it ends by what POSIX says, which names the line of this number if it names one.
-fn end_of(fault: JudgeFault, says: &Says, number: u32) -> JudgeFault
-    ensures { result ≡ posix_end fault says.now number }
+pub fn end_of(told: Ended, says: &Says, number: u32) -> Ended
+    ensures { result ≡ posix_end told says.now number }
 {
     match says {
-        Says::Least(_) | Says::Found(_) => allowed_at(fault),
-        Says::Forbids(_) => JudgeFault::Cli(CliFault::Differs(u64::from(number))),
-        Says::Undecided(_) => JudgeFault::Undecided(u64::from(number)),
+        Says::Least(_) | Says::Found(_) => allowed_at(told),
+        Says::Forbids(_) => Ended::Illegal(u64::from(number)),
+        Says::Undecided(_) => Ended::Undecided(u64::from(number)),
     }
 }
 
 /// What POSIX says of a history beside the rules that it allows.
-fn said_of<V: WatchLines>(
+///
+/// # Errors
+///
+/// That of a search.
+pub fn said_of<V: WatchLines>(
     alloc: Global,
     states: u32,
     history: &History,
     watch: &mut V,
-) -> Result<Says, CliFault>
-    ensures said { IfOk result (IsSaid history.now.allowed (limits_of (heard_of history.now)) history.now.shown.items) }
-    ensures failed { IfErr result (λ fault. fault ≡ CliFault.NoMemory) }
+) -> Result<Says, Stop>
+    ensures { IfOk result (IsSaid history.now.allowed (limits_of (heard_of history.now)) history.now.shown.items) }
 {
     let limits = history.limits();
     let lines = history.shown.as_slice();
     let mut numbered = Numbered::of(history, watch);
-    match posix_of(
+    posix_of(
         alloc,
         &history.allowed,
         limits,
         lines,
         states as usize,
         &mut numbered,
-    ) {
-        Ok(says) => Ok(says),
-        Err(_) => Err(CliFault::NoMemory),
+    )
+}
+
+/// Whether it allows the lines.
+pub fn allows(says: &Says) -> bool
+    ensures { result ≡ allows says.now }
+{
+    match says {
+        Says::Least(_) | Says::Found(_) => true,
+        Says::Forbids(_) | Says::Undecided(_) => false,
     }
 }
 
-/// Appends what POSIX says of a history that wasn't found to be legal. Answers how that ends.
+/// The line from which on it forbids them, from 1, if it does.
+pub fn forbidden_from(says: &Says) -> Option<usize>
+    ensures { result ≡ forbidden_from says.now }
+{
+    match says {
+        Says::Forbids(line) => Some(*line),
+        Says::Least(_) | Says::Found(_) | Says::Undecided(_) => None,
+    }
+}
+
+/// What is said, as a verdict with these rules, if it is one.
+pub fn verdict_said(says: &Says) -> Option<Verdict>
+    ensures { result ≡ verdict_said says.now }
+{
+    match says {
+        Says::Forbids(line) => Some(Verdict::Illegal(*line)),
+        Says::Undecided(line) => Some(Verdict::Undecided(*line)),
+        Says::Least(_) | Says::Found(_) => None,
+    }
+}
+
+/// The rules with which POSIX says this, if those of base hold beside it.
+fn rules_said(base: &Rules, says: &Says) -> Rules
+    ensures { result ≡ rules_said base.now says.now }
+{
+    match says {
+        Says::Least(rules) | Says::Found(rules) => *rules,
+        Says::Forbids(_) | Says::Undecided(_) => both(&posix_rules(), base),
+    }
+}
+
+/// A history with the rules with which POSIX says this.
+pub fn under(says: &Says, history: History) -> History
+    ensures heard { heard_of result ≡ under says.now (heard_of history) }
+    ensures paired { IsPaired history → IsPaired result }
+{
+    let mut history = history;
+    history.allowed = rules_said(&history.allowed, says);
+    history
+}
+
+/// Appends, in JSON, this word of what POSIX says, and the rules that hold against it.
+#[tactic(auto, unfolding(crate::specs::Posix::said_front))]
+fn append_said(
+    alloc: Global,
+    word: &'static [u8],
+    base: &Rules,
+    out: &mut Vec<u8>,
+) -> Result<(), Stop>
+    ensures { OnOk result (out.new.items ≡ out.old.items ++ said_front word.now base.now) }
+{
+    let beside = rule_names(alloc, &no_rules(), &against(base))?;
+    append_members(
+        out,
+        b'{',
+        &[
+            Member::Quoted("posix", word),
+            Member::Quoted("with", beside.as_slice()),
+        ],
+    )?;
+    Ok(())
+}
+
+/// Appends, in JSON, that POSIX allows lines with these rules, and whether they are the first set.
+fn append_allows(
+    alloc: Global,
+    base: &Rules,
+    rules: &Rules,
+    least: bool,
+    out: &mut Vec<u8>,
+) -> Result<(), Stop>
+    ensures { OnOk result (out.new.items ≡ out.old.items ++ allows_object base.now rules.now least) }
+{
+    append_said(alloc, b"allows", base, out)?;
+    let names = rule_names(alloc, base, rules)?;
+    append_members(
+        out,
+        b',',
+        &[
+            Member::Quoted("rules", names.as_slice()),
+            Member::Bool("least", least),
+        ],
+    )?;
+    out.extend_from_slice(b"}\n")?;
+    Ok(())
+}
+
+/// Appends, in JSON, what POSIX says of the line of this number.
+fn append_line_said(
+    alloc: Global,
+    word: &'static [u8],
+    base: &Rules,
+    number: u32,
+    out: &mut Vec<u8>,
+) -> Result<(), Stop>
+    ensures { OnOk result (out.new.items ≡ out.old.items ++ line_said_object word.now base.now number) }
+{
+    append_said(alloc, word, base, out)?;
+    append_members(out, b',', &[Member::Number("line", number)])?;
+    out.extend_from_slice(b"}\n")?;
+    Ok(())
+}
+
+/// Appends what POSIX says as a line of JSON, which names the line of this number if it names one.
 ///
 /// # Errors
 ///
-/// `NoMemory`.
-pub fn tell_posix<V: WatchLines>(
+/// Out of memory.
+pub fn append_says(
     alloc: Global,
-    asked: &Judging<'_>,
-    history: &History,
-    fault: JudgeFault,
+    base: &Rules,
+    says: &Says,
+    number: u32,
     out: &mut Vec<u8>,
-    watch: &mut V,
-) -> Result<JudgeFault, CliFault>
-    requires paired { IsPaired history.now }
-    ensures told { IfOk result (λ end. AppendsPosix (heard_of history.now) fault end out.old.items out.new.items) }
-    ensures failed { IfErr result (λ fault. fault ≡ CliFault.NoMemory) }
+) -> Result<(), Stop>
+    ensures { OnOk result (out.new.items ≡ out.old.items ++ posix_object base.now says.now number) }
 {
-    let says = said_of(alloc, asked.states, history, watch)?;
-    let number = number_of(history, &says);
-    match push_says(alloc, &history.allowed, &says, number, out) {
-        Ok(()) => Ok(end_of(fault, &says, number)),
-        Err(_) => Err(CliFault::NoMemory),
+    match says {
+        Says::Least(rules) => append_allows(alloc, base, rules, true, out),
+        Says::Found(rules) => append_allows(alloc, base, rules, false, out),
+        Says::Forbids(_) => append_line_said(alloc, b"forbids", base, number, out),
+        Says::Undecided(_) => append_line_said(alloc, b"undecided", base, number, out),
     }
 }

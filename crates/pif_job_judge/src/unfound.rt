@@ -1,4 +1,4 @@
-ghost use Rattle.std.specs.Prelude.{◌≡◌, ◌≤◌, IfErr, IfOk, vec_len};
+ghost use Rattle.std.specs.Prelude.{◌≤◌, IfOk, vec_len};
 ghost use Rattle.pif_history_text.specs.Reading.{heard_of};
 ghost use Rattle.pif_history_told.specs.Why.{IsUnfound};
 
@@ -8,7 +8,6 @@ use pif_history_machine::{answers_of, numbers_of, priorities_of};
 use pif_history_model::{Label, Line};
 use pif_history_text::History;
 use pif_history_told::{Unfound, number_at, unfound_of};
-use pif_script_model::CliFault;
 use pif_search::{Stop, WatchLines, push};
 use std::alloc::Global;
 
@@ -134,7 +133,7 @@ fn found_at<V: WatchLines>(
 ///
 /// # Errors
 ///
-/// `NoMemory`.
+/// That of a search.
 pub fn unfound_at<V: WatchLines>(
     alloc: Global,
     states: usize,
@@ -142,15 +141,12 @@ pub fn unfound_at<V: WatchLines>(
     count: usize,
     shown: usize,
     watch: &mut V,
-) -> Result<Unfound, CliFault>
-    requires within { (1 ≤ count) × (count ≤ vec_len history.now.numbers) }
-    ensures there { IfOk result (IsUnfound (heard_of history.now) count) }
-    ensures failed { IfErr result (λ fault. fault ≡ CliFault.NoMemory) }
+) -> Result<Unfound, Stop>
+    requires { (1 ≤ count) × (count ≤ vec_len history.now.numbers) }
+    ensures { IfOk result (IsUnfound (heard_of history.now) count) }
 {
     let place = unfound_of(history, count, shown);
     let number = number_at(history, place);
-    match found_at(alloc, states, history, place, watch) {
-        Ok(found) => Ok(Unfound { number, found }),
-        Err(_) => Err(CliFault::NoMemory),
-    }
+    let found = found_at(alloc, states, history, place, watch)?;
+    Ok(Unfound { number, found })
 }

@@ -3,7 +3,7 @@ use Rattle.clap.specs.Words.{Text, kind_of}
 use Rattle.pif_script_model.specs.declared.faults.CliFault.{CliFault}
 use Rattle.pif_script_model.specs.declared.faults.CliFault.TheVariants.{Read, Write, NoMemory, Script, Differs}
 use Rattle.pif_cli_messages.specs.declared.statuses.JobFault.{JobFault}
-use Rattle.pif_cli_messages.specs.declared.statuses.JobFault.TheVariants.{Cli, Threads, Unsettled, Undecided, PosixAllows, NotOnCore}
+use Rattle.pif_cli_messages.specs.declared.statuses.JobFault.TheVariants.{Cli, Threads, Unsettled, Undecided, PosixAllows, NotOnCore, NoCall}
 use Rattle.pif_cli_messages.specs.Messages.{TellsAt, TellsFault, TellsLine, TellsOf}
 use Rattle.pif_cli_messages.specs.Statuses.{fault_status, job_fault_status, job_status}
 use Rattle.pif_story.specs.Notes.{notes_text}
@@ -44,6 +44,7 @@ fault_tells (Undecided line) status held holds is told = tells_line status 7 hel
 fault_tells (PosixAllows line) status held holds is told =
     tells_line status 8 held holds (omega arith) (omega arith) is told
 fault_tells (NotOnCore mutex) status held holds is told = tells_line status 2 held holds (omega arith) (omega arith) is told
+fault_tells NoCall status held holds is told = tells_line status 7 held holds (omega arith) (omega arith) is told
 
 -- what a job tells them
 job_tells : (notes : List ℕ) (result : Result (Unit {0}) JobFault) (status : ℕ) (held holds : Option (List ℕ))

@@ -1,15 +1,21 @@
-use Rattle.std.proofs.Common.{◌∙◌, Result, subst, sym}
+use Rattle.std.proofs.Common.{◌∙◌, sym}
 use Rattle.pif_history_text.specs.Reading.{heard_of}
-use Rattle.pif_job_judge.specs.declared.faults.JudgeFault.{JudgeFault}
-use Rattle.pif_job_judge.specs.Judging.{AppendsTold}
-use Rattle.pif_job_judge.proofs.JudgingLemmas.{posix_told}
+use Rattle.pif_job_judge.proofs.JudgingLemmas.{asked_wrong, if_ok, told_alone, told_asked}
 use Rattle.pif_job_judge.proofs.judging.tell_all.Goals as goal
 
-pub returns-in_ok-end-in-Err-clause-told : goal.returns-in_ok-end-in-Err-clause-told
-returns-in_ok-end-in-Err-clause-told g c =
-    let form = c.args.asked.now.form in
-    let h = heard_of c.args.history.now in
-    let told = subst (λ (end : Result (Unit {0}) JudgeFault). AppendsTold form h end c.args.out.now.items c.tell_history.new.out.items)
-    c.in-Err.is c.in_ok-tell_history.ensures.told in
-    posix_told c.args.asked.now.plain form h c.in-Err.fault c.in_ok-end-in-Err.end c.args.out.now.items c.tell_history.new.out.items
-    c.tell_posix.new.out.items (sym c.asks.ensures ∙ c.if-not-asks.false) told c.in_ok-end-in-Err.ensures.told
+pub returns-then-asks : goal.returns-then-asks
+returns-then-asks g c =
+    if_ok c.tell_asked.result _ _
+    (told_asked c.args.asked.now.plain c.args.asked.now.form (heard_of c.args.history) c.args.verdict c.args.out.now.items
+    c.tell_asked.new.out.items c.requires.verdict (sym c.asks.ensures ∙ c.if-asks.true))
+    c.tell_asked.ensures
+
+pub returns-else-asks : goal.returns-else-asks
+returns-else-asks g c =
+    if_ok c.tell.result _ _
+    (told_alone c.args.asked.now.plain c.args.asked.now.form (heard_of c.args.history) c.args.verdict c.args.out.now.items
+    c.tell.new.out.items c.requires.verdict (sym c.asks.ensures ∙ c.if-asks.false))
+    c.tell.ensures
+
+pub tell_asked-requires-clause-wrong : goal.tell_asked-requires-clause-wrong
+tell_asked-requires-clause-wrong g c = asked_wrong c.args.asked.now.plain _ (sym c.asks.ensures ∙ c.if-asks.true)

@@ -1,11 +1,12 @@
-use Rattle.std.proofs.Common.{Err, ap, arith, refl, subst}
+use Rattle.std.proofs.Common.{ℕ, ◌++◌, ◌∙◌, ap, arith, refl, subst}
 use Rattle.pif_history_text.specs.Histories.{limits_of}
 use Rattle.pif_history_text.specs.Reading.{heard_of}
-use Rattle.pif_job_judge.specs.declared.faults.JudgeFault.{JudgeFault}
+use Rattle.pif_job_judge.specs.declared.faults.Ended.TheVariants as ended
+use Rattle.pif_job_judge.specs.Endings.{legal_end}
 use Rattle.pif_job_judge.specs.declared.search.Needed.{Needed}
 use Rattle.pif_job_judge.specs.declared.search.Needed.TheVariants.{Legal, Undecided}
 use Rattle.pif_job_judge.specs.LeastRules.{IsLeast}
-use Rattle.pif_history_told.specs.Texts.{legal_with, undecided_with}
+use Rattle.pif_history_told.specs.Texts.{calls_in, legal_with, undecided_with}
 use Rattle.pif_job_judge.proofs.needed.tell_needed.Goals as goal
 
 pub number_at-number-requires : goal.number_at-number-requires
@@ -20,19 +21,24 @@ number_at-number-requires c =
       );
     }
 
-pub returns-in_ok-tell_legal-in-Legal-clause-told : goal.returns-in_ok-tell_legal-in-Legal-clause-told
-returns-in_ok-tell_legal-in-Legal-clause-told c =
+pub returns-in_ok-push_legal_with-in-Legal : goal.returns-in_ok-push_legal_with-in-Legal
+returns-in_ok-push_legal_with-in-Legal c =
     let h = heard_of c.args.history.now in
     let rules = c.in-Legal.rules in
     let least = subst (λ (found : Needed). IsLeast h.allowed c.args.asked.now (limits_of h) h.shown found) c.in-Legal.is
     c.requires.found in (
-      legal_with h.count h.allowed rules,
-      (Legal rules, least, (refl, refl)),
-      c.in_ok-tell_legal-in-Legal.ensures.told,
+      legal_with h.count (calls_in h) h.allowed rules,
+      (
+        Legal rules,
+        least,
+        (refl, c.of_legal.ensures ∙ ap (λ (k : ℕ). legal_end k) c.calls_in-calls.ensures),
+      ),
+      c.in_ok-push_legal_with-in-Legal.ensures
+          ∙ ap (λ (k : ℕ). c.args.out.now.items ++ legal_with h.count k h.allowed rules) c.calls_in-calls.ensures,
     )
 
-pub returns-in_ok-end-in-Undecided-clause-told : goal.returns-in_ok-end-in-Undecided-clause-told
-returns-in_ok-end-in-Undecided-clause-told c =
+pub returns-in_ok-push_undecided_with-in-Undecided : goal.returns-in_ok-push_undecided_with-in-Undecided
+returns-in_ok-push_undecided_with-in-Undecided c =
     let h = heard_of c.args.history.now in
     let rules = c.in-Undecided.rules in
     let number = c.number_at-number.result in
@@ -46,8 +52,8 @@ returns-in_ok-end-in-Undecided-clause-told c =
           number,
           c.number_at-number.ensures,
           refl,
-          ap (λ (end : JudgeFault). Err end) c.in_ok-end-in-Undecided.ensures.end,
+          ap (λ (k : ℕ). ended.Undecided k) c.from.ensures,
         ),
       ),
-      c.in_ok-end-in-Undecided.ensures.told,
+      c.in_ok-push_undecided_with-in-Undecided.ensures,
     )

@@ -5,12 +5,13 @@ use Rattle.pif_job_judge.specs.Objects.{began_with}
 use Rattle.pif_job_judge.proofs.ObjectLemmas.{illegal_told}
 use Rattle.pif_job_judge.proofs.objects.append_illegal_history.Goals as goal
 
-pub returns-clause-told : goal.returns-clause-told
-returns-clause-told g c =
+pub returns : goal.returns
+returns g c =
     let known = c.in_ok-known.known in
     let call = c.began_with-began.ensures ∙ ap (λ (o : Option Began). began_with known o) c.began_before.ensures in
     rw c.from.ensures (illegal_told c.args.asked.now.form (heard_of c.args.history.now) c.args.count
     c.number_at-number.result c.line_at-line.result known c.began_with-began.result c.left_out-left.result
     c.in_ok-written.field-0 c.args.out.now.items c.append_illegal.new.out.items c.append_before.new.out.items
-    c.requires.verdict c.line_at-line.ensures c.number_at-number.ensures c.in_ok-known.ensures.known call
-    c.left_out-left.ensures c.in_ok-written.ensures.is c.in-Ok.ensures c.in_ok-append_before.ensures.told)
+    c.requires.verdict c.line_at-line.ensures c.number_at-number.ensures c.in_ok-known.ensures call
+    c.left_out-left.ensures c.in_ok-written.ensures c.in_ok-append_illegal.ensures
+    c.in_ok-append_before.ensures)

@@ -1,17 +1,26 @@
-use Rattle.std.proofs.Common.{ℕ, ap, arith, ◌∙◌}
+use Rattle.std.proofs.Common.{ℕ, ap, arith, subst, sym, ◌∙◌}
+use Rattle.pif_types.specs.Bounds.{Bounds}
+use Rattle.pif_history_told.specs.Ways.{IsRun}
 use Rattle.pif_history_text.specs.Reading.{heard_of}
 use Rattle.pif_job_judge.specs.Objects.{left_out_of}
-use Rattle.pif_job_judge.proofs.ObjectLemmas.{legal_told, on_ok}
+use Rattle.pif_job_judge.proofs.ObjectLemmas.{legal_told}
 use Rattle.pif_job_judge.proofs.objects.append_legal_history.Goals as goal
 
-pub returns-clause-told : goal.returns-clause-told
-returns-clause-told c =
+pub returns : goal.returns
+returns c =
     let left = c.left_out-left.ensures
     ∙ ap (λ (k : ℕ). left_out_of c.args.form k) (omega (arith, c.len.ensures, c.args.history.now.shown.ok.0)) in
-    on_ok c.append_steps.result _ _
-    (legal_told c.args.form (heard_of c.args.history.now) c.args.labels.now c.left_out-left.result c.in_ok-written.field-0
-    c.args.out.now.items c.append_legal.new.out.items c.append_steps.new.out.items left c.in_ok-written.ensures.is
-    c.requires c.in-Ok.ensures) c.append_steps.ensures.told
+    legal_told c.args.form (heard_of c.args.history.now) c.args.labels.now c.calls_in-calls.result c.in_ok-count.count
+    c.left_out-left.result c.in_ok-written.field-0 c.limits-limits.result c.as_slice-numbers.result.now c.in_ok-found.found
+    c.of_legal.result c.args.out.now.items c.append_legal.new.out.items c.append_steps.new.out.items c.calls_in-calls.ensures
+    c.in_ok-count.ensures left c.in_ok-written.ensures c.limits-limits.ensures c.as_slice-numbers.ensures.value c.requires
+    c.in_ok-found.ensures c.in_ok-append_legal.ensures c.in_ok-append_steps.ensures c.of_legal.ensures
+
+pub first_unlisted-requires : goal.first_unlisted-requires
+first_unlisted-requires c = record {
+  run = subst (λ (k : Bounds). IsRun c.args.history.now.allowed k c.args.labels.now) (sym c.limits-limits.ensures)
+      (c.requires.last, c.requires.run);
+}
 
 pub append_steps-requires : goal.append_steps-requires
-append_steps-requires c = record { run = (c.requires.last, c.requires.run) }
+append_steps-requires c = (c.requires.last, c.requires.run)
