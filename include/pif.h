@@ -5,19 +5,23 @@
    It starts no thread: its threads are numbers, and each takes a step when you say so.
 
    A handle holds a core, or none. C owns it: `pif_core core = {0};`, in C++ `pif_core core = {};`, holds none,
-   pif_core_new has it hold one, pif_core_free gives that up. What you owe:
+   pif_core_new has it hold one, pif_core_free gives that up. Or pif_core_open makes a handle that holds one, and
+   pif_core_close gives both up: then nothing has to be zeros before. What you owe:
 
    - hand a handle back as the library wrote it: never read, write or copy its fields, and don't move it with memcpy;
    - give a handle to one call at a time. Between two calls it may pass to another thread, if you order the calls, as by
-     a lock, a thread's start or a join. Different handles share nothing;
-   - give a pointer to a handle that is there, and to as many bytes as you say, which no other argument shares. No
-     argument is a null pointer, not even if a length is 0;
+     a lock, a thread's start or a join. Different handles share nothing. A reader counts as a call: while it runs it
+     takes the core out of the handle, and puts it back. So readers take no `const pif_core *`, and two threads may not
+     read one handle at the same time;
+   - give a pointer to a handle that is there, and to as many bytes as you say, which no other argument shares. A null
+     pointer is allowed if its length is 0;
    - don't call from a signal handler, or in the child of a fork of a process with threads.
 
    All else is answered. A handle with no core, numbers that name nothing, and limits out of range are told by the
    result, and nothing has changed then. No call ends the process, blocks, or writes anywhere but into the handle and
-   into the room that you gave. Memory is taken by malloc, realloc and free of your program, which align a block to 16
-   bytes: by pif_core_new alone of the calls on a handle, and by those over texts while they run.
+   into the room that you gave, or calls any function of yours but a sink and that of pif_options. Memory is taken by
+   malloc, realloc and free of your program, which align a block to 16 bytes: by pif_core_new and pif_core_open alone of
+   the calls on a handle, and by those over texts while they run.
 
    The contracts in crates/pif_c say of each call what it answers and what the core is then. They are proved. That this
    header, your compiler and what you owe agree with them is not. */
@@ -34,7 +38,22 @@ extern "C" {
 
 /* The version of this header, of libpif.a and libpif.so, and of pif.pc. Its first number is that of the file to which a
    program is linked, libpif.so.1. */
-#define PIF_VERSION "1.0.0"
+#define PIF_VERSION "1.1.0"
+
+/* The same for #if: 10000 times the first number, 100 times the second, and the third. A header of version 1.0 has
+   none, so `#if defined PIF_VERSION_NUMBER && PIF_VERSION_NUMBER >= 10100` asks for version 1.1. */
+#define PIF_VERSION_NUMBER 10100
+
+/* Before a function that is called for its result, or that makes nothing if its result says so. */
+#if defined __cplusplus && __cplusplus >= 201703L || defined __STDC_VERSION__ && __STDC_VERSION__ >= 202311L
+#define PIF_NODISCARD [[nodiscard]]
+#else
+#define PIF_NODISCARD
+#endif
+
+/* PIF_VERSION_NUMBER of the library that is linked or loaded. */
+PIF_NODISCARD
+uint32_t pif_version(void);
 
 /* A handle. Its fields are the library's. */
 typedef struct pif_core {
@@ -138,6 +157,78 @@ enum pif_health_of { PIF_FINE = 0, PIF_INCONSISTENT = 1, PIF_UNUSABLE = 2 };
 #define PIF_WAITERS UINT32_C(0x80000000)
 #define PIF_OWNER_DIED UINT32_C(0x40000000)
 
+/* NAMES, for what you print. A number that stands for nothing there is "?". */
+
+/* An answer, as `pif judge` writes it: "0", or as "EBUSY". */
+PIF_NODISCARD
+static inline const char *pif_answer_name(uint32_t answer)
+{
+    switch (answer) {
+    case PIF_DONE: return "0";
+    case PIF_EPERM: return "EPERM";
+    case PIF_ESRCH: return "ESRCH";
+    case PIF_EAGAIN: return "EAGAIN";
+    case PIF_EBUSY: return "EBUSY";
+    case PIF_EINVAL: return "EINVAL";
+    case PIF_EDEADLK: return "EDEADLK";
+    case PIF_EOVERFLOW: return "EOVERFLOW";
+    case PIF_ETIMEDOUT: return "ETIMEDOUT";
+    case PIF_EOWNERDEAD: return "EOWNERDEAD";
+    case PIF_ENOTRECOVERABLE: return "ENOTRECOVERABLE";
+    default: return "?";
+    }
+}
+
+/* A result (enum pif_result). */
+PIF_NODISCARD
+static inline const char *pif_result_name(uint32_t result)
+{
+    switch (result) {
+    case PIF_OK: return "PIF_OK";
+    case PIF_NO_CORE: return "PIF_NO_CORE";
+    case PIF_NONE: return "PIF_NONE";
+    case PIF_TOO_MANY: return "PIF_TOO_MANY";
+    case PIF_BAD_PRIO: return "PIF_BAD_PRIO";
+    case PIF_NO_MUTEX: return "PIF_NO_MUTEX";
+    case PIF_INVALID: return "PIF_INVALID";
+    case PIF_FULL: return "PIF_FULL";
+    case PIF_NO_MEMORY: return "PIF_NO_MEMORY";
+    default: return "?";
+    }
+}
+
+/* What became of an event (enum pif_what). */
+PIF_NODISCARD
+static inline const char *pif_what_name(uint32_t what)
+{
+    switch (what) {
+    case PIF_NOTHING: return "PIF_NOTHING";
+    case PIF_BEGUN: return "PIF_BEGUN";
+    case PIF_WENT: return "PIF_WENT";
+    case PIF_WAITS: return "PIF_WAITS";
+    case PIF_ANSWERED: return "PIF_ANSWERED";
+    case PIF_ENDED: return "PIF_ENDED";
+    case PIF_TICKED: return "PIF_TICKED";
+    case PIF_REFUSED: return "PIF_REFUSED";
+    case PIF_UNNAMED: return "PIF_UNNAMED";
+    default: return "?";
+    }
+}
+
+/* Why an event was refused (enum pif_refusal). */
+PIF_NODISCARD
+static inline const char *pif_refusal_name(uint32_t refusal)
+{
+    switch (refusal) {
+    case PIF_NO_SUCH: return "PIF_NO_SUCH";
+    case PIF_DEAD: return "PIF_DEAD";
+    case PIF_BUSY: return "PIF_BUSY";
+    case PIF_IDLE: return "PIF_IDLE";
+    case PIF_PAST: return "PIF_PAST";
+    default: return "?";
+    }
+}
+
 /* CALLS */
 
 enum pif_kind_of_call {
@@ -163,6 +254,7 @@ typedef struct pif_request {
     uint32_t deadline;
 } pif_request;
 
+PIF_NODISCARD
 static inline pif_request pif_request_of(uint32_t call, uint32_t mutex, uint32_t cond, uint32_t deadline)
 {
     pif_request request;
@@ -176,39 +268,49 @@ static inline pif_request pif_request_of(uint32_t call, uint32_t mutex, uint32_t
 }
 
 /* pthread_mutex_lock */
+PIF_NODISCARD
 static inline pif_request pif_lock(uint32_t mutex) { return pif_request_of(PIF_LOCK, mutex, 0, 0); }
 
 /* pthread_mutex_trylock */
+PIF_NODISCARD
 static inline pif_request pif_trylock(uint32_t mutex) { return pif_request_of(PIF_TRYLOCK, mutex, 0, 0); }
 
 /* pthread_mutex_unlock */
+PIF_NODISCARD
 static inline pif_request pif_unlock(uint32_t mutex) { return pif_request_of(PIF_UNLOCK, mutex, 0, 0); }
 
 /* pthread_mutex_consistent */
+PIF_NODISCARD
 static inline pif_request pif_consistent(uint32_t mutex) { return pif_request_of(PIF_CONSISTENT, mutex, 0, 0); }
 
 /* pthread_mutex_timedlock: waits only until the time is at least the deadline (pif_tick) */
+PIF_NODISCARD
 static inline pif_request pif_timedlock(uint32_t mutex, uint32_t deadline)
 {
     return pif_request_of(PIF_TIMEDLOCK, mutex, 0, deadline);
 }
 
 /* pthread_cond_wait */
+PIF_NODISCARD
 static inline pif_request pif_wait(uint32_t cond, uint32_t mutex) { return pif_request_of(PIF_WAIT, mutex, cond, 0); }
 
 /* pthread_cond_timedwait */
+PIF_NODISCARD
 static inline pif_request pif_timedwait(uint32_t cond, uint32_t mutex, uint32_t deadline)
 {
     return pif_request_of(PIF_TIMEDWAIT, mutex, cond, deadline);
 }
 
 /* pthread_cond_signal */
+PIF_NODISCARD
 static inline pif_request pif_signal(uint32_t cond) { return pif_request_of(PIF_SIGNAL, 0, cond, 0); }
 
 /* pthread_cond_broadcast */
+PIF_NODISCARD
 static inline pif_request pif_broadcast(uint32_t cond) { return pif_request_of(PIF_BROADCAST, 0, cond, 0); }
 
 /* pthread_setschedprio */
+PIF_NODISCARD
 static inline pif_request pif_setprio(uint32_t thread, uint32_t prio)
 {
     pif_request request = pif_request_of(PIF_SETPRIO, 0, 0, 0);
@@ -223,10 +325,19 @@ static inline pif_request pif_setprio(uint32_t thread, uint32_t prio)
    1024 mutexes, up to 256 condition variables, and 1 to 4294967295 signals and broadcasts together on one variable.
    PIF_OK; or PIF_FULL, PIF_INVALID or PIF_NO_MEMORY, and then the handle holds what it held. No later call on the core
    takes memory. */
+PIF_NODISCARD
 uint32_t pif_core_new(pif_core *core, uint32_t threads, uint32_t mutexes, uint32_t conds, uint32_t signals);
 
 /* Gives up the core that a handle holds, if it holds one. The handle is empty then, and may be filled again. */
 void pif_core_free(pif_core *core);
+
+/* A handle of malloc that holds a new core, under limits as those of pif_core_new. Null if there is none: then `*result`
+   is PIF_INVALID or PIF_NO_MEMORY. Else it is PIF_OK. A null pointer for `result` leaves that out. */
+PIF_NODISCARD
+pif_core *pif_core_open(uint32_t threads, uint32_t mutexes, uint32_t conds, uint32_t signals, uint32_t *result);
+
+/* Gives up a handle of pif_core_open with the core that it holds. A null pointer is passed over. */
+void pif_core_close(pif_core *core);
 
 /* Adds a thread of this base priority, 1 to 99, with no call open: its number, the next one from 1. Else PIF_NO_CORE,
    PIF_BAD_PRIO or PIF_TOO_MANY, and nothing has changed. */
@@ -262,35 +373,82 @@ pif_seen pif_end(pif_core *core, uint32_t thread);
 /* The time is this from now on: PIF_TICKED. It is 0 at first, and its unit is yours. Refused by PIF_PAST. */
 pif_seen pif_tick(pif_core *core, uint32_t time);
 
-/* READERS: the core is the same afterwards. Each answers PIF_NO_CORE on a handle with no core. */
+/* READERS: the core is the same afterwards. Each answers PIF_NO_CORE on a handle with no core. A place is a number from
+   0, for which PIF_NONE says that so few are there. */
 
 /* The effective priority of a thread, 1 to 99: the greatest base priority of it and of all that wait for it through any
    chain. PIF_NONE if no living thread has that number. */
+PIF_NODISCARD
 pif_number pif_effective(pif_core *core, uint32_t thread);
 
 /* 1 if a thread is blocked, and its deadline, if it has one, isn't reached; 0 if it may take a step. PIF_NONE if no
    living thread has that number, or that thread has no call open. */
+PIF_NODISCARD
 pif_number pif_waiting(pif_core *core, uint32_t thread);
 
 /* The word of a mutex. PIF_NONE if it was never added. */
+PIF_NODISCARD
 pif_number pif_word(pif_core *core, uint32_t mutex);
 
 /* The health of a mutex (enum pif_health_of). PIF_NONE if it was never added. */
+PIF_NODISCARD
 pif_number pif_health(pif_core *core, uint32_t mutex);
 
 /* The condition word of a variable: how often it was signalled and broadcast. PIF_NONE if it was never added. */
+PIF_NODISCARD
 pif_number pif_cond_word(pif_core *core, uint32_t cond);
 
 /* The thread that runs next: of the ready threads of greatest effective priority the first that joined them. PIF_NONE
    if no thread is ready. */
+PIF_NODISCARD
 pif_number pif_pick(pif_core *core);
 
 /* The owner of a mutex, also one that has ended, and how often it holds the mutex. PIF_NONE if nobody owns it, or it
    was never added. */
+PIF_NODISCARD
 pif_owned pif_owner(pif_core *core, uint32_t mutex);
 
 /* What a thread does (enum pif_state). PIF_NONE if it was never added. */
+PIF_NODISCARD
 pif_doing pif_status(pif_core *core, uint32_t thread);
+
+/* The base priority of a thread, 1 to 99: the one with which it was added, or which PIF_SETPRIO gave it last. PIF_NONE
+   if no living thread has that number. */
+PIF_NODISCARD
+pif_number pif_base(pif_core *core, uint32_t thread);
+
+/* The kind of a mutex (enum pif_kind), and 1 if it is robust, 0 if it is stalled. PIF_NONE if it was never added. */
+PIF_NODISCARD
+pif_number pif_mutex_kind(pif_core *core, uint32_t mutex);
+PIF_NODISCARD
+pif_number pif_robust(pif_core *core, uint32_t mutex);
+
+/* The mutex to which a condition variable is bound. PIF_NONE if it was never added. */
+PIF_NODISCARD
+pif_number pif_bound(pif_core *core, uint32_t cond);
+
+/* The waiter of a mutex before which `place` others get it, as long as no priority changes and nobody comes or goes:
+   those of greatest effective priority come first, and of equals the first in arrival. */
+PIF_NODISCARD
+pif_number pif_waiter(pif_core *core, uint32_t mutex, uint32_t place);
+
+/* The thread that is parked on a condition variable and before which `place` others are woken, in the same order. */
+PIF_NODISCARD
+pif_number pif_parked(pif_core *core, uint32_t cond, uint32_t place);
+
+/* The ready thread before which `place` others run: that of place 0 is the one of pif_pick. */
+PIF_NODISCARD
+pif_number pif_ready(pif_core *core, uint32_t place);
+
+/* The time: that of the last tick that was not refused, 0 before the first. */
+PIF_NODISCARD
+pif_number pif_time(pif_core *core);
+
+/* The thread at a place of the path of waiting from a living thread: at place 0 that thread itself, and behind each one
+   the owner of the mutex for which it waits, also one that has ended, up to the one that waits for no mutex. PIF_NONE if
+   the path has no such place, or no living thread has that number. */
+PIF_NODISCARD
+pif_number pif_path(pif_core *core, uint32_t thread, uint32_t place);
 
 /* TEXTS: bytes in, bytes out. No handle is used: any number of threads may call these at once, if your malloc allows
    that. A text is written to the start of the room if all of it fits, and no other byte of the room changes. Else the
@@ -298,14 +456,18 @@ pif_doing pif_status(pif_core *core, uint32_t thread);
 
 /* How a job ended. The text that is written says more. */
 enum pif_ended_by {
-    PIF_WHOLE = 0,         /* the text was read to its end; a history is legal */
+    PIF_WHOLE = 0,         /* the text was read to its end; a history is legal; no claim of a program is broken */
     PIF_FAULT = 1,         /* a line is no command, is not allowed there, has limits out of range, is too long or cut
                               off; or the text is too large */
-    PIF_DIFFERS = 2,       /* a line has another answer than the core gives; a history is illegal at a line */
+    PIF_DIFFERS = 2,       /* a line has another answer than the core gives; a history is illegal at a line; a claim is
+                              broken */
     PIF_OUT_OF_MEMORY = 3, /* malloc refused a request */
     PIF_UNWRITTEN = 4,     /* malloc refused room for the text that is to be written, which is cut */
     PIF_UNREAD = 5,        /* does not happen */
-    PIF_UNDECIDED = 6      /* of pif_judge: it gave up at a line, and nothing is claimed */
+    PIF_UNDECIDED = 6,     /* of a history: it gave up at a line, and nothing is claimed. Of a program: it gave up, and
+                              found no claim that is broken */
+    PIF_INTERRUPTED = 7    /* its seconds were over, or `goes_on` said no (pif_options): there is no text, `wanted` is 0,
+                              and what the room has means nothing */
 };
 
 typedef struct pif_text {
@@ -314,12 +476,15 @@ typedef struct pif_text {
 } pif_text;
 
 /* Runs a script, and writes what `pif run` prints. */
+PIF_NODISCARD
 pif_text pif_run(const uint8_t *script, size_t script_length, uint8_t *room, size_t room_length);
 
 /* Replays a trace, and writes what `pif replay` prints. */
+PIF_NODISCARD
 pif_text pif_replay(const uint8_t *trace, size_t trace_length, uint8_t *room, size_t room_length);
 
 /* Checks a story under this name, and writes what `pif check` prints. */
+PIF_NODISCARD
 pif_text pif_check(const uint8_t *name, size_t name_length, const uint8_t *story, size_t story_length, uint8_t *room,
                    size_t room_length);
 
@@ -328,8 +493,82 @@ pif_text pif_check(const uint8_t *name, size_t name_length, const uint8_t *story
    and takes 1 to 16777216. Here any number may be given, and 0 allows no state. It also gives up at a broadcast that
    has more than 65536 choices of whom it wakes, which are made at once. If `witness` is true, a run that shows a legal
    history is written after it, as with --witness. */
+PIF_NODISCARD
 pif_text pif_judge(const uint8_t *history, size_t history_length, uint32_t states, bool witness, uint8_t *room,
                    size_t room_length);
+
+/* Looks for the fewest rules of what POSIX leaves open with which a history is legal, and writes what
+   `pif judge --allow posix --least` prints. Of each set of them at most so many states are made for a line. */
+PIF_NODISCARD
+pif_text pif_least(const uint8_t *history, size_t history_length, uint32_t states, uint8_t *room, size_t room_length);
+
+/* Explores a small program that locks, in all interleavings, and writes what `pif explore` prints; with a schedule for
+   each outcome, as with --witness, if that is true. It gives up if there are more than `states` states: PIF_UNDECIDED.
+   PIF_DIFFERS says that a claim of the program is broken. */
+PIF_NODISCARD
+pif_text pif_explore(const uint8_t *program, size_t program_length, uint32_t states, bool witness, uint8_t *room,
+                     size_t room_length);
+
+/* Shows a story, or a script: each command, its answer, and what has changed in the core by it, or all of the core if
+   `all` is true. Writes what `pif show` prints, which is for reading and may change with any version. */
+PIF_NODISCARD
+pif_text pif_show(const uint8_t *story, size_t story_length, bool all, uint8_t *room, size_t room_length);
+
+/* OPTIONS: `pif_options how = {sizeof how};` stands for what is usual, and so does a null pointer. A later version may
+   have more of them behind these; a program that was compiled with this header doesn't have them then. */
+typedef struct pif_options {
+    uint32_t size;             /* sizeof(pif_options) */
+    uint32_t states;           /* of pif_judge, pif_least and pif_explore; 0: as many as the program allows */
+    uint32_t seconds;          /* the job is stopped after so many; 0: it isn't */
+    uint32_t witness;          /* 1: as of pif_judge and pif_explore */
+    uint32_t least;            /* 1: of a history, as by pif_least, with no run */
+    uint32_t all;              /* 1: as of pif_show */
+    bool (*goes_on)(void *to); /* the job is stopped once this answers false; null: it isn't */
+    void *to;                  /* what is handed to it */
+} pif_options;
+
+enum { PIF_JUDGE_STATES = 200000, PIF_EXPLORE_STATES = 1000000 };
+
+/* As pif_judge or pif_least, pif_explore and pif_show, by options. They are C over these, in libpif. Whether the job goes
+   on is asked as it asks for memory, at the first request and each 64th behind it: many times a second. `goes_on` is
+   called in the thread of the job. It may call this library, and has to return. */
+PIF_NODISCARD
+pif_text pif_judge_with(const uint8_t *history, size_t history_length, const pif_options *how, uint8_t *room,
+                        size_t room_length);
+
+PIF_NODISCARD
+pif_text pif_explore_with(const uint8_t *program, size_t program_length, const pif_options *how, uint8_t *room,
+                          size_t room_length);
+
+PIF_NODISCARD
+pif_text pif_show_with(const uint8_t *story, size_t story_length, const pif_options *how, uint8_t *room,
+                       size_t room_length);
+
+/* TEXTS FOR A SINK: as the functions above, but what is written goes to a function of yours, whole, before they return.
+   Nothing goes there if that is the empty text, or if malloc refused the room for it: PIF_UNWRITTEN. They are C over the
+   functions above, in libpif. */
+
+/* Takes the bytes of a text, a piece at a time. `to` is the pointer that was handed in with it. */
+typedef void pif_sink(void *to, const char *text, size_t length);
+
+PIF_NODISCARD
+pif_text pif_run_to(const uint8_t *script, size_t script_length, pif_sink *sink, void *to);
+
+PIF_NODISCARD
+pif_text pif_replay_to(const uint8_t *trace, size_t trace_length, pif_sink *sink, void *to);
+
+PIF_NODISCARD
+pif_text pif_check_to(const uint8_t *name, size_t name_length, const uint8_t *story, size_t story_length, pif_sink *sink,
+                      void *to);
+
+PIF_NODISCARD
+pif_text pif_show_to(const uint8_t *story, size_t story_length, const pif_options *how, pif_sink *sink, void *to);
+
+PIF_NODISCARD
+pif_text pif_judge_to(const uint8_t *history, size_t history_length, const pif_options *how, pif_sink *sink, void *to);
+
+PIF_NODISCARD
+pif_text pif_explore_to(const uint8_t *program, size_t program_length, const pif_options *how, pif_sink *sink, void *to);
 
 #ifdef __cplusplus
 }

@@ -21,6 +21,20 @@ loaded, an ImportError says how to make one. `library()` says which it is: its `
     Seen(what='answer', detail=0)
     >>> core.finish(high), core.owner(mutex), core.effective(low)
     (Seen(what='answer', detail=0), (2, 1), 10)
+    >>> core.call(low, "lock", mutex), core.waiters(mutex), core.ready()
+    (Seen(what='waits', detail=0), [1], [2])
+    >>> core.kind(mutex), core.base(low), core.path(low), core.time()
+    (('normal', False), 10, [1, 2], 0)
+
+With a log each line of its trace is handed on, and another core can be held to it:
+
+    >>> lines = []
+    >>> logged = Core(threads=1, mutexes=1, conds=0, log=lines.append)
+    >>> logged.add_thread(10), logged.add_mutex(), logged.call(1, "lock", 1)
+    (1, 1, Seen(what='answer', detail=0))
+    >>> lines[1:4], print(replay("".join(lines)), end="")
+    same 6
+    (['limits 1 1 0 4294967295 = ok\\n', 'thread 10 = t1\\n', 'mutex normal = m1\\n'], None)
 
 A number that names nothing is told so, and nothing has changed:
 
@@ -64,6 +78,13 @@ differs (a history is illegal) or undecided:
     illegal at 4: answer t1 16
     possible there: 0
     its call began at 3: begin t1 lock m1
+    >>> print(explore("thread 10\\ndo t1: set x1 1\\n"), end="")
+    t1; x1 = 1
+    1 outcomes, 2 states, 1 steps
+    >>> print(least("thread 10\\nprio t1 10\\n"), end="")
+    legal 2
+    >>> explore("thread 10\\ndo t1: set x1 1\\n", goes_on=lambda: False).ended
+    'interrupted'
     >>> print(judge("# seen\\nthread 10\\nprio t1 10\\n", witness=True), end="")
     legal 3, with no call
     thread 10
@@ -76,13 +97,15 @@ when nobody has it any more. `python3 -m doctest pif.py` tries the lines above.
 
 import ctypes
 import ctypes.util
+import itertools
 import operator
 import os
 from collections import namedtuple
 from pathlib import Path
 from types import SimpleNamespace
 
-__all__ = ["Core", "Library", "Printed", "Refused", "Seen", "check", "judge", "library", "replay", "run"]
+__all__ = ["Core", "Library", "Printed", "Refused", "Seen", "check", "explore", "judge", "least", "library", "replay",
+           "run", "show"]
 
 WHAT = ("no core", "begun", "went", "waits", "answer", "ended", "ticked", "refused", "unnamed")
 REFUSALS = (None, "nosuch", "dead", "busy", "idle", "past")
@@ -92,7 +115,7 @@ KINDS = {"normal": 0, "recursive": 1, "errorcheck": 2}
 RESULTS = (None, "no core", "none", "too many", "bad priority", "no such mutex", "out of range",
            "there is a core already", "out of memory")
 OK, NONE, NO_MEMORY = 0, 2, 8
-ENDS = ("whole", "fault", "differs", "out of memory", "unwritten", "unread", "undecided")
+ENDS = ("whole", "fault", "differs", "out of memory", "unwritten", "unread", "undecided", "interrupted")
 
 # The calls by name: the number of each, and what its arguments are, in order.
 CALLS = {
@@ -121,7 +144,7 @@ MADE = {", proved": "proved", ", checked as it runs, not proved": "checked"}
 
 
 class Printed(str):
-    """What a job prints. `ended` says how the job ended: whole, fault, differs or undecided."""
+    """What a job prints. `ended` says how the job ended: whole, fault, differs, undecided or interrupted."""
 
     def __new__(cls, text, ended=None):
         printed = super().__new__(cls, text)
@@ -165,14 +188,31 @@ class TextBy(ctypes.Structure):
     _fields_ = [("ended", ctypes.c_uint32), ("wanted", ctypes.c_size_t)]
 
 
+GOES_ON = ctypes.CFUNCTYPE(ctypes.c_bool, ctypes.c_void_p)
+SINK = ctypes.CFUNCTYPE(None, ctypes.c_void_p, ctypes.POINTER(ctypes.c_char), ctypes.c_size_t)
+
+
+class Options(ctypes.Structure):
+    """How a job is done."""
+
+    _fields_ = [*((name, ctypes.c_uint32) for name in ("size", "states", "seconds", "witness", "least", "all")),
+                ("goes_on", GOES_ON), ("to", ctypes.c_void_p)]
+
+
+class Log(ctypes.Structure):
+    """Who takes the trace of a core."""
+
+    _fields_ = [("core", ctypes.POINTER(Handle)), ("sink", SINK), ("to", ctypes.c_void_p)]
+
+
 SeenBy = words("SeenBy", "what", "detail")
 Number = words("Number", "result", "number")
 Owned = words("Owned", "result", "thread", "count")
 Doing = words("Doing", "result", "state", "waits_for")
 Request = words("Request", "call", "mutex", "cond", "thread", "prio", "deadline")
 
-U32, HANDLE = ctypes.c_uint32, ctypes.POINTER(Handle)
-BYTES, SIZE = ctypes.c_char_p, ctypes.c_size_t
+U32, HANDLE, LOG = ctypes.c_uint32, ctypes.POINTER(Handle), ctypes.POINTER(Log)
+BYTES, SIZE, HOW = ctypes.c_char_p, ctypes.c_size_t, ctypes.POINTER(Options)
 
 # What each function answers, and takes.
 SIGNATURES = {
@@ -195,11 +235,28 @@ SIGNATURES = {
     "pif_pick": (Number, HANDLE),
     "pif_owner": (Owned, HANDLE, U32),
     "pif_status": (Doing, HANDLE, U32),
+    "pif_base": (Number, HANDLE, U32),
+    "pif_mutex_kind": (Number, HANDLE, U32),
+    "pif_robust": (Number, HANDLE, U32),
+    "pif_bound": (Number, HANDLE, U32),
+    "pif_waiter": (Number, HANDLE, U32, U32),
+    "pif_parked": (Number, HANDLE, U32, U32),
+    "pif_ready": (Number, HANDLE, U32),
+    "pif_time": (Number, HANDLE),
+    "pif_path": (Number, HANDLE, U32, U32),
     "pif_run": (TextBy, BYTES, SIZE, BYTES, SIZE),
     "pif_replay": (TextBy, BYTES, SIZE, BYTES, SIZE),
     "pif_check": (TextBy, BYTES, SIZE, BYTES, SIZE, BYTES, SIZE),
-    "pif_judge": (TextBy, BYTES, SIZE, U32, ctypes.c_bool, BYTES, SIZE),
+    "pif_judge_with": (TextBy, BYTES, SIZE, HOW, BYTES, SIZE),
+    "pif_explore_with": (TextBy, BYTES, SIZE, HOW, BYTES, SIZE),
+    "pif_show_with": (TextBy, BYTES, SIZE, HOW, BYTES, SIZE),
+    "pif_core_log": (U32, LOG, HANDLE, U32, U32, U32, U32, SINK, ctypes.c_void_p),
 }
+
+# The functions that change a core, which a log has too.
+LOGGED = ("add_thread", "add_mutex", "add_cond", "begin", "go", "call", "finish", "end", "tick")
+SIGNATURES.update({"pif_log_" + name: (answers, LOG, *takes) for name in LOGGED
+                   for answers, _, *takes in [SIGNATURES["pif_" + name]]})
 
 
 def checked(function, takes):
@@ -237,7 +294,9 @@ def load():
                           "c/out/libpif.so, within an hour or two; PIF_LIBRARY names one that is elsewhere"
                           % why) from None
     for name, (answers, *takes) in SIGNATURES.items():
-        function = getattr(library, name)
+        function = getattr(library, name, None)
+        if function is None:
+            raise ImportError("%s has no %s: it is older than this pif.py" % (path, name))
         function.restype, function.argtypes = answers, takes
         functions[name] = checked(function, takes)
     said = said_by(library)
@@ -281,6 +340,12 @@ def seen(told):
     return Seen(what, REFUSALS[told.detail] if what == "refused" else told.detail)
 
 
+def in_order(reader, *arguments):
+    """The numbers that a reader shows, by place."""
+    found = (shown(reader(*arguments, place)) for place in itertools.count())
+    return list(itertools.takewhile(lambda number: number is not None, found))
+
+
 def request(call, arguments):
     """A call by its name, as lock, with what it names."""
     number, names = named("call", call, CALLS)
@@ -290,50 +355,61 @@ def request(call, arguments):
 
 
 class Core:
-    """A core. Threads, mutexes and condition variables are numbers from 1, in the order in which they are added."""
+    """A core. Threads, mutexes and condition variables are numbers from 1, in the order in which they are added. `log` is
+    called with each line of its trace, which `replay` takes."""
 
-    def __init__(self, threads=1024, mutexes=1024, conds=256, signals=4294967295):
-        self.handle = Handle()
-        refuse(LIBRARY.pif_core_new(self.handle, threads, mutexes, conds, signals))
+    def __init__(self, threads=1024, mutexes=1024, conds=256, signals=4294967295, log=None):
+        self.handle, limits = Handle(), (threads, mutexes, conds, signals)
+        if log is None:
+            self.asked, self.named = self.handle, "pif_"
+            refuse(LIBRARY.pif_core_new(self.handle, *limits))
+        else:
+            self.asked, self.named = Log(), "pif_log_"
+            self.sink = SINK(lambda _, text, length: log(text[:length].decode()))
+            refuse(LIBRARY.pif_core_log(self.asked, self.handle, *limits, self.sink, None))
 
     def __del__(self):
         LIBRARY.pif_core_free(self.handle)
 
+    def change(self, name, *arguments):
+        """What a function answers that changes the core, and has a line in its log if there is one."""
+        return getattr(LIBRARY, self.named + name)(self.asked, *arguments)
+
     def add_thread(self, prio):
         """Adds a thread of this base priority, 1 to 99: its number."""
-        return added(LIBRARY.pif_add_thread(self.handle, prio))
+        return added(self.change("add_thread", prio))
 
     def add_mutex(self, kind="normal", robust=False):
         """Adds a mutex, normal, recursive or errorcheck: its number."""
-        return added(LIBRARY.pif_add_mutex(self.handle, named("kind", kind, KINDS), robust))
+        return added(self.change("add_mutex", named("kind", kind, KINDS), robust))
 
     def add_cond(self, mutex):
         """Adds a condition variable that is bound to this mutex: its number."""
-        return added(LIBRARY.pif_add_cond(self.handle, mutex))
+        return added(self.change("add_cond", mutex))
 
     def begin(self, thread, call, *arguments):
         """A thread begins a call."""
-        return seen(LIBRARY.pif_begin(self.handle, thread, request(call, arguments)))
+        return seen(self.change("begin", thread, request(call, arguments)))
 
     def go(self, thread):
         """A thread takes one step of its open call."""
-        return seen(LIBRARY.pif_go(self.handle, thread))
+        return seen(self.change("go", thread))
 
     def call(self, thread, call, *arguments):
         """A thread makes a whole call: it is answered, or waits."""
-        return seen(LIBRARY.pif_call(self.handle, thread, request(call, arguments)))
+        return seen(self.change("call", thread, request(call, arguments)))
 
     def finish(self, thread):
         """A thread goes on with its open call until it is answered or waits."""
-        return seen(LIBRARY.pif_finish(self.handle, thread))
+        return seen(self.change("finish", thread))
 
     def end(self, thread):
         """A thread ends."""
-        return seen(LIBRARY.pif_end(self.handle, thread))
+        return seen(self.change("end", thread))
 
     def tick(self, time):
         """The time is this from now on."""
-        return seen(LIBRARY.pif_tick(self.handle, time))
+        return seen(self.change("tick", time))
 
     def effective(self, thread):
         """The effective priority of a thread, or None."""
@@ -370,6 +446,40 @@ class Core:
         """What a thread does, ready, queued, parked, stopped or ended, and for what it waits, or 0; or None."""
         told = LIBRARY.pif_status(self.handle, thread)
         return None if told.result == NONE else (STATES[told.state], told.waits_for)
+
+    def base(self, thread):
+        """The base priority of a thread, or None."""
+        return shown(LIBRARY.pif_base(self.handle, thread))
+
+    def kind(self, mutex):
+        """The kind of a mutex, normal, recursive or errorcheck, and whether it is robust; or None."""
+        kind = shown(LIBRARY.pif_mutex_kind(self.handle, mutex))
+        names = {number: name for name, number in KINDS.items()}
+        return None if kind is None else (names[kind], shown(LIBRARY.pif_robust(self.handle, mutex)) == 1)
+
+    def bound(self, cond):
+        """The mutex to which a condition variable is bound, or None."""
+        return shown(LIBRARY.pif_bound(self.handle, cond))
+
+    def waiters(self, mutex):
+        """The threads that wait for a mutex, in the order in which they get it."""
+        return in_order(LIBRARY.pif_waiter, self.handle, mutex)
+
+    def parked(self, cond):
+        """The threads that are parked on a condition variable, in the order in which they are woken."""
+        return in_order(LIBRARY.pif_parked, self.handle, cond)
+
+    def ready(self):
+        """The ready threads, in the order in which they run."""
+        return in_order(LIBRARY.pif_ready, self.handle)
+
+    def path(self, thread):
+        """The threads along whom each waits for the owner of a mutex, from this one on; or None."""
+        return in_order(LIBRARY.pif_path, self.handle, thread) or None
+
+    def time(self):
+        """The time: that of the last tick that was not refused, 0 before the first."""
+        return shown(LIBRARY.pif_time(self.handle))
 
 
 def sized(text):
@@ -409,6 +519,32 @@ def replay(trace):
     return written(LIBRARY.pif_replay, *sized(trace))
 
 
-def judge(history, states=200000, witness=False):
-    """What `pif judge` prints of a history, with at most so many states made for one line."""
-    return written(LIBRARY.pif_judge, *sized(history), states, witness)
+def done(function, text, seconds, goes_on, **how):
+    """What a job prints that is done so, unless its seconds are over, or `goes_on` answers false."""
+    asks = GOES_ON() if goes_on is None else GOES_ON(lambda _: goes_on())
+    options = Options(ctypes.sizeof(Options), seconds=fitting(seconds), goes_on=asks,
+                      **{name: fitting(value) for name, value in how.items()})
+    return written(function, *sized(text), options)
+
+
+def judge(history, states=200000, witness=False, seconds=0, goes_on=None):
+    """What `pif judge --plain` prints of a history, with at most so many states made for one line. It is stopped
+    after so many seconds, if that isn't 0, and once `goes_on` answers false, which is asked many times a second."""
+    return done(LIBRARY.pif_judge_with, history, seconds, goes_on, states=max(states, 1), witness=witness)
+
+
+def least(history, states=200000, seconds=0, goes_on=None):
+    """What `pif judge --allow posix --least` prints of a history: the fewest rules of what POSIX leaves open with which it
+    is legal. It is stopped as `judge` is."""
+    return done(LIBRARY.pif_judge_with, history, seconds, goes_on, states=max(states, 1), least=True)
+
+
+def explore(program, states=1000000, witness=False, seconds=0, goes_on=None):
+    """What `pif explore` prints of a small program that locks, with at most so many states. It is stopped as `judge`
+    is."""
+    return done(LIBRARY.pif_explore_with, program, seconds, goes_on, states=max(states, 1), witness=witness)
+
+
+def show(story, all=False):
+    """What `pif show` prints of a story or a script: what each command changes, or all of the core behind each."""
+    return done(LIBRARY.pif_show_with, story, 0, None, all=all)

@@ -1,5 +1,6 @@
 // The header from C++, and the shared library.
-#include "pif.h"
+#include "pif_log.h"
+#include "pif_target.h"
 
 int main()
 {

@@ -46,4 +46,53 @@ static inline pif_text judges_with_witness(const char *text, uint8_t *room, size
     return pif_judge(bytes_of(text), strlen(text), STATES, true, room, length);
 }
 
+static inline pif_text explores(const char *text, uint8_t *room, size_t length)
+{
+    return pif_explore(bytes_of(text), strlen(text), STATES, false, room, length);
+}
+
+static inline pif_text finds_least(const char *text, uint8_t *room, size_t length)
+{
+    return pif_least(bytes_of(text), strlen(text), STATES, room, length);
+}
+
+static inline pif_text shows_changes(const char *text, uint8_t *room, size_t length)
+{
+    return pif_show(bytes_of(text), strlen(text), false, room, length);
+}
+
+static inline pif_text shows_all(const char *text, uint8_t *room, size_t length)
+{
+    return pif_show(bytes_of(text), strlen(text), true, room, length);
+}
+
+/* The same by options. */
+static inline pif_text explores_by_options(const char *text, uint8_t *room, size_t length)
+{
+    pif_options how = {sizeof how, 0, 0, 0, 0, 0, NULL, NULL};
+
+    return pif_explore_with(bytes_of(text), strlen(text), &how, room, length);
+}
+
+static inline pif_text finds_least_by_options(const char *text, uint8_t *room, size_t length)
+{
+    pif_options how = {sizeof how, 0, 0, 0, 1, 0, NULL, NULL};
+
+    return pif_judge_with(bytes_of(text), strlen(text), &how, room, length);
+}
+
+static inline pif_text shows_all_by_options(const char *text, uint8_t *room, size_t length)
+{
+    pif_options how = {sizeof how, 0, 0, 0, 0, 1, NULL, NULL};
+
+    return pif_show_with(bytes_of(text), strlen(text), &how, room, length);
+}
+
+static inline pif_text judges_by_options(const char *text, uint8_t *room, size_t length)
+{
+    pif_options how = {sizeof how.size, 1, 1, 1, 1, 1, NULL, NULL};
+
+    return pif_judge_with(bytes_of(text), strlen(text), &how, room, length);
+}
+
 #endif

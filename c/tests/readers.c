@@ -28,8 +28,36 @@ static void add_all(pif_core *core)
     NUMBER(pif_add_cond(core, 1), PIF_OK, 1);
 }
 
+/* What stands still: base priorities, kinds, and the mutex of a variable. */
+static void what_was_added(pif_core *core)
+{
+    NUMBER(pif_base(core, 1), PIF_OK, 10);
+    NUMBER(pif_base(core, 2), PIF_OK, 20);
+    NUMBER(pif_mutex_kind(core, 1), PIF_OK, PIF_RECURSIVE);
+    NUMBER(pif_mutex_kind(core, 2), PIF_OK, PIF_NORMAL);
+    NUMBER(pif_robust(core, 1), PIF_OK, 1);
+    NUMBER(pif_robust(core, 2), PIF_OK, 0);
+    NUMBER(pif_bound(core, 1), PIF_OK, 1);
+    NUMBER(pif_time(core), PIF_OK, 0);
+    NUMBER(pif_ready(core, 0), PIF_OK, 2);
+    NUMBER(pif_ready(core, 1), PIF_OK, 1);
+    NUMBER(pif_ready(core, 2), PIF_NONE, 0);
+}
+
 static void what_was_never_added(pif_core *core)
 {
+    NUMBER(pif_base(core, 0), PIF_NONE, 0);
+    NUMBER(pif_base(core, 3), PIF_NONE, 0);
+    NUMBER(pif_mutex_kind(core, 0), PIF_NONE, 0);
+    NUMBER(pif_mutex_kind(core, 3), PIF_NONE, 0);
+    NUMBER(pif_robust(core, 0), PIF_NONE, 0);
+    NUMBER(pif_robust(core, 3), PIF_NONE, 0);
+    NUMBER(pif_bound(core, 0), PIF_NONE, 0);
+    NUMBER(pif_bound(core, 2), PIF_NONE, 0);
+    NUMBER(pif_waiter(core, 0, 0), PIF_NONE, 0);
+    NUMBER(pif_waiter(core, 3, 0), PIF_NONE, 0);
+    NUMBER(pif_parked(core, 0, 0), PIF_NONE, 0);
+    NUMBER(pif_parked(core, 2, 0), PIF_NONE, 0);
     NUMBER(pif_effective(core, 3), PIF_NONE, 0);
     NUMBER(pif_effective(core, 0), PIF_NONE, 0);
     NUMBER(pif_waiting(core, 0), PIF_NONE, 0);
@@ -65,6 +93,48 @@ static void waits(pif_core *core)
     SEEN(pif_call(core, 2, pif_broadcast(1)), PIF_ANSWERED, PIF_EOVERFLOW);
     SEEN(pif_call(core, 2, pif_unlock(1)), PIF_ANSWERED, PIF_DONE);
     SEEN(pif_finish(core, 1), PIF_ANSWERED, PIF_DONE);
+}
+
+/* Three wait for a mutex: those of equal priority in order of arrival, behind the greatest. One is parked, and a tick
+   sets the time. */
+static void in_order(void)
+{
+    pif_core core = {0};
+
+    TRUE(pif_core_new(&core, 5, 1, 1, 1) == PIF_OK);
+    for (uint32_t thread = 1; thread <= 5; thread++)
+        NUMBER(pif_add_thread(&core, thread == 4 ? 50 : 10), PIF_OK, thread);
+    NUMBER(pif_add_mutex(&core, PIF_ERRORCHECK, false), PIF_OK, 1);
+    NUMBER(pif_add_cond(&core, 1), PIF_OK, 1);
+    NUMBER(pif_mutex_kind(&core, 1), PIF_OK, PIF_ERRORCHECK);
+    SEEN(pif_call(&core, 5, pif_lock(1)), PIF_ANSWERED, PIF_DONE);
+    SEEN(pif_call(&core, 5, pif_wait(1, 1)), PIF_WAITS, 0);
+    NUMBER(pif_parked(&core, 1, 0), PIF_OK, 5);
+    NUMBER(pif_parked(&core, 1, 1), PIF_NONE, 0);
+    SEEN(pif_call(&core, 1, pif_lock(1)), PIF_ANSWERED, PIF_DONE);
+    for (uint32_t thread = 2; thread <= 4; thread++)
+        SEEN(pif_call(&core, thread, pif_lock(1)), PIF_WAITS, 0);
+    NUMBER(pif_waiter(&core, 1, 0), PIF_OK, 4);
+    NUMBER(pif_waiter(&core, 1, 1), PIF_OK, 2);
+    NUMBER(pif_waiter(&core, 1, 2), PIF_OK, 3);
+    NUMBER(pif_waiter(&core, 1, 3), PIF_NONE, 0);
+    NUMBER(pif_effective(&core, 1), PIF_OK, 50);
+    NUMBER(pif_base(&core, 1), PIF_OK, 10);
+    NUMBER(pif_ready(&core, 0), PIF_OK, 1);
+    NUMBER(pif_ready(&core, 1), PIF_NONE, 0);
+    SEEN(pif_tick(&core, 7), PIF_TICKED, 0);
+    NUMBER(pif_time(&core), PIF_OK, 7);
+    SEEN(pif_tick(&core, 6), PIF_REFUSED, PIF_PAST);
+    NUMBER(pif_time(&core), PIF_OK, 7);
+    pif_core_free(&core);
+    NUMBER(pif_time(&core), PIF_NO_CORE, 0);
+    NUMBER(pif_base(&core, 1), PIF_NO_CORE, 0);
+    NUMBER(pif_mutex_kind(&core, 1), PIF_NO_CORE, 0);
+    NUMBER(pif_robust(&core, 1), PIF_NO_CORE, 0);
+    NUMBER(pif_bound(&core, 1), PIF_NO_CORE, 0);
+    NUMBER(pif_waiter(&core, 1, 0), PIF_NO_CORE, 0);
+    NUMBER(pif_parked(&core, 1, 0), PIF_NO_CORE, 0);
+    NUMBER(pif_ready(&core, 0), PIF_NO_CORE, 0);
 }
 
 /* A robust mutex whose owner ended, and that the next owner gives up as it is: nobody can lock it again. */
@@ -107,15 +177,50 @@ static void ends(pif_core *core)
     NUMBER(pif_pick(core), PIF_NONE, 0);
 }
 
+/* t3 waits for m2, which t2 holds, who waits for m1, which t1 holds. */
+static void a_path(void)
+{
+    pif_core core = {0};
+
+    TRUE(pif_core_new(&core, 3, 2, 0, 1) == PIF_OK);
+    for (uint32_t thread = 1; thread <= 3; thread++)
+        NUMBER(pif_add_thread(&core, 10), PIF_OK, thread);
+    for (uint32_t mutex = 1; mutex <= 2; mutex++)
+        NUMBER(pif_add_mutex(&core, PIF_NORMAL, false), PIF_OK, mutex);
+    SEEN(pif_call(&core, 1, pif_lock(1)), PIF_ANSWERED, PIF_DONE);
+    SEEN(pif_call(&core, 2, pif_lock(2)), PIF_ANSWERED, PIF_DONE);
+    SEEN(pif_call(&core, 2, pif_lock(1)), PIF_WAITS, 0);
+    SEEN(pif_call(&core, 3, pif_lock(2)), PIF_WAITS, 0);
+    NUMBER(pif_path(&core, 3, 0), PIF_OK, 3);
+    NUMBER(pif_path(&core, 3, 1), PIF_OK, 2);
+    NUMBER(pif_path(&core, 3, 2), PIF_OK, 1);
+    NUMBER(pif_path(&core, 3, 3), PIF_NONE, 0);
+    NUMBER(pif_path(&core, 3, 4294967295), PIF_NONE, 0);
+    NUMBER(pif_path(&core, 1, 0), PIF_OK, 1);
+    NUMBER(pif_path(&core, 1, 1), PIF_NONE, 0);
+    SEEN(pif_end(&core, 1), PIF_ENDED, 0);
+    NUMBER(pif_path(&core, 2, 1), PIF_OK, 1);
+    NUMBER(pif_path(&core, 1, 0), PIF_NONE, 0);
+    NUMBER(pif_path(&core, 4, 0), PIF_NONE, 0);
+    NUMBER(pif_path(&core, 0, 0), PIF_NONE, 0);
+    pif_core_free(&core);
+    NUMBER(pif_path(&core, 1, 0), PIF_NO_CORE, 0);
+}
+
 int main(void)
 {
     pif_core core = {0};
 
     add_all(&core);
+    what_was_added(&core);
     what_was_never_added(&core);
     waits(&core);
     is_given_up(&core);
     ends(&core);
+    NUMBER(pif_base(&core, 2), PIF_OK, 30);
+    NUMBER(pif_base(&core, 1), PIF_NONE, 0);
     pif_core_free(&core);
+    in_order();
+    a_path();
     return outcome();
 }

@@ -27,8 +27,33 @@ static void expect_text(int line, job *does, const char *text, uint32_t ended, c
 
 #define TEXT(does, text, ended, out) expect_text(__LINE__, does, text, ended, out)
 
+#define PROGRAM "thread 10\ndo t1: set x1 1\n"
+#define WAIT "thread 10\nmutex normal\ncond m1\nbegin t1 lock m1\nanswer t1 0\nbegin t1 wait c1 m1\nanswer t1 0\n"
+
+#define CORE "  t1: priority 10; ready\n  run queue: t1\n"
+#define FIRST "> thread 10\nt1\n" CORE "\n"
+
+/* Programs, stories that are shown, and least sets, also by options; of an options struct that ends behind its size nothing else is read. */
+static void more_texts(void)
+{
+    TEXT(explores, PROGRAM, PIF_WHOLE, "t1; x1 = 1\n1 outcomes, 2 states, 1 steps\n");
+    TEXT(explores_by_options, PROGRAM, PIF_WHOLE, "t1; x1 = 1\n1 outcomes, 2 states, 1 steps\n");
+    TEXT(explores, PROGRAM "finally: x1 = 1\n", PIF_WHOLE,
+         "t1; x1 = 1\nkept at 3\n1 outcomes, 2 states, 1 steps\n");
+    TEXT(explores, "thread 10\ndo\n", PIF_FAULT, "fault 2 command\n");
+    TEXT(shows_changes, "thread 10\npick\n", PIF_WHOLE, FIRST "> pick\nt1\n\n");
+    TEXT(shows_all, "thread 10\npick\n", PIF_WHOLE, FIRST "> pick\nt1\n" CORE "\n");
+    TEXT(shows_all_by_options, "thread 10\npick\n", PIF_WHOLE, FIRST "> pick\nt1\n" CORE "\n");
+    TEXT(shows_changes, "# low\nthred 10\n", PIF_FAULT, "> thred 10\nfault 1 command\n");
+    TEXT(finds_least, WAIT, PIF_WHOLE, "legal 7 with spurious\n");
+    TEXT(finds_least_by_options, WAIT, PIF_WHOLE, "legal 7 with spurious\n");
+    TEXT(finds_least, "thread 10\nprio t1 10\n", PIF_WHOLE, "legal 2\n");
+    TEXT(judges_by_options, "thread 10\nprio t1 10\n", PIF_WHOLE, "legal 2\n");
+}
+
 int main(void)
 {
+    more_texts();
     TEXT(runs, "", PIF_WHOLE, "");
     TEXT(runs, "thread 10\nmutex normal\ncall t1 lock m1\nword m1\n", PIF_WHOLE, "t1\nm1\nanswer 0\n0x00000001\n");
     TEXT(runs, "thread 10\nthred 10\n", PIF_FAULT, "t1\nfault 2 command\n");

@@ -1,25 +1,25 @@
 -- What a handle answers to what C asks: what its core answers, if it holds one and the numbers name something.
-use Rattle.std.specs.Prelude.{ℕ, ◌≡◌, ◌==◌, Bool, Option, Some, None, option_map, Result, if◌then◌else◌}
+use Rattle.std.specs.Prelude.{ℕ, ◌≡◌, ◌==◌, Bool, Option, Some, None, option_map, option_and_then, List, slice_get, Result, if◌then◌else◌}
 use Rattle.pif_types.specs.declared.errors.AddFault.{AddFault}
 use Rattle.pif_model.specs.declared.events.Event.TheVariants.{Begin, Go, End, Tick}
 use Rattle.pif_model.specs.Word.{health_word}
 use Rattle.pif_model.specs.Table.{Table}
 use Rattle.pif_model.specs.Lines.{Outcome, event_outcome}
-use Rattle.pif_model.specs.Calls.{add_thread_answer, add_thread_after, add_mutex_answer, add_mutex_after, add_cond_answer, add_cond_after, effective_answer, waiting_answer, word_answer, health_answer, cond_word_answer, pick_answer, owner_answer, status_answer}
+use Rattle.pif_model.specs.Calls.{add_thread_answer, add_thread_after, add_mutex_answer, add_mutex_after, add_cond_answer, add_cond_after, effective_answer, waiting_answer, word_answer, health_answer, cond_word_answer, pick_answer, owner_answer, status_answer, base_answer, kind_answer, bound_answer, waiter_answer, parked_answer, ready_answer, IsPathAnswer}
 use Rattle.pif_model_simulation.specs.Calls.{call_outcome, finish_outcome}
 use Rattle.pif_c.specs.declared.asking.Turn.{Turn}
 use Rattle.pif_c.specs.declared.asking.Turn.TheVariants.{Event as OneEvent, Call, Finish}
 use Rattle.pif_c.specs.declared.adding.Addition.{Addition}
 use Rattle.pif_c.specs.declared.adding.Addition.TheVariants.{Thread, Mutex, Cond}
 use Rattle.pif_c.specs.declared.asking.Look.{Look}
-use Rattle.pif_c.specs.declared.asking.Look.TheVariants.{Effective, Waiting, Word, Health, CondWord, Pick}
+use Rattle.pif_c.specs.declared.asking.Look.TheVariants.{Effective, Waiting, Word, Health, CondWord, Pick, Base, MutexKind, Robust, Bound, Waiter, ParkedOn, ReadyAt, Time}
 use Rattle.pif_c_numbers.specs.declared.numbers.PifSeen.{PifSeen}
 use Rattle.pif_c_numbers.specs.declared.numbers.PifNumber.{PifNumber}
 use Rattle.pif_c_numbers.specs.declared.numbers.PifOwned.{PifOwned}
 use Rattle.pif_c_numbers.specs.declared.numbers.PifDoing.{PifDoing}
 use Rattle.pif_c_numbers.specs.declared.numbers.PifRequest.{PifRequest}
 use Rattle.pif_c_numbers.specs.Codes as pif
-use Rattle.pif_c_numbers.specs.Numbers.{no_number, no_owner, no_state, request_of, kind_of, seen_reported, nothing_seen, unnamed_seen, number_told, owner_told, status_told, added_told}
+use Rattle.pif_c_numbers.specs.Numbers.{if_named, no_number, no_owner, no_state, request_of, kind_of, kind_number, seen_reported, nothing_seen, unnamed_seen, number_told, owner_told, status_told, added_told}
 
 -- TURNS
 
@@ -73,6 +73,14 @@ shown (Word m) s = word_answer m s
 shown (Health m) s = option_map health_word (health_answer m s)
 shown (CondWord c) s = cond_word_answer c s
 shown Pick s = pick_answer s
+shown (Base t) s = base_answer t s
+shown (MutexKind m) s = option_map (λ x. kind_number x.0) (kind_answer m s)
+shown (Robust m) s = option_map (λ x. bit_of x.1) (kind_answer m s)
+shown (Bound c) s = bound_answer c s
+shown (Waiter m place) s = option_and_then (λ n. waiter_answer n place s) (if_named m)
+shown (ParkedOn c place) s = option_and_then (λ n. parked_answer n place s) (if_named c)
+shown (ReadyAt place) s = ready_answer place s
+shown Time s = Some s.time
 
 -- what is answered of what a handle holds
 abbrev pub shown_told : Look → Option Table → PifNumber
@@ -83,6 +91,15 @@ shown_told x (Some s) = number_told (shown x s)
 pub record Looks (x : Look) (before after : Option Table) (told : PifNumber) : Type 0 where
   pub answer : told ≡ shown_told x before
   pub same : after ≡ before
+
+-- the thread at a place of the path of waiting from a thread, 0 for that thread itself, if the path is so long
+abbrev pub IsOnPath : (thread place : ℕ) → Table → Option ℕ → Type 0
+IsOnPath t place s found = (path : List ℕ) × IsPathAnswer t s path × (found ≡ slice_get path place)
+
+-- what is answered of that by what a handle holds
+abbrev pub PathTold : (thread place : ℕ) → Option Table → PifNumber → Type 0
+PathTold t place None told = told ≡ no_number pif.no_core
+PathTold t place (Some s) told = (found : Option ℕ) × IsOnPath t place s found × (told ≡ number_told found)
 
 -- the owner of a mutex, and what a thread does, by what a handle holds
 abbrev pub owner_shown : ℕ → Option Table → PifOwned

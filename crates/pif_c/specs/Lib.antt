@@ -3,3 +3,5 @@ pub mod Handles
 pub mod Asking
 pub mod Standing
 pub mod Texts
+pub mod Explores
+pub mod Shows

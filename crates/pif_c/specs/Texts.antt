@@ -6,6 +6,7 @@ use Rattle.pif_rules_model.specs.declared.rules.Rules.{Rules}
 use Rattle.pif_job_judge.specs.declared.forms.Form.{Form}
 use Rattle.pif_job_judge.specs.declared.forms.Form.TheVariants as form
 use Rattle.pif_job_judge.specs.Judging.{JudgesTo}
+use Rattle.pif_job_judge.specs.Least.{JudgesLeastTo}
 use Rattle.pif_job_judge.specs.declared.faults.JudgeFault.{JudgeFault}
 use Rattle.pif_job_judge.specs.declared.faults.JudgeFault.TheVariants.{Cli, NoCall, PosixAllows, Undecided}
 use Rattle.pif_c_numbers.specs.Codes as pif
@@ -43,6 +44,11 @@ form_of witness = if witness then form.Witness else form.Text
 -- what is told
 abbrev pub JudgesAlone : Form → Rules → Job JudgeFault
 JudgesAlone told r before left held holds done = JudgesTo true told r before left held holds [] done
+
+-- looking for the rules of these that a history needs, beside those that it allows, without asking POSIX, and no name in
+-- front of what is told
+abbrev pub LeastAlone : Rules → Job JudgeFault
+LeastAlone r before left held holds done = JudgesLeastTo true r before left held holds [] done
 
 -- a job read from these bytes, and wrote this text into an empty writer
 abbrev pub Wholly : {E : Type 0} → Job E → List ℕ → List ℕ → Result (Unit {0}) E → Type 0

@@ -5,7 +5,7 @@ ghost use Rattle.pif_c.specs.Standing.{Turns};
 
 use crate::handles::PifCore;
 use pif_c_numbers::codes::NO_CORE;
-use pif_c_numbers::{PifNumber, PifSeen, health_code, number_told, seen_reported};
+use pif_c_numbers::{PifNumber, PifSeen, health_code, kind_code, number_told, seen_reported};
 use pif_core::{Core, Event, Seen};
 use pif_types::{CondId, MutexId, Request, Tid};
 use std::alloc::Global;
@@ -36,6 +36,22 @@ pub enum Look {
     CondWord(u32),
     /// The thread that runs next.
     Pick,
+    /// The base priority of this thread.
+    Base(u32),
+    /// The kind of this mutex, as its number.
+    MutexKind(u32),
+    /// Whether this mutex is robust: 1 if it is, else 0.
+    Robust(u32),
+    /// The mutex to which this variable is bound.
+    Bound(u32),
+    /// The waiter of this mutex before which so many others get it.
+    Waiter(u32, u32),
+    /// The thread that is parked on this variable and before which so many others are woken.
+    ParkedOn(u32, u32),
+    /// The ready thread before which so many others run.
+    ReadyAt(u32),
+    /// The time.
+    Time,
 }
 
 /// A turn of a core: what was seen.
@@ -90,6 +106,14 @@ fn see(core: &Core, look: Look) -> Option<u32>
         Look::Health(mutex) => health(core, mutex),
         Look::CondWord(cond) => core.cond_word(CondId::new(cond)?),
         Look::Pick => pick(core),
+        Look::Base(thread) => base(core, thread),
+        Look::MutexKind(mutex) => mutex_kind(core, mutex),
+        Look::Robust(mutex) => robust(core, mutex),
+        Look::Bound(cond) => bound(core, cond),
+        Look::Waiter(mutex, place) => waiter(core, mutex, place),
+        Look::ParkedOn(cond, place) => parked_on(core, cond, place),
+        Look::ReadyAt(place) => ready_at(core, place),
+        Look::Time => Some(core.time()),
     }
 }
 
@@ -121,6 +145,55 @@ fn pick(core: &Core) -> Option<u32>
     ensures { result ≡ shown Look.Pick core.now }
 {
     let thread = core.pick()?;
+    Some(thread.get())
+}
+
+fn base(core: &Core, thread: u32) -> Option<u32>
+    ensures { result ≡ shown (Look.Base thread) core.now }
+{
+    let prio = core.base(Tid::new(thread)?)?;
+    Some(prio.get())
+}
+
+fn mutex_kind(core: &Core, mutex: u32) -> Option<u32>
+    ensures { result ≡ shown (Look.MutexKind mutex) core.now }
+{
+    let (kind, _) = core.kind(MutexId::new(mutex)?)?;
+    Some(kind_code(kind))
+}
+
+fn robust(core: &Core, mutex: u32) -> Option<u32>
+    ensures { result ≡ shown (Look.Robust mutex) core.now }
+{
+    let (_, robust) = core.kind(MutexId::new(mutex)?)?;
+    if robust { Some(1) } else { Some(0) }
+}
+
+fn bound(core: &Core, cond: u32) -> Option<u32>
+    ensures { result ≡ shown (Look.Bound cond) core.now }
+{
+    let mutex = core.bound(CondId::new(cond)?)?;
+    Some(mutex.get())
+}
+
+fn waiter(core: &Core, mutex: u32, place: u32) -> Option<u32>
+    ensures { result ≡ shown (Look.Waiter mutex place) core.now }
+{
+    let thread = core.waiter(MutexId::new(mutex)?, place)?;
+    Some(thread.get())
+}
+
+fn parked_on(core: &Core, cond: u32, place: u32) -> Option<u32>
+    ensures { result ≡ shown (Look.ParkedOn cond place) core.now }
+{
+    let thread = core.parked(CondId::new(cond)?, place)?;
+    Some(thread.get())
+}
+
+fn ready_at(core: &Core, place: u32) -> Option<u32>
+    ensures { result ≡ shown (Look.ReadyAt place) core.now }
+{
+    let thread = core.ready(place)?;
     Some(thread.get())
 }
 

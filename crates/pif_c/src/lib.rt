@@ -16,16 +16,20 @@
 //! | `events` | events and whole calls |
 //! | `readers` | what a core shows |
 //! | `texts` | scripts, traces, stories and histories: bytes in, bytes out |
+//! | `shows` | stories shown to a person, likewise |
+//! | `explores` | small programs that lock, likewise |
 #![tactic(auto)]
 
 mod adding;
 mod asking;
 mod cores;
 mod events;
+mod explores;
 mod handles;
 mod holding;
 mod loose;
 mod readers;
+mod shows;
 mod texts;
 
 pub use handles::PifCore;

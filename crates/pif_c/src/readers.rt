@@ -2,12 +2,12 @@ ghost use Rattle.std.specs.Prelude.{◌≡◌, Option, Some, None};
 ghost use Rattle.pif_model.specs.Calls.{owner_answer, status_answer};
 ghost use Rattle.pif_c.specs.Handles.{held};
 ghost use Rattle.pif_c_numbers.specs.Numbers.{owner_told, status_told};
-ghost use Rattle.pif_c.specs.Asking.{Looks, owner_shown, status_shown};
+ghost use Rattle.pif_c.specs.Asking.{IsOnPath, Looks, PathTold, owner_shown, status_shown};
 
 use crate::asking::{Look, look_on};
 use crate::handles::PifCore;
 use pif_c_numbers::codes::{NO_CORE, NONE, OK};
-use pif_c_numbers::{PifDoing, PifNumber, PifOwned, doing_told};
+use pif_c_numbers::{PifDoing, PifNumber, PifOwned, doing_told, number_told};
 use pif_core::Core;
 use pif_types::{MutexId, Tid};
 use std::alloc::Global;
@@ -58,6 +58,112 @@ pub extern "C" fn pif_pick(alloc: Global, handle: &mut PifCore) -> PifNumber
     ensures { Looks Look.Pick (held handle.old) (held handle.new) result }
 {
     look_on(alloc, handle, Look::Pick)
+}
+
+/// The base priority of a thread: `Core::base`.
+#[unsafe(no_mangle)]
+pub extern "C" fn pif_base(alloc: Global, handle: &mut PifCore, thread: u32) -> PifNumber
+    ensures { Looks (Look.Base thread) (held handle.old) (held handle.new) result }
+{
+    look_on(alloc, handle, Look::Base(thread))
+}
+
+/// The kind of a mutex (`enum pif_kind`): `Core::kind`.
+#[unsafe(no_mangle)]
+pub extern "C" fn pif_mutex_kind(alloc: Global, handle: &mut PifCore, mutex: u32) -> PifNumber
+    ensures { Looks (Look.MutexKind mutex) (held handle.old) (held handle.new) result }
+{
+    look_on(alloc, handle, Look::MutexKind(mutex))
+}
+
+/// 1 if a mutex is robust, 0 if it is stalled: `Core::kind`.
+#[unsafe(no_mangle)]
+pub extern "C" fn pif_robust(alloc: Global, handle: &mut PifCore, mutex: u32) -> PifNumber
+    ensures { Looks (Look.Robust mutex) (held handle.old) (held handle.new) result }
+{
+    look_on(alloc, handle, Look::Robust(mutex))
+}
+
+/// The mutex to which a condition variable is bound: `Core::bound`.
+#[unsafe(no_mangle)]
+pub extern "C" fn pif_bound(alloc: Global, handle: &mut PifCore, cond: u32) -> PifNumber
+    ensures { Looks (Look.Bound cond) (held handle.old) (held handle.new) result }
+{
+    look_on(alloc, handle, Look::Bound(cond))
+}
+
+/// The waiter of a mutex before which so many others get it: `Core::waiter`.
+#[unsafe(no_mangle)]
+pub extern "C" fn pif_waiter(
+    alloc: Global,
+    handle: &mut PifCore,
+    mutex: u32,
+    place: u32,
+) -> PifNumber
+    ensures { Looks (Look.Waiter mutex place) (held handle.old) (held handle.new) result }
+{
+    look_on(alloc, handle, Look::Waiter(mutex, place))
+}
+
+/// The thread that is parked on a variable and before which so many others are woken: `Core::parked`.
+#[unsafe(no_mangle)]
+pub extern "C" fn pif_parked(
+    alloc: Global,
+    handle: &mut PifCore,
+    cond: u32,
+    place: u32,
+) -> PifNumber
+    ensures { Looks (Look.ParkedOn cond place) (held handle.old) (held handle.new) result }
+{
+    look_on(alloc, handle, Look::ParkedOn(cond, place))
+}
+
+/// The ready thread before which so many others run: `Core::ready`.
+#[unsafe(no_mangle)]
+pub extern "C" fn pif_ready(alloc: Global, handle: &mut PifCore, place: u32) -> PifNumber
+    ensures { Looks (Look.ReadyAt place) (held handle.old) (held handle.new) result }
+{
+    look_on(alloc, handle, Look::ReadyAt(place))
+}
+
+/// The time: `Core::time`.
+#[unsafe(no_mangle)]
+pub extern "C" fn pif_time(alloc: Global, handle: &mut PifCore) -> PifNumber
+    ensures { Looks Look.Time (held handle.old) (held handle.new) result }
+{
+    look_on(alloc, handle, Look::Time)
+}
+
+/// The thread at a place of the path of waiting from a thread.
+fn on_path(core: &Core, thread: u32, place: u32) -> Option<u32>
+    ensures { IsOnPath thread place core.now result }
+{
+    let path = core.path(Tid::new(thread)?);
+    match path.as_slice().get(place as usize) {
+        Some(found) => Some(found.get()),
+        None => None,
+    }
+}
+
+/// The thread at a place of the path of waiting from a thread, 0 for that thread itself: `Core::path`.
+#[unsafe(no_mangle)]
+pub extern "C" fn pif_path(
+    alloc: Global,
+    handle: &mut PifCore,
+    thread: u32,
+    place: u32,
+) -> PifNumber
+    ensures answer { PathTold thread place (held handle.old) result }
+    ensures same { held handle.new ≡ held handle.old }
+{
+    match handle.take(alloc) {
+        Some(core) => {
+            let found = on_path(&core, thread, place);
+            handle.put(core);
+            number_told(found)
+        }
+        None => PifNumber::refused(NO_CORE),
+    }
 }
 
 fn owner(core: &Core, mutex: u32) -> PifOwned

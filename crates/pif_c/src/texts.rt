@@ -4,12 +4,12 @@ ghost use Rattle.pif_script_model.specs.Traces.{ReplaysTo};
 ghost use Rattle.pif_script_model.specs.declared.faults.CliFault.{CliFault};
 ghost use Rattle.pif_script_model.specs.Checks.{TellsTo, check_telling};
 ghost use Rattle.pif_job_judge.specs.declared.faults.JudgeFault.{JudgeFault};
-ghost use Rattle.pif_rules_model.specs.Sets.{no_rules};
-ghost use Rattle.pif_c.specs.Texts.{fault_number, ended_number, judged_number, form_of, JudgesAlone, Wholly, HandsOut, IsHandedOut};
+ghost use Rattle.pif_rules_model.specs.Sets.{no_rules, posix_rules};
+ghost use Rattle.pif_c.specs.Texts.{fault_number, ended_number, judged_number, form_of, JudgesAlone, LeastAlone, Wholly, HandsOut, IsHandedOut};
 
 use pif_c_numbers::codes::{DIFFERS, FAULT, OUT_OF_MEMORY, UNDECIDED, UNREAD, UNWRITTEN, WHOLE};
 use pif_job_judge::{Form, JudgeFault, Judging, Unwatched};
-use pif_rules::no_rules;
+use pif_rules::{no_rules, posix_rules};
 use pif_script_model::CliFault;
 use std::alloc::Global;
 
@@ -24,7 +24,7 @@ pub struct PifText {
 }
 
 /// The number of a fault.
-fn fault_number(fault: CliFault) -> u32
+pub(crate) fn fault_number(fault: CliFault) -> u32
     ensures { result ≡ fault_number fault }
 {
     match fault {
@@ -37,7 +37,7 @@ fn fault_number(fault: CliFault) -> u32
 }
 
 /// The number of how a job ended.
-fn ended_number(done: Result<(), CliFault>) -> u32
+pub(crate) fn ended_number(done: Result<(), CliFault>) -> u32
     ensures { result ≡ ended_number done }
 {
     match done {
@@ -60,7 +60,7 @@ fn judged_number(done: Result<(), JudgeFault>) -> u32
 }
 
 /// Writes a text to the start of `out`, if there is room for all of it; else `out` stays as it is.
-fn hand_out(text: &Vec<u8>, ended: u32, out: &mut [u8]) -> PifText
+pub(crate) fn hand_out(text: &Vec<u8>, ended: u32, out: &mut [u8]) -> PifText
     ensures { IsHandedOut text.now.items ended out.old out.new result }
 {
     let wanted = text.len();
@@ -123,6 +123,22 @@ fn judge_whole(
     (text, done)
 }
 
+/// Looks for the rules that a history needs, into memory of its own.
+fn least_whole(
+    alloc: Global,
+    asked: &Judging<'_>,
+    history: &[u8],
+) -> (Vec<u8>, Result<(), JudgeFault>)
+    requires nameless { asked.now.name ≡ None }
+    requires plain { asked.now.plain ≡ true }
+    ensures { Wholly (LeastAlone asked.now.allowed) history.now result.0.items result.1 }
+{
+    let mut reader = history;
+    let mut text = Vec::new(alloc);
+    let done = pif_job_judge::judge_least(alloc, asked, &mut reader, &mut text, &mut Unwatched);
+    (text, done)
+}
+
 /// Runs a script, and writes what `pif run` prints to the start of `out`, if there is room for all of it; else `out`
 /// stays as it is.
 #[unsafe(no_mangle)]
@@ -174,5 +190,23 @@ pub extern "C" fn pif_judge(
         plain: true,
     };
     let (text, done) = judge_whole(alloc, &asked, history);
+    hand_out(&text, judged_number(done), out)
+}
+
+/// Looks for the rules of POSIX that a history needs to be legal, with at most so many states made for a line, and writes
+/// what `pif judge --allow posix --least` prints to the start of `out`, if there is room for all of it; else `out` stays as
+/// it is.
+#[unsafe(no_mangle)]
+pub extern "C" fn pif_least(alloc: Global, history: &[u8], states: u32, out: &mut [u8]) -> PifText
+    ensures { HandsOut (LeastAlone posix_rules) judged_number history.now out.old out.new result }
+{
+    let asked = Judging {
+        name: None,
+        form: Form::Text,
+        states,
+        allowed: posix_rules(),
+        plain: true,
+    };
+    let (text, done) = least_whole(alloc, &asked, history);
     hand_out(&text, judged_number(done), out)
 }

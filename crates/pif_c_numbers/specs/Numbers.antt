@@ -60,6 +60,12 @@ kind_of n =
     if n == pif.recursive then Some Recursive else
     if n == pif.errorcheck then Some ErrorCheck else None
 
+-- and the number that a kind has there
+abbrev pub kind_number : Kind → ℕ
+kind_number Normal = pif.normal
+kind_number Recursive = pif.recursive
+kind_number ErrorCheck = pif.errorcheck
+
 -- what a thread does, and for which mutex or condition variable it waits
 abbrev pub doing_told : Status → PifDoing
 doing_told (Ready x) = record { result = pif.ok; state = pif.ready; waits_for = 0 }

@@ -8,5 +8,5 @@ mod numbers;
 
 pub use numbers::{
     PifDoing, PifNumber, PifOwned, PifRequest, PifSeen, added_told, doing_told, health_code,
-    kind_of, number_told, request_of, seen_reported,
+    kind_code, kind_of, number_told, request_of, seen_reported,
 };

@@ -1,6 +1,6 @@
 ghost use Rattle.std.specs.Prelude.{◌≡◌, ℕ, Option, Result};
 ghost use Rattle.pif_model.specs.Word.{health_word};
-ghost use Rattle.pif_c_numbers.specs.Numbers.{if_named, no_number, no_owner, no_state, refusal_number, add_number, added_told, number_told, seen_reported, kind_of, request_of, doing_told};
+ghost use Rattle.pif_c_numbers.specs.Numbers.{if_named, no_number, no_owner, no_state, refusal_number, add_number, added_told, number_told, seen_reported, kind_of, kind_number, request_of, doing_told};
 
 use crate::codes::{
     ANSWERED, BAD_PRIO, BEGUN, BUSY, DEAD, ENDED, ERRORCHECK, FINE, GONE, IDLE, INCONSISTENT,
@@ -195,6 +195,17 @@ pub fn kind_of(kind: u32) -> Option<Kind>
         RECURSIVE => Some(Kind::Recursive),
         ERRORCHECK => Some(Kind::ErrorCheck),
         _ => None,
+    }
+}
+
+/// The number that a kind has in pthread.h of Linux: its number in `enum pif_kind`.
+pub fn kind_code(kind: Kind) -> u32
+    ensures { result ≡ kind_number kind }
+{
+    match kind {
+        Kind::Normal => NORMAL,
+        Kind::Recursive => RECURSIVE,
+        Kind::ErrorCheck => ERRORCHECK,
     }
 }
 
