@@ -2,6 +2,9 @@
 
 import argparse
 import collections
+import functools
+import importlib.machinery
+import importlib.util
 import os
 import platform
 import re
@@ -25,6 +28,7 @@ C = HERE / "c"
 FLAGS = ["-std=c11", "-O2", "-g", "-Wall", "-Wextra", "-Werror", "-D_GNU_SOURCE", "-pthread", "-I", str(C), "-I", str(RECORD)]
 HUNG, NICE, AT_ONCE, PLACES = 9, 10, 2, ("packages", "root")
 LEGAL, FORBIDDEN, UNDECIDED = "legal", "forbidden", "undecided"
+UNLIMITED_USES, ANY_HOLDS = "more_uses", "recursion=1..4294967295"
 
 
 class Batch(NamedTuple):
@@ -172,6 +176,17 @@ def judged(history, asked, *options):
     return subprocess.run(words, stdin=subprocess.DEVNULL, capture_output=True, text=True).stdout
 
 
+@functools.cache
+def reachable_rules():
+    """The options that allow all rules but that for uses beyond a variable's limit, which no recording reaches. With it
+    each signal may count or not, so that searches are given up which are over in a second without it."""
+    loader = importlib.machinery.SourceFileLoader("check_history", str(RECORD / "check_history"))
+    module = importlib.util.module_from_spec(importlib.util.spec_from_loader("check_history", loader))
+    loader.exec_module(module)
+    names = [ANY_HOLDS if name == module.WITH_NUMBER else name for name in module.RULES if name != UNLIMITED_USES]
+    return [word for name in names for word in ("--allow", name)]
+
+
 def verdict_of(history, asked):
     """A word or the names of rules, and what is told."""
     told = judged(history, asked)
@@ -181,8 +196,8 @@ def verdict_of(history, asked):
         return (LEGAL if first == LEGAL else told.strip() or "no verdict"), told
     if allowed:
         return re.sub("=[0-9.]+|, (perhaps fewer|but for).*", "", allowed[1]), told
-    least = judged(history, asked, "--allow", "all", "--least")
-    told += "with all rules: " + least
+    least = judged(history, asked, "--plain", *reachable_rules(), "--least")
+    told += "with all rules but %s: %s" % (UNLIMITED_USES, least)
     with_rules = re.match(r"legal \d+, .*, with (.*)$", least.split("\n")[0])
     if with_rules:
         return re.sub("=[0-9.]+", "", with_rules[1]), told
