@@ -1,2 +1,3 @@
 mod ExploringLemmas
 mod Parts
+pub mod Held

@@ -1,3 +1,4 @@
+pub mod Delays
 pub mod Starts
 pub mod Exploring
 pub mod Lines

@@ -16,7 +16,7 @@
 //! |---|---|
 //! | `faults` | why a program was not found to keep its claims |
 //! | `starts` | what the text of a file stands for: a plan and its start |
-//! | `rulings` | what is found of the claims of a file |
+//! | `rulings`, `delays` | what is found of the claims of a file, and of the delays that it asks for |
 //! | `exploring` | a file, read and explored |
 //! | `player` | a core, and where each thread is in its program |
 //! | `standing`, `meeting` | the outcome to which the programs have come, and which claims are broken |
@@ -24,6 +24,7 @@
 //! | `playing`, `telling` | `play`, and what is told of it |
 #![tactic(auto)]
 
+mod delays;
 mod exploring;
 mod faults;
 mod meeting;

@@ -79,13 +79,16 @@ impl State {
         self.threads.len()
     }
 
-    /// The base priority of a thread.
-    pub(crate) fn base(&self, thread: usize) -> u32
-        requires { thread < length self.now.threads }
+    /// The base priority of a thread; 0 if it was not added.
+    pub fn base(&self, thread: usize) -> u32
         ensures { result ≡ (thread_at self.now thread).base }
     {
-        let task = &self.threads[thread];
-        task.base
+        if thread < self.threads.len() {
+            let task = &self.threads[thread];
+            task.base
+        } else {
+            0
+        }
     }
 
     /// How many places the mutexes have, with that of no mutex.

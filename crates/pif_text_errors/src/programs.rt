@@ -35,6 +35,7 @@ fn misplaced(form: Form, cause: Cause) -> Wrong {
         ("thread" | "mutex" | "cond", Cause::Limits) => Misplaced::NoRoom,
         ("thread" | "mutex" | "cond", _) => Misplaced::Addition,
         ("ends" | "ticks", _) => Misplaced::Second,
+        ("delay", _) => Misplaced::Unscheduled,
         _ => Misplaced::Other,
     };
     Wrong::Misplaced(why)

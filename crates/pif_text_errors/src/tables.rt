@@ -164,7 +164,7 @@ pub static HISTORY: [Form; 12] = [
 ];
 
 /// The lines of programs that are explored, by their first word.
-pub static PROGRAM: [Form; 12] = [
+pub static PROGRAM: [Form; 13] = [
     LIMITS,
     ALLOW,
     Form {
@@ -216,6 +216,12 @@ pub static PROGRAM: [Form; 12] = [
         text: "finally: C",
         parts: Parts::Of(&[Part::Colon]),
         rest: Rest::Condition,
+    },
+    Form {
+        name: "delay",
+        text: "delay tN",
+        parts: Parts::Of(&[Part::Thread]),
+        rest: Rest::End,
     },
 ];
 

@@ -18,6 +18,8 @@ pub enum Misplaced {
     Second,
     /// There is no room for what is added.
     NoRoom,
+    /// A delay is asked for without a schedule.
+    Unscheduled,
     /// It stands too late or twice.
     Other,
 }
@@ -36,6 +38,7 @@ impl Misplaced {
             Misplaced::Addition => "it may stand before 'do', 'ends', 'ticks' and claims only",
             Misplaced::Second => "there is such a line already",
             Misplaced::NoRoom => "no room is left for it (limits)",
+            Misplaced::Unscheduled => "'delay' stands behind a line 'schedule' only",
             Misplaced::Other => "it stands too late or twice",
         }
     }
