@@ -60,6 +60,8 @@ pif_text proved_pif_judge(const uint8_t *, size_t, uint32_t, bool, uint8_t *, si
 pif_text proved_pif_least(const uint8_t *, size_t, uint32_t, uint8_t *, size_t);
 pif_text proved_pif_explore(const uint8_t *, size_t, uint32_t, bool, uint8_t *, size_t);
 pif_text proved_pif_show(const uint8_t *, size_t, bool, uint8_t *, size_t);
+pif_text proved_pif_show_json(const uint8_t *, size_t, uint8_t *, size_t);
+pif_text proved_pif_show_dot(const uint8_t *, size_t, uint8_t *, size_t);
 
 pif_text pif_run(const uint8_t *script, size_t script_length, uint8_t *room, size_t room_length)
 {
@@ -101,4 +103,14 @@ pif_text pif_explore(const uint8_t *program, size_t program_length, uint32_t sta
 pif_text pif_show(const uint8_t *story, size_t story_length, bool all, uint8_t *room, size_t room_length)
 {
     return proved_pif_show(text_at(story, story_length), story_length, all, room_at(room, room_length), room_length);
+}
+
+pif_text pif_show_json(const uint8_t *story, size_t story_length, uint8_t *room, size_t room_length)
+{
+    return proved_pif_show_json(text_at(story, story_length), story_length, room_at(room, room_length), room_length);
+}
+
+pif_text pif_show_dot(const uint8_t *story, size_t story_length, uint8_t *room, size_t room_length)
+{
+    return proved_pif_show_dot(text_at(story, story_length), story_length, room_at(room, room_length), room_length);
 }

@@ -155,7 +155,11 @@ static pif_text ask_check(const struct job *job, uint8_t *room, size_t length)
 
 static pif_text ask_show(const struct job *job, uint8_t *room, size_t length)
 {
-    return pif_show(job->text, job->text_length, job->how.all != 0, room, length);
+    switch (job->how.shown) {
+    case PIF_JSON: return pif_show_json(job->text, job->text_length, room, length);
+    case PIF_DOT: return pif_show_dot(job->text, job->text_length, room, length);
+    default: return pif_show(job->text, job->text_length, job->how.shown == PIF_ALL, room, length);
+    }
 }
 
 static pif_text ask_judge(const struct job *job, uint8_t *room, size_t length)

@@ -488,9 +488,9 @@ PIF_NODISCARD
 pif_text pif_check(const uint8_t *name, size_t name_length, const uint8_t *story, size_t story_length, uint8_t *room,
                    size_t room_length);
 
-/* Judges a history, and writes what `pif judge` prints: whether some run of the POSIX machine shows its lines. It gives
-   up at a line for which it would make more than `states` states, as with --states; `pif judge` has 200000 without it,
-   and takes 1 to 16777216. Here any number may be given, and 0 allows no state. It also gives up at a broadcast that
+/* Judges a history, and writes what `pif judge --plain` prints: whether some run of the POSIX machine shows its lines. It
+   gives up at a line for which it would make more than `states` states, as with --states; `pif judge` has 200000 without
+   it, and takes 1 to 16777216. Here any number may be given, and 0 allows no state. It also gives up at a broadcast that
    has more than 65536 choices of whom it wakes, which are made at once. If `witness` is true, a run that shows a legal
    history is written after it, as with --witness. */
 PIF_NODISCARD
@@ -514,6 +514,23 @@ pif_text pif_explore(const uint8_t *program, size_t program_length, uint32_t sta
 PIF_NODISCARD
 pif_text pif_show(const uint8_t *story, size_t story_length, bool all, uint8_t *room, size_t room_length);
 
+/* The same for programs, as docs/FORMATS.md has it: what `pif show --json` prints, the state behind each command as a
+   line of JSON, and what `pif show --dot` prints, who waits for whom at the end, for Graphviz. Of a story with a fault
+   nothing is written. */
+PIF_NODISCARD
+pif_text pif_show_json(const uint8_t *story, size_t story_length, uint8_t *room, size_t room_length);
+
+PIF_NODISCARD
+pif_text pif_show_dot(const uint8_t *story, size_t story_length, uint8_t *room, size_t room_length);
+
+/* What is shown of a story. */
+enum pif_shown {
+    PIF_CHANGES = 0, /* as by pif_show: what each command changes */
+    PIF_ALL = 1,     /* and all of the core behind it */
+    PIF_JSON = 2,    /* as by pif_show_json */
+    PIF_DOT = 3      /* as by pif_show_dot */
+};
+
 /* OPTIONS: `pif_options how = {sizeof how};` stands for what is usual, and so does a null pointer. A later version may
    have more of them behind these; a program that was compiled with this header doesn't have them then. */
 typedef struct pif_options {
@@ -522,7 +539,7 @@ typedef struct pif_options {
     uint32_t seconds;          /* the job is stopped after so many; 0: it isn't */
     uint32_t witness;          /* 1: as of pif_judge and pif_explore */
     uint32_t least;            /* 1: of a history, as by pif_least, with no run */
-    uint32_t all;              /* 1: as of pif_show */
+    uint32_t shown;            /* of a story (enum pif_shown); another number is as PIF_CHANGES */
     bool (*goes_on)(void *to); /* the job is stopped once this answers false; null: it isn't */
     void *to;                  /* what is handed to it */
 } pif_options;

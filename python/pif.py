@@ -81,6 +81,8 @@ differs (a history is illegal) or undecided:
     >>> print(explore("thread 10\\ndo t1: set x1 1\\n"), end="")
     t1; x1 = 1
     1 outcomes, 2 states, 1 steps
+    >>> print(show("pick\\n", "json")[:46])
+    {"line":1,"command":"pick","answer":{"text":"n
     >>> print(least("thread 10\\nprio t1 10\\n"), end="")
     legal 2
     >>> explore("thread 10\\ndo t1: set x1 1\\n", goes_on=lambda: False).ended
@@ -195,7 +197,7 @@ SINK = ctypes.CFUNCTYPE(None, ctypes.c_void_p, ctypes.POINTER(ctypes.c_char), ct
 class Options(ctypes.Structure):
     """How a job is done."""
 
-    _fields_ = [*((name, ctypes.c_uint32) for name in ("size", "states", "seconds", "witness", "least", "all")),
+    _fields_ = [*((name, ctypes.c_uint32) for name in ("size", "states", "seconds", "witness", "least", "shown")),
                 ("goes_on", GOES_ON), ("to", ctypes.c_void_p)]
 
 
@@ -545,6 +547,11 @@ def explore(program, states=1000000, witness=False, seconds=0, goes_on=None):
     return done(LIBRARY.pif_explore_with, program, seconds, goes_on, states=max(states, 1), witness=witness)
 
 
-def show(story, all=False):
-    """What `pif show` prints of a story or a script: what each command changes, or all of the core behind each."""
-    return done(LIBRARY.pif_show_with, story, 0, None, all=all)
+# What is shown of a story.
+SHOWN = {"changes": 0, "all": 1, "json": 2, "dot": 3}
+
+
+def show(story, shown="changes"):
+    """What `pif show` prints of a story or a script: what each command changes, or all of the core behind each; and with
+    "json" or "dot" what it prints for programs."""
+    return done(LIBRARY.pif_show_with, story, 0, None, shown=named("form", shown, SHOWN))

@@ -73,6 +73,8 @@ static void null_pointers(void)
     TEXT(pif_judge(NULL, 0, 1, false, room, sizeof room), PIF_WHOLE, 8);
     TEXT(pif_least(NULL, 0, 1, NULL, 0), PIF_WHOLE, 8);
     TEXT(pif_show(NULL, 0, false, NULL, 0), PIF_WHOLE, 0);
+    TEXT(pif_show_json(NULL, 0, NULL, 0), PIF_WHOLE, 0);
+    TEXT(pif_show_dot(NULL, 0, NULL, 0), PIF_WHOLE, 64);
     TEXT(pif_explore(NULL, 0, 9, false, NULL, 0), PIF_WHOLE, 31);
     TRUE(memcmp(room, "legal 0\n", 8) == 0);
 }

@@ -81,9 +81,23 @@ static inline pif_text finds_least_by_options(const char *text, uint8_t *room, s
     return pif_judge_with(bytes_of(text), strlen(text), &how, room, length);
 }
 
+static inline pif_text shows_json(const char *text, uint8_t *room, size_t length)
+{
+    pif_options how = {sizeof how, 0, 0, 0, 0, PIF_JSON, NULL, NULL};
+
+    return pif_show_with(bytes_of(text), strlen(text), &how, room, length);
+}
+
+static inline pif_text shows_dot(const char *text, uint8_t *room, size_t length)
+{
+    pif_options how = {sizeof how, 0, 0, 0, 0, PIF_DOT, NULL, NULL};
+
+    return pif_show_with(bytes_of(text), strlen(text), &how, room, length);
+}
+
 static inline pif_text shows_all_by_options(const char *text, uint8_t *room, size_t length)
 {
-    pif_options how = {sizeof how, 0, 0, 0, 0, 1, NULL, NULL};
+    pif_options how = {sizeof how, 0, 0, 0, 0, PIF_ALL, NULL, NULL};
 
     return pif_show_with(bytes_of(text), strlen(text), &how, room, length);
 }

@@ -44,6 +44,11 @@ static void more_texts(void)
     TEXT(shows_changes, "thread 10\npick\n", PIF_WHOLE, FIRST "> pick\nt1\n\n");
     TEXT(shows_all, "thread 10\npick\n", PIF_WHOLE, FIRST "> pick\nt1\n" CORE "\n");
     TEXT(shows_all_by_options, "thread 10\npick\n", PIF_WHOLE, FIRST "> pick\nt1\n" CORE "\n");
+    TEXT(shows_json, "pick\n", PIF_WHOLE,
+         "{\"line\":1,\"command\":\"pick\",\"answer\":{\"text\":\"none\"},\"time\":0,\"threads\":[],\"mutexes\":[],"
+         "\"conds\":[],\"run_queue\":[],\"chains\":[]}\n");
+    TEXT(shows_dot, "pick\n", PIF_WHOLE, "digraph waiting {\n  rankdir=LR\n  node [fontname=\"sans-serif\"]\n}\n");
+    TEXT(shows_json, "thred 10\n", PIF_FAULT, "");
     TEXT(shows_changes, "# low\nthred 10\n", PIF_FAULT, "> thred 10\nfault 1 command\n");
     TEXT(finds_least, WAIT, PIF_WHOLE, "legal 7 with spurious\n");
     TEXT(finds_least_by_options, WAIT, PIF_WHOLE, "legal 7 with spurious\n");
