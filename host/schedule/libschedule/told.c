@@ -10,7 +10,7 @@
 
 #include "schedule.h"
 
-enum { ROOM = 1 << 26, MOST_OF_PATH = 4096, STATUS = 80 };
+enum { ROOM = 1 << 26, ROOM_OF_VERDICT = 1 << 12, MOST_OF_PATH = 4096, STATUS = 80 };
 
 /* The head of a file, and the text behind it. scheduling.py reads it. */
 typedef struct {
@@ -53,10 +53,18 @@ bool open_told(const char *folder)
 
 bool take_told(void) { return atomic_fetch_add(&run->takers, 1) == 0; }
 
-/* A text that finds no room is left out, and so is all behind it. */
+/* The last of a run's room is for why the library ended it. */
+static size_t room_left(const Told *told)
+{
+    bool is_kept = told == run && run->ended != BY_LIBRARY;
+
+    return ROOM - (is_kept ? ROOM_OF_VERDICT : 0) - sizeof *told - told->length;
+}
+
+/* A text that finds no room is left out, and so is all behind it but a verdict. */
 static void put(Told *told, const char *text, size_t size)
 {
-    if (told->is_full || size > ROOM - sizeof *told - told->length) {
+    if (told->is_full || size > room_left(told)) {
         told->is_full = 1;
         return;
     }
@@ -115,6 +123,10 @@ void tell_reason(const char *format, ...)
 void tell_verdict(Verdict verdict, const char *reason)
 {
     run->ended = BY_LIBRARY;
+    if (run->is_full) {
+        run->is_full = 0;
+        put(run, "\n", 1);
+    }
     tell_reason("%s: %s", verdicts[verdict], reason);
 }
 
