@@ -30,6 +30,8 @@ static void expect_text(int line, job *does, const char *text, uint32_t ended, c
 #define PROGRAM "thread 10\ndo t1: set x1 1\n"
 #define WAIT "thread 10\nmutex normal\ncond m1\nbegin t1 lock m1\nanswer t1 0\nbegin t1 wait c1 m1\nanswer t1 0\n"
 
+#define CALL "thread 10\nbegin t1 setprio t1 20\n"
+
 #define CORE "  t1: priority 10; ready\n  run queue: t1\n"
 #define FIRST "> thread 10\nt1\n" CORE "\n"
 
@@ -52,8 +54,8 @@ static void more_texts(void)
     TEXT(shows_changes, "# low\nthred 10\n", PIF_FAULT, "> thred 10\nfault 1 command\n");
     TEXT(finds_least, WAIT, PIF_WHOLE, "legal 7 with spurious\n");
     TEXT(finds_least_by_options, WAIT, PIF_WHOLE, "legal 7 with spurious\n");
-    TEXT(finds_least, "thread 10\nprio t1 10\n", PIF_WHOLE, "legal 2\n");
-    TEXT(judges_by_options, "thread 10\nprio t1 10\n", PIF_WHOLE, "legal 2\n");
+    TEXT(finds_least, CALL, PIF_WHOLE, "legal 2\n");
+    TEXT(judges_by_options, CALL, PIF_WHOLE, "legal 2\n");
 }
 
 int main(void)
