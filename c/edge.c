@@ -1,5 +1,6 @@
-/* What stands in C before the exports of crates/pif_c: the version, a handle of malloc, and texts at null pointers. None of it is proved. In the library the exports behind functions of the same name have `proved_` before
-   their names (the Makefile). */
+/* What stands in C before the exports of crates/pif_c: the version, a handle of malloc, and texts at null pointers.
+   None of it is proved. In the library the exports behind functions of the same name have `proved_` before their names
+   (the Makefile). */
 #include <stdlib.h>
 
 #include "pif.h"

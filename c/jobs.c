@@ -216,8 +216,8 @@ pif_text pif_replay_to(const uint8_t *trace, size_t trace_length, pif_sink *sink
     return hand_on(&job, sink, to);
 }
 
-pif_text pif_check_to(const uint8_t *name, size_t name_length, const uint8_t *story, size_t story_length, pif_sink *sink,
-                      void *to)
+pif_text pif_check_to(const uint8_t *name, size_t name_length, const uint8_t *story, size_t story_length,
+                      pif_sink *sink, void *to)
 {
     const struct job job = {ask_check, story, name, story_length, name_length, wanted(NULL)};
 

@@ -28,8 +28,8 @@ static void put_head(const pif_log *log, const uint32_t limits[4])
     end_line(&teller);
 }
 
-uint32_t pif_core_log(pif_log *log, pif_core *core, uint32_t threads, uint32_t mutexes, uint32_t conds, uint32_t signals,
-                      pif_sink *sink, void *to)
+uint32_t pif_core_log(pif_log *log, pif_core *core, uint32_t threads, uint32_t mutexes, uint32_t conds,
+                      uint32_t signals, pif_sink *sink, void *to)
 {
     const uint32_t limits[] = {threads, mutexes, conds, signals};
     const pif_log made = {core, sink, to};

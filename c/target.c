@@ -1,5 +1,5 @@
-/* Holds an implementation in C to the core (`pif_try_target`): random calls on both, and a short story of the first that
-   it answers otherwise. None of it is proved; what it takes to be right is the core, which is. */
+/* Holds an implementation in C to the core (`pif_try_target`): random calls on both, and a short story of the first
+   that it answers otherwise. None of it is proved; what it takes to be right is the core, which is. */
 #include <stdio.h>
 #include <stdlib.h>
 #include <string.h>
@@ -15,7 +15,7 @@ enum act { ADD_THREAD, ADD_MUTEX, ADD_COND, CALL, FINISH, END, TICK };
 struct line {
     enum act act;
     uint32_t thread;     /* that acts */
-    uint32_t number;     /* the priority of a new thread, the kind of a new mutex, the mutex of a new variable, a time */
+    uint32_t number;     /* of a new thread its priority, of a mutex its kind, of a variable its mutex; a time */
     bool robust;         /* of a new mutex */
     pif_request request; /* of a call */
 };
@@ -175,7 +175,7 @@ static bool begin(struct trial *trial)
     return pif_core_new(&trial->core, MOST_THREADS, MOST_OTHERS, MOST_OTHERS, UINT32_MAX) == PIF_OK;
 }
 
-/* Has both do these lines up to the first difference. The lines that were done are left. False if there is no memory. */
+/* Has both do these lines up to the first difference, and leaves those that were done. False if there is no memory. */
 static bool play(struct trial *trial, struct lines *lines)
 {
     size_t done = 0;

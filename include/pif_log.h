@@ -1,6 +1,6 @@
-/* A core with a log: what is asked of it and what it answers goes to a function of yours as a trace, a line at a time, as
-   docs/FORMATS.md has traces. `pif replay` and pif_replay hold another core to it. It is C
-   over the functions of pif.h, in libpif, and not proved. */
+/* A core with a log: what is asked of it and what it answers goes to a function of yours as a trace, a line at a time,
+   as docs/FORMATS.md has traces. `pif replay` and pif_replay hold another core to it. It is C over the functions of
+   pif.h, in libpif, and not proved. */
 #ifndef PIF_LOG_H
 #define PIF_LOG_H
 
@@ -10,20 +10,20 @@
 extern "C" {
 #endif
 
-/* A log of a core: pif_core_log fills it. Ask the core what it shows by the readers of pif.h. What the functions of pif.h
-   change of it doesn't stand in the trace, which is wrong then. */
+/* A log of a core: pif_core_log fills it. Ask the core what it shows by the readers of pif.h. What the functions of
+   pif.h change of it doesn't stand in the trace, which is wrong then. */
 typedef struct pif_log {
     pif_core *core;
     pif_sink *sink;
     void *to;
 } pif_log;
 
-/* Has an empty handle hold a new core, as pif_core_new, and `log` log it: the sink gets the first two lines of the trace.
-   The handle and the log have to stay where they are. Answers as pif_core_new, and PIF_INVALID for a null sink; if that
-   isn't PIF_OK nothing is logged. */
+/* Has an empty handle hold a new core, as pif_core_new, and `log` log it: the sink gets the first two lines of the
+   trace. The handle and the log have to stay where they are. Answers as pif_core_new, and PIF_INVALID for a null sink;
+   if that isn't PIF_OK nothing is logged. */
 PIF_NODISCARD
-uint32_t pif_core_log(pif_log *log, pif_core *core, uint32_t threads, uint32_t mutexes, uint32_t conds, uint32_t signals,
-                      pif_sink *sink, void *to);
+uint32_t pif_core_log(pif_log *log, pif_core *core, uint32_t threads, uint32_t mutexes, uint32_t conds,
+                      uint32_t signals, pif_sink *sink, void *to);
 
 /* As pif_add_thread, pif_add_mutex and pif_add_cond. What is added has a line; an addition that is refused has none. */
 pif_number pif_log_add_thread(const pif_log *log, uint32_t prio);

@@ -1,6 +1,6 @@
-/* A driver for an implementation of your own, in one process: it is given random calls, and each answer is compared with
-   that of a core. Of the first that differs comes a short story, which `pif check` reads. It is C, in libpif, and not
-   proved; what it compares with is the core, which is. `tools/fuzz` does the same for a program. */
+/* A driver for an implementation of your own, in one process: it is given random calls, and each answer is compared
+   with that of a core. Of the first that differs comes a short story, which `pif check` reads. It is C, in libpif, and
+   not proved; what it compares with is the core, which is. `tools/fuzz` does the same for a program. */
 #ifndef PIF_TARGET_H
 #define PIF_TARGET_H
 

@@ -80,7 +80,8 @@ int main(void)
 
     long least = requests_of(finds_least, "thread 10\nbegin t1 setprio t1 20\n", "legal 2\n");
     long explore = requests_of(explores, "thread 10\ndo t1: set x1 1\n", "t1; x1 = 1\n1 outcomes, 2 states, 1 steps\n");
-    long show = requests_of(shows_changes, "thread 10\n", "> thread 10\nt1\n  t1: priority 10; ready\n  run queue: t1\n\n");
+    long show = requests_of(shows_changes, "thread 10\n",
+                            "> thread 10\nt1\n  t1: priority 10; ready\n  run queue: t1\n\n");
 
     TRUE(core > 1 && run > 1 && replay > 1 && check > 1 && judge > 1 && least > 1 && explore > 1 && show > 1);
     printf("requests: a core %ld, a script %ld, a trace %ld, a story %ld, a history %ld, its rules %ld, a program %ld, "

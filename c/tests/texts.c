@@ -35,7 +35,8 @@ static void expect_text(int line, job *does, const char *text, uint32_t ended, c
 #define CORE "  t1: priority 10; ready\n  run queue: t1\n"
 #define FIRST "> thread 10\nt1\n" CORE "\n"
 
-/* Programs, stories that are shown, and least sets, also by options; of an options struct that ends behind its size nothing else is read. */
+/* Programs, stories that are shown, and least sets, also by options; of an options struct that ends behind its size
+   nothing else is read. */
 static void more_texts(void)
 {
     TEXT(explores, PROGRAM, PIF_WHOLE, "t1; x1 = 1\n1 outcomes, 2 states, 1 steps\n");
