@@ -331,8 +331,8 @@ uint32_t pif_core_new(pif_core *core, uint32_t threads, uint32_t mutexes, uint32
 /* Gives up the core that a handle holds, if it holds one. The handle is empty then, and may be filled again. */
 void pif_core_free(pif_core *core);
 
-/* A handle of malloc that holds a new core, under limits as those of pif_core_new. Null if there is none: then `*result`
-   is PIF_INVALID or PIF_NO_MEMORY. Else it is PIF_OK. A null pointer for `result` leaves that out. */
+/* A handle of malloc that holds a new core, under limits as those of pif_core_new. Null if there is none: then
+   `*result` is PIF_INVALID or PIF_NO_MEMORY. Else it is PIF_OK. A null pointer for `result` leaves that out. */
 PIF_NODISCARD
 pif_core *pif_core_open(uint32_t threads, uint32_t mutexes, uint32_t conds, uint32_t signals, uint32_t *result);
 
@@ -445,8 +445,8 @@ PIF_NODISCARD
 pif_number pif_time(pif_core *core);
 
 /* The thread at a place of the path of waiting from a living thread: at place 0 that thread itself, and behind each one
-   the owner of the mutex for which it waits, also one that has ended, up to the one that waits for no mutex. PIF_NONE if
-   the path has no such place, or no living thread has that number. */
+   the owner of the mutex for which it waits, also one that has ended, up to the one that waits for no mutex. PIF_NONE
+   if the path has no such place, or no living thread has that number. */
 PIF_NODISCARD
 pif_number pif_path(pif_core *core, uint32_t thread, uint32_t place);
 
@@ -466,8 +466,8 @@ enum pif_ended_by {
     PIF_UNREAD = 5,        /* does not happen */
     PIF_UNDECIDED = 6,     /* of a history: it gave up at a line, and nothing is claimed. Of a program: it gave up, and
                               found no claim that is broken */
-    PIF_INTERRUPTED = 7    /* its seconds were over, or `goes_on` said no (pif_options): there is no text, `wanted` is 0,
-                              and what the room has means nothing */
+    PIF_INTERRUPTED = 7    /* its seconds were over, or `goes_on` said no (pif_options): there is no text, `wanted` is
+                              0, and what the room has means nothing */
 };
 
 typedef struct pif_text {
@@ -488,11 +488,11 @@ PIF_NODISCARD
 pif_text pif_check(const uint8_t *name, size_t name_length, const uint8_t *story, size_t story_length, uint8_t *room,
                    size_t room_length);
 
-/* Judges a history, and writes what `pif judge --plain` prints: whether some run of the POSIX machine shows its lines. It
-   gives up at a line for which it would make more than `states` states, as with --states; `pif judge` has 200000 without
-   it, and takes 1 to 16777216. Here any number may be given, and 0 allows no state. It also gives up at a broadcast that
-   has more than 65536 choices of whom it wakes, which are made at once. If `witness` is true, a run that shows a legal
-   history is written after it, as with --witness. */
+/* Judges a history, and writes what `pif judge --plain` prints: whether some run of the POSIX machine shows its lines.
+   It gives up at a line for which it would make more than `states` states, as with --states; `pif judge` has 200000
+   without it, and takes 1 to 16777216. Here any number may be given, and 0 allows no state. It also gives up at a
+   broadcast that has more than 65536 choices of whom it wakes, which are made at once. If `witness` is true, a run that
+   shows a legal history is written after it, as with --witness. */
 PIF_NODISCARD
 pif_text pif_judge(const uint8_t *history, size_t history_length, uint32_t states, bool witness, uint8_t *room,
                    size_t room_length);
@@ -546,9 +546,9 @@ typedef struct pif_options {
 
 enum { PIF_JUDGE_STATES = 200000, PIF_EXPLORE_STATES = 1000000 };
 
-/* As pif_judge or pif_least, pif_explore and pif_show, by options. They are C over these, in libpif. Whether the job goes
-   on is asked as it asks for memory, at the first request and each 64th behind it: many times a second. `goes_on` is
-   called in the thread of the job. It may call this library, and has to return. */
+/* As pif_judge or pif_least, pif_explore and pif_show, by options. They are C over these, in libpif. Whether the job
+   goes on is asked as it asks for memory, at the first request and each 64th behind it: many times a second. `goes_on`
+   is called in the thread of the job. It may call this library, and has to return. */
 PIF_NODISCARD
 pif_text pif_judge_with(const uint8_t *history, size_t history_length, const pif_options *how, uint8_t *room,
                         size_t room_length);
@@ -562,8 +562,8 @@ pif_text pif_show_with(const uint8_t *story, size_t story_length, const pif_opti
                        size_t room_length);
 
 /* TEXTS FOR A SINK: as the functions above, but what is written goes to a function of yours, whole, before they return.
-   Nothing goes there if that is the empty text, or if malloc refused the room for it: PIF_UNWRITTEN. They are C over the
-   functions above, in libpif. */
+   Nothing goes there if that is the empty text, or if malloc refused the room for it: PIF_UNWRITTEN. They are C over
+   the functions above, in libpif. */
 
 /* Takes the bytes of a text, a piece at a time. `to` is the pointer that was handed in with it. */
 typedef void pif_sink(void *to, const char *text, size_t length);
@@ -575,8 +575,8 @@ PIF_NODISCARD
 pif_text pif_replay_to(const uint8_t *trace, size_t trace_length, pif_sink *sink, void *to);
 
 PIF_NODISCARD
-pif_text pif_check_to(const uint8_t *name, size_t name_length, const uint8_t *story, size_t story_length, pif_sink *sink,
-                      void *to);
+pif_text pif_check_to(const uint8_t *name, size_t name_length, const uint8_t *story, size_t story_length,
+                      pif_sink *sink, void *to);
 
 PIF_NODISCARD
 pif_text pif_show_to(const uint8_t *story, size_t story_length, const pif_options *how, pif_sink *sink, void *to);
@@ -585,7 +585,8 @@ PIF_NODISCARD
 pif_text pif_judge_to(const uint8_t *history, size_t history_length, const pif_options *how, pif_sink *sink, void *to);
 
 PIF_NODISCARD
-pif_text pif_explore_to(const uint8_t *program, size_t program_length, const pif_options *how, pif_sink *sink, void *to);
+pif_text pif_explore_to(const uint8_t *program, size_t program_length, const pif_options *how, pif_sink *sink,
+                        void *to);
 
 #ifdef __cplusplus
 }
