@@ -130,7 +130,7 @@ def test_own_end(kit, place, name, number, is_stored):
 def test_handler(kit, place, _):
     if platform.machine() != "x86_64":
         raise kit.NotAsked("this isn't x86-64")
-    done = kit.run([kit.FEATURES, "handler_everywhere"], env=names_of(kit, place))
+    done = kit.run([kit.FEATURES, "handler_everywhere"], env=names_of(kit, place, kit.INHERITING))
     kit.demand(done.returncode == 0, "status %d" % done.returncode)
     text, told = joined(kit, place)
     return kit.demand_whole_calls(text, int(done.stdout), kit.parted(told)[1])

@@ -19,7 +19,8 @@
    between PIF_FORGET() and the dump. Now say
 
        PIF_ADD("thread %u", priority);             what there is, from one thread at a time: threads, mutexes
-       PIF_ADD("mutex normal robust");             and variables, each numbered from 1 in this order
+       PIF_ADD("mutex normal robust");             and variables, each numbered from 1 in this order; `none` stands
+                                                   behind a mutex that lends no priority: "mutex normal none"
        PIF_ADD("# m%u is uart_lock", m);           what one is called; it counts as one that is added
        PIF_BEGIN(t, "lock m%u", m);                before the call is entered
        PIF_ANSWER(t, a);                           after it has returned a: 0, or the number of an error

@@ -33,7 +33,7 @@ __attribute__((noinline)) static void step(bool is_on)
 }
 
 /* Each trap has a mutex of its own. The first lock is the first of the program, so that the thread is new to the
-   recorder. The one before it, which isn't recorded, finds the functions. */
+   recorder. The one before it finds the functions, and isn't recorded with RECORD_ONLY=inherit. */
 static void handler_everywhere(void)
 {
     make_inheriting(&outer);

@@ -263,7 +263,7 @@ const Feature left_out_features[] = {
     {"made_anew_unseen", "a static initialiser that is written again", made_anew_unseen},
     {"c11_mutex", "mtx_t", c11_mutex},
     {"cancelled_wait", "a thread that is cancelled inside a wait", cancelled_wait},
-    {"cancelled_lock", "a thread that is cancelled inside a lock, with RECORD_ALL=1", cancelled_lock},
+    {"cancelled_lock", "a thread that is cancelled inside a lock", cancelled_lock},
     {"call_in_handler", "a signal's handler that locks while its thread waits for another mutex", call_in_handler},
     {"priority_in_handler", "a signal's handler that gives a priority while its thread waits", priority_in_handler},
     {"refused_priority", "a priority that is answered EPERM", refused_priority},

@@ -35,6 +35,17 @@ static void static_objects(void)
     pthread_mutex_unlock(&adaptive);
 }
 
+static void without_inheritance(void)
+{
+    static const int types[] = {PTHREAD_MUTEX_NORMAL, PTHREAD_MUTEX_ERRORCHECK, PTHREAD_MUTEX_RECURSIVE};
+    static pthread_mutex_t mutexes[6];
+
+    for (int i = 0; i < 6; i++) {
+        make_mutex(&mutexes[i], types[i % 3], i >= 3, PTHREAD_PRIO_NONE);
+        lock_and_unlock(&mutexes[i]);
+    }
+}
+
 static void plain_and_inheriting(void)
 {
     static pthread_mutex_t plain, inheriting;
@@ -168,7 +179,8 @@ static void initialised_again(void)
 
 const Feature mutex_features[] = {
     {"kinds", "normal, errorcheck robust and recursive mutexes", kinds},
-    {"static_objects", "static initialisers, which RECORD_ALL=1 records", static_objects},
+    {"static_objects", "static initialisers", static_objects},
+    {"without_inheritance", "mutexes of each kind with PTHREAD_PRIO_NONE, robust and not", without_inheritance},
     {"inheriting_alone", "a plain mutex beside one that inherits", plain_and_inheriting},
     {"timed_locks", "deadlines on both clocks, reached, past and far", timed_locks},
     {"bad_times", "calls with a timespec that is none", bad_times},

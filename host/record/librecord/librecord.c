@@ -14,7 +14,7 @@ enum { MOST_RECORDS = 262144 };
 enum { NOT_READY, STARTS, READY };
 
 Real real;
-bool records_all, records_where;
+bool inheriting_alone, records_where;
 uint32_t most_records = MOST_RECORDS;
 _Atomic bool recording;
 const char *history_file;
@@ -118,16 +118,16 @@ static unsigned long long number_in(const char *text)
     return text[0] >= '0' && text[0] <= '9' && *end == '\0' ? number : 0;
 }
 
-/* Whether a variable is 1; `said` is said if it is another word. */
-static bool is_one(const char *variable, const char *said)
+/* Whether a variable is this word; `said` is said if it is another one, but for 0. */
+static bool is_word(const char *variable, const char *wanted, const char *said)
 {
     const char *word = getenv(variable);
 
     if (word == NULL || word[0] == '\0' || strcmp(word, "0") == 0)
         return false;
-    if (strcmp(word, "1") != 0 && getenv("RECORD_FILE") != NULL)
+    if (strcmp(word, wanted) != 0 && getenv("RECORD_FILE") != NULL)
         say(said, 0, NULL);
-    return strcmp(word, "1") == 0;
+    return strcmp(word, wanted) == 0;
 }
 
 /* The number of a variable; `said` is said if it is none. */
@@ -153,8 +153,8 @@ static const char *target_of(const char *variable, const char *too_long)
 
 static void read_environment(void)
 {
-    records_all = is_one("RECORD_ALL", "RECORD_ALL is neither 0 nor 1, and is passed over");
-    records_where = is_one("RECORD_WHERE", "RECORD_WHERE is neither 0 nor 1, and is passed over");
+    inheriting_alone = is_word("RECORD_ONLY", "inherit", "RECORD_ONLY is not inherit, and is passed over");
+    records_where = is_word("RECORD_WHERE", "1", "RECORD_WHERE is neither 0 nor 1, and is passed over");
     unsigned long long number = number_of("RECORD_MAX", "RECORD_MAX is no number, and is passed over");
     if (number > 0)
         most_records = number > UINT32_MAX ? UINT32_MAX : (uint32_t)number;

@@ -17,6 +17,7 @@ static void write_objects(const History *history)
         put_text("mutex ");
         put_text(kinds[mutex->kind & KIND_TYPE]);
         put_text((mutex->kind & KIND_ROBUST) != 0 ? " robust" : "");
+        put_text((mutex->kind & KIND_INHERIT) == 0 ? " none" : "");
         end_line();
         write_name_of_object('m', mutex->number, mutex);
     }

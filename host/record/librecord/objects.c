@@ -60,7 +60,7 @@ Object *new_object(Reason reason, uintptr_t address, uintptr_t first_used)
 }
 
 /* A destroyed mutex has the kind -1. One with PTHREAD_PRIO_PROTECT is wanted so that it can be said to be left out. */
-bool is_wanted(int kind) { return kind >= 0 && (records_all || (kind & (KIND_INHERIT | KIND_PROTECT)) != 0); }
+bool is_wanted(int kind) { return kind >= 0 && (!inheriting_alone || (kind & (KIND_INHERIT | KIND_PROTECT)) != 0); }
 
 /* Whether it is still what stands at its address: another process may have made it anew, and a child has copies of what
    its parent had. */

@@ -49,7 +49,7 @@ typedef enum {
 
 /* What passes the recorder by: calls that have no lines in the history, by kind, and what may make such calls. */
 typedef enum {
-    OF_PLAIN_MUTEXES,   /* without PTHREAD_PRIO_INHERIT, if not all are recorded; waits with them, too */
+    OF_PLAIN_MUTEXES,   /* without PTHREAD_PRIO_INHERIT, if the others alone are recorded; waits with them, too */
     OF_THEIR_VARIABLES, /* signals and broadcasts */
     OF_PROTECTED,
     OF_SHARED,
@@ -347,7 +347,7 @@ typedef struct {
 
 /* librecord.c */
 extern Real real;
-extern bool records_all, records_where;
+extern bool inheriting_alone, records_where;
 extern uint32_t most_records;
 extern _Atomic bool recording;
 extern const char *history_file;
