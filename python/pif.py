@@ -84,7 +84,7 @@ differs (a history is illegal) or undecided:
     >>> print(show("pick\\n", "json")[:46])
     {"line":1,"command":"pick","answer":{"text":"n
     >>> print(least("thread 10\\nbegin t1 setprio t1 20\\n"), end="")
-    legal 2
+    legal 2, 1 call
     >>> explore("thread 10\\ndo t1: set x1 1\\n", goes_on=lambda: False).ended
     'interrupted'
     >>> print(judge("# seen\\nthread 10\\nprio t1 10\\n", witness=True), end="")

@@ -58,10 +58,10 @@ static void expect_text(int line, pif_text is, uint32_t ended, size_t wanted)
 #define TEXT(call, ended, wanted) expect_text(__LINE__, call, ended, wanted)
 
 /* No text, no name and no room, each at a null pointer. With their line feeds `t1` has 3 bytes, `fault 1 command` 16,
-   `ok  0` 6, `legal 0` 8, and `1 outcomes, 1 states, 0 steps` behind an empty line 31. */
+   `ok  0` 6, `legal 0, with no call` 22, and `1 outcomes, 1 states, 0 steps` behind an empty line 31. */
 static void null_pointers(void)
 {
-    uint8_t room[16];
+    uint8_t room[32];
     const uint8_t *thread = (const uint8_t *)"thread 10\n";
 
     TEXT(pif_run(NULL, 0, NULL, 0), PIF_WHOLE, 0);
@@ -69,14 +69,14 @@ static void null_pointers(void)
     TEXT(pif_run(NULL, 0, room, sizeof room), PIF_WHOLE, 0);
     TEXT(pif_replay(NULL, 0, NULL, 0), PIF_FAULT, 16);
     TEXT(pif_check(NULL, 0, NULL, 0, NULL, 0), PIF_WHOLE, 6);
-    TEXT(pif_judge(NULL, 0, 1, false, NULL, 0), PIF_WHOLE, 8);
-    TEXT(pif_judge(NULL, 0, 1, false, room, sizeof room), PIF_WHOLE, 8);
-    TEXT(pif_least(NULL, 0, 1, NULL, 0), PIF_WHOLE, 8);
+    TEXT(pif_judge(NULL, 0, 1, false, NULL, 0), PIF_UNDECIDED, 22);
+    TEXT(pif_judge(NULL, 0, 1, false, room, sizeof room), PIF_UNDECIDED, 22);
+    TEXT(pif_least(NULL, 0, 1, NULL, 0), PIF_UNDECIDED, 22);
     TEXT(pif_show(NULL, 0, false, NULL, 0), PIF_WHOLE, 0);
     TEXT(pif_show_json(NULL, 0, NULL, 0), PIF_WHOLE, 0);
     TEXT(pif_show_dot(NULL, 0, NULL, 0), PIF_WHOLE, 64);
     TEXT(pif_explore(NULL, 0, 9, false, NULL, 0), PIF_WHOLE, 31);
-    TRUE(memcmp(room, "legal 0\n", 8) == 0);
+    TRUE(memcmp(room, "legal 0, with no call\n", 22) == 0);
 }
 
 static struct {
@@ -120,7 +120,7 @@ static void sinks(void)
     TAKEN(pif_show_to(thread, 10, NULL, take, &taken), PIF_WHOLE,
           "> thread 10\nt1\n  t1: priority 10; ready\n  run queue: t1\n\n");
     TAKEN(pif_explore_to(NULL, 0, NULL, take, &taken), PIF_WHOLE, "\n1 outcomes, 1 states, 0 steps\n");
-    TAKEN(pif_judge_to(history, 7, NULL, take, &taken), PIF_WHOLE, "legal 1\n");
+    TAKEN(pif_judge_to(history, 7, NULL, take, &taken), PIF_UNDECIDED, "legal 1, with no call\n");
     for (int line = 0; line < LINES; line++)
         memcpy(script + 8 * line, "word m1\n", 8);
     TRUE(pif_run_to((const uint8_t *)script, 8 * LINES, counts, &length).wanted == 15 * LINES);

@@ -78,7 +78,7 @@ int main(void)
     long judge = requests_of(judges_with_witness, "thread 10\nbegin t1 setprio t1 20\n",
                               "legal 2, 1 call\nthread 10\nbegin t1 setprio t1 20\n");
 
-    long least = requests_of(finds_least, "thread 10\nbegin t1 setprio t1 20\n", "legal 2\n");
+    long least = requests_of(finds_least, "thread 10\nbegin t1 setprio t1 20\n", "legal 2, 1 call\n");
     long explore = requests_of(explores, "thread 10\ndo t1: set x1 1\n", "t1; x1 = 1\n1 outcomes, 2 states, 1 steps\n");
     long show = requests_of(shows_changes, "thread 10\n",
                             "> thread 10\nt1\n  t1: priority 10; ready\n  run queue: t1\n\n");

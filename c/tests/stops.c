@@ -68,7 +68,7 @@ static void goes_on_then(void)
     uint8_t room[64];
 
     pif_text told = pif_judge_with(bytes_of(HISTORY), strlen(HISTORY), &how, room, sizeof room);
-    TRUE(told.ended == PIF_WHOLE && memcmp(room, "legal 4", 7) == 0);
+    TRUE(told.ended == PIF_WHOLE && memcmp(room, "legal 4, 1 call\n", 16) == 0);
     TRUE(long_one.asked > 0);
     TRUE(judges(HISTORY, room, sizeof room).ended == PIF_WHOLE);
 }

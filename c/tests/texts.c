@@ -53,10 +53,10 @@ static void more_texts(void)
     TEXT(shows_dot, "pick\n", PIF_WHOLE, "digraph waiting {\n  rankdir=LR\n  node [fontname=\"sans-serif\"]\n}\n");
     TEXT(shows_json, "thred 10\n", PIF_FAULT, "");
     TEXT(shows_changes, "# low\nthred 10\n", PIF_FAULT, "> thred 10\nfault 1 command\n");
-    TEXT(finds_least, WAIT, PIF_WHOLE, "legal 7 with spurious\n");
-    TEXT(finds_least_by_options, WAIT, PIF_WHOLE, "legal 7 with spurious\n");
-    TEXT(finds_least, CALL, PIF_WHOLE, "legal 2\n");
-    TEXT(judges_by_options, CALL, PIF_WHOLE, "legal 2\n");
+    TEXT(finds_least, WAIT, PIF_WHOLE, "legal 7, 2 calls, with spurious\n");
+    TEXT(finds_least_by_options, WAIT, PIF_WHOLE, "legal 7, 2 calls, with spurious\n");
+    TEXT(finds_least, CALL, PIF_WHOLE, "legal 2, 1 call\n");
+    TEXT(judges_by_options, CALL, PIF_WHOLE, "legal 2, 1 call\n");
 }
 
 int main(void)
