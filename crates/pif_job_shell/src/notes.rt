@@ -1,24 +1,25 @@
-//! What is said of a command that names what isn't there.
+//! What is said of a command that asks for what isn't there.
 
 use crate::remarks::Remark;
 use crate::sessions::Session;
 use pif_story::{Known, append_missing, noted};
 use pif_text::{Reply, Text, reply_text};
 
-/// How many threads, mutexes and condition variables a session has.
+/// How many threads, mutexes and condition variables a session has, and its time.
 fn known_to(session: &Session) -> Known {
     match session.core() {
         Some(core) => Known {
             threads: core.threads(),
             mutexes: core.mutexes(),
             conds: core.conds(),
+            time: core.time(),
         },
         None => Known::nothing(),
     }
 }
 
-/// What is said of the last command of a session, which was answered so, if it names what nobody has, or a priority
-/// that is out of range. Such a command has changed nothing, so the session has what it had before.
+/// What is said of the last command of a session, which was answered so, if it asks for what isn't there. Such a command
+/// has changed nothing, so the session has what it had before.
 pub fn note_on(session: &Session, reply: Reply) -> Option<Remark> {
     let command = *session.last()?;
     let mut given = Text::new();

@@ -1,4 +1,5 @@
--- Notes on a story: names in its commands that nobody has, and priorities that are out of range.
+-- Notes on a story: names in its commands that nobody has, priorities that are out of range, and what else is asked for
+-- and isn't there: room for one more, and a time that is past.
 use Rattle.std.specs.Prelude.{ℕ, ◌≡◌, ◌≤◌, ◌<◌, ◌+◌, ◌-◌, ◌==◌, ◌&&◌, not, nat_le, nat_lt, nat_eq, Bool, true, false, List, [], ◌∷◌, ◌++◌, length, drop, flat_map, slice_get, Option, Some, None, Result, Ok, Err, option_and_then, option_map, if◌then◌else◌, bytes_eq, codes, decimal}
 use Rattle.std.specs.Io.KnownBytes.{Consumes}
 use Rattle.std.specs.List.{cons_option, starts_with, zip}
@@ -24,14 +25,14 @@ use Rattle.pif_script_model.specs.Stories.{NumberedRow, rows_of, script_of}
 use Rattle.pif_script_model.specs.Verdicts.{is_refusal}
 use Rattle.pif_story.specs.declared.missing.Known.{Known}
 use Rattle.pif_story.specs.declared.missing.Missing.{Missing}
-use Rattle.pif_story.specs.declared.missing.Missing.TheVariants.{Thread, Mutex, Cond, Priority}
+use Rattle.pif_story.specs.declared.missing.Missing.TheVariants.{Thread, Mutex, Cond, Priority, ThreadRoom, MutexRoom, CondRoom, Time}
 use Rattle.pif_story.specs.declared.missing.Note.{Note}
 
--- ---- what was added
+-- ---- what was added, and the time
 
 -- before the first command
 abbrev pub nothing_known : Known
-nothing_known = record { threads = 0; mutexes = 0; conds = 0 }
+nothing_known = record { threads = 0; mutexes = 0; conds = 0; time = 0 }
 
 -- one more; there are no more names than this
 abbrev pub one_more : ℕ → ℕ
@@ -43,11 +44,18 @@ known_with known (addition.Thread p) = record known { threads = one_more known.t
 known_with known (addition.Mutex k robust) = record known { mutexes = one_more known.mutexes }
 known_with known (addition.Cond m) = record known { conds = one_more known.conds }
 
--- what is there behind a command that is answered so; a refused one adds nothing
+-- what is there after this event
+unfoldable pub known_after : Known → Event → Known
+known_after known (Tick n) = record known { time = n }
+known_after known (Begin t q) = known
+known_after known (Go t) = known
+known_after known (End t) = known
+
+-- what is there behind a command that is answered so; a refused one adds nothing, and no time passes
 unfoldable pub known_behind : Known → Command → (given : List ℕ) → Known
 known_behind known (command.Add a) given = if is_refusal given then known else known_with known a
 known_behind known (command.Limits t m c n) given = known
-known_behind known (command.Event e) given = known
+known_behind known (command.Event e) given = if is_refusal given then known else known_after known e
 known_behind known (command.Run t q) given = known
 known_behind known (command.Ask q) given = known
 
@@ -112,12 +120,40 @@ asked_priority (command.Event e) = None
 asked_priority (command.Run t q) = None
 asked_priority (command.Ask q) = None
 
+-- room for one more of what is added: there are as many of these as may be
+abbrev pub room_for : Known → Addition → Missing
+room_for known (addition.Thread p) = ThreadRoom known.threads
+room_for known (addition.Mutex k robust) = MutexRoom known.mutexes
+room_for known (addition.Cond m) = CondRoom known.conds
+
+-- the room that a command asks for, if it adds something
+unfoldable pub asked_room : Known → Command → Option Missing
+asked_room known (command.Add a) = Some (room_for known a)
+asked_room known (command.Limits t m c n) = None
+asked_room known (command.Event e) = None
+asked_room known (command.Run t q) = None
+asked_room known (command.Ask q) = None
+
+-- the time that a command asks for, if it is a tick, and the time that it is
+unfoldable pub asked_time : Known → Command → Option Missing
+asked_time known (command.Event (Tick n)) = Some (Time n known.time)
+asked_time known (command.Event (Begin t q)) = None
+asked_time known (command.Event (Go t)) = None
+asked_time known (command.Event (End t)) = None
+asked_time known (command.Limits t m c n) = None
+asked_time known (command.Add a) = None
+asked_time known (command.Run t q) = None
+asked_time known (command.Ask q) = None
+
 -- what is noted of a command that is answered so: if it names something that is not there, the first name that nobody
--- has; if a priority is out of range, that priority
+-- has; if a priority is out of range, that priority; if there are as many as may be, the room for one more; and if a time
+-- is past, that time
 unfoldable pub noted : Known → Command → (given : List ℕ) → Option Missing
 noted known c given =
     if bytes_eq given (codes "refused nosuch") then missing_in known c
-    else if bytes_eq given (codes "refused badprio") then asked_priority c else None
+    else if bytes_eq given (codes "refused badprio") then asked_priority c
+    else if bytes_eq given (codes "refused toomany") then asked_room known c
+    else if bytes_eq given (codes "refused past") then asked_time known c else None
 
 -- ---- where it stands
 
@@ -127,6 +163,10 @@ missing_word (Thread t) = thread_name t
 missing_word (Mutex m) = mutex_name m
 missing_word (Cond c) = cond_name c
 missing_word (Priority p) = decimal p
+missing_word (ThreadRoom n) = codes "thread"
+missing_word (MutexRoom n) = codes "mutex"
+missing_word (CondRoom n) = codes "cond"
+missing_word (Time n now) = decimal n
 
 -- whether a text is at an end of a word
 abbrev pub ends_word : List ℕ → Bool
@@ -196,12 +236,16 @@ rows_notes story known (pair ∷ more) =
     cons_option (row_note story known pair.0.0 pair.0.1 pair.1)
     (rows_notes story (row_known known pair.0.1.0 pair.1) more)
 
--- whether two are the same
+-- whether two are the same, whatever time it is
 abbrev pub is_same : Missing → Missing → Bool
 is_same (Thread m) (Thread n) = m == n
 is_same (Mutex m) (Mutex n) = m == n
 is_same (Cond m) (Cond n) = m == n
 is_same (Priority m) (Priority n) = m == n
+is_same (ThreadRoom m) (ThreadRoom n) = m == n
+is_same (MutexRoom m) (MutexRoom n) = m == n
+is_same (CondRoom m) (CondRoom n) = m == n
+is_same (Time m a) (Time n b) = m == n
 is_same one other = false
 
 -- whether a note is on this
@@ -209,7 +253,7 @@ unfoldable pub is_told : Missing → List Note → Bool
 is_told missing [] = false
 is_told missing (note ∷ more) = if is_same note.missing missing then true else is_told missing more
 
--- a note behind those that are told: each name is told once, and there are 20 notes at most
+-- a note behind those that are told: each thing that is missing is told once, and there are 20 notes at most
 unfoldable pub with_note : (told : List Note) → Note → List Note
 with_note told note =
     if nat_lt (length told) 20 && not (is_told note.missing told) then told ++ note ∷ [] else told
@@ -245,6 +289,14 @@ words_before (Thread t) = codes "there is no thread "
 words_before (Mutex m) = codes "there is no mutex "
 words_before (Cond c) = codes "there is no condition variable "
 words_before (Priority p) = codes "priority "
+words_before (ThreadRoom n) = codes "there is no room for another "
+words_before (MutexRoom n) = codes "there is no room for another "
+words_before (CondRoom n) = codes "there is no room for another "
+words_before (Time n now) = codes "time "
+
+-- how many may be added
+abbrev pub room_words : ℕ → List ℕ
+room_words n = codes " (" ++ decimal n ++ codes " may be added)"
 
 -- and behind it
 unfoldable pub words_behind : Missing → List ℕ
@@ -252,6 +304,10 @@ words_behind (Thread t) = []
 words_behind (Mutex m) = []
 words_behind (Cond c) = []
 words_behind (Priority p) = codes " is out of range (1 to 99)"
+words_behind (ThreadRoom n) = room_words n
+words_behind (MutexRoom n) = room_words n
+words_behind (CondRoom n) = room_words n
+words_behind (Time n now) = codes " is past (it is " ++ decimal now ++ codes ")"
 
 -- what is said of what is missing
 abbrev pub missing_text : Missing → List ℕ

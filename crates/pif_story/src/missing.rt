@@ -1,5 +1,5 @@
 ghost use Rattle.std.specs.Prelude.{◌≡◌, option_and_then};
-ghost use Rattle.pif_story.specs.Notes.{asked_priority, first_of, known_behind, known_with, missing_cond, missing_in, missing_in_addition, missing_in_event, missing_in_names, missing_in_run, missing_mutex, missing_thread, nothing_known, noted, one_more};
+ghost use Rattle.pif_story.specs.Notes.{asked_priority, asked_room, asked_time, first_of, known_after, known_behind, known_with, missing_cond, missing_in, missing_in_addition, missing_in_event, missing_in_names, missing_in_run, missing_mutex, missing_thread, nothing_known, noted, one_more, room_for};
 
 use crate::comparing::is_refusal;
 use pif_model::Event;
@@ -17,6 +17,14 @@ pub enum Missing {
     Cond(u32),
     /// A priority that is out of range.
     Priority(u32),
+    /// Room for another thread: as many as may be added are there, and this is their number.
+    ThreadRoom(u32),
+    /// The same for a mutex.
+    MutexRoom(u32),
+    /// The same for a condition variable.
+    CondRoom(u32),
+    /// A time before the present one, and that.
+    Time(u32, u32),
 }
 
 impl Default for Missing {
@@ -37,7 +45,8 @@ pub struct Note {
     pub missing: Missing,
 }
 
-/// How many threads, mutexes and condition variables were added. Each is numbered from 1, one after the other.
+/// How many threads, mutexes and condition variables were added, each numbered from 1, one after the other, and which
+/// time it is.
 #[derive(Clone, Copy)]
 pub struct Known {
     /// How many threads.
@@ -46,6 +55,8 @@ pub struct Known {
     pub mutexes: u32,
     /// How many condition variables.
     pub conds: u32,
+    /// The time, which is 0 at first.
+    pub time: u32,
 }
 
 /// One more; `u32::MAX` stays.
@@ -64,6 +75,7 @@ impl Known {
             threads: 0,
             mutexes: 0,
             conds: 0,
+            time: 0,
         }
     }
 
@@ -76,23 +88,51 @@ impl Known {
             threads,
             mutexes,
             conds,
+            time,
         } = *self;
         match addition {
             Addition::Thread(_) => Known {
                 threads: one_more(threads),
                 mutexes,
                 conds,
+                time,
             },
             Addition::Mutex(..) => Known {
                 threads,
                 mutexes: one_more(mutexes),
                 conds,
+                time,
             },
             Addition::Cond(_) => Known {
                 threads,
                 mutexes,
                 conds: one_more(conds),
+                time,
             },
+        }
+    }
+
+    /// What is there after this event.
+    #[tactic(auto, unfolding(crate::specs::Notes::known_after))]
+    fn after(&self, event: Event) -> Known
+        ensures { result ≡ known_after self.now event }
+    {
+        match event {
+            Event::Tick(time) => {
+                let Known {
+                    threads,
+                    mutexes,
+                    conds,
+                    ..
+                } = *self;
+                Known {
+                    threads,
+                    mutexes,
+                    conds,
+                    time,
+                }
+            }
+            Event::Begin(..) | Event::Go(_) | Event::End(_) => *self,
         }
     }
 
@@ -109,7 +149,14 @@ impl Known {
                     self.with(addition)
                 }
             }
-            Command::Limits(..) | Command::Event(_) | Command::Run(..) | Command::Ask(_) => *self,
+            Command::Event(event) => {
+                if is_refusal(given) {
+                    *self
+                } else {
+                    self.after(event)
+                }
+            }
+            Command::Limits(..) | Command::Run(..) | Command::Ask(_) => *self,
         }
     }
 
@@ -229,6 +276,39 @@ impl Known {
             Command::Ask(question) => self.in_names(&question.names()),
         }
     }
+
+    /// Room for one more of what is added here, of which there are as many as may be.
+    fn room_for(&self, addition: Addition) -> Missing
+        ensures { result ≡ room_for self.now addition }
+    {
+        match addition {
+            Addition::Thread(_) => Missing::ThreadRoom(self.threads),
+            Addition::Mutex(..) => Missing::MutexRoom(self.mutexes),
+            Addition::Cond(_) => Missing::CondRoom(self.conds),
+        }
+    }
+
+    /// The room that a command asks for, if it adds something, and there are as many of these as may be.
+    #[tactic(auto, unfolding(crate::specs::Notes::asked_room))]
+    fn asked_room(&self, command: Command) -> Option<Missing>
+        ensures { result ≡ asked_room self.now command }
+    {
+        match command {
+            Command::Add(addition) => Some(self.room_for(addition)),
+            Command::Limits(..) | Command::Event(_) | Command::Run(..) | Command::Ask(_) => None,
+        }
+    }
+
+    /// The time that a command asks for, if it is a tick, and the present time.
+    #[tactic(auto, unfolding(crate::specs::Notes::asked_time))]
+    fn asked_time(&self, command: Command) -> Option<Missing>
+        ensures { result ≡ asked_time self.now command }
+    {
+        match command {
+            Command::Event(Event::Tick(time)) => Some(Missing::Time(time, self.time)),
+            _ => None,
+        }
+    }
 }
 
 /// The first of two that is missing.
@@ -252,8 +332,9 @@ fn asked_priority(command: Command) -> Option<Missing>
     }
 }
 
-/// What is noted of a command for which this is printed: the first name that nobody has if it is `refused nosuch`, and
-/// the priority that is out of range if it is `refused badprio`.
+/// What is noted of a command for which this is printed: the first name that nobody has if it is `refused nosuch`, the
+/// priority that is out of range if it is `refused badprio`, the room that is missing if it is `refused toomany`, and the
+/// time that is past if it is `refused past`.
 #[tactic(auto, unfolding(crate::specs::Notes::noted))]
 pub fn noted(known: &Known, command: Command, given: &[u8]) -> Option<Missing>
     ensures { result ≡ noted known.now command given.now }
@@ -262,6 +343,10 @@ pub fn noted(known: &Known, command: Command, given: &[u8]) -> Option<Missing>
         known.in_command(command)
     } else if given == b"refused badprio".as_slice() {
         asked_priority(command)
+    } else if given == b"refused toomany".as_slice() {
+        known.asked_room(command)
+    } else if given == b"refused past".as_slice() {
+        known.asked_time(command)
     } else {
         None
     }

@@ -27,6 +27,10 @@ fn is_same(one: &Missing, other: &Missing) -> bool
         (Missing::Mutex(m), Missing::Mutex(n)) => m == n,
         (Missing::Cond(m), Missing::Cond(n)) => m == n,
         (Missing::Priority(m), Missing::Priority(n)) => m == n,
+        (Missing::ThreadRoom(m), Missing::ThreadRoom(n)) => m == n,
+        (Missing::MutexRoom(m), Missing::MutexRoom(n)) => m == n,
+        (Missing::CondRoom(m), Missing::CondRoom(n)) => m == n,
+        (Missing::Time(m, _), Missing::Time(n, _)) => m == n,
         _ => false,
     }
 }

@@ -1,5 +1,6 @@
 //! Where in a line what isn't there is named.
-ghost use Rattle.std.specs.Prelude.{◌≡◌, ◌≤◌, ◌++◌, ◌&&◌, true, length, decimal};
+ghost use Rattle.std.specs.Prelude.{◌≡◌, ◌+◌, ◌≤◌, ◌++◌, ◌&&◌, [], true, length, decimal};
+ghost use Rattle.std.specs.Option.{option_map_or};
 ghost use Rattle.arrayvec.specs.ArrayVec.{array_vec_len};
 ghost use Rattle.pif_script_model.specs.Lines.{without_mark};
 ghost use Rattle.pif_story.specs.Notes.{begins_with, column_from, column_of, ends_word, line_in, missing_word};
@@ -9,17 +10,20 @@ use crate::missing::Missing;
 use crate::{commentless, split_line, without_mark};
 use pif_text::{Text, append, append_number};
 
-/// The letter of what is missing, which a priority has none of, and its number.
+/// The word of what is missing up to its number, and that, if it has one.
 #[tactic(auto, unfolding(crate::specs::Notes::missing_word))]
-fn named(missing: &Missing) -> (&'static [u8], u32)
-    ensures word { missing_word missing.now ≡ result.0.now ++ decimal result.1 }
-    ensures len { length result.0.now ≤ 1 }
+fn named(missing: &Missing) -> (&'static [u8], Option<u32>)
+    ensures word { missing_word missing.now ≡ result.0.now ++ option_map_or decimal result.1 [] }
+    ensures len { length result.0.now + option_map_or (λ n. 10) result.1 0 ≤ 11 }
 {
     match *missing {
-        Missing::Thread(number) => (b"t", number),
-        Missing::Mutex(number) => (b"m", number),
-        Missing::Cond(number) => (b"c", number),
-        Missing::Priority(number) => (b"", number),
+        Missing::Thread(number) => (b"t", Some(number)),
+        Missing::Mutex(number) => (b"m", Some(number)),
+        Missing::Cond(number) => (b"c", Some(number)),
+        Missing::Priority(number) | Missing::Time(number, _) => (b"", Some(number)),
+        Missing::ThreadRoom(_) => (b"thread", None),
+        Missing::MutexRoom(_) => (b"mutex", None),
+        Missing::CondRoom(_) => (b"cond", None),
     }
 }
 
@@ -28,10 +32,12 @@ pub fn missing_word(missing: &Missing) -> Text
     ensures word { result.items ≡ missing_word missing.now }
     ensures len { array_vec_len result ≤ 11 }
 {
-    let (letter, number) = named(missing);
+    let (letters, number) = named(missing);
     let mut word = Text::new();
-    append(&mut word, letter);
-    append_number(&mut word, number);
+    append(&mut word, letters);
+    if let Some(number) = number {
+        append_number(&mut word, number);
+    }
     word
 }
 

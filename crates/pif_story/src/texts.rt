@@ -8,11 +8,14 @@ use crate::missing::{Missing, Note};
 use crate::places::missing_word;
 use itoa::Buffer;
 use pif_script::{CliFault, write_whole};
-use pif_text::{TEXT_ROOM, Text, append};
+use pif_text::{TEXT_ROOM, Text, append, append_number};
 use std::io::Write;
 
 /// The most bytes of what is said of what is missing.
 const MISSING_ROOM: usize = 69;
+
+/// The most bytes of what is said behind its word.
+const BEHIND_ROOM: usize = 27;
 
 /// The most bytes of a place behind the name of its file.
 const PLACE_ROOM: usize = 44;
@@ -28,18 +31,38 @@ fn words_before(missing: &Missing) -> &'static [u8]
         Missing::Mutex(_) => b"there is no mutex ".as_slice(),
         Missing::Cond(_) => b"there is no condition variable ".as_slice(),
         Missing::Priority(_) => b"priority ".as_slice(),
+        Missing::ThreadRoom(_) | Missing::MutexRoom(_) | Missing::CondRoom(_) => {
+            b"there is no room for another ".as_slice()
+        }
+        Missing::Time(..) => b"time ".as_slice(),
     }
 }
 
-/// What is said behind it.
+/// Appends a number between words.
+fn append_within(text: &mut Text, before: &[u8], number: u32, behind: &[u8])
+    requires { array_vec_len text.old + length before.now + length behind.now + 10 ≤ TEXT_ROOM }
+    ensures said { text.new.items ≡ text.old.items ++ (before.now ++ decimal number ++ behind.now) }
+    ensures within { array_vec_len text.new ≤ array_vec_len text.old + length before.now + length behind.now + 10 }
+{
+    append(text, before);
+    append_number(text, number);
+    append(text, behind);
+}
+
+/// Appends what is said behind it, at most 27 bytes.
 #[tactic(auto, unfolding(crate::specs::Notes::words_behind))]
-fn words_behind(missing: &Missing) -> &'static [u8]
-    ensures words { result.now ≡ words_behind missing.now }
-    ensures len { length result.now ≤ 27 }
+fn append_behind(text: &mut Text, missing: &Missing)
+    requires { array_vec_len text.old + BEHIND_ROOM ≤ TEXT_ROOM }
+    ensures said { text.new.items ≡ text.old.items ++ words_behind missing.now }
+    ensures within { array_vec_len text.new ≤ array_vec_len text.old + BEHIND_ROOM }
 {
     match *missing {
-        Missing::Thread(_) | Missing::Mutex(_) | Missing::Cond(_) => b"".as_slice(),
-        Missing::Priority(_) => b" is out of range (1 to 99)".as_slice(),
+        Missing::Thread(_) | Missing::Mutex(_) | Missing::Cond(_) => {}
+        Missing::Priority(_) => append(text, b" is out of range (1 to 99)"),
+        Missing::ThreadRoom(most) | Missing::MutexRoom(most) | Missing::CondRoom(most) => {
+            append_within(text, b" (", most, b" may be added)")
+        }
+        Missing::Time(_, now) => append_within(text, b" is past (it is ", now, b")"),
     }
 }
 
@@ -51,7 +74,7 @@ pub fn append_missing(text: &mut Text, missing: &Missing)
 {
     append(text, words_before(missing));
     append(text, missing_word(missing).as_slice());
-    append(text, words_behind(missing));
+    append_behind(text, missing);
 }
 
 /// Appends a number in decimal digits.
