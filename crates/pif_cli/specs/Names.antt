@@ -1,8 +1,13 @@
 -- How the name of an input is told.
-use Rattle.std.specs.Prelude.{List, map}
+use Rattle.std.specs.Prelude.{List, map, if◌then◌else◌}
 use Rattle.clap.specs.Words.{Text}
 use Rattle.pif_script_model.specs.Verdicts.{printable}
+use Rattle.pif_cli_messages.specs.Messages.{is_shown}
 
--- a name as it stands in a verdict and in a note: `?` for each byte that is no printable ASCII
+-- a name as it stands in a verdict: `?` for each byte that is no printable ASCII
 unfoldable pub shown_name : Text → Text
 shown_name name = map printable name
+
+-- a name as it stands in a note: as it is, if each of its characters is printable
+unfoldable pub noted_name : Text → Text
+noted_name name = if is_shown name then name else shown_name name

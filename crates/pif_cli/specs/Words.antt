@@ -35,7 +35,7 @@ use Rattle.pif_cli_words.specs.Words.{files_of, inputs_of, job_of, refusals_of, 
 use Rattle.pif_cli_messages.specs.declared.statuses.JobFault.{JobFault}
 use Rattle.pif_cli_messages.specs.declared.statuses.JobFault.TheVariants.{Cli, NotOnCore, PosixAllows, Undecided, NoCall}
 use Rattle.pif_cli_messages.specs.Messages.{TellsLine, TellsOf}
-use Rattle.pif_cli.specs.Names.{shown_name}
+use Rattle.pif_cli.specs.Names.{noted_name, shown_name}
 use Rattle.pif_cli.specs.Random.{WritesRandom}
 use Rattle.pif_cli_messages.specs.Statuses.{job_status}
 use Rattle.pif_cli.specs.Driving.{Drives}
@@ -132,7 +132,7 @@ abbrev pub Did : Job → (name : Text) → (before after held holds errors_held 
 Did job name before after held holds errors_held errors_hold status =
     (result : Result (Unit {0}) JobFault) × (notes : List Note) × Does job (shown_name name) before after held holds result
     × OnOk result (HasNotes job (shown_name name) before after held holds notes) × (status ≡ job_status result)
-    × TellsOf (notes_text (shown_name name) notes) result errors_held errors_hold
+    × TellsOf (notes_text (noted_name name) notes) result errors_held errors_hold
 
 -- the standard input is no file into which something can be written, which is said
 abbrev pub no_file_text : List ℕ

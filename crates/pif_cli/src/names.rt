@@ -1,8 +1,9 @@
 //! The names of inputs.
 ghost use Rattle.std.specs.Prelude.{◌≡◌, IfOk, bytes_eq, map};
-ghost use Rattle.pif_cli.specs.Names.{shown_name};
+ghost use Rattle.pif_cli.specs.Names.{noted_name, shown_name};
 ghost use Rattle.pif_cli_words.specs.Words.{inputs_of, standard_name};
 
+use pif_cli_messages::is_shown;
 use pif_cli_words::STANDARD_NAME;
 use pif_story::printable;
 use std::alloc::{AllocError, Global};
@@ -58,11 +59,23 @@ impl<'a> Name<'a> {
         self.given
     }
 
-    /// The name as it is told in verdicts and notes, so that it makes no line of its own.
+    /// The name as it is told in verdicts, so that it makes no line of its own.
     pub fn shown(&self) -> &[u8]
         ensures { result.now ≡ shown_name self.now }
     {
         self.shown.as_slice()
+    }
+
+    /// The name as it is told in notes: as it is, if it is printable.
+    #[tactic(auto, unfolding(crate::specs::Names::noted_name))]
+    pub fn noted(&self) -> &[u8]
+        ensures { result.now ≡ noted_name self.now }
+    {
+        if is_shown(self.given) {
+            self.given.as_bytes()
+        } else {
+            self.shown()
+        }
     }
 }
 

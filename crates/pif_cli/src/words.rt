@@ -5,7 +5,7 @@ ghost use Rattle.pif_job_draw.specs.Pictures.{DrawsTo};
 ghost use Rattle.pif_cli_messages.specs.Messages.{TellsAt, TellsFault, TellsLine, TellsNotes, TellsOf};
 ghost use Rattle.pif_cli_messages.specs.Statuses.{fault_status, job_status};
 ghost use Rattle.pif_story.specs.Notes.{notes_text};
-ghost use Rattle.pif_cli.specs.Names.{shown_name};
+ghost use Rattle.pif_cli.specs.Names.{noted_name, shown_name};
 ghost use Rattle.pif_cli.specs.Words.{Did, Does, EndsAsCli, HasNotes, as_job, EndsBy, HadNoMemory, RefusedFor, RefusesInput, Shows, ShowsHelp, ExploresAsked, as_explored};
 
 use crate::drive::drive;
@@ -182,11 +182,11 @@ pub fn tell_end<P, S, W: Write, E: Write, V>(
     ensures same_errors { host.new.errors.ghost_name ≡ host.old.errors.ghost_name }
     ensures unwritten { W.contents host.new.output.now ≡ W.contents host.old.output.now }
     ensures status { result ≡ job_status done }
-    ensures tells { TellsOf (notes_text (shown_name name.now) told.now.notes.items) done (E.contents host.old.errors.now) (E.contents host.new.errors.now) }
+    ensures tells { TellsOf (notes_text (noted_name name.now) told.now.notes.items) done (E.contents host.old.errors.now) (E.contents host.new.errors.now) }
 {
     match done {
         Ok(()) => {
-            tell_notes(name.shown(), told.notes.as_slice(), host.errors);
+            tell_notes(name.noted(), told.notes.as_slice(), host.errors);
             0
         }
         Err(fault) => {
@@ -343,7 +343,7 @@ pub fn refuse<W: Write, E: Write>(
 /// - 8 if POSIX allows a history, and the machine doesn't or is undecided.
 ///
 /// At status 0 the notes of `run`, `check` and `show` go to `errors`, once the job is done, a line for each, and at 2
-/// to 8 one line of printable ASCII, which says what went wrong. If these cannot be written, the status stays. At 3 it
+/// to 8 one line of printable characters, which says what went wrong. If these cannot be written, the status stays. At 3 it
 /// is a part of the reason why the words are refused, if that could not be written. It is nothing if nobody reads
 /// `output` any more. No memory is taken for the line or the notes, but a story, a program or the last lines of a
 /// history are kept in memory for the place of a fault.

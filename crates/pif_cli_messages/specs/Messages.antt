@@ -1,23 +1,28 @@
 -- What the standard error gets: one line of what has failed, or the notes of what was done.
-use Rattle.std.specs.Prelude.{ℕ, ◌≡◌, ◌≤◌, ◌⊎◌, ◌&&◌, nat_le, Bool, true, MatchBool, List, [], ◌∷◌, ◌++◌, Option, Some, None, Result, Ok, Err, codes}
+use Rattle.std.specs.Prelude.{ℕ, ◌≡◌, ◌≤◌, ◌⊎◌, ◌&&◌, ◌||◌, nat_le, Bool, true, MatchBool, List, [], ◌∷◌, ◌++◌, Option, Some, None, Result, Ok, Err, codes}
 use Rattle.std.specs.List.{list_all}
+use Rattle.std.specs.Str.{IsUtf8, chars}
 use Rattle.std.specs.Io.KnownBytes.{Appends, Keeps}
 use Rattle.pif_cli_messages.specs.declared.statuses.JobFault.{JobFault}
 use Rattle.pif_cli_messages.specs.Statuses.{is_output}
 use Rattle.pif_script_model.specs.Runs.{WritesPart}
 
--- a byte of ASCII that shows: from a space to a tilde
+-- a character that shows: of ASCII from a space to a tilde, and beyond it each but the controls, which end at U+009F
 abbrev pub is_printable : ℕ → Bool
-is_printable b = nat_le 32 b && nat_le b 126
+is_printable c = (nat_le 32 c && nat_le c 126) || nat_le 160 c
 
--- a text of such bytes
+-- a text of such characters
 abbrev pub is_shown : List ℕ → Bool
-is_shown text = list_all is_printable text
+is_shown text = list_all is_printable (chars text)
 
--- one line was told: printable bytes, and the one LF behind them; or a proper part of it, if a write failed
+-- the same in UTF-8
+abbrev pub IsShown : List ℕ → Type 0
+IsShown text = IsUtf8 text × (is_shown text ≡ true)
+
+-- one line was told: printable characters, and the one LF behind them; or a proper part of it, if a write failed
 abbrev pub TellsLine : (held holds : Option (List ℕ)) → Type 0
 TellsLine held holds =
-    (text : List ℕ) × (is_shown text ≡ true)
+    (text : List ℕ) × IsShown text
     × (Appends held holds (text ++ 10 ∷ []) ⊎ WritesPart held holds (text ++ 10 ∷ []))
 
 -- what is told of a fault: one line, or nothing of an output that nobody reads any more, or of which was told before

@@ -225,7 +225,7 @@ pub(crate) fn file_message(name: &str, words: &str) -> Message {
     if name.is_empty() {
         message.say("''");
     } else {
-        message.show(name.as_bytes());
+        message.show_name(name);
     }
     message.say(": ");
     message.say(words);

@@ -1,8 +1,8 @@
-ghost use Rattle.std.specs.Prelude.{◌≡◌, ◌<◌, true};
-ghost use Rattle.arrayvec.specs.ArrayVec.{array_vec_len};
-ghost use Rattle.pif_cli_messages.specs.Messages.{is_shown};
+ghost use Rattle.std.specs.Prelude.{◌≡◌, ◌<◌};
+ghost use Rattle.arrayvec.specs.ArrayString.{array_string_len};
+ghost use Rattle.pif_cli_messages.specs.Messages.{IsShown, is_printable, is_shown};
 
-use arrayvec::ArrayVec;
+use arrayvec::ArrayString;
 use pif_script::{MOST_LINE, write_whole};
 use std::fmt::Write;
 use std::{fmt, io};
@@ -10,13 +10,13 @@ use std::{fmt, io};
 /// The most bytes of a message, its LF included.
 const MESSAGE_ROOM: usize = 512;
 
-/// A line for the standard error while it is made, of printable ASCII. It stands on the stack; what has no room is left
-/// out.
+/// A line for the standard error while it is made, of printable characters. It stands on the stack; what has no room is
+/// left out.
 #[derive(Drop)]
 pub struct Message {
-    bytes: ArrayVec<u8, MESSAGE_ROOM>,
-    ghost shown: { is_shown bytes.items ≡ true },
-    ghost room: { array_vec_len bytes < 512 },
+    text: ArrayString<MESSAGE_ROOM>,
+    ghost shown: { IsShown text.bytes },
+    ghost room: { array_string_len text < 512 },
 }
 
 impl Message {
@@ -32,30 +32,31 @@ impl Message {
     /// A message that is to begin with a place.
     pub fn empty() -> Message {
         Message {
-            bytes: ArrayVec::new(),
+            text: ArrayString::new(),
         }
     }
 
-    /// Appends a byte if it is printable.
-    fn put(&mut self, byte: u8) {
-        if byte >= b' ' && byte <= b'~' && self.bytes.len() < MESSAGE_ROOM - 1 {
-            self.bytes.push(byte);
+    /// Appends a character if it is printable.
+    #[tactic(auto, using(crate::proofs::ShownLemmas::shown_behind))]
+    fn put(&mut self, character: char) {
+        if is_printable(character) && self.text.len() + character.len_utf8() < MESSAGE_ROOM {
+            self.text.push(character);
         }
     }
 
     /// Appends a text.
     pub fn say(&mut self, text: &str) {
-        for byte in text.as_bytes() {
-            self.put(*byte);
+        for character in text.chars() {
+            self.put(character);
         }
     }
 
-    /// Appends a byte, or what stands for it if it is not printable.
+    /// Appends a byte, or what stands for it if it is no printable ASCII.
     fn show_byte(&mut self, byte: u8) {
         match byte {
             b'\r' => self.say("\\r"),
             b'\t' => self.say("\\t"),
-            b' '..=b'~' => self.put(byte),
+            b' '..=b'~' => self.put(char::from(byte)),
             _ => {
                 let _ = write!(self, "\\x{byte:02x}");
             }
@@ -64,12 +65,35 @@ impl Message {
 
     /// Appends the bytes of a line so that each can be seen, cut where what is shown is as long as a line may be.
     pub fn show(&mut self, line: &[u8]) {
-        let end = self.bytes.len() + MOST_LINE;
+        let end = self.text.len() + MOST_LINE;
         for byte in line {
-            if self.bytes.len() + shown_length(*byte) > end {
+            if self.text.len() + shown_length(*byte) > end {
                 return;
             }
             self.show_byte(*byte);
+        }
+    }
+
+    /// Appends a character, or what stands for its bytes if it is not printable.
+    fn show_character(&mut self, character: char) {
+        if is_printable(character) {
+            self.put(character);
+        } else {
+            let mut bytes = [0; 4];
+            for byte in character.encode_utf8(&mut bytes).as_bytes() {
+                self.show_byte(*byte);
+            }
+        }
+    }
+
+    /// Appends the name of a file as it is, but for what is not printable, cut likewise.
+    pub fn show_name(&mut self, name: &str) {
+        let end = self.text.len() + MOST_LINE;
+        for character in name.chars() {
+            if self.text.len() + shown_width(character) > end {
+                return;
+            }
+            self.show_character(character);
         }
     }
 
@@ -77,9 +101,9 @@ impl Message {
     pub fn tell<E: io::Write>(self, errors: &mut E)
         ensures { TellsLine (E.contents errors.old) (E.contents errors.new) }
     {
-        let Message { mut bytes } = self;
-        bytes.push(b'\n');
-        let _ = write_whole(errors, bytes.as_slice());
+        let Message { mut text } = self;
+        text.push_str("\n");
+        let _ = write_whole(errors, text.as_str().as_bytes());
     }
 }
 
@@ -90,6 +114,26 @@ impl Write for Message {
     }
 }
 
+/// Whether a character is printable: in ASCII from a space to a tilde, and beyond it each that is no control.
+fn is_printable(character: char) -> bool
+    ensures { result ≡ is_printable character }
+{
+    let code = character as u32;
+    (32 <= code && code <= 126) || 160 <= code
+}
+
+/// Whether each character of a text is printable, as in a message.
+pub fn is_shown(text: &str) -> bool
+    ensures { result ≡ is_shown text.now }
+{
+    for character in text.chars() {
+        if !is_printable(character) {
+            return false;
+        }
+    }
+    true
+}
+
 /// How many bytes show a byte.
 fn shown_length(byte: u8) -> usize
     ensures { result < 5 }
@@ -98,5 +142,16 @@ fn shown_length(byte: u8) -> usize
         b'\r' | b'\t' => 2,
         b' '..=b'~' => 1,
         _ => 4,
+    }
+}
+
+/// How many bytes show a character.
+fn shown_width(character: char) -> usize
+    ensures { result < 17 }
+{
+    match character {
+        '\r' | '\t' => 2,
+        _ if is_printable(character) => character.len_utf8(),
+        _ => 4 * character.len_utf8(),
     }
 }

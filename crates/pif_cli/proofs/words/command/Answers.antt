@@ -8,7 +8,7 @@ use Rattle.pif_cli_messages.specs.Messages.{TellsAt, TellsFault, TellsLine, Tell
 use Rattle.pif_cli_messages.specs.Statuses.{fault_status, job_fault_status, job_status}
 use Rattle.pif_story.specs.Notes.{notes_text}
 use Rattle.pif_cli_words.specs.declared.jobs.Job.{Job}
-use Rattle.pif_cli.specs.Names.{shown_name}
+use Rattle.pif_cli.specs.Names.{noted_name}
 use Rattle.pif_cli.specs.Words.{Did, RefusesInput, no_file_text}
 use Rattle.pif_cli.proofs.WordsLemmas.{EndsIf-refused, refusal_tells}
 use Rattle.pif_cli.proofs.words.command.Goals as goal
@@ -55,7 +55,7 @@ job_tells notes (Err fault) status held holds is told = fault_tells fault status
 did_tells : (job : Job) (name : Text) (a b h k e f : Option (List ℕ)) (status : ℕ) → Did job name a b h k e f status
     → TellsAt status e f
 did_tells job name a b h k e f status did =
-    job_tells (notes_text (shown_name name) did.1) did.0 status e f did.4 did.5
+    job_tells (notes_text (noted_name name) did.1) did.0 status e f did.4 did.5
 
 -- what refusing the standard input tells them
 input_tells : (status : ℕ) (held holds : Option (List ℕ)) → RefusesInput held holds status → TellsAt status held holds
