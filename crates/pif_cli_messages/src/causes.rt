@@ -177,7 +177,7 @@ impl<'n, 's> Given<'n, 's> {
         let place = self.place(number);
         let words = match self.job {
             job if is_of_story(job) => story_difference(notice),
-            Job::Explore(_) => "a state breaks the claim",
+            Job::Explore(_) => "the claim is broken",
             Job::Judge(_) => "no run of the POSIX machine shows the lines up to here",
             _ => {
                 let mut message = Message::empty();

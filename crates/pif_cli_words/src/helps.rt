@@ -449,17 +449,20 @@ lines:
                               'not' and 'or'
   ends N, ticks N N ..        at most N threads end, and these times come
   never: C, always: C         of all states that are reached
-  finally: C                  of those from which only ends lead. C is made of
-                              'tN stuck', 'tN ended', 'tN answered A',
-                              'mN free', 'mN held by tN', 'mN inconsistent',
-                              'mN unusable', 'xN = V', 'not', 'and', 'or' and
-                              '(..)'
+  finally: C                  of those from which only ends lead
+  sometimes: C                of some state. C is made of 'tN stuck', 'tN ended',
+                              'tN answered A', 'tN runs at [least] P',
+                              'tN waits for mN', 'tN blocked on cN',
+                              'tN holds mN N times', 'mN free',
+                              'mN held by tN', 'mN inconsistent',
+                              'mN unusable', 'xN = V', 'xN = xN', 'xN < V',
+                              'not', 'and', 'or' and '(..)'
 
 It runs the programs in all interleavings, and prints a line for each outcome:
 the last answer of each call, '-' for one that was never answered, why a thread
 is stuck, and mutexes and cells. Then, and last:
   kept at L, broken at L      line L is kept; or the steps below lead to a state
-                              that breaks it
+                              that breaks it, or, of 'sometimes', meets it
   undecided at L              no state that was found breaks it, and there are
                               more
   race: tN tN xN              two next steps access xN, and the first writes it

@@ -15,15 +15,15 @@ use pif_search::{Stop, push};
 use std::alloc::Global;
 
 /// What is found of a claim.
-fn ruling(plan: &Plan, explored: &Explored, claim: &Claim) -> Ruling
+fn ruling(plan: &Plan, alloc: Global, explored: &Explored, claim: &Claim) -> Result<Ruling, Stop>
     requires { AreFinalBelow plan.now explored.now.nodes.items explored.now.finals.items (length explored.now.nodes.items) }
-    ensures { (start : Situated) → (explored.now.is_whole ≡ true → IsWhole (Steps plan.now) AreSameSoFar start explored.now.nodes.items) → IsRuled plan.now start explored.now.nodes.items (claim_view claim.now) result }
+    ensures { IfOk result (λ r. (start : Situated) → (explored.now.is_whole ≡ true → IsWhole (Steps plan.now) AreSameSoFar start explored.now.nodes.items) → IsRuled plan.now start explored.now.nodes.items (claim_view claim.now) r) }
 {
-    let verdict = verdict_of(plan, explored, &claim.scope, &claim.condition);
-    Ruling {
+    let verdict = verdict_of(plan, alloc, explored, &claim.scope, &claim.condition)?;
+    Ok(Ruling {
         number: claim.number,
         verdict,
-    }
+    })
 }
 
 /// What is found of claims.
@@ -42,7 +42,7 @@ pub fn rulings(
 {
     let mut all = Vec::new(alloc);
     for claim in claims {
-        let next = ruling(plan, explored, claim);
+        let next = ruling(plan, alloc, explored, claim)?;
         push(&mut all, next)?;
     }
     Ok(all)
@@ -54,8 +54,8 @@ pub fn first_broken(rulings: &[Ruling]) -> Option<u32>
 {
     for ruling in rulings {
         match ruling.verdict {
-            Verdict::Broken(_) => return Some(ruling.number),
-            Verdict::Kept | Verdict::Open => {}
+            Verdict::Broken(_) | Verdict::Unmet => return Some(ruling.number),
+            Verdict::Kept | Verdict::Open | Verdict::Met(_) => {}
         }
     }
     None

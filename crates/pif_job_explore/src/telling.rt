@@ -1,6 +1,6 @@
 //! What is told of schedules on cores, as bytes.
 ghost use Rattle.std.specs.Prelude.{◌≡◌, ◌++◌, OnOk, flat_map};
-ghost use Rattle.pif_job_explore.specs.Lines.{count_told, mark_told, played_told};
+ghost use Rattle.pif_job_explore.specs.Lines.{claim_told, count_told, mark_told, outcome_told, played_told};
 
 use crate::playing::{Mark, Played};
 use pif_explore_told::push_numbers;
@@ -18,18 +18,37 @@ fn push_mark(out: &mut Vec<u8>, mark: &Mark, word: &str, met: &str, unmet: &str)
     }
 }
 
-/// Appends marks, each in these words.
-fn push_marks(
-    out: &mut Vec<u8>,
-    marks: &[Mark],
-    word: &str,
-    met: &str,
-    unmet: &str,
-) -> Result<(), Stop>
-    ensures { OnOk result (out.new.items ≡ out.old.items ++ flat_map (mark_told word.now met.now unmet.now) marks.now) }
+/// Appends whether schedules came to outcomes.
+fn push_outcomes(out: &mut Vec<u8>, marks: &[Mark]) -> Result<(), Stop>
+    ensures { OnOk result (out.new.items ≡ out.old.items ++ flat_map outcome_told marks.now) }
+{
+    let met = ": seen on the core\n";
+    let unmet = ": not seen on the core\n";
+    for mark in marks {
+        push_mark(out, mark, "outcome ", met, unmet)?;
+    }
+    Ok(())
+}
+
+/// Appends whether schedules broke the claim of a line, or met the condition that some state has to meet.
+fn push_claim(out: &mut Vec<u8>, mark: &Mark) -> Result<(), Stop>
+    ensures { OnOk result (out.new.items ≡ out.old.items ++ claim_told mark.now) }
+{
+    if mark.is_wanted {
+        let unmet = ": not met on the core\n";
+        push_mark(out, mark, "claim at ", ": met on the core\n", unmet)
+    } else {
+        let unbroken = ": not broken on the core\n";
+        push_mark(out, mark, "claim at ", ": broken on the core\n", unbroken)
+    }
+}
+
+/// Appends that of each claim.
+fn push_claims(out: &mut Vec<u8>, marks: &[Mark]) -> Result<(), Stop>
+    ensures { OnOk result (out.new.items ≡ out.old.items ++ flat_map claim_told marks.now) }
 {
     for mark in marks {
-        push_mark(out, mark, word, met, unmet)?;
+        push_claim(out, mark)?;
     }
     Ok(())
 }
@@ -52,12 +71,8 @@ fn push_count(out: &mut Vec<u8>, count: u32, words: &str) -> Result<(), Stop>
 pub fn push_played(out: &mut Vec<u8>, played: &Played, schedules: u32) -> Result<(), Stop>
     ensures { OnOk result (out.new.items ≡ out.old.items ++ played_told played.now schedules) }
 {
-    let seen = ": seen on the core\n";
-    let unseen = ": not seen on the core\n";
-    push_marks(out, played.outcomes.as_slice(), "outcome ", seen, unseen)?;
-    let broken = ": broken on the core\n";
-    let unbroken = ": not broken on the core\n";
-    push_marks(out, played.claims.as_slice(), "claim at ", broken, unbroken)?;
+    push_outcomes(out, played.outcomes.as_slice())?;
+    push_claims(out, played.claims.as_slice())?;
     push_count(out, played.unfinished, " schedules were given up\n")?;
     let others = " final states had an outcome that is not told\n";
     push_count(out, played.others, others)?;

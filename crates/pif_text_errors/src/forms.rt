@@ -33,8 +33,24 @@ pub enum Part {
     Colon,
     /// `=`
     Equals,
+    /// `=` or `<`
+    Sign,
+    /// The value of a cell, or the name of a cell.
+    CellValue,
     /// `by`
     By,
+    /// `at`
+    At,
+    /// `for`
+    For,
+    /// `on`
+    On,
+    /// A priority, or `least` before one.
+    PriorityOrLeast,
+    /// How often a mutex is held: `once`, `twice`, or a number before `times`.
+    Count,
+    /// `times`
+    Times,
     /// `;`, or the end of a block or of the line.
     Semicolon,
     /// `{`
@@ -71,7 +87,16 @@ impl Part {
             Part::Processors => "a number from 1 to 64 is wanted here",
             Part::Colon => "a ':' is wanted here",
             Part::Equals => "a '=' is wanted here",
+            Part::Sign => "a '=' or a '<' is wanted here",
+            Part::CellValue => "a number from 0 to 255 is wanted here",
             Part::By => "'by' is wanted here",
+            Part::At => "'at' is wanted here",
+            Part::For => "'for' is wanted here",
+            Part::On => "'on' is wanted here",
+            Part::PriorityOrLeast =>
+                "a priority from 1 to 99 is wanted here, or 'least' and a priority",
+            Part::Count => "'once', 'twice', or a number and 'times' is wanted here",
+            Part::Times => "'times' is wanted here",
             Part::Semicolon => "a ';' is wanted here",
             Part::Brace => "a '{' is wanted here",
             Part::Alternative => "'or' or a '{' is wanted here",

@@ -1,8 +1,12 @@
 use crate::Wrong;
 use crate::calls::{BEHIND_BEGIN, Table, calls, statements};
 use crate::forms::{Form, Part, Parts, Rest, Shape};
-use crate::parts::{is_answer, is_cell, near_part, number_named, wrong_with_part, wrong_with_word};
-use crate::tables::{KINDS, KINDS_OF_PROTOCOL, OF_CELL, OF_MUTEXES, OF_THREADS, RULE_COUNT, RULES};
+use crate::parts::{
+    ends_early, is_answer, is_cell, near_part, number_named, wrong_with_part, wrong_with_word,
+};
+use crate::tables::{
+    KINDS, KINDS_OF_PROTOCOL, OF_CELL, OF_CELLS, OF_MUTEXES, OF_THREADS, RULE_COUNT, RULES,
+};
 use arrayvec::ArrayVec;
 use pif_text::number_of;
 
@@ -103,6 +107,8 @@ enum Next {
     OfThread,
     /// What a condition says of a mutex.
     OfMutex,
+    /// What a condition says of a cell.
+    OfCell,
     /// `and`, `or`, `)` or the end.
     Connective,
 }
@@ -216,8 +222,7 @@ impl LineSoFar {
         if self.added.lacks(word, part) {
             return Err(self.slip(Wrong::NotAdded(part), None));
         }
-        // Behind `none` a line ends.
-        let is_last = word == b"none".as_slice();
+        let is_last = ends_early(word, part);
         self.begin(if is_last { Parts::Of(&[]) } else { more }, self.behind);
         Ok(())
     }
@@ -335,7 +340,7 @@ impl LineSoFar {
             self.next = Next::Subject(true);
         } else if is_cell(word) {
             self.form = OF_CELL.shape();
-            self.begin(OF_CELL.parts, Next::Connective);
+            self.next = Next::OfCell;
         } else {
             return self.take_name(word);
         }
@@ -418,6 +423,7 @@ impl LineSoFar {
             Next::Subject(may_deny) => self.take_subject(word, may_deny),
             Next::OfThread => self.take_said(word, &OF_THREADS, Part::OfThread),
             Next::OfMutex => self.take_said(word, &OF_MUTEXES, Part::OfMutex),
+            Next::OfCell => self.take_said(word, &OF_CELLS, Part::Sign),
             Next::Connective => self.take_connective(word),
         }
     }

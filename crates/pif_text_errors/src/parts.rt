@@ -63,6 +63,22 @@ pub fn is_cell(word: &[u8]) -> bool {
     number_behind(b'x', word).is_some_and(|number| number <= 64)
 }
 
+/// Whether a word says by itself how often a mutex is held.
+fn is_count_word(word: &[u8]) -> bool {
+    word == b"once".as_slice() || word == b"twice".as_slice()
+}
+
+/// Whether the form ends behind a word that is right where this part is wanted, though parts follow it.
+pub fn ends_early(word: &[u8], part: Part) -> bool {
+    match part {
+        // Behind `none` a line ends.
+        Part::Modifier => word == b"none".as_slice(),
+        Part::PriorityOrLeast => word != b"least".as_slice(),
+        Part::Count => is_count_word(word),
+        _ => false,
+    }
+}
+
 /// Whether a word that is no name is what this part wants.
 fn is_plain(word: &[u8], part: Part) -> bool {
     match part {
@@ -78,7 +94,14 @@ fn is_plain(word: &[u8], part: Part) -> bool {
         Part::Lending => word == b"none".as_slice(),
         Part::Colon => word == b":".as_slice(),
         Part::Equals => word == b"=".as_slice(),
+        Part::CellValue => is_between(word, 0, 255) || is_cell(word),
         Part::By => word == b"by".as_slice(),
+        Part::At => word == b"at".as_slice(),
+        Part::For => word == b"for".as_slice(),
+        Part::On => word == b"on".as_slice(),
+        Part::PriorityOrLeast => is_between(word, 1, 99) || word == b"least".as_slice(),
+        Part::Count => is_count_word(word) || number_of(word).is_some(),
+        Part::Times => word == b"times".as_slice(),
         _ => false,
     }
 }

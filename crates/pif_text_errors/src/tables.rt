@@ -164,7 +164,7 @@ pub static HISTORY: [Form; 12] = [
 ];
 
 /// The lines of programs that are explored, by their first word.
-pub static PROGRAM: [Form; 13] = [
+pub static PROGRAM: [Form; 14] = [
     LIMITS,
     ALLOW,
     Form {
@@ -214,6 +214,12 @@ pub static PROGRAM: [Form; 13] = [
     Form {
         name: "finally",
         text: "finally: C",
+        parts: Parts::Of(&[Part::Colon]),
+        rest: Rest::Condition,
+    },
+    Form {
+        name: "sometimes",
+        text: "sometimes: C",
         parts: Parts::Of(&[Part::Colon]),
         rest: Rest::Condition,
     },
@@ -447,7 +453,7 @@ pub static RULES: [Form; RULE_COUNT] = [
 ];
 
 /// What a condition may say of a thread.
-pub static OF_THREADS: [Form; 3] = [
+pub static OF_THREADS: [Form; 7] = [
     Form {
         name: "stuck",
         text: "tN stuck",
@@ -464,6 +470,30 @@ pub static OF_THREADS: [Form; 3] = [
         name: "answered",
         text: "tN answered A",
         parts: Parts::Of(&[Part::Answer]),
+        rest: Rest::End,
+    },
+    Form {
+        name: "runs",
+        text: "tN runs at [least] P",
+        parts: Parts::Of(&[Part::At, Part::PriorityOrLeast, Part::Priority]),
+        rest: Rest::End,
+    },
+    Form {
+        name: "waits",
+        text: "tN waits for mN",
+        parts: Parts::Of(&[Part::For, Part::Mutex]),
+        rest: Rest::End,
+    },
+    Form {
+        name: "blocked",
+        text: "tN blocked on cN",
+        parts: Parts::Of(&[Part::On, Part::Cond]),
+        rest: Rest::End,
+    },
+    Form {
+        name: "holds",
+        text: "tN holds mN N times",
+        parts: Parts::Of(&[Part::Mutex, Part::Count, Part::Times]),
         rest: Rest::End,
     },
 ];
@@ -496,7 +526,23 @@ pub static OF_MUTEXES: [Form; 4] = [
     },
 ];
 
-/// What a condition or a test may say of a cell.
+/// What a condition may say of a cell.
+pub static OF_CELLS: [Form; 2] = [
+    Form {
+        name: "=",
+        text: "xN = V",
+        parts: Parts::Of(&[Part::CellValue]),
+        rest: Rest::End,
+    },
+    Form {
+        name: "<",
+        text: "xN < V",
+        parts: Parts::Of(&[Part::Value]),
+        rest: Rest::End,
+    },
+];
+
+/// What a test may say of a cell.
 pub static OF_CELL: Form = Form {
     name: "",
     text: "xN = V",

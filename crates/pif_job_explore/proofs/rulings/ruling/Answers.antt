@@ -6,5 +6,5 @@ returns c = λ start whole. record {
   condition = c.args.claim.now.condition;
   is = refl;
   number = refl;
-  verdict = c.verdict_of-verdict.ensures start whole;
+  verdict = c.in_ok-verdict.ensures start whole;
 }

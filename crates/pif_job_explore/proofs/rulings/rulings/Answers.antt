@@ -9,8 +9,8 @@ loop-claim-init c = λ start whole.
 pub loop-claim-preserved : goal.loop-claim-preserved
 loop-claim-preserved c = λ start whole.
     ruled_more c.args.plan.now start c.args.explored.now.nodes.items c.args.claims.now c.loop-claim.claim-index
-    c.claim-item.result c.ruling-next.result c.loop-claim.all.items _ c.loop-claim-test.true c.claim-item.is
-    c.in_ok-push.ensures (c.loop-claim.invariant start whole) (c.ruling-next.ensures start (whole (omega (arith, c.loop-claim-test.true))))
+    c.claim-item.result c.in_ok-next.next c.loop-claim.all.items _ c.loop-claim-test.true c.claim-item.is
+    c.in_ok-push.ensures (c.loop-claim.invariant start whole) (c.in_ok-next.ensures start (whole (omega (arith, c.loop-claim-test.true))))
 
 pub returns : goal.returns
 returns c = λ start whole.

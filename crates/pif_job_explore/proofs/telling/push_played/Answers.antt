@@ -10,8 +10,8 @@ returns c =
     on_ok_weaker c.push_numbers.result
     (λ rest.
     five_more c.args.out.now.items _ _ _ _ _ _ _ _ _ _
-    (c.in_ok-push_marks.ensures ∙ (λ i. c.args.out.now.items ++ flat_map outcome_told (c.as_slice.ensures.value i)))
-    (c.in_ok-push_marks-2.ensures ∙ (λ i. c.push_marks.new.out.items ++ flat_map claim_told (c.as_slice-2.ensures.value i)))
+    (c.in_ok-push_outcomes.ensures ∙ (λ i. c.args.out.now.items ++ flat_map outcome_told (c.as_slice.ensures.value i)))
+    (c.in_ok-push_claims.ensures ∙ (λ i. c.push_outcomes.new.out.items ++ flat_map claim_told (c.as_slice-2.ensures.value i)))
     c.in_ok-push_count.ensures c.in_ok-push_count-2.ensures
     (rest ∙ (λ i. c.push_count-2.new.out.items ++ (decimal (c.from.ensures i) ++ codes " schedules on the core\n"))))
     c.push_numbers.ensures
