@@ -128,7 +128,7 @@ static void texts(const uint8_t *data, size_t length)
 
     holds(ran.ended == PIF_WHOLE || ran.ended == PIF_FAULT);
     holds(replayed.ended <= PIF_DIFFERS && checked.ended <= PIF_DIFFERS);
-    holds(judged.ended <= PIF_DIFFERS || judged.ended == PIF_UNDECIDED);
+    holds(judged.ended <= PIF_DIFFERS || judged.ended == PIF_UNDECIDED || judged.ended == PIF_MISTAKE);
 }
 
 int LLVMFuzzerTestOneInput(const uint8_t *data, size_t length)

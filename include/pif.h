@@ -466,8 +466,9 @@ enum pif_ended_by {
     PIF_UNREAD = 5,        /* does not happen */
     PIF_UNDECIDED = 6,     /* of a history: it gave up at a line, and nothing is claimed. Of a program: it gave up, and
                               found no claim that is broken */
-    PIF_INTERRUPTED = 7    /* its seconds were over, or `goes_on` said no (pif_options): there is no text, `wanted` is
+    PIF_INTERRUPTED = 7,   /* its seconds were over, or `goes_on` said no (pif_options): there is no text, `wanted` is
                               0, and what the room has means nothing */
+    PIF_MISTAKE = 8        /* of a history: a line is a mistake of the log: the lines before it are legal, and refuse it */
 };
 
 typedef struct pif_text {

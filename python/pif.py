@@ -117,7 +117,7 @@ KINDS = {"normal": 0, "recursive": 1, "errorcheck": 2}
 RESULTS = (None, "no core", "none", "too many", "bad priority", "no such mutex", "out of range",
            "there is a core already", "out of memory")
 OK, NONE, NO_MEMORY = 0, 2, 8
-ENDS = ("whole", "fault", "differs", "out of memory", "unwritten", "unread", "undecided", "interrupted")
+ENDS = ("whole", "fault", "differs", "out of memory", "unwritten", "unread", "undecided", "interrupted", "mistake")
 
 # The calls by name: the number of each, and what its arguments are, in order.
 CALLS = {
@@ -146,7 +146,7 @@ MADE = {", proved": "proved", ", checked as it runs, not proved": "checked"}
 
 
 class Printed(str):
-    """What a job prints. `ended` says how the job ended: whole, fault, differs, undecided or interrupted."""
+    """What a job prints. `ended` says how the job ended: whole, fault, differs, undecided, interrupted or mistake (of a log)."""
 
     def __new__(cls, text, ended=None):
         printed = super().__new__(cls, text)

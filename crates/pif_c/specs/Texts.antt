@@ -8,7 +8,7 @@ use Rattle.pif_job_judge.specs.declared.forms.Form.TheVariants as form
 use Rattle.pif_job_judge.specs.Judging.{JudgesTo}
 use Rattle.pif_job_judge.specs.Least.{JudgesLeastTo}
 use Rattle.pif_job_judge.specs.declared.faults.JudgeFault.{JudgeFault}
-use Rattle.pif_job_judge.specs.declared.faults.JudgeFault.TheVariants.{Cli, NoCall, PosixAllows, Undecided}
+use Rattle.pif_job_judge.specs.declared.faults.JudgeFault.TheVariants.{Cli, Log, NoCall, PosixAllows, PosixUndefined, Undecided}
 use Rattle.pif_c_numbers.specs.Codes as pif
 use Rattle.pif_c.specs.declared.texts.PifText.{PifText}
 
@@ -30,6 +30,8 @@ judged_number (Err (Cli fault)) = fault_number fault
 judged_number (Err (Undecided n)) = pif.undecided
 judged_number (Err NoCall) = pif.undecided
 judged_number (Err (PosixAllows n)) = pif.differs
+judged_number (Err (PosixUndefined n)) = pif.differs
+judged_number (Err (Log n)) = pif.mistake
 
 -- what a job says of a reader and a writer: what the reader had and has left, what the writer held and holds, and how
 -- the job ended

@@ -7,7 +7,9 @@ ghost use Rattle.pif_job_judge.specs.declared.faults.JudgeFault.{JudgeFault};
 ghost use Rattle.pif_rules_model.specs.Sets.{no_rules, posix_rules};
 ghost use Rattle.pif_c.specs.Texts.{fault_number, ended_number, judged_number, form_of, JudgesAlone, LeastAlone, Wholly, HandsOut, IsHandedOut};
 
-use pif_c_numbers::codes::{DIFFERS, FAULT, OUT_OF_MEMORY, UNDECIDED, UNREAD, UNWRITTEN, WHOLE};
+use pif_c_numbers::codes::{
+    DIFFERS, FAULT, MISTAKE, OUT_OF_MEMORY, UNDECIDED, UNREAD, UNWRITTEN, WHOLE,
+};
 use pif_job_judge::{Form, JudgeFault, Judging, Unwatched};
 use pif_rules::{no_rules, posix_rules};
 use pif_script_model::CliFault;
@@ -55,7 +57,8 @@ fn judged_number(done: Result<(), JudgeFault>) -> u32
         Err(JudgeFault::Cli(fault)) => fault_number(fault),
         Err(JudgeFault::Undecided(_)) | Err(JudgeFault::NoCall) => UNDECIDED,
         // POSIX isn't asked.
-        Err(JudgeFault::PosixAllows(_)) => DIFFERS,
+        Err(JudgeFault::PosixAllows(_) | JudgeFault::PosixUndefined(_)) => DIFFERS,
+        Err(JudgeFault::Log(_)) => MISTAKE,
     }
 }
 

@@ -146,3 +146,7 @@ unread = 5
 -- more states were made for a line than may be
 abbrev pub undecided : ℕ
 undecided = 6
+
+-- a line is a mistake of the log
+abbrev pub mistake : ℕ
+mistake = 8

@@ -100,3 +100,5 @@ pub const UNWRITTEN: u32 = 4;
 pub const UNREAD: u32 = 5;
 /// A search was given up at a line, and nothing is claimed.
 pub const UNDECIDED: u32 = 6;
+/// A line is a mistake of the log: the lines before it are legal, and refuse it.
+pub const MISTAKE: u32 = 8;

@@ -108,7 +108,9 @@ as-before (Ok x) end is e = cc
 as-before (Err (judge.Cli f)) end is e = cc
 as-before (Err (judge.Undecided line)) end is e = cc
 as-before (Err (judge.PosixAllows line)) end is e = cc
+as-before (Err (judge.PosixUndefined line)) end is e = cc
 as-before (Err judge.NoCall) end is e = cc
+as-before (Err (judge.Log line)) end is e = cc
 
 -- what was judged of a history that is told under this name is written again
 pub written-again : (asked : Judging) (name : Text) (judged : Judged) (held holds : Option (List ℕ)) (result : Result (Unit {0}) JobFault)

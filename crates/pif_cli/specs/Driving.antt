@@ -4,7 +4,7 @@ use Rattle.std.specs.Io.KnownBytes.{Appends, Keeps}
 use Rattle.pif_script_model.specs.declared.faults.CliFault.TheVariants.{Read, Write, NoMemory, Script, Differs}
 use Rattle.pif_script_model.specs.Runs.{WritesPart}
 use Rattle.pif_cli_messages.specs.declared.statuses.JobFault.{JobFault}
-use Rattle.pif_cli_messages.specs.declared.statuses.JobFault.TheVariants.{Cli, Threads, Unsettled, Undecided, PosixAllows, NotOnCore, NoCall}
+use Rattle.pif_cli_messages.specs.declared.statuses.JobFault.TheVariants.{Cli, Threads, Unsettled, Undecided, PosixAllows, PosixUndefined, NotOnCore, NoCall, Mistake}
 
 -- the line if all clients were answered: each made 100 locks and 100 unlocks
 abbrev pub answered_text : ℕ → List ℕ
@@ -42,7 +42,9 @@ Drives clients held holds (Err Unsettled) = Appends held holds unsettled_text
 Drives clients held holds (Err (Undecided line)) = ⊥
 Drives clients held holds (Err (PosixAllows line)) = ⊥
 Drives clients held holds (Err (NotOnCore mutex)) = ⊥
+Drives clients held holds (Err (PosixUndefined line)) = ⊥
 Drives clients held holds (Err NoCall) = ⊥
+Drives clients held holds (Err (Mistake line)) = ⊥
 Drives clients held holds (Err (Cli NoMemory)) = Keeps held holds
 Drives clients held holds (Err (Cli Write)) = (text : List ℕ) × IsDriveText clients text × WritesPart held holds text
 Drives clients held holds (Err (Cli Read)) = ⊥

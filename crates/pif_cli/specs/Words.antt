@@ -33,7 +33,7 @@ use Rattle.pif_cli_words.specs.declared.jobs.Job.{Job}
 use Rattle.pif_cli_words.specs.declared.jobs.Job.TheVariants.{Run, Replay, Trace, Migrate, Show, Picture, Draw, Shell, Check, Strict, Fill, FillSeveral, Judge, Explore, Random, Drive}
 use Rattle.pif_cli_words.specs.Words.{files_of, inputs_of, job_of, refusals_of, rewrites, standard_name}
 use Rattle.pif_cli_messages.specs.declared.statuses.JobFault.{JobFault}
-use Rattle.pif_cli_messages.specs.declared.statuses.JobFault.TheVariants.{Cli, NotOnCore, PosixAllows, Undecided, NoCall}
+use Rattle.pif_cli_messages.specs.declared.statuses.JobFault.TheVariants.{Cli, NotOnCore, PosixAllows, PosixUndefined, Undecided, NoCall, Mistake}
 use Rattle.pif_cli_messages.specs.Messages.{TellsLine, TellsOf}
 use Rattle.pif_cli.specs.Names.{noted_name, shown_name}
 use Rattle.pif_cli.specs.Random.{WritesRandom}
@@ -59,6 +59,8 @@ as_judged (Ok x) = Ok x
 as_judged (Err (judge_fault.Cli e)) = Err (Cli e)
 as_judged (Err (judge_fault.Undecided line)) = Err (Undecided line)
 as_judged (Err (judge_fault.PosixAllows line)) = Err (PosixAllows line)
+as_judged (Err (judge_fault.PosixUndefined line)) = Err (PosixUndefined line)
+as_judged (Err (judge_fault.Log line)) = Err (Mistake line)
 as_judged (Err judge_fault.NoCall) = Err NoCall
 
 -- the form in which a verdict is told

@@ -20,7 +20,9 @@ fn as_judged(done: Result<(), JudgeFault>) -> Result<(), JobFault>
         Err(JudgeFault::Cli(fault)) => Err(JobFault::Cli(fault)),
         Err(JudgeFault::Undecided(line)) => Err(JobFault::Undecided(line)),
         Err(JudgeFault::PosixAllows(line)) => Err(JobFault::PosixAllows(line)),
+        Err(JudgeFault::PosixUndefined(line)) => Err(JobFault::PosixUndefined(line)),
         Err(JudgeFault::NoCall) => Err(JobFault::NoCall),
+        Err(JudgeFault::Log(line)) => Err(JobFault::Mistake(line)),
     }
 }
 

@@ -3,7 +3,7 @@ ghost use Rattle.std.specs.Prelude.{◌≡◌, IfOk, bytes_eq, map};
 ghost use Rattle.pif_cli.specs.Names.{noted_name, shown_name};
 ghost use Rattle.pif_cli_words.specs.Words.{inputs_of, standard_name};
 
-use pif_cli_messages::is_shown;
+use pif_cli_messages::are_printable;
 use pif_cli_words::STANDARD_NAME;
 use pif_story::printable;
 use std::alloc::{AllocError, Global};
@@ -71,7 +71,7 @@ impl<'a> Name<'a> {
     pub fn noted(&self) -> &[u8]
         ensures { result.now ≡ noted_name self.now }
     {
-        if is_shown(self.given) {
+        if are_printable(self.given) {
             self.given.as_bytes()
         } else {
             self.shown()

@@ -340,10 +340,12 @@ pub fn refuse<W: Write, E: Write>(
 /// - 5 if a story or a trace differs, a history is illegal, or a claim is broken;
 /// - 6 if a thread can't be started, or the desk of the clients doesn't settle;
 /// - 7 if a history stayed undecided;
-/// - 8 if POSIX allows a history, and the machine doesn't or is undecided.
+/// - 8 if POSIX allows a history, and the machine doesn't or is undecided;
+/// - 9 if POSIX may leave a history undefined;
+/// - 10 for a mistake of the log.
 ///
 /// At status 0 the notes of `run`, `check` and `show` go to `errors`, once the job is done, a line for each, and at 2
-/// to 8 one line of printable characters, which says what went wrong. If these cannot be written, the status stays. At 3 it
+/// to 10 one line of printable characters, which says what went wrong. If these cannot be written, the status stays. At 3 it
 /// is a part of the reason why the words are refused, if that could not be written. It is nothing if nobody reads
 /// `output` any more. No memory is taken for the line or the notes, but a story, a program or the last lines of a
 /// history are kept in memory for the place of a fault.

@@ -2,7 +2,7 @@
 use Rattle.std.specs.Prelude.{ℕ, Bool, true, false, Result, Ok, Err}
 use Rattle.pif_script_model.specs.declared.faults.CliFault.{CliFault}
 use Rattle.pif_cli_messages.specs.declared.statuses.JobFault.{JobFault}
-use Rattle.pif_cli_messages.specs.declared.statuses.JobFault.TheVariants.{Cli, Threads, Unsettled, Undecided, PosixAllows, NotOnCore, NoCall}
+use Rattle.pif_cli_messages.specs.declared.statuses.JobFault.TheVariants.{Cli, Threads, Unsettled, Undecided, PosixAllows, PosixUndefined, NotOnCore, NoCall, Mistake}
 use Rattle.pif_script_model.specs.declared.faults.CliFault.TheVariants.{Read, Write, NoMemory, Script, Differs}
 
 -- the status of a fault: 2 for one of the script or trace, 3 if a read or a write failed, 4 for out of memory, 5 for a
@@ -15,13 +15,16 @@ fault_status NoMemory = 4
 fault_status (Differs line) = 5
 
 -- the status if a job was not done: 6 if a thread could not be started, or the desk didn't settle, 7 if a history was not
--- decided or begins no call, and 8 if POSIX allows what the machine doesn't; 2 if the core can't play a program
+-- decided or begins no call, 8 if POSIX allows what the machine doesn't, 9 if it may leave it undefined, and 10 for a
+-- mistake of a log; 2 if the core can't play a program
 abbrev pub job_fault_status : JobFault → ℕ
 job_fault_status (Cli fault) = fault_status fault
 job_fault_status Threads = 6
 job_fault_status Unsettled = 6
 job_fault_status (Undecided line) = 7
 job_fault_status (PosixAllows line) = 8
+job_fault_status (PosixUndefined line) = 9
+job_fault_status (Mistake line) = 10
 job_fault_status (NotOnCore mutex) = 2
 job_fault_status NoCall = 7
 

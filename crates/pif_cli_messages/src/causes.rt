@@ -76,6 +76,18 @@ impl<'n, 's> Given<'n, 's> {
                     "POSIX allows it, and the machine doesn't",
                 )
             }
+            JobFault::PosixUndefined(number) => {
+                line_message(
+                    &self.place(number),
+                    "POSIX may leave undefined what this call does",
+                )
+            }
+            JobFault::Mistake(number) => {
+                line_message(
+                    &self.place(number),
+                    "a mistake of the log: the lines before this one refuse it",
+                )
+            }
             JobFault::NotOnCore(mutex) => off_core_message(self.name, mutex),
             JobFault::NoCall => {
                 line_message(&self.place(1), "no call begins, so that nothing was judged")

@@ -21,7 +21,7 @@ mod statuses;
 mod streams;
 
 pub use causes::{Given, Unwritten, plain_message, unread_message, unwritten_message};
-pub use messages::{Message, is_shown};
+pub use messages::{Message, are_printable};
 pub use progress::{Progress, Unwatched, WatchFiles, WatchJob};
 pub use replaced::Replaced;
 pub use statuses::{JobFault, fault_status, is_output, job_fault_status};

@@ -1,6 +1,6 @@
-ghost use Rattle.std.specs.Prelude.{◌≡◌, ◌<◌};
+ghost use Rattle.std.specs.Prelude.{◌≡◌, ◌<◌, true};
 ghost use Rattle.arrayvec.specs.ArrayString.{array_string_len};
-ghost use Rattle.pif_cli_messages.specs.Messages.{IsShown, is_printable, is_shown};
+ghost use Rattle.pif_cli_messages.specs.Messages.{are_printable, is_printable, is_shown};
 
 use arrayvec::ArrayString;
 use pif_script::{MOST_LINE, write_whole};
@@ -15,7 +15,7 @@ const MESSAGE_ROOM: usize = 512;
 #[derive(Drop)]
 pub struct Message {
     text: ArrayString<MESSAGE_ROOM>,
-    ghost shown: { IsShown text.bytes },
+    ghost shown: { is_shown text.bytes ≡ true },
     ghost room: { array_string_len text < 512 },
 }
 
@@ -30,6 +30,7 @@ impl Message {
     }
 
     /// A message that is to begin with a place.
+    #[tactic(auto, using(crate::proofs::ShownLemmas::nothing_shown))]
     pub fn empty() -> Message {
         Message {
             text: ArrayString::new(),
@@ -123,8 +124,8 @@ fn is_printable(character: char) -> bool
 }
 
 /// Whether each character of a text is printable, as in a message.
-pub fn is_shown(text: &str) -> bool
-    ensures { result ≡ is_shown text.now }
+pub fn are_printable(text: &str) -> bool
+    ensures { result ≡ are_printable text.now }
 {
     for character in text.chars() {
         if !is_printable(character) {

@@ -19,13 +19,19 @@ pub enum JobFault {
     PosixAllows(u64),
     /// A program was to be played on the core, which has no mutex as this one: of PTHREAD_PRIO_NONE.
     NotOnCore(u32),
+    /// At the line of this number, from 1, a call begins whose behaviour POSIX may leave undefined, and POSIX forbids the
+    /// history from a later line on.
+    PosixUndefined(u64),
     /// A history is legal and begins no call, so that nothing was judged.
     NoCall,
+    /// The line of this number, from 1, of a history is a mistake of the log.
+    Mistake(u64),
 }
 
 /// The status of the program after this fault of a job: 6 if a thread could not be started, or the desk didn't settle, 7
-/// if a history was not decided or begins no call, or not all states of a program were found, and 8 if POSIX allows what the
-/// machine doesn't. It is 2 for a program that the core can't play.
+/// if a history was not decided or begins no call, or not all states of a program were found, 8 if POSIX allows what the
+/// machine doesn't, 9 if it may leave it undefined, and 10 for a mistake of a log. It is 2 for a program that the core can't
+/// play.
 pub fn job_fault_status(fault: JobFault) -> u8
     ensures { result ≡ job_fault_status fault }
 {
@@ -34,6 +40,8 @@ pub fn job_fault_status(fault: JobFault) -> u8
         JobFault::Threads | JobFault::Unsettled => 6,
         JobFault::Undecided(_) | JobFault::NoCall => 7,
         JobFault::PosixAllows(_) => 8,
+        JobFault::PosixUndefined(_) => 9,
+        JobFault::Mistake(_) => 10,
         JobFault::NotOnCore(_) => 2,
     }
 }

@@ -375,6 +375,9 @@ in which it was seen. Its lines:
   dying tN, later end tN      the thread ended somewhere between these lines
   tick N                      the time is N from here on
   rests tN, prio tN P         the thread was seen blocked, or at this priority
+  halted, later resumed       nothing ran between these lines, which are
+                              'rests', 'prio' and 'end'
+  process tN ..               the process of these threads ends, with them all
 
 Rules are what may happen beside. POSIX leaves open: any_waiter, spurious,
 recursion N or A..B (--allow recursion=N), held_wait, barge, cycle_waits,
@@ -393,6 +396,9 @@ For each history it prints:
     no run shows the lines up to L; 'possible there: A ..' has the answers with
     which one does, and 'refused WORD' says why there is none, whatever was
     answered
+  log L: refused WORD
+    the lines before L are legal, and refuse line L by themselves: a mistake of
+    the log
   undecided at L
     more states than --states were made for line L, or the time of --seconds was
     over. 'no witness found from M on' says that no run was found for the lines
@@ -409,6 +415,9 @@ mutexes without inheritance:
   POSIX forbids it from M
     with all its rules no run shows the lines up to M; what is possible there is
     told behind it
+  POSIX may leave it undefined: K: LINE
+    it forbids it from a line behind K; but in some run it leaves undefined what
+    the call does that begins at K
   POSIX: undecided
 With --json it prints an object for the verdict, and one for each line of a run
 with the moves before it: of a run that shows the history, or the lines before
@@ -418,9 +427,9 @@ thread, and a click on a step shows the state after it. A fault has no object
 and no page.
 With --least it looks among the rules of --allow for the fewest with which the
 history is legal, as 'legal N, C calls, with steal spurious'; it names none if
-none is needed. If it is illegal with all of them, that is told as without
---least. If the search is given up for some rules, it prints 'undecided at L
-with' and these rules.
+none is needed, and 'recursion' with the bounds that are needed. If it is
+illegal with all of them, that is told as without --least. If the search is
+given up for some rules, it prints 'undecided at L with' and these rules.
 Several files are judged side by side, by as many threads as there are
 processors, or as --jobs says. What is printed is the same, in their order.
 
@@ -430,8 +439,9 @@ prints 'legal 4, 1 call'.
 
 Status, of the first history that is not legal: 0 legal, 1 wrong words, 2 a
 fault, 3 a read or write failed, 4 out of memory, 5 illegal, 7 undecided or no
-call, 8 POSIX allows it. With a line of POSIX, 5 and 7 are what it says.
-Standard error says what went wrong, and in which line.";
+call, 8 POSIX allows it, 9 it may leave it undefined, 10 a mistake of the log.
+With a line of POSIX, 5 and 7 are what it says. Standard error says what went
+wrong, and in which line.";
 
 /// What `explore` reads, and what it answers.
 pub const MORE_EXPLORE: &str =
@@ -450,8 +460,9 @@ lines:
   ends N, ticks N N ..        at most N threads end, and these times come
   never: C, always: C         of all states that are reached
   finally: C                  of those from which only ends lead
-  sometimes: C                of some state. C is made of 'tN stuck', 'tN ended',
-                              'tN answered A', 'tN runs at [least] P',
+  sometimes: C                of some state. C is made of 'tN stuck',
+                              'tN ended', 'tN answered A',
+                              'tN runs at [least] P',
                               'tN waits for mN', 'tN blocked on cN',
                               'tN holds mN N times', 'mN free',
                               'mN held by tN', 'mN inconsistent',

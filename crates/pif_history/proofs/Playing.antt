@@ -1,5 +1,5 @@
 -- What a player has played, step by step, and what a run of it shows.
-use Rattle.std.proofs.Common.{ℕ, ◌≡◌, ◌∙◌, ◌<◌, ◌+◌, Bool, true, false, List, [], ◌∷◌, ◌++◌, Some, None, Option, map, length, reverse, take, get_or, refl, sym, ap, subst, if◌then◌else◌, Result, Ok, Err, IfOk}
+use Rattle.std.proofs.Common.{ℕ, ◌≡◌, ◌∙◌, ◌<◌, ◌+◌, Bool, true, false, not, List, [], ◌∷◌, ◌++◌, Some, None, Option, map, length, reverse, take, get_or, refl, sym, ap, subst, if◌then◌else◌, Result, Ok, Err, IfOk}
 use Rattle.std.specs.List.{Contains}
 use Rattle.std.proofs.lemmas.List.{reverse-append, take_more}
 use Rattle.pif_types.specs.Bounds.{Bounds}
@@ -18,10 +18,10 @@ use Rattle.pif_search.specs.Runs.{Runs, shown}
 use Rattle.pif_history_model.specs.declared.lines.Line.{Line}
 use Rattle.pif_history_model.specs.declared.labels.Label.{Label}
 use Rattle.pif_history_model.specs.declared.labels.Label.TheVariants.{Shown, Moves}
-use Rattle.pif_history_model.specs.Lines.{is_line_among, dying_after, ended_by}
+use Rattle.pif_history_model.specs.Lines.{is_line_among, dying_after, comes_while, ended_by}
 use Rattle.pif_history_model.specs.Listed.{entry_for, is_seen}
-use Rattle.pif_history_model.specs.Searched.{Configuration, Advances, hides, start_of, told_of}
-use Rattle.pif_history_model.specs.Searched.Advances.{moves, enters, sees}
+use Rattle.pif_history_model.specs.Searched.{Configuration, Steps, Advances, hides, start_of, told_of, at_end_of, at_entry}
+use Rattle.pif_history_model.specs.Searched.Steps.{moves, enters, sees}
 use Rattle.pif_history_model.specs.Verdicts.{IsLegal}
 use Rattle.pif_history_model.proofs.Judging.{labels_of, legal-from_run}
 use Rattle.pif_history_model.proofs.LineLemmas.{shows-entry_for, no_end, seen-to}
@@ -68,37 +68,50 @@ enters_from r l s t e v same is one =
     let step = entered_to l t.world e v (subst (λ (vs : List World). Contains vs v) (sym one) (in_one_from v v refl)) in
     subst (λ (u : Wide). WideEnters r l u e (record t { world = v })) same (other v is step refl)
 
--- the same of a position, if t stands for s
-pub goes_from : (r : Rules) (l : Bounds) (s t : Configuration) (n : ℕ) (v : Wide) → t ≡ s → WideMoves r n t.wide v
+-- the same of a position in which threads run, if t stands for s
+pub goes_from : (r : Rules) (l : Bounds) (s t : Configuration) (n : ℕ) (v : Wide) → t ≡ s → s.halted ≡ false → WideMoves r n t.wide v
     → Advances r l s (Moves n) (record t { wide = v })
-goes_from r l s t n v same m =
-    subst (λ (u : Configuration). Advances r l u (Moves n) (record t { wide = v })) same (moves n v refl m refl)
+goes_from r l s t n v same runs m = record {
+  comes = ap not runs;
+  step = subst (λ (u : Configuration). Steps r l u (Moves n) (record t { wide = v })) same (moves n v refl m refl);
+}
+
+-- the rules for an entry that is no end of a thread are those that are allowed
+entry_by_rules : (r : Rules) (s : Configuration) (e : Entry) → end_of e ≡ None → at_entry s r e ≡ r
+entry_by_rules r s e none = ap (λ (o : Option ℕ). elim o [ None ↦ r | Some t ↦ at_end_of s r t ]) none
 
 -- A LINE
 
 module _ (r : Rules) (l : Bounds) (line : Line) where
   -- the entry that the line shows has come
   comes : (s : Configuration) (e : Entry) (v : Wide) → is_line_among s.dying line ≡ false → dying_after line s.dying ≡ s.dying
-      → Some e ≡ entry_for s.wide.world line → WideEnters r l s.wide e v → Advances r l s (Shown line) (record s { wide = v })
-  comes s e v among kept entry step =
-      enters line e v refl (shows-entry_for s.wide.world line e (sym entry)) among step
-      (λ i. record { wide = v; dying = sym kept i })
+      → Some e ≡ entry_for s.wide.world line → end_of e ≡ None → WideEnters r l s.wide e v
+      → Steps r l s (Shown line) (record s { wide = v })
+  comes s e v among kept entry none step =
+      enters line e v refl (shows-entry_for s.wide.world line e (sym entry)) among
+      (subst (λ (q : Rules). WideEnters q l s.wide e v) (sym (entry_by_rules r s e none)) step)
+      (λ i. record s { wide = v; dying = sym kept i })
 
-  pub comes_from : (s t : Configuration) (e : Entry) (v : Wide) → t ≡ s → is_line_among s.dying line ≡ false
-      → dying_after line s.dying ≡ s.dying → Some e ≡ entry_for s.wide.world line → WideEnters r l t.wide e v
-      → Advances r l s (Shown line) (record t { wide = v })
-  comes_from s t e v same among kept entry step =
+  pub comes_from : (s t : Configuration) (e : Entry) (v : Wide) → t ≡ s → comes_while s.halted line ≡ true
+      → is_line_among s.dying line ≡ false → dying_after line s.dying ≡ s.dying → Some e ≡ entry_for s.wide.world line
+      → end_of e ≡ None → WideEnters r l t.wide e v → Advances r l s (Shown line) (record t { wide = v })
+  comes_from s t e v same may among kept entry none step =
       let back = sym same in
-      subst (λ (u : Configuration). Advances r l u (Shown line) (record t { wide = v })) same
-      (comes t e v (subst (λ (u : Configuration). is_line_among u.dying line ≡ false) back among)
-      (subst (λ (u : Configuration). dying_after line u.dying ≡ u.dying) back kept)
-      (subst (λ (u : Configuration). Some e ≡ entry_for u.wide.world line) back entry) step)
+      record {
+        comes = may;
+        step = subst (λ (u : Configuration). Steps r l u (Shown line) (record t { wide = v })) same
+            (comes t e v (subst (λ (u : Configuration). is_line_among u.dying line ≡ false) back among)
+            (subst (λ (u : Configuration). dying_after line u.dying ≡ u.dying) back kept)
+            (subst (λ (u : Configuration). Some e ≡ entry_for u.wide.world line) back entry) none step);
+      }
 
   -- what the line tells is so
-  pub tells : (s : Configuration) → is_line_among s.dying line ≡ false → dying_after line s.dying ≡ s.dying
-      → is_seen (told_of line s.wide) line ≡ true → Advances r l s (Shown line) s
-  tells s among kept seen =
-      sees line refl among (seen-to (told_of line s.wide) line seen) (λ i. record { wide = s.wide; dying = sym kept i })
+  pub tells : (s : Configuration) → comes_while s.halted line ≡ true → is_line_among s.dying line ≡ false
+      → dying_after line s.dying ≡ s.dying → is_seen (told_of line s.wide) line ≡ true → Advances r l s (Shown line) s
+  tells s may among kept seen = record {
+    comes = may;
+    step = sees line refl among (seen-to (told_of line s.wide) line seen) (λ i. record s { dying = sym kept i });
+  }
 
 -- ALL LINES
 

@@ -87,7 +87,7 @@ impl Allowed<'_> {
     /// What is worth trying before this line since rules are allowed.
     pub(crate) fn extras(&self, alloc: Global, line: &Line) -> Result<Vec<Extra>, Stop> {
         let mut extras = Vec::new(alloc);
-        if self.scene.first_at_once().is_none() {
+        if !self.scene.halted && self.scene.first_at_once().is_none() {
             self.try_for(line, &mut extras)?;
         }
         Ok(extras)
@@ -99,6 +99,25 @@ impl Allowed<'_> {
             Line::Answer(thread, answer) => {
                 self.try_to_answer(thread.get() as usize, answer, extras)
             }
+            Line::Halted => self.try_for_looks(extras),
+            _ => self.try_to_see(line, extras),
+        }
+    }
+
+    /// Adds what is worth trying before nothing runs at this line: what may make that true, by rules, which is seen then.
+    fn try_for_looks(&self, extras: &mut Vec<Extra>) -> Result<(), Stop> {
+        let Some(looks) = self.scene.later.looks(self.scene.line) else {
+            return Ok(());
+        };
+        for look in looks {
+            self.try_to_see(look, extras)?;
+        }
+        Ok(())
+    }
+
+    /// Adds what may make true, by rules, what this line tells of the state.
+    fn try_to_see(&self, line: &Line, extras: &mut Vec<Extra>) -> Result<(), Stop> {
+        match *line {
             Line::End(thread) => self.try_to_pass_on(thread.get() as usize, extras),
             Line::Rests(thread) => self.try_to_rest(thread.get() as usize, extras),
             Line::Prio(_, _) => {
@@ -200,10 +219,11 @@ impl Allowed<'_> {
         Ok(())
     }
 
-    /// Adds that a robust mutex of a thread passes on that has ended before.
+    /// Adds that a robust mutex of a thread passes on that has ended before, or stayed with it until its process ended.
     fn try_to_pass_on(&self, thread: usize, extras: &mut Vec<Extra>) -> Result<(), Stop> {
         let has_left = self.scene.is_dying(thread) && !self.scene.world().is_living(thread);
-        if self.rules.ends_apart && has_left {
+        let has_exited = self.rules.stays_locked && self.scene.has_exited(thread);
+        if (self.rules.ends_apart && has_left) || has_exited {
             push(extras, Extra::Ends(thread))
         } else {
             Ok(())

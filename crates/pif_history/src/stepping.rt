@@ -4,12 +4,14 @@ ghost use Rattle.pif_types.specs.Bounds.{Bounds};
 ghost use Rattle.pif_rules_model.specs.declared.rules.Rules.{Rules};
 ghost use Rattle.pif_rules_model.specs.Rules.{WideMoves, WideEnters, end_of};
 ghost use Rattle.pif_history_model.specs.declared.labels.Label.TheVariants.{Shown, Moves};
-ghost use Rattle.pif_history_model.specs.Lines.{is_line_among, dying_after, ended_by};
+ghost use Rattle.pif_history_model.specs.Lines.{is_line_among, dying_after, comes_while, ended_by};
 ghost use Rattle.pif_history_model.specs.Listed.{entry_for};
 ghost use Rattle.pif_history_model.specs.Searched.{Advances};
 
 use crate::scene::Scene;
-use pif_history_machine::{HistoryMachine, Later, Position, entry_of, is_line_among, is_seen};
+use pif_history_machine::{
+    HistoryMachine, Later, Position, comes_while, entry_of, is_line_among, is_seen,
+};
 use pif_history_model::{HistoryLimits, Label, Line, Protocol};
 use pif_model::{Entry, Event};
 use pif_posix::Wide;
@@ -19,7 +21,7 @@ use std::alloc::Global;
 
 /// The scene of a position in front of a line.
 pub(crate) fn scene_of<'a>(position: &'a Position, later: &'a Later, line: usize) -> Scene<'a> {
-    Scene::new(position.world(), position.dying(), later, line)
+    Scene::new(position, later, line)
 }
 
 /// The place of the position that is best kept, the first of several: a hopeful one, of best rank for the variable that
@@ -47,7 +49,7 @@ fn used_by(scene: &Scene<'_>, label: &Label) -> u32 {
 }
 
 /// Whether a line comes in place, if it may: it is neither the end of a thread, nor tells that one is dying, nor adds a
-/// mutex that lends nothing. It then leaves it as it is who is dying.
+/// mutex that lends nothing, nor is one that the plain machine doesn't have. It then leaves it as it is who is dying.
 fn comes_in_place(line: &Line) -> bool
     ensures kept { result ≡ true → (us : List ℕ) → dying_after line.now us ≡ us }
     ensures no_end { result ≡ true → ended_by line.now ≡ None }
@@ -56,6 +58,7 @@ fn comes_in_place(line: &Line) -> bool
         Line::Dying(_) => false,
         Line::End(_) => false,
         Line::Mutex(_, _, Protocol::PrioNone) => false,
+        Line::Process(_) | Line::Halted | Line::Resumed | Line::Undefined(_) => false,
         Line::Mutex(_, _, Protocol::PrioInherit)
         | Line::Thread(_)
         | Line::Cond(_)
@@ -79,10 +82,13 @@ fn go_on(wide: &mut Wide, alloc: Global, thread: Tid) -> Result<bool, Stop>
 }
 
 /// The open call of a thread makes the only plain move that it can make; false if it has none, or a choice, or if some
-/// mutex lends nothing.
+/// mutex lends nothing, or nothing runs.
 pub(crate) fn go(position: &mut Position, alloc: Global, thread: Tid) -> Result<bool, Stop>
     ensures { IfOk result (λ b. b ≡ true → (r : Rules) (l : Bounds) → Advances r l position.old (Moves thread) position.new) }
 {
+    if position.is_halted() {
+        return Ok(false);
+    }
     go_on(&mut position.wide, alloc, thread)
 }
 
@@ -107,6 +113,7 @@ fn come(
     line: &Line,
     entry: &Entry,
 ) -> Result<bool, Stop>
+    requires comes { comes_while position.old.halted line.now ≡ true }
     requires among { is_line_among position.old.dying line.now ≡ false }
     requires kept { dying_after line.now position.old.dying ≡ position.old.dying }
     requires no_end { ended_by line.now ≡ None }
@@ -124,6 +131,7 @@ fn tells(
     limits: &HistoryLimits,
     line: &Line,
 ) -> Result<bool, Stop>
+    requires comes { comes_while position.now.halted line.now ≡ true }
     requires among { is_line_among position.now.dying line.now ≡ false }
     requires kept { dying_after line.now position.now.dying ≡ position.now.dying }
     ensures { IfOk result (λ b. b ≡ true → (r : Rules) → Advances r limits.now position.now (Shown line.now) position.now) }
@@ -156,13 +164,15 @@ pub(crate) fn switch(
     Ok(true)
 }
 
-/// A line comes that doesn't change who is dying, of a thread that isn't dying, if it may.
+/// A line comes that doesn't change who is dying, of a thread that isn't dying, if it may. It is one that may come while
+/// nothing runs, or threads do, as it is.
 fn show_kept(
     position: &mut Position,
     alloc: Global,
     limits: &HistoryLimits,
     line: &Line,
 ) -> Result<bool, Stop>
+    requires comes { comes_while position.old.halted line.now ≡ true }
     requires among { is_line_among position.old.dying line.now ≡ false }
     requires kept { dying_after line.now position.old.dying ≡ position.old.dying }
     requires no_end { ended_by line.now ≡ None }
@@ -191,7 +201,7 @@ pub(crate) fn show(
     if !comes_in_place(line) {
         return switch(position, alloc, machine, later, &Label::Shown(*line), place);
     }
-    if is_line_among(position.dying(), line) {
+    if !comes_while(position.is_halted(), line) || is_line_among(position.dying(), line) {
         return Ok(false);
     }
     show_kept(position, alloc, &machine.limits, line)

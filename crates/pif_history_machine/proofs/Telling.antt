@@ -45,6 +45,7 @@ told_end t u lines x h = go (u == t) refl
           calling = h.calling;
           gone = rw e refl;
           dying = sym (subst (λ (k : ℕ). is_among (filter (λ y. not (y == k)) (dying_by lines)) t ≡ false) (sym same) (left_out (dying_by lines) t));
+          halted = h.halted;
         }
     go false e =
         let other : u ≢ t = eqb-false u t e in
@@ -56,4 +57,5 @@ told_end t u lines x h = go (u == t) refl
           calling = h.calling;
           gone = rw e h.gone;
           dying = h.dying ∙ sym (left_in (dying_by lines) t u other);
+          halted = h.halted;
         }

@@ -33,7 +33,14 @@ pub fn thread_of(line: &Line) -> Option<Tid>
         Line::End(t) => Some(t),
         Line::Rests(t) => Some(t),
         Line::Prio(t, _) => Some(t),
-        Line::Thread(_) | Line::Mutex(_, _, _) | Line::Cond(_) | Line::Tick(_) => None,
+        Line::Process(t) => Some(t),
+        Line::Undefined(t) => Some(t),
+        Line::Thread(_)
+        | Line::Mutex(_, _, _)
+        | Line::Cond(_)
+        | Line::Tick(_)
+        | Line::Halted
+        | Line::Resumed => None,
     }
 }
 
@@ -57,7 +64,7 @@ fn without(alloc: Global, threads: &[Tid], thread: Tid) -> Result<Vec<Tid>, Stop
 }
 
 /// A thread, and these.
-fn with(alloc: Global, threads: &[Tid], thread: Tid) -> Result<Vec<Tid>, Stop>
+pub(crate) fn with(alloc: Global, threads: &[Tid], thread: Tid) -> Result<Vec<Tid>, Stop>
     ensures { IfOk result (λ v. v.items ≡ thread ∷ threads.now) }
 {
     let mut all = one(alloc, thread)?;

@@ -27,6 +27,15 @@ struct Waits {
     timeout: Option<usize>,
 }
 
+/// What was seen while nothing ran.
+#[derive(Drop)]
+struct Halt {
+    /// Where the line `halted` stands.
+    place: usize,
+    /// The lines from there to `resumed` that tell of the state.
+    looks: Vec<Line>,
+}
+
 /// What the lines of a history say of the threads that it adds.
 #[derive(Drop)]
 pub struct Later {
@@ -36,6 +45,10 @@ pub struct Later {
     variables: Vec<Waits>,
     /// The threads whose open calls may fail at once, if lines are passed.
     hasty: Vec<usize>,
+    /// What was seen while nothing ran, in the order of the lines.
+    halts: Vec<Halt>,
+    /// Whether nothing runs at the last line that was heard.
+    halted: bool,
     /// Which waits are left blocked when their variable is used.
     pub leaving: Leaving,
 }
@@ -96,6 +109,8 @@ impl Later {
             threads: one(alloc, Told::nothing(alloc))?,
             variables: one(alloc, Waits::nothing(alloc))?,
             hasty: Vec::new(alloc),
+            halts: Vec::new(alloc),
+            halted: false,
             leaving: Leaving::for_search(alloc),
         };
         later.hear_all(alloc, lines)?;
@@ -123,8 +138,34 @@ impl Later {
                 Ok(())
             }
             Line::Answer(thread, answer) => self.hear_answer(thread, place, answer),
-            Line::Rests(thread) => self.hear_rest(thread, place),
+            Line::Halted => {
+                self.halted = true;
+                let looks = Vec::new(alloc);
+                push(&mut self.halts, Halt { place, looks })
+            }
+            Line::Resumed => {
+                self.halted = false;
+                Ok(())
+            }
+            Line::Rests(thread) => {
+                self.hear_rest(thread, place)?;
+                self.hear_look(line)
+            }
+            Line::Prio(_, _) | Line::End(_) => self.hear_look(line),
             _ => Ok(()),
+        }
+    }
+
+    /// A line tells of the state. It is one of those that were seen while nothing ran, if nothing runs.
+    fn hear_look(&mut self, line: &Line) -> Result<(), Stop> {
+        // The check has to be told of the type of requests, which lines hold.
+        let _no_request: Option<Request> = None;
+        if !self.halted {
+            return Ok(());
+        }
+        match self.halts.last_mut() {
+            Some(halt) => push(&mut halt.looks, *line),
+            None => Ok(()),
         }
     }
 
@@ -228,6 +269,17 @@ impl Later {
         match self.threads.get(thread) {
             Some(told) => told.answer(line),
             None => None,
+        }
+    }
+
+    /// What was seen while nothing ran from a place on, if `halted` stands there.
+    pub fn looks(&self, place: usize) -> Option<&[Line]> {
+        let at = self
+            .halts
+            .partition_point(|halt: &Halt| -> bool { halt.place < place });
+        match self.halts.get(at) {
+            Some(halt) if halt.place == place => Some(halt.looks.as_slice()),
+            _ => None,
         }
     }
 

@@ -2,15 +2,17 @@
 ghost use Rattle.std.specs.Prelude.{◌≡◌, ◌∷◌, ◌+◌, [], ℕ, List, Option, Some, None, reverse, not, IfOk, IfSome, OnOk, if◌then◌else◌};
 ghost use Rattle.pif_model.specs.Refusals.{begin_refused, go_refused, end_refused, tick_refused};
 ghost use Rattle.pif_model.specs.Posix.{names_known};
-ghost use Rattle.pif_types.specs.declared.errors.AddFault.TheVariants.{NoSuch};
+ghost use Rattle.pif_types.specs.declared.errors.AddFault.TheVariants.{NoSuch as NoSuchMutex};
+ghost use Rattle.pif_types.specs.declared.errors.Refusal.TheVariants.{NoSuch, Dead};
 ghost use Rattle.pif_history_model.specs.declared.refusals.LineRefusal.TheVariants.{Addition};
 ghost use Rattle.pif_history_model.specs.declared.lines.Line.{Line as ShownLine};
 ghost use Rattle.pif_history_model.specs.Lines.{thread_of};
-ghost use Rattle.pif_history_model.specs.Refused.{is_known, refusal_of_line, room_refused, event_refused};
+ghost use Rattle.pif_history_model.specs.Refused.{is_known, refusal_while_running, refusal_of_line, room_refused, event_refused};
 ghost use Rattle.pif_history_machine.specs.Verdicts.{IsRefusalThere};
 ghost use Rattle.pif_history_machine.specs.Told.{IsTold, after_end};
 
 use crate::dying::thread_of;
+use crate::halting::comes_while;
 use pif_history_model::{HistoryLimits, Line, LineRefusal};
 use pif_search::Stop;
 use pif_types::{AddFault, MutexId, Prio, Refusal, Request, Tid};
@@ -29,6 +31,8 @@ struct Told {
     gone: bool,
     /// Whether it was said that the thread is dying, and not since that it has ended.
     dying: bool,
+    /// Whether nothing runs.
+    halted: bool,
 }
 
 /// Counts one more.
@@ -57,6 +61,7 @@ impl Told {
             open_call: false,
             gone: false,
             dying: false,
+            halted: false,
         }
     }
 
@@ -86,7 +91,9 @@ impl Told {
                 self.dying = self.dying || t == thread;
             }
             Line::End(t) => self.end_if(t.get() == thread.get()),
-            Line::Rests(_) | Line::Prio(_, _) => {}
+            Line::Halted => self.halted = true,
+            Line::Resumed => self.halted = false,
+            Line::Rests(_) | Line::Prio(_, _) | Line::Process(_) | Line::Undefined(_) => {}
         }
         Ok(())
     }
@@ -189,7 +196,7 @@ impl Told {
 
     /// Why a variable that is bound to this mutex is not added, if it isn't.
     fn cond_refusal(&self, limits: HistoryLimits, mutex: MutexId) -> Option<LineRefusal>
-        ensures { result ≡ if is_known self.now.mutexes mutex then room_refused self.now.conds limits.conds else Some (Addition NoSuch) }
+        ensures { result ≡ if is_known self.now.mutexes mutex then room_refused self.now.conds limits.conds else Some (Addition NoSuchMutex) }
     {
         if is_known(self.mutexes, mutex.get()) {
             room_refusal(self.conds, limits.conds)
@@ -198,10 +205,24 @@ impl Told {
         }
     }
 
-    /// Why no run has this line, whatever was answered, behind lines that tell this of its thread; None if there is no
-    /// such reason.
-    fn refusal(&self, limits: HistoryLimits, line: &Line) -> Option<LineRefusal>
-        ensures { (t : ℕ) (before : List ShownLine) → IfSome (thread_of line.now) (λ u. u ≡ t) → IsTold t before self.now → result ≡ refusal_of_line limits before line.now }
+    /// Why it is refused that the process of the thread ends, if it is.
+    fn process_refusal(&self, thread: Tid) -> Option<Refusal>
+        ensures { result ≡ if is_known self.now.threads thread then (if self.now.dying then Some Dead else None) else Some NoSuch }
+    {
+        if !self.knows_thread(thread) {
+            return Some(Refusal::NoSuch);
+        }
+        if self.dying {
+            Some(Refusal::Dead)
+        } else {
+            None
+        }
+    }
+
+    /// Why no run has this line, whatever was answered, behind lines that tell this of its thread and behind which threads
+    /// run; None if there is no such reason.
+    fn refusal_while_running(&self, limits: HistoryLimits, line: &Line) -> Option<LineRefusal>
+        ensures { (t : ℕ) (before : List ShownLine) → IfSome (thread_of line.now) (λ u. u ≡ t) → IsTold t before self.now → result ≡ refusal_while_running limits before line.now }
     {
         match *line {
             Line::Thread(base) if Prio::new(base).is_none() => {
@@ -214,7 +235,20 @@ impl Told {
             Line::Answer(t, _) => of_event(self.answer_refusal(t)),
             Line::End(t) => of_event(self.end_refusal(t)),
             Line::Tick(time) => of_event(self.tick_refusal(time)),
+            Line::Process(t) => of_event(self.process_refusal(t)),
             Line::Dying(t) | Line::Rests(t) | Line::Prio(t, _) => of_event(self.living_refusal(t)),
+            Line::Halted | Line::Resumed | Line::Undefined(_) => None,
+        }
+    }
+
+    /// The same, whether threads run or not.
+    fn refusal(&self, limits: HistoryLimits, line: &Line) -> Option<LineRefusal>
+        ensures { (t : ℕ) (before : List ShownLine) → IfSome (thread_of line.now) (λ u. u ≡ t) → IsTold t before self.now → result ≡ refusal_of_line limits before line.now }
+    {
+        if comes_while(self.halted, line) {
+            self.refusal_while_running(limits, line)
+        } else {
+            Some(LineRefusal::Halt)
         }
     }
 }

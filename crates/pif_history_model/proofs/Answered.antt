@@ -7,7 +7,7 @@ use Rattle.pif_types.specs.declared.requests.Request.TheVariants.{Wait}
 use Rattle.pif_model.specs.Deadlines.{reported_result}
 use Rattle.pif_model.specs.NamedNumbers.{ETIMEDOUT, ENOTRECOVERABLE}
 use Rattle.pif_model.specs.Posix.{Progress, on_unblocking}
-use Rattle.pif_model.specs.World.Progress.{Fresh, Waiting, Stuck, Leaving, Has, Checked, Enlisted, Blocked, Reacquiring, Used}
+use Rattle.pif_model.specs.World.Progress.{Leaving, Has, Enlisted, Blocked, Reacquiring}
 use Rattle.pif_history_model.specs.Known.{is_awake, may_come_to, may_be_answered}
 
 -- whether the answer of a call that has come so far is settled: it has its result, or took an Unusable mutex

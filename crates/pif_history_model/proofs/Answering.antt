@@ -14,7 +14,7 @@ use Rattle.pif_model.specs.Posix.{World, Progress, thread_at, HasCome, IsRun}
 use Rattle.pif_model_lemmas.proofs.Waiting.{by_test}
 use Rattle.pif_model_simulation.proofs.runs.Holders.{IsHeld-IsRun}
 use Rattle.pif_history_model.specs.declared.lines.Line.{Line}
-use Rattle.pif_history_model.specs.declared.lines.Line.TheVariants.{Thread, Mutex, Cond, Begin, Answer, Dying, End, Tick, Rests, Prio}
+use Rattle.pif_history_model.specs.declared.lines.Line.TheVariants.{Answer, Dying, End, Rests, Prio}
 use Rattle.pif_history_model.specs.declared.labels.Label.{Label}
 use Rattle.pif_history_model.specs.Lines.{is_among, is_line_among, dying_after}
 use Rattle.pif_history_model.specs.Shown.{IsSeen}

@@ -1,8 +1,7 @@
 -- In a run that shows no line of waiters no lock has a deadline, and all threads have one base priority and keep it, or
 -- nobody signals.
-use Rattle.std.proofs.Common.{ℕ, ◌≡◌, ◌∙◌, ◌<◌, ◌≤◌, ◌⊎◌, ◌==◌, Bool, true, false, List, [], ◌∷◌, ◌++◌, length, zero, suc, Option, Some, None, is_some, not, refl, sym, ap, subst, inl, inr, arith, eqb-true, if◌then◌else◌}
-use Rattle.std.proofs.lemmas.Bool.{true≢false, cases_lt}
-use Rattle.std.proofs.lemmas.List.{get_or_past}
+use Rattle.std.proofs.Common.{ℕ, ◌≡◌, ◌∙◌, ◌<◌, ◌≤◌, Bool, true, false, length, zero, suc, Option, Some, None, is_some, not, refl, sym, ap, subst, arith, eqb-true, if◌then◌else◌}
+use Rattle.std.proofs.lemmas.Bool.{true≢false}
 use Rattle.pif_types.specs.Bounds.{Bounds}
 use Rattle.pif_types.specs.declared.requests.Request.{Request}
 use Rattle.pif_types.specs.declared.requests.Request.TheVariants.{Lock, Signal, TimedLock, TimedWait}
@@ -11,7 +10,7 @@ use Rattle.pif_model.specs.declared.events.Seen.TheVariants as seen
 use Rattle.pif_model.specs.declared.events.Entry.{Entry}
 use Rattle.pif_model.specs.declared.events.Entry.TheVariants as entry
 use Rattle.pif_model.specs.Deadlines.{plain, timer_of, is_reached}
-use Rattle.pif_model.specs.Posix.{World, Thread, Call, Progress, Step, nobody, thread_at, is_living, waits_for, effective_of, with_thread, with_base, at_progress, after_unblocking, begun_thread, empty_world, is_due, is_counting, HasCome}
+use Rattle.pif_model.specs.Posix.{World, Thread, Call, Progress, Step, nobody, thread_at, waits_for, effective_of, with_base, at_progress, after_unblocking, empty_world, is_due, is_counting, HasCome}
 use Rattle.pif_model.specs.Posix.Step.{thread_added, mutex_added, cond_added, refused, begun, went, waits, answered, ended, ticked}
 use Rattle.pif_model_lemmas.proofs.Following.{reaches_here}
 use Rattle.pif_model_lemmas.proofs.Greatest.{effective_most, effective_above}

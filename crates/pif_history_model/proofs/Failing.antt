@@ -198,14 +198,7 @@ still_apart : (t : ℕ) (k : Line) (us : List ℕ) → is_over t k ≡ false →
     → is_among (dying_after k us) t ≡ false
 still_apart t (line.Dying u) us o a = or_from (u == t) (is_among us t) o a
 still_apart t (line.End u) us o a = left_out us u t a
-still_apart t (line.Thread p) us o a = a
-still_apart t (line.Mutex i r p) us o a = a
-still_apart t (line.Cond m) us o a = a
-still_apart t (line.Begin u q) us o a = a
-still_apart t (line.Answer u b) us o a = a
-still_apart t (line.Tick n) us o a = a
-still_apart t (line.Rests u) us o a = a
-still_apart t (line.Prio u p) us o a = a
+still_apart t _ us o a = a
 
 -- the lines still to come before a step are those after it, and the line that it shows
 lines_before : (Step : PlainConfiguration → Label → PlainConfiguration → Type 0) (lines : List Line) (s : Counted) (x : Label)

@@ -1,8 +1,8 @@
 -- What no move changes: how many threads, mutexes and variables there are, the time, who lives, and whose call is open.
-use Rattle.std.proofs.Common.{ℕ, ◌≡◌, ◌∙◌, List, length, Option, Some, None, is_some, refl, ap, if◌then◌else◌}
+use Rattle.std.proofs.Common.{ℕ, ◌≡◌, ◌∙◌, List, length, map, set, Option, Some, None, is_some, refl, ap, if◌then◌else◌}
 use Rattle.std.proofs.lemmas.List.{length-set, length-map}
 use Rattle.std.proofs.Math.ListN.{get_or-map}
-use Rattle.pif_model.specs.Posix.{Progress, Call, Thread, Mutex, World, nobody, thread_at, is_living, with_thread, with_mutex, with_call_by, with_progress, at_progress, after_unblocking, is_newly_blocked, after_use, used, Releases}
+use Rattle.pif_model.specs.Posix.{Progress, Call, Thread, Mutex, Variable, World, nobody, thread_at, is_living, with_thread, with_mutex, with_call_by, with_progress, at_progress, after_unblocking, is_newly_blocked, after_use, used, Releases}
 use Rattle.pif_model_lemmas.proofs.Places.{kept_at}
 use Rattle.pif_model_lemmas.proofs.Waiting.{by_test}
 use Rattle.pif_model_simulation.proofs.runs.Worlds.{call_of, living-with_thread}
@@ -72,15 +72,26 @@ still_open_unblocked (Some c) = refl
 pub keeps_progress : (w : World) (t : ℕ) (p : Progress) → Keeps w (with_progress t p w)
 keeps_progress w t p = keeps_thread w t _ refl (still_open p (call_of w t))
 
-keeps_unblocked : (w : World) (t : ℕ) → Keeps w (with_call_by t after_unblocking w)
+pub keeps_unblocked : (w : World) (t : ℕ) → Keeps w (with_call_by t after_unblocking w)
 keeps_unblocked w t = keeps_thread w t _ refl (still_open_unblocked (call_of w t))
 
--- a variable is used
-keeps_used : (c : ℕ) (w : World) → Keeps w (used c w)
-keeps_used c w = record {
+-- a variable is written
+pub keeps_variable : (w : World) (c : ℕ) (z : Variable) → Keeps w (record w { variables = set w.variables c z })
+keeps_variable w c z = record {
+  threads = refl;
+  mutexes = refl;
+  variables = length-set w.variables c z;
+  time = refl;
+  living = λ u. refl;
+  calling = λ u. refl;
+}
+
+-- it is used, which isn't counted
+pub keeps_uncounted : (c : ℕ) (w : World) → Keeps w (record w { threads = map (after_use c) w.threads })
+keeps_uncounted c w = record {
   threads = length-map w.threads (after_use c);
   mutexes = refl;
-  variables = length-set w.variables c _;
+  variables = refl;
   time = refl;
   living = λ u. ap (λ (y : Thread). y.living) (at u) ∙ lives (thread_at w u);
   calling = λ u. ap (λ (y : Thread). is_some y.call) (at u) ∙ is_open (thread_at w u);
@@ -98,9 +109,12 @@ keeps_used c w = record {
         by_test (λ b. is_some (if b then record x { call = after_unblocking x.call } else x).call ≡ is_some x.call)
         (is_newly_blocked c x.call) (λ _. still_open_unblocked x.call) (λ _. refl)
 
+keeps_used : (c : ℕ) (w : World) → Keeps w (used c w)
+keeps_used c w = keeps_then (keeps_uncounted c w) (keeps_variable (record w { threads = map (after_use c) w.threads }) c _)
+
 -- MOVES
 
-Keeps-kept : IsKept Keeps
+pub Keeps-kept : IsKept Keeps
 Keeps-kept = record {
   same = stays;
   chain = λ w u v a b. keeps_then a b;

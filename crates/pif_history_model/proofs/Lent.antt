@@ -17,6 +17,11 @@ seen_threads (m ∷ ms) w = seen_threads ms (with_owner m 0 w)
 pub seen_living : (ms : List ℕ) (w : World) (t : ℕ) → is_living (looking_free ms w) t ≡ is_living w t
 seen_living ms w t = ap (λ (ts : List Thread). is_living (record w { threads = ts }) t) (seen_threads ms w)
 
+-- so also in the state of which a line tells
+pub told_living : (line : Line) (s : Wide) (t : ℕ) → is_living (told_of line s) t ≡ is_living s.world t
+told_living (Prio u p) s t = seen_living s.prio_none s.world t
+told_living _ s t = refl
+
 seen_allowed : (ms : List ℕ) (w : World) (t : ℕ) → IsAllowed (looking_free ms w) (event.Go t) → IsAllowed w (event.Go t)
 seen_allowed ms w t a =
     subst (λ (ts : List Thread). IsAllowed (record w { threads = ts }) (event.Go t)) (seen_threads ms w) a

@@ -22,6 +22,7 @@ pub mod Taking
 pub mod LineLemmas
 pub mod Lent
 pub mod Labelled
+mod Extras
 pub mod Listing
 pub mod Selections
 pub mod Numbers
@@ -38,6 +39,9 @@ pub mod Entering
 pub mod Answering
 pub mod Knowing
 pub mod Refuting
+mod Fronts
+mod KeepingByRules
+mod RefusedByRules
 pub mod Covering
 pub mod Testing
 pub mod Failing

@@ -15,9 +15,9 @@ no_limits : (o : Option HoldLimits) → is_some o ≡ false → o ≡ None
 no_limits None e = refl
 no_limits (Some x) e = absurd (true≢false e)
 
--- rules of which none is allowed, and no mutex of PTHREAD_PRIO_NONE
-are_none : (r : Rules) → ((x : Rule) → has r x ≡ false) → r.prio_none ≡ false → r ≡ no_rules
-are_none r none inherits = λ i. record {
+-- rules of which none is allowed, no mutex of PTHREAD_PRIO_NONE, and no line that the plain machine doesn't have
+are_none : (r : Rules) → ((x : Rule) → has r x ≡ false) → r.prio_none ≡ false → r.extra_lines ≡ false → r ≡ no_rules
+are_none r none inherits plain = λ i. record {
   steal = none Steal i;
   any_waiter = none AnyWaiter i;
   spurious = none Spurious i;
@@ -39,6 +39,7 @@ are_none r none inherits = λ i. record {
   consistent_by_any = none ConsistentByAny i;
   cut_unlock = none CutUnlock i;
   prio_none = inherits i;
+  extra_lines = plain i;
 }
 
 -- one of these is allowed, or none of them
@@ -52,17 +53,19 @@ one_or_none r (x ∷ xs) = by_first (cases_Bool (has r x)) (one_or_none r xs)
     by_first (inr missing) (inl some) = inl some
     by_first (inr missing) (inr none) = inr (All-cons (λ y. has r y ≡ false) x xs missing none)
 
--- no rule is allowed, or some is, or mutexes of PTHREAD_PRIO_NONE are
+-- no rule is allowed, or some is, or mutexes of PTHREAD_PRIO_NONE are, or lines that the plain machine doesn't have
 pub none_or_some : (r : Rules) → (r ≡ no_rules) ⊎ (r ≡ no_rules → ⊥)
-none_or_some r = by_flag (cases_Bool r.prio_none)
+none_or_some r = by_flags (cases_Bool r.prio_none) (cases_Bool r.extra_lines)
   where
-    by_rules : r.prio_none ≡ false → ((x : Rule) × (has r x ≡ true)) ⊎ All (λ x. has r x ≡ false) rules_in_order
+    by_rules : r.prio_none ≡ false → r.extra_lines ≡ false → ((x : Rule) × (has r x ≡ true)) ⊎ All (λ x. has r x ≡ false) rules_in_order
         → (r ≡ no_rules) ⊎ (r ≡ no_rules → ⊥)
-    by_rules inherits (inl some) =
+    by_rules inherits plain (inl some) =
         inr (λ is. true≢false (sym some.1 ∙ (ap (λ (q : Rules). has q some.0) is ∙ none_is_among some.0)))
-    by_rules inherits (inr none) =
-        inl (are_none r (λ x. All-contains (λ y. has r y ≡ false) rules_in_order x none (each_is_in_order x)) inherits)
+    by_rules inherits plain (inr none) =
+        inl (are_none r (λ x. All-contains (λ y. has r y ≡ false) rules_in_order x none (each_is_in_order x)) inherits plain)
 
-    by_flag : (r.prio_none ≡ true) ⊎ (r.prio_none ≡ false) → (r ≡ no_rules) ⊎ (r ≡ no_rules → ⊥)
-    by_flag (inl on) = inr (λ is. true≢false (sym on ∙ ap (λ (q : Rules). q.prio_none) is))
-    by_flag (inr off) = by_rules off (one_or_none r rules_in_order)
+    by_flags : (r.prio_none ≡ true) ⊎ (r.prio_none ≡ false) → (r.extra_lines ≡ true) ⊎ (r.extra_lines ≡ false)
+        → (r ≡ no_rules) ⊎ (r ≡ no_rules → ⊥)
+    by_flags (inl on) extra = inr (λ is. true≢false (sym on ∙ ap (λ (q : Rules). q.prio_none) is))
+    by_flags (inr off) (inl on) = inr (λ is. true≢false (sym on ∙ ap (λ (q : Rules). q.extra_lines) is))
+    by_flags (inr off) (inr plain) = by_rules off plain (one_or_none r rules_in_order)

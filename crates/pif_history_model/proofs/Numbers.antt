@@ -1,5 +1,5 @@
 -- The numbers that labels show, and which answers and priorities are possible.
-use Rattle.std.proofs.Common.{ℕ, ◌≡◌, ◌⊎◌, ◌∙◌, ◌↔◌, ◌≤◌, ◌<◌, ◌+◌, ◌-◌, nat_lt, zero, suc, Bool, true, false, List, [], ◌∷◌, ◌++◌, Option, Some, None, map, reverse, length, take, get_or, refl, sym, subst, ap, inl, inr, arith}
+use Rattle.std.proofs.Common.{ℕ, ◌≡◌, ◌⊎◌, ◌∙◌, ◌≤◌, ◌<◌, ◌+◌, ◌-◌, nat_lt, zero, suc, Bool, true, false, List, [], ◌∷◌, ◌++◌, Option, Some, None, map, reverse, length, take, get_or, refl, sym, subst, ap, inl, inr, arith}
 use Rattle.std.specs.List.{All, AllPairs, Contains}
 use Rattle.std.proofs.lemmas.Bool.{ltb-true, ltb-false}
 use Rattle.std.proofs.lemmas.List.{take_more, map-append}

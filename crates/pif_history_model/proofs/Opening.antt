@@ -5,7 +5,7 @@ use Rattle.pif_types.specs.declared.requests.Request.{Request}
 use Rattle.pif_types.specs.declared.requests.Request.TheVariants.{Signal, Broadcast}
 use Rattle.pif_model_lemmas.proofs.Waiting.{by_test}
 use Rattle.pif_history_model.specs.declared.lines.Line.{Line}
-use Rattle.pif_history_model.specs.declared.lines.Line.TheVariants.{Thread, Mutex, Cond, Begin, Answer, Dying, End, Tick, Rests, Prio}
+use Rattle.pif_history_model.specs.declared.lines.Line.TheVariants.{Begin, Answer}
 use Rattle.pif_history_model.specs.Wakeups.{waited_variable, is_use_of, request_after, open_request, HasOpenUse, begins, begins_use, MayBeWoken}
 use Rattle.pif_history_model.specs.Wakeups.MayBeWoken.{found, used, before}
 

@@ -11,7 +11,7 @@ use Rattle.pif_model.specs.declared.events.Seen.TheVariants as seen
 use Rattle.pif_model.specs.declared.events.Entry.{Entry}
 use Rattle.pif_model.specs.declared.events.Entry.TheVariants as entry
 use Rattle.pif_model.specs.Refusals.{tick_refused}
-use Rattle.pif_model.specs.Posix.{World, Thread, Mutex, Variable, Step, LivesNot, IsAllowed, Ends, nobody, new_thread, thread_at, is_thread, is_living, is_mutex, is_variable, with_thread, begun_thread, names_known}
+use Rattle.pif_model.specs.Posix.{World, Thread, Mutex, Variable, Step, LivesNot, IsAllowed, nobody, new_thread, thread_at, is_thread, is_living, is_mutex, is_variable, with_thread, begun_thread, names_known}
 use Rattle.pif_model.specs.Posix.Step.{thread_added, mutex_added, cond_added, refused, begun, went, waits, answered, ended, ticked}
 use Rattle.pif_model_lemmas.proofs.Numbers.{within, from_within}
 use Rattle.pif_model_lemmas.proofs.kernel.Settled.{priority-from_range}
@@ -27,13 +27,14 @@ use Rattle.pif_history_model.specs.declared.lines.Line.TheVariants as line
 use Rattle.pif_history_model.specs.declared.labels.Label.{Label}
 use Rattle.pif_history_model.specs.declared.labels.Label.TheVariants.{Shown, Moves, Ends as EndsHidden}
 use Rattle.pif_history_model.specs.declared.refusals.LineRefusal.{LineRefusal}
-use Rattle.pif_history_model.specs.declared.refusals.LineRefusal.TheVariants.{Addition}
-use Rattle.pif_history_model.specs.Lines.{line_of, is_among, is_line_among, dying_by, dying_after}
+use Rattle.pif_history_model.specs.declared.refusals.LineRefusal.TheVariants.{Addition, Halt}
+use Rattle.pif_history_model.specs.Lines.{line_of, is_among, is_line_among, dying_by, dying_after, halted_by, comes_while}
 use Rattle.pif_history_model.specs.Shown.{IsSeen, IsShown}
 use Rattle.pif_history_model.specs.Shown.IsSeen.{rests, prio, dying}
 use Rattle.pif_history_model.specs.Plain.{PlainConfiguration, PlainAdvances, plain_start_of}
 use Rattle.pif_history_model.specs.Plain.PlainAdvances.{moves, ends, enters, sees, has_ended}
-use Rattle.pif_history_model.specs.Refused.{threads_in, mutexes_in, conds_in, is_known, time_by, is_open, is_gone, room_refused, event_refused, living_refused, refusal_of_line}
+use Rattle.pif_history_model.specs.Refused.{threads_in, mutexes_in, conds_in, is_known, time_by, is_open, is_gone, room_refused, event_refused, living_refused, refusal_while_running, refusal_of_line}
+use Rattle.pif_history_model.proofs.Extras.{comes_plainly, runs_while_plain}
 use Rattle.pif_history_model.proofs.Keeping.{keeps_move}
 use Rattle.pif_history_model.proofs.Telling.{Tells, Tells-start, Tells-keeps, Tells-ends, Tells-said_ended, Leaves, leaves-from_ends, leaves-from_dead, one_more_known, gone-cases, alive, known, begin_ok, go_ok, living_ok, room_ok}
 use Rattle.pif_history_model.proofs.Completeness.{reached-from_shown}
@@ -42,7 +43,7 @@ use Rattle.pif_history_model.proofs.Soundness.{lines_in, lines_after, shown-line
 -- behind a line that is shown the lines tell of the state as before, and the line is not refused
 pub record Follows (l : Bounds) (lines : List Line) (x : Line) (v : World) (dying : List ℕ) : Type 0 where
   pub tells : Tells (x ∷ lines) v (dying_after x dying)
-  pub allowed : refusal_of_line l lines x ≡ None
+  pub allowed : refusal_while_running l lines x ≡ None
 
 -- whose line it is
 line_is : (e k : Entry) (x y : Line) → e ≡ k → line_of e ≡ Some x → line_of k ≡ Some y → x ≡ y
@@ -222,17 +223,17 @@ one_answer {l = l} {lines = lines} {w = w} {d = d} t a x apart answer =
 
 -- ENDS, AND LOOKS
 
-one_end : {l : Bounds} {lines : List Line} {w v : World} {d : List ℕ} (t : ℕ) → Tells lines w d
-    → is_among d t ≡ false → Ends t w v → Follows l lines (line.End t) v d
-one_end {l = l} {lines = lines} {w = w} {d = d} t x apart e =
-    let a = end_allowed w t e.allowed in
+pub one_end : {l : Bounds} {lines : List Line} {w v : World} {d : List ℕ} (t : ℕ) → Tells lines w d
+    → is_among d t ≡ false → IsAllowed w (event.End t) → Leaves t w v → Follows l lines (line.End t) v d
+one_end {l = l} {lines = lines} {w = w} {d = d} t x apart allowed leaves =
+    let a = end_allowed w t allowed in
     let still : is_among (dying_by lines) t ≡ false = subst (λ us. is_among us t ≡ false) x.dying_is apart in
     record {
-      tells = Tells-said_ended x a.0 (leaves-from_ends e);
+      tells = Tells-said_ended x a.0 leaves;
       allowed = ap (λ b. if b then None else living_refused lines t) still ∙ living_ok x t apart a.1;
     }
 
-one_over : {l : Bounds} {lines : List Line} {w : World} {d : List ℕ} (t : ℕ) → Tells lines w d
+pub one_over : {l : Bounds} {lines : List Line} {w : World} {d : List ℕ} (t : ℕ) → Tells lines w d
     → is_among d t ≡ true → LivesNot w t → Follows l lines (line.End t) w d
 one_over {l = l} {lines = lines} {w = w} {d = d} t x among dead =
     let still : is_among (dying_by lines) t ≡ true = subst (λ us. is_among us t ≡ true) x.dying_is among in
@@ -260,9 +261,9 @@ one_tick {l = l} {lines = lines} {w = w} {d = d} n x allowed after =
       allowed = ap event_refused (ap (λ k. tick_refused k n) (sym x.time) ∙ allowed);
     })
 
-one_look : {l : Bounds} {lines : List Line} {w : World} {d : List ℕ} (y : Line) → Tells lines w d
-    → is_line_among d y ≡ false → IsSeen y w → Follows l lines y w d
-one_look {l = l} {lines = lines} {w = w} {d = d} y x apart (rests t is lives rest) =
+pub one_look : {l : Bounds} {lines : List Line} {w v : World} {d : List ℕ} (y : Line) → Tells lines w d
+    → is_line_among d y ≡ false → ((t : ℕ) → is_living v t ≡ is_living w t) → IsSeen y v → Follows l lines y w d
+one_look {l = l} {lines = lines} {w = w} {d = d} y x apart alike (rests t is lives rest) =
     subst (λ (z : Line). is_line_among d z ≡ false → Follows l lines z w d) (sym is) (λ a. record {
       tells = record {
         threads = x.threads;
@@ -276,9 +277,9 @@ one_look {l = l} {lines = lines} {w = w} {d = d} y x apart (rests t is lives res
         added = x.added;
         dying_is = x.dying_is;
       };
-      allowed = living_ok x t a lives;
+      allowed = living_ok x t a (sym (alike t) ∙ lives);
     }) apart
-one_look {l = l} {lines = lines} {w = w} {d = d} y x apart (prio t p is lives same) =
+one_look {l = l} {lines = lines} {w = w} {d = d} y x apart alike (prio t p is lives same) =
     subst (λ (z : Line). is_line_among d z ≡ false → Follows l lines z w d) (sym is) (λ a. record {
       tells = record {
         threads = x.threads;
@@ -292,9 +293,9 @@ one_look {l = l} {lines = lines} {w = w} {d = d} y x apart (prio t p is lives sa
         added = x.added;
         dying_is = x.dying_is;
       };
-      allowed = living_ok x t a lives;
+      allowed = living_ok x t a (sym (alike t) ∙ lives);
     }) apart
-one_look {l = l} {lines = lines} {w = w} {d = d} y x apart (dying t is lives) =
+one_look {l = l} {lines = lines} {w = w} {d = d} y x apart alike (dying t is lives) =
     subst (λ (z : Line). is_line_among d z ≡ false → Follows l lines z w d) (sym is) (λ a. record {
       tells = record {
         threads = x.threads;
@@ -305,10 +306,10 @@ one_look {l = l} {lines = lines} {w = w} {d = d} y x apart (dying t is lives) =
         over = λ u e o. over_at u e o (cases_Bool (t == u));
         calling = λ u e. x.calling u (gone-cases lines t u e).1;
         gone = λ u e. gone_at u e (cases_Bool (t == u));
-        added = λ u e. added_at (alive x t a lives).1 u e (cases_Bool (t == u));
+        added = λ u e. added_at (alive x t a (sym (alike t) ∙ lives)).1 u e (cases_Bool (t == u));
         dying_is = ap (λ us. t ∷ us) x.dying_is;
       };
-      allowed = living_ok x t a lives;
+      allowed = living_ok x t a (sym (alike t) ∙ lives);
     }) apart
   where
     over_at : (u : ℕ) → is_gone (line.Dying t ∷ lines) u ≡ true → is_among (t ∷ d) u ≡ false
@@ -332,7 +333,7 @@ one_look {l = l} {lines = lines} {w = w} {d = d} y x apart (dying t is lives) =
 -- ONE STEP
 
 -- an entry that a line shows
-follows-from_entry : {l : Bounds} {lines : List Line} {w v : World} {d : List ℕ} (y : Line) (e : Entry)
+pub follows-from_entry : {l : Bounds} {lines : List Line} {w v : World} {d : List ℕ} (y : Line) (e : Entry)
     → Tells lines w d
     → line_of e ≡ Some y → is_line_among d y ≡ false → Enters l w e v → Follows l lines y v d
 follows-from_entry {l} {lines} {w} {v} {d} y e x is apart (enters_answered t a same answer) =
@@ -366,14 +367,14 @@ follows-from_entry {l} {lines} {w} {v} {d} y e x is apart (other no_go no_refusa
     by_step (answered t a q u same goes before after runs) = absurd (true≢false (sym (ap once.is_go same) ∙ no_go))
     by_step (ended t same e) =
         at (line.End t) (line_is _ (entry.Step (event.End t) seen.Ended) y (line.End t) same is refl)
-        (λ k. one_end t x k e)
+        (λ k. one_end t x k e.allowed (leaves-from_ends e))
     by_step (ticked n same allowed after) =
         at (line.Tick n) (line_is e (entry.Step (event.Tick n) seen.Ticked) y (line.Tick n) same is refl)
         (λ k. one_tick n x allowed after)
 
 -- what a step that shows a line, or a hidden one, leaves
 abbrev pub StepTells : Bounds → List Line → Label → PlainConfiguration → Type 0
-StepTells l lines (Shown x) n = Tells (x ∷ lines) n.world n.dying × (refusal_of_line l lines x ≡ None)
+StepTells l lines (Shown x) n = Tells (x ∷ lines) n.world n.dying × (refusal_while_running l lines x ≡ None)
 StepTells l lines _ n = Tells lines n.world n.dying
 
 step_tells : {l : Bounds} {lines : List Line} {s n : PlainConfiguration} (x : Label) → Tells lines s.world s.dying
@@ -407,7 +408,7 @@ step_tells {l} {lines} {s} {n} x y (enters z e v is of apart m same) =
     subst (λ (k : Label). StepTells l lines k n) (sym is)
     (subst (λ (k : PlainConfiguration). Tells (z ∷ lines) k.world k.dying) (sym same) f.tells, f.allowed)
 step_tells {l} {lines} {s} {n} x y (sees z is apart look same) =
-    let f : Follows l lines z s.world s.dying = one_look z y apart look in
+    let f : Follows l lines z s.world s.dying = one_look z y apart (λ t. refl) look in
     subst (λ (k : Label). StepTells l lines k n) (sym is)
     (subst (λ (k : PlainConfiguration). Tells (z ∷ lines) k.world k.dying) (sym same) f.tells, f.allowed)
 step_tells {l} {lines} {s} {n} x y (has_ended t is among dead same) =
@@ -436,8 +437,17 @@ last_allowed l [] n x lines r e = absurd (cc)
 last_allowed l (Shown y ∷ h) n x lines r e =
     let same : y ≡ x = cc in
     let rest : lines_in h ≡ lines = cc in
-    let allowed : refusal_of_line l (lines_in h) y ≡ None = (step_tells (Shown y) (run_tells l h r.0 r.1) r.2).1 in
-    subst (λ z. refusal_of_line l lines z ≡ None) same (subst (λ ls. refusal_of_line l ls y ≡ None) rest allowed)
+    subst (λ z. refusal_of_line l lines z ≡ None) same (subst (λ ls. refusal_of_line l ls y ≡ None) rest here)
+  where
+    coming : comes_while (halted_by (lines_in h)) y ≡ true
+    coming =
+        ap (λ b. comes_while b y) (runs_while_plain l (plain_start_of l) h r.0 r.1)
+        ∙ comes_plainly l r.0 (Shown y) n r.2
+
+    here : refusal_of_line l (lines_in h) y ≡ None
+    here =
+        ap (λ b. if b then refusal_while_running l (lines_in h) y else Some Halt) coming
+        ∙ (step_tells (Shown y) (run_tells l h r.0 r.1) r.2).1
 last_allowed l (Moves t ∷ h) n x lines r e = last_allowed l h r.0 x lines r.1 e
 last_allowed l (EndsHidden t ∷ h) n x lines r e = last_allowed l h r.0 x lines r.1 e
 

@@ -14,7 +14,7 @@ use Rattle.pif_history_model.specs.declared.lines.Line.TheVariants as line
 use Rattle.pif_history_model.specs.declared.refusals.LineRefusal.TheVariants.{Addition}
 use Rattle.pif_history_model.specs.Lines.{is_among, dying_by, dying_after}
 use Rattle.pif_history_model.specs.Refused.{threads_in, mutexes_in, conds_in, is_known, time_by, is_open, is_gone, room_refused, event_refused, living_refused}
-use Rattle.pif_history_model.proofs.Keeping.{Keeps, keeps_Releases}
+use Rattle.pif_history_model.proofs.Keeping.{Keeps, stays, keeps_Releases}
 
 -- what lines tell of a state of the search: w, and these threads are dying
 pub record Tells (lines : List Line) (w : World) (dying : List ℕ) : Type 0 where
@@ -123,6 +123,24 @@ Tells-keeps {w = w} {v = v} x k = record {
   dying_is = x.dying_is;
 }
 
+-- other lines tell the same
+pub retold : {lines others : List Line} {w : World} {dying : List ℕ} → threads_in others ≡ threads_in lines
+    → mutexes_in others ≡ mutexes_in lines → conds_in others ≡ conds_in lines → time_by others ≡ time_by lines
+    → ((t : ℕ) → is_gone others t ≡ is_gone lines t) → ((t : ℕ) → is_open others t ≡ is_open lines t)
+    → dying_by others ≡ dying_by lines → Tells lines w dying → Tells others w dying
+retold a b c d gone calls dies x = record {
+  threads = x.threads ∙ ap (λ k. k + 1) (sym a);
+  mutexes = x.mutexes ∙ ap (λ k. k + 1) (sym b);
+  conds = x.conds ∙ ap (λ k. k + 1) (sym c);
+  time = x.time ∙ sym d;
+  living = λ t e. x.living t (sym (gone t) ∙ e);
+  over = λ t e apart. x.over t (sym (gone t) ∙ e) apart;
+  calling = λ t e. x.calling t (sym (gone t) ∙ e) ∙ sym (calls t);
+  gone = λ t e. gone t ∙ x.gone t e;
+  added = λ t e. x.added t (sym (gone t) ∙ e);
+  dying_is = x.dying_is ∙ sym dies;
+}
+
 -- ENDS
 
 -- t doesn't live in v, and all else that is told here is as in w
@@ -135,25 +153,39 @@ pub record Leaves (t : ℕ) (w v : World) : Type 0 where
   pub living : (u : ℕ) → u ≢ t → is_living v u ≡ is_living w u
   pub calling : (u : ℕ) → u ≢ t → is_some (call_of v u) ≡ is_some (call_of w u)
 
-pub leaves-from_ends : {t : ℕ} {w v : World} → Ends t w v → Leaves t w v
-leaves-from_ends {t} {w} {v} e = record {
-  threads = k.threads ∙ length-set w.threads t x;
-  mutexes = k.mutexes;
-  variables = k.variables;
-  time = k.time;
-  dead = k.living t ∙ ap (λ (y : Thread). y.living) (get_or-set_same w.threads t x nobody place.1);
-  living = λ u d. k.living u ∙ ap (λ (y : Thread). y.living) (get_or-set_other w.threads t u x nobody d);
-  calling = λ u d. k.calling u ∙ ap (λ (y : Thread). is_some y.call) (get_or-set_other w.threads t u x nobody d);
+-- t leaves all that it waits for, and what is told here is kept before that and behind it
+pub leaves-from_kept : {t : ℕ} {w u v : World} → is_thread w t ≡ true → Keeps w u → Keeps (after_end t u) v → Leaves t w v
+leaves-from_kept {t} {w} {u} {v} known a k = record {
+  threads = k.threads ∙ (length-set u.threads t x ∙ a.threads);
+  mutexes = k.mutexes ∙ a.mutexes;
+  variables = k.variables ∙ a.variables;
+  time = k.time ∙ a.time;
+  dead = k.living t ∙ ap (λ (y : Thread). y.living) (get_or-set_same u.threads t x nobody place);
+  living = λ z d. k.living z ∙ (ap (λ (y : Thread). y.living) (get_or-set_other u.threads t z x nobody d) ∙ a.living z);
+  calling = λ z d. k.calling z
+      ∙ (ap (λ (y : Thread). is_some y.call) (get_or-set_other u.threads t z x nobody d) ∙ a.calling z);
 }
   where
     x : Thread
-    x = record (thread_at w t) { living = false; call = None }
+    x = record (thread_at u t) { living = false; call = None }
 
-    place : (t ≢ 0) × (t < length w.threads)
-    place = within t (length w.threads) (end_allowed w t e.allowed).0
+    place : t < length u.threads
+    place = let h = (within t (length w.threads) known).1 in omega (arith, h, a.threads)
 
-    k : Keeps (after_end t w) v
-    k = keeps_Releases e.releases
+pub leaves-from_ends : {t : ℕ} {w v : World} → Ends t w v → Leaves t w v
+leaves-from_ends {t} {w} {v} e = leaves-from_kept (end_allowed w t e.allowed).0 (stays w) (keeps_Releases e.releases)
+
+-- what is told here is kept before t leaves, and behind it
+pub leaves_between : {t : ℕ} {w u v z : World} → Keeps w u → Leaves t u v → Keeps v z → Leaves t w z
+leaves_between {t} a f k = record {
+  threads = k.threads ∙ (f.threads ∙ a.threads);
+  mutexes = k.mutexes ∙ (f.mutexes ∙ a.mutexes);
+  variables = k.variables ∙ (f.variables ∙ a.variables);
+  time = k.time ∙ (f.time ∙ a.time);
+  dead = k.living t ∙ f.dead;
+  living = λ y d. k.living y ∙ (f.living y d ∙ a.living y);
+  calling = λ y d. k.calling y ∙ (f.calling y d ∙ a.calling y);
+}
 
 -- one who doesn't live has left
 pub leaves-from_dead : {t : ℕ} {w : World} → LivesNot w t → Leaves t w w

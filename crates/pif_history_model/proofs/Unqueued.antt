@@ -1,6 +1,6 @@
 -- What a move does, moves do by which no thread joins waiters, without them: who would join has yet to lock, and who is
 -- handed a mutex locks it once it is free.
-use Rattle.std.proofs.Common.{ℕ, ◌≡◌, ◌≢◌, ◌⊎◌, ◌<◌, ◌≤◌, ◌∙◌, Bool, true, false, List, [], ◌∷◌, ◌++◌, length, not, set, Option, Some, None, is_some, refl, sym, ap, subst, inl, inr, if◌then◌else◌}
+use Rattle.std.proofs.Common.{ℕ, ◌≡◌, ◌≢◌, ◌⊎◌, ◌<◌, ◌≤◌, ◌∙◌, Bool, true, false, List, [], ◌∷◌, ◌++◌, length, not, Option, Some, None, is_some, refl, sym, ap, subst, inl, inr, if◌then◌else◌}
 use Rattle.std.proofs.lemmas.Bool.{true≢false}
 use Rattle.std.proofs.lemmas.List.{set-set, length-map}
 use Rattle.pif_types.specs.Bounds.{Bounds}
@@ -13,7 +13,7 @@ use Rattle.pif_model.specs.Graph.{first_greatest, next_waiter}
 use Rattle.pif_model.specs.Refusals.{go_refused}
 use Rattle.pif_model.specs.Deadlines.{is_reached, ran_out}
 use Rattle.pif_model.specs.Soundness.{waited_in}
-use Rattle.pif_model.specs.Posix.{World, Thread, Mutex, Call, Progress, Health, thread_at, mutex_at, is_thread, is_living, is_mutex, with_mutex, with_call_by, with_progress, with_waiter, without_waiter, with_health, with_no_owner, with_one_hold_more, with_one_hold_less, on_taking, on_release, taken, used, after_unblocking, all_unblocked, after_timeout, with_base, effective_of, next_of, is_blocked_on, is_still_blocked, is_due, is_counting, with_thread, refusal_of, variable_of, named_by, HasCome, Comes, IsAllowed, IsRun, Locks, LocksAgain, TriesToLock, Passes, Unlocks, MakesConsistent, SetsPriority, ChecksWait, GivesUp, Uses, Chooses, Effect, Expires}
+use Rattle.pif_model.specs.Posix.{World, Thread, Mutex, Call, Progress, Health, thread_at, mutex_at, is_thread, is_living, with_mutex, with_call_by, with_progress, with_waiter, without_waiter, with_health, with_no_owner, with_one_hold_more, with_one_hold_less, on_taking, on_release, taken, used, after_unblocking, all_unblocked, after_timeout, with_base, effective_of, next_of, is_blocked_on, is_due, is_counting, with_thread, refusal_of, named_by, HasCome, IsAllowed, IsRun, Locks, LocksAgain, TriesToLock, Passes, Unlocks, MakesConsistent, SetsPriority, ChecksWait, GivesUp, Uses, Chooses, Effect, Expires}
 use Rattle.pif_model.specs.World.Health.{Fine, Inconsistent, Unusable}
 use Rattle.pif_model.specs.World.Progress.{Fresh, Waiting, Stuck, Leaving, Has, Checked, Enlisted, Blocked, Reacquiring, Used}
 use Rattle.pif_model.specs.Posix.Locks.{own_normal, own_errorcheck, own_recursive as lock_own_recursive, free as lock_free, orphaned as lock_orphaned, cycle, joins}
@@ -29,7 +29,7 @@ use Rattle.pif_model.specs.Posix.Uses.{at_limit as use_at_limit, counts as use_c
 use Rattle.pif_model.specs.Posix.Chooses.{one, no_one, all}
 use Rattle.pif_model.specs.Posix.Effect.{lock, try_lock, unlock, consistent, set_prio, check_wait, enlist, give_up, lock_again, use_variable, choose, leave}
 use Rattle.pif_model.specs.Posix.Expires.{lock as lock_expires, wait as wait_expires}
-use Rattle.pif_model_lemmas.proofs.Among.{is_among, next_is_among}
+use Rattle.pif_model_lemmas.proofs.Among.{next_is_among}
 use Rattle.pif_model_lemmas.proofs.Numbers.{within}
 use Rattle.pif_model_simulation.proofs.runs.Worlds.{call_of, owner_of, call-with_thread_other, living-with_thread, mutex-with_mutex, is_thread-with_thread}
 use Rattle.pif_model_simulation.proofs.runs.Holding.{IsWaiting, same_progress}
@@ -40,7 +40,6 @@ use Rattle.pif_posix_steps.specs.Once.Acts.{effect, expires, notes}
 use Rattle.pif_search.specs.Runs.{Runs, shown}
 use Rattle.pif_history_model.specs.declared.labels.Label.{Label}
 use Rattle.pif_history_model.specs.declared.labels.Label.TheVariants.{Moves}
-use Rattle.pif_history_model.specs.Plain.{PlainConfiguration}
 use Rattle.pif_history_model.specs.Searched.{hides}
 use Rattle.pif_history_model.specs.Plain.PlainAdvances.{moves}
 use Rattle.pif_history_model.specs.Queues.{is_waiter, Takes}

@@ -7,7 +7,7 @@ use Rattle.pif_model.specs.declared.events.Entry.{Entry}
 use Rattle.pif_model.specs.declared.events.Entry.TheVariants as entry
 use Rattle.pif_history_model.specs.declared.lines.Protocol.TheVariants.{PrioInherit, PrioNone}
 use Rattle.pif_history_model.specs.declared.lines.Line.{Line}
-use Rattle.pif_history_model.specs.declared.lines.Line.TheVariants.{Thread, Mutex, Cond, Begin, Answer, Dying, End, Tick, Rests, Prio}
+use Rattle.pif_history_model.specs.declared.lines.Line.TheVariants.{Thread, Mutex, Cond, Begin, Answer, Dying, End, Tick, Rests, Prio, Process, Halted, Resumed, Undefined}
 
 -- the line that shows an entry: an addition, the begin of a call, its answer, the end of a thread, or a tick. A step
 -- that went or waited has none, nor has a refused event. Each mutex of the machine inherits
@@ -26,6 +26,35 @@ abbrev pub adds_no_none : Line → Bool
 adds_no_none (Mutex k r PrioNone) = false
 adds_no_none _ = true
 
+-- whether a line is none of `process`, `halted` and `resumed`, and asks for no undefined call
+abbrev pub is_no_extra : Line → Bool
+is_no_extra (Process t) = false
+is_no_extra Halted = false
+is_no_extra Resumed = false
+is_no_extra (Undefined t) = false
+is_no_extra _ = true
+
+-- whether nothing runs behind one more line, if it did or didn't before it
+abbrev pub halted_after : Line → Bool → Bool
+halted_after Halted b = true
+halted_after Resumed b = false
+halted_after _ b = b
+
+-- whether nothing runs behind these lines, newest first
+abbrev pub halted_by : List Line → Bool
+halted_by [] = false
+halted_by (x ∷ xs) = halted_after x (halted_by xs)
+
+-- whether a line may come if nothing runs, or if threads run
+abbrev pub comes_while : (halted : Bool) → Line → Bool
+comes_while true (Rests t) = true
+comes_while true (Prio t p) = true
+comes_while true (End t) = true
+comes_while true Resumed = true
+comes_while true _ = false
+comes_while false Resumed = false
+comes_while false _ = true
+
 -- the thread that a line says has ended
 abbrev pub ended_by : Line → Option ℕ
 ended_by (End t) = Some t
@@ -39,6 +68,8 @@ thread_of (Dying t) = Some t
 thread_of (End t) = Some t
 thread_of (Rests t) = Some t
 thread_of (Prio t p) = Some t
+thread_of (Process t) = Some t
+thread_of (Undefined t) = Some t
 thread_of _ = None
 
 -- whether t is among these threads

@@ -5,14 +5,15 @@ use Rattle.std.specs.Prelude.{ℕ, ◌+◌, Bool, true, false, ◌==◌, nat_lt,
 use Rattle.pif_types.specs.Bounds.{Bounds}
 use Rattle.pif_types.specs.declared.errors.AddFault.TheVariants.{TooMany, BadPrio, NoSuch}
 use Rattle.pif_types.specs.declared.errors.Refusal.{Refusal}
+use Rattle.pif_types.specs.declared.errors.Refusal.TheVariants as refusal
 use Rattle.pif_model.specs.Graph.{is_priority}
 use Rattle.pif_model.specs.Posix.{names_known}
 use Rattle.pif_model.specs.Refusals.{begin_refused, go_refused, end_refused, tick_refused}
 use Rattle.pif_history_model.specs.declared.lines.Line.{Line}
-use Rattle.pif_history_model.specs.declared.lines.Line.TheVariants.{Thread, Mutex, Cond, Begin, Answer, Dying, End, Tick, Rests, Prio}
+use Rattle.pif_history_model.specs.declared.lines.Line.TheVariants.{Thread, Mutex, Cond, Begin, Answer, Dying, End, Tick, Rests, Prio, Process, Halted, Resumed, Undefined}
 use Rattle.pif_history_model.specs.declared.refusals.LineRefusal.{LineRefusal}
-use Rattle.pif_history_model.specs.declared.refusals.LineRefusal.TheVariants.{Addition, Event}
-use Rattle.pif_history_model.specs.Lines.{is_among, dying_by}
+use Rattle.pif_history_model.specs.declared.refusals.LineRefusal.TheVariants.{Addition, Event, Halt}
+use Rattle.pif_history_model.specs.Lines.{is_among, dying_by, halted_by, comes_while}
 
 -- how many threads, mutexes and variables were added by these lines
 abbrev pub threads_in : List Line → ℕ
@@ -67,20 +68,31 @@ event_refused (Some r) = Some (Event r)
 abbrev pub living_refused : List Line → ℕ → Option LineRefusal
 living_refused before t = event_refused (end_refused (is_known (threads_in before) t) (not (is_gone before t)))
 
--- why no run has a line behind these lines, if there is such a reason
-abbrev pub refusal_of_line : Bounds → List Line → Line → Option LineRefusal
-refusal_of_line l before (Thread p) =
+-- why no run has a line behind these lines, if there is such a reason and threads run
+abbrev pub refusal_while_running : Bounds → List Line → Line → Option LineRefusal
+refusal_while_running l before (Thread p) =
     if is_priority p then room_refused (threads_in before) l.threads else Some (Addition BadPrio)
-refusal_of_line l before (Mutex k r p) = room_refused (mutexes_in before) l.mutexes
-refusal_of_line l before (Cond m) =
+refusal_while_running l before (Mutex k r p) = room_refused (mutexes_in before) l.mutexes
+refusal_while_running l before (Cond m) =
     if is_known (mutexes_in before) m then room_refused (conds_in before) l.conds else Some (Addition NoSuch)
-refusal_of_line l before (Begin t q) =
+refusal_while_running l before (Begin t q) =
     event_refused (begin_refused (is_known (threads_in before) t) (not (is_gone before t)) (is_open before t)
     (names_known (is_known (mutexes_in before)) (is_known (conds_in before)) q))
-refusal_of_line l before (Answer t a) =
+refusal_while_running l before (Answer t a) =
     event_refused (go_refused (is_known (threads_in before) t) (not (is_gone before t)) (is_open before t))
-refusal_of_line l before (Dying t) = living_refused before t
-refusal_of_line l before (End t) = if is_among (dying_by before) t then None else living_refused before t
-refusal_of_line l before (Tick n) = event_refused (tick_refused (time_by before) n)
-refusal_of_line l before (Rests t) = living_refused before t
-refusal_of_line l before (Prio t p) = living_refused before t
+refusal_while_running l before (Dying t) = living_refused before t
+refusal_while_running l before (End t) = if is_among (dying_by before) t then None else living_refused before t
+refusal_while_running l before (Tick n) = event_refused (tick_refused (time_by before) n)
+refusal_while_running l before (Rests t) = living_refused before t
+refusal_while_running l before (Prio t p) = living_refused before t
+refusal_while_running l before (Process t) =
+    event_refused (if is_known (threads_in before) t then (if is_among (dying_by before) t then Some refusal.Dead else None)
+    else Some refusal.NoSuch)
+refusal_while_running l before Halted = None
+refusal_while_running l before Resumed = None
+refusal_while_running l before (Undefined t) = None
+
+-- why no run has a line behind these lines, if there is such a reason
+abbrev pub refusal_of_line : Bounds → List Line → Line → Option LineRefusal
+refusal_of_line l before line =
+    if comes_while (halted_by before) line then refusal_while_running l before line else Some Halt

@@ -9,7 +9,8 @@ ghost use Rattle.pif_history_model.specs.declared.refusals.LineRefusal.{LineRefu
 ghost use Rattle.pif_history_model.specs.declared.labels.Label.TheVariants.{Shown};
 ghost use Rattle.pif_history_model.specs.Shown.{IsShown};
 ghost use Rattle.pif_history_model.specs.Plain.{PlainConfiguration, PlainAdvances, plain_start_of};
-ghost use Rattle.pif_history_model.specs.Searched.{hides};
+ghost use Rattle.pif_rules_model.specs.declared.rules.Rules.{Rules};
+ghost use Rattle.pif_history_model.specs.Searched.{hides, IsShownWith};
 ghost use Rattle.pif_history_model.specs.Refused.{refusal_of_line};
 ghost use Rattle.pif_history_model.specs.Verdicts.{is_answer};
 ghost use Rattle.pif_history_model.specs.Forgetting.{StandsFor};
@@ -29,6 +30,11 @@ pub fn shown_lines_are_searched()
 /// A law: a line that the lines before it refuse is shown by no run, whatever was answered.
 pub fn refused_lines_are_not_shown()
     ensures { (limits : Bounds) (before : List Line) (line : Line) (refusal : LineRefusal) → refusal_of_line limits before line ≡ Some refusal → IsShown limits (line ∷ before) → ⊥ }
+{}
+
+/// A law: the same of runs with rules: a line that the lines before it refuse is shown by none, whichever are allowed.
+pub fn refused_lines_are_not_shown_by_rules()
+    ensures { (rules : Rules) (limits : Bounds) (before : List Line) (line : Line) (refusal : LineRefusal) → refusal_of_line limits before line ≡ Some refusal → IsShownWith rules limits (line ∷ before) → ⊥ }
 {}
 
 /// A law: an answer that some run shows is 0, or the number of an error that calls have.

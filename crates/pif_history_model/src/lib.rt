@@ -32,7 +32,8 @@ mod refusals;
 mod wakeups_laws;
 
 pub use allowed_laws::{
-    more_rules_show_more, only_what_lends_nothing_is_gated, without_rules_lines_are_plain,
+    first_lines_are_shown, more_rules_show_more, only_extra_lines_are_gated,
+    only_what_lends_nothing_is_gated, without_rules_lines_are_plain,
 };
 pub use known_laws::{
     failing_trylocks_are_taken_at_once, known_answers_are_kept_thread_by_thread,
@@ -41,9 +42,9 @@ pub use known_laws::{
 };
 pub use labels::Label;
 pub use laws::{
-    notes_show_nothing_more, refused_lines_are_not_shown, searched_lines_are_shown,
-    shown_answers_are_answers, shown_lines_are_searched, shown_priorities_are_priorities,
-    waiters_show_nothing_more, what_no_step_sees_is_forgotten,
+    notes_show_nothing_more, refused_lines_are_not_shown, refused_lines_are_not_shown_by_rules,
+    searched_lines_are_shown, shown_answers_are_answers, shown_lines_are_searched,
+    shown_priorities_are_priorities, waiters_show_nothing_more, what_no_step_sees_is_forgotten,
 };
 pub use lazy_laws::lines_come_before_hidden_steps;
 pub use lines::{Line, Protocol};

@@ -37,4 +37,15 @@ pub enum Line {
     Rests(Tid),
     /// `prio tN P`: the effective priority of the thread was seen to be this at this line.
     Prio(Tid, u32),
+    /// `process t1 t2 ..`, one for each thread that it names: the process of this thread ends, or has ended, with all of
+    /// them. Such a thread has ended, or isn't dying yet.
+    Process(Tid),
+    /// `halted`: from here to `resumed` nothing runs, so that all lines between tell of one state. They are `rests`, `prio`
+    /// and `end`.
+    Halted,
+    /// `resumed`: the threads go on.
+    Resumed,
+    /// POSIX leaves undefined what the open call of the thread does, which has had no effect yet. No history has this line:
+    /// a search is asked for it.
+    Undefined(Tid),
 }

@@ -8,4 +8,6 @@ pub enum LineRefusal {
     /// `nosuch`, `dead`, `busy`, `idle` or `past`: the machine refuses what the line shows. A thread is dead from the
     /// line on that says that it is dying.
     Event(Refusal),
+    /// `halted`: it may not stand between `halted` and `resumed`, or it is a `resumed` that ends no halt.
+    Halt,
 }

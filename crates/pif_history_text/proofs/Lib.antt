@@ -1,5 +1,6 @@
 mod AllowedLemmas
 mod LineTexts
 mod PlaceLemmas
+mod ProcessLemmas
 mod SplitLemmas
 mod TellingLemmas

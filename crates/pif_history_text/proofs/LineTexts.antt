@@ -13,14 +13,14 @@ use Rattle.pif_text_model.specs.declared.commands.Command.TheVariants as command
 use Rattle.pif_text_model.specs.declared.commands.Addition.{Addition}
 use Rattle.pif_text_model.specs.declared.commands.Addition.TheVariants as addition
 use Rattle.pif_text_model.specs.Calls.{◌>>=◌}
-use Rattle.pif_text_model.specs.Commands.{command_in, command_of_two, command_of_more, command_of_words, robust_in}
+use Rattle.pif_text_model.specs.Commands.{command_in, command_of_one, command_of_two, command_of_more, command_of_words, robust_in}
 use Rattle.pif_text_model.specs.CommandTexts.{IsWritten, addition_text, command_text, event_text, mutex_text}
 use Rattle.pif_text_model.specs.Errors.{error_named}
 use Rattle.pif_text_model.specs.Numbers.{IsName, IsNumber, number_in, thread_in}
-use Rattle.pif_text_model.specs.Questions.{question_in_two}
+use Rattle.pif_text_model.specs.Questions.{question_in_one, question_in_two}
 use Rattle.pif_text_model.specs.Replies.{thread_name}
 use Rattle.pif_text_model.specs.Words.{words}
-use Rattle.pif_text_model.proofs.Names.{first_word, has_no_space, number-no_space, thread-no_space, thread_back, two-words}
+use Rattle.pif_text_model.proofs.Names.{first_word, has_no_space, last_word, number-no_space, thread-no_space, thread_back, two-words}
 use Rattle.pif_text_model.proofs.Numerals.{number_decimal}
 use Rattle.pif_text_model.proofs.ReadBack.{command_back}
 use Rattle.pif_text_model.proofs.Written.{command_in-written}
@@ -33,7 +33,7 @@ use Rattle.pif_history_text.specs.declared.said.Said.{Said}
 use Rattle.pif_history_text.specs.declared.said.Said.TheVariants.{Allow, Limits, Nothing, Shown}
 use Rattle.pif_rules_model.specs.declared.rules.Rules.{Rules}
 use Rattle.pif_history_text.specs.Allowed.{allowed_in}
-use Rattle.pif_history_text.specs.Lines.{answer_in, command_said, lending_nothing, line_of_three, line_of_two, line_of_words, none_before, none_in, said_by_words, said_in}
+use Rattle.pif_history_text.specs.Lines.{answer_in, command_said, lending_nothing, line_of_one, line_of_three, line_of_two, line_of_words, none_before, none_in, said_by_words, said_in}
 use Rattle.pif_history_text.specs.Texts.{IsLineWritten, line_text}
 
 -- ---- lines that are commands of scripts
@@ -151,7 +151,7 @@ answer_back a small =
     (number_decimal a small)
 
 pub line_back : (l : Line) → IsLineWritten l → said_in (line_text l) ≡ Some (Shown l)
-unfolding line_text command_of_words command_of_two command_of_more question_in_two line_of_words line_of_two line_of_three
+unfolding line_text command_of_words command_of_one command_of_two command_of_more question_in_one question_in_two line_of_words line_of_one line_of_two line_of_three
 line_back (line.Thread p) r = said_back (command.Add (addition.Thread p)) _ (addition-no_comment _) r refl
 line_back (line.Mutex k robust PrioInherit) r = inheriting_back k robust
 line_back (line.Mutex k robust PrioNone) r = none_back k robust
@@ -173,6 +173,14 @@ line_back (line.Prio t p) r =
     said_words (line_text (line.Prio t p)) (codes "prio" ∷ thread_name t ∷ decimal p ∷ []) (line.Prio t p) refl
     (words-three (codes "prio") (thread_name t) (decimal p) refl (thread-no_space t r.0.1) (number-no_space p r.1)) refl
     (rw (thread_back t r.0.0 r.0.1, number_decimal p r.1) refl)
+line_back (line.Process t) r =
+    said_words (line_text (line.Process t)) (codes "process" ∷ thread_name t ∷ []) (line.Process t) refl
+    (two-words (codes "process") (thread_name t) refl (thread-no_space t r.1)) refl (rw (thread_back t r.0 r.1) refl)
+line_back line.Halted r =
+    said_words (codes "halted") (codes "halted" ∷ []) line.Halted refl (last_word (codes "halted") refl) refl refl
+line_back line.Resumed r =
+    said_words (codes "resumed") (codes "resumed" ∷ []) line.Resumed refl (last_word (codes "resumed") refl) refl refl
+line_back (line.Undefined t) r = absurd r
 
 -- ---- lines that are read
 
@@ -209,12 +217,19 @@ answer-small : (word : List ℕ) → Yields IsNumber (answer_in word)
 unfolding answer_in
 answer-small word = or_errno (number_in word) (error_named word) (number-small word)
 
+one-written : (name : List ℕ) → Yields IsLineWritten (line_of_one name)
+unfolding line_of_one
+one-written name =
+    let P = IsLineWritten in
+    if_yields P (bytes_eq name (codes "halted")) _ _ tt (if_yields P (bytes_eq name (codes "resumed")) _ _ tt tt)
+
 two-written : (name word : List ℕ) → Yields IsLineWritten (line_of_two name word)
 unfolding line_of_two
 two-written name word =
     let P = IsLineWritten in
     if_yields P (bytes_eq name (codes "dying")) _ _ (map_yields P line.Dying (thread_in word) (thread-small word))
-    (if_yields P (bytes_eq name (codes "rests")) _ _ (map_yields P line.Rests (thread_in word) (thread-small word)) tt)
+    (if_yields P (bytes_eq name (codes "rests")) _ _ (map_yields P line.Rests (thread_in word) (thread-small word))
+    (if_yields P (bytes_eq name (codes "process")) _ _ (map_yields P line.Process (thread_in word) (thread-small word)) tt))
 
 three-written : (name first second : List ℕ) → Yields IsLineWritten (line_of_three name first second)
 unfolding line_of_three
@@ -230,7 +245,7 @@ three-written name first second =
 words-written : (ws : List (List ℕ)) → Yields IsLineWritten (line_of_words ws)
 unfolding line_of_words
 words-written [] = tt
-words-written (a ∷ []) = tt
+words-written (a ∷ []) = one-written a
 words-written (a ∷ b ∷ []) = two-written a b
 words-written (a ∷ b ∷ c ∷ []) = three-written a b c
 words-written (a ∷ b ∷ c ∷ d ∷ more) = tt

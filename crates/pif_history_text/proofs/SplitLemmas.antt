@@ -1,12 +1,12 @@
 -- Lines that are cut at LF, and how long their texts are.
-use Rattle.std.proofs.Common.{◌≡◌, ℕ, ◌+◌, ◌-◌, ◌<◌, ◌≤◌, suc, ◌≢◌, ◌==◌, List, [], ◌∷◌, ◌++◌, Bool, true, false, cond, length, take, drop, refl, ap, ◌∙◌, arith, length-take, length-drop, None}
+use Rattle.std.proofs.Common.{◌≡◌, ℕ, ◌+◌, ◌-◌, ◌<◌, ◌≤◌, suc, ◌≢◌, ◌==◌, List, [], ◌∷◌, ◌++◌, Bool, true, false, cond, length, take, drop, refl, sym, ap, ◌∙◌, arith, length-take, length-drop, None, Some, bytes_eq, codes}
 use Rattle.std.specs.List.{slice_split, onto_first}
 use Rattle.std.specs.Str.Lines.{strip_carriage_return}
 use Rattle.std.proofs.lemmas.Bool.Decides.{nat_tests}
 use Rattle.std.proofs.lemmas.List.Splits.{slice_split-cons_yes, slice_split-cons_no}
 use Rattle.pif_script_model.specs.Lines.{lines, without_mark}
 use Rattle.pif_text_model.specs.Words.{words}
-use Rattle.pif_history_text.specs.Lines.{is_long, line_of_words, text_of_line}
+use Rattle.pif_history_text.specs.Lines.{is_long, line_of_words, several_in, text_of_line}
 use Rattle.pif_history_text.specs.Reading.{HasNoFeed}
 
 -- a list of lines that is not empty
@@ -40,6 +40,25 @@ pub too_many : (a b c rest : List ℕ) → line_of_words (a ∷ b ∷ c ∷ word
 unfolding line_of_words words
 too_many a b c rest =
     let ws = some_split (λ byte. byte == 32) rest in ap (λ l. line_of_words (a ∷ b ∷ c ∷ l)) ws.is
+
+-- two words or more behind `process`
+pub several : (text name names first more : List ℕ) → words text ≡ name ∷ words names → words names ≡ first ∷ words more
+    → bytes_eq name (codes "process") ≡ true → Some (words names) ≡ several_in (words text)
+unfolding several_in words
+several text name names first more e f g =
+    let ws = some_split (λ byte. byte == 32) more in
+    let all : words names ≡ first ∷ ws.first ∷ ws.more = f ∙ ap (λ (l : List (List ℕ)). first ∷ l) ws.is in
+    ap (λ (l : List (List ℕ)). Some l) all
+    ∙ sym (ap several_in (e ∙ ap (λ (l : List (List ℕ)). name ∷ l) all) ∙ rw g refl)
+
+-- two words or more behind another name
+pub none_several : (text name names first more : List ℕ) → words text ≡ name ∷ words names → words names ≡ first ∷ words more
+    → bytes_eq name (codes "process") ≡ false → several_in (words text) ≡ None
+unfolding several_in words
+none_several text name names first more e f g =
+    let ws = some_split (λ byte. byte == 32) more in
+    let all : words names ≡ first ∷ ws.first ∷ ws.more = f ∙ ap (λ (l : List (List ℕ)). first ∷ l) ws.is in
+    ap several_in (e ∙ ap (λ (l : List (List ℕ)). name ∷ l) all) ∙ rw g refl
 
 -- a text has at least one line
 pub some_lines : (text : List ℕ) → IsSome1 (lines text)

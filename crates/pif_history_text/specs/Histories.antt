@@ -1,21 +1,22 @@
 -- Histories as bytes: their limits and their lines, or their first fault.
-use Rattle.std.specs.Prelude.{ℕ, ◌+◌, ◌==◌, ◌||◌, nat_le, Bool, true, false, not, is_some, List, [], ◌∷◌, ◌++◌, length, take, Option, Some, None, Result, Ok, Err, if◌then◌else◌}
+use Rattle.std.specs.Prelude.{ℕ, ◌+◌, ◌==◌, ◌||◌, nat_le, Bool, true, false, not, is_some, List, [], ◌∷◌, ◌++◌, length, map, take, Option, Some, None, Result, Ok, Err, if◌then◌else◌}
 use Rattle.pif_types.specs.Bounds.{Bounds}
 use Rattle.pif_text_model.specs.declared.replies.Cause.{Cause}
 use Rattle.pif_text_model.specs.declared.replies.Cause.TheVariants.{Size, Long, Command, Limits as OutOfRange}
 use Rattle.pif_script_model.specs.Lines.{lines}
+use Rattle.pif_text_model.specs.Words.{words}
 use Rattle.pif_script_model.specs.Verdicts.{Fault}
 use Rattle.std.specs.List.{list_any}
 use Rattle.pif_rules_model.specs.declared.rules.Rules.{Rules}
 use Rattle.pif_rules_model.specs.Sets.{no_rules}
-use Rattle.pif_history_model.specs.Lines.{adds_no_none}
+use Rattle.pif_history_model.specs.Lines.{adds_no_none, is_no_extra}
 use Rattle.pif_history_model.specs.declared.lines.Line.{Line}
-use Rattle.pif_history_model.specs.declared.lines.Line.TheVariants.{Begin}
+use Rattle.pif_history_model.specs.declared.lines.Line.TheVariants.{Begin, Process}
 use Rattle.pif_rules.specs.Sets.{both, have_common, is_any}
 use Rattle.pif_rules.specs.Words.{are_beyond}
 use Rattle.pif_history_text.specs.declared.said.Said.{Said}
 use Rattle.pif_history_text.specs.declared.said.Said.TheVariants.{Allow, Limits, Nothing, Shown}
-use Rattle.pif_history_text.specs.Lines.{said_in, text_of_line, is_long}
+use Rattle.pif_history_text.specs.Lines.{said_in, several_in, text_of_line, threads_in, is_long}
 
 -- A history, or the front of one.
 pub record Heard : Type 0 where
@@ -67,9 +68,13 @@ after_allow h r =
     else if are_beyond r.recursion then Err OutOfRange
     else Ok (record h { allowed = both h.allowed r; count = next_number h })
 
--- These rules, and whether mutexes of PTHREAD_PRIO_NONE may be added: a line that adds one allows it.
+-- These rules, and whether mutexes of PTHREAD_PRIO_NONE may be added, and the lines `process`, `halted` and `resumed` may
+-- stand: a line that does so allows it.
 abbrev pub allowed_by : Rules → Line → Rules
-allowed_by r l = record r { prio_none = r.prio_none || not (adds_no_none l) }
+allowed_by r l = record r {
+  prio_none = r.prio_none || not (adds_no_none l);
+  extra_lines = r.extra_lines || not (is_no_extra l);
+}
 
 -- One line more that is shown by runs, or by none.
 abbrev pub after_shown : Heard → Line → Heard
@@ -80,6 +85,20 @@ after_shown h l = record h {
   count = next_number h;
 }
 
+-- One line of the text that names the threads of a process: a line more for each of them.
+abbrev pub after_process : Heard → List ℕ → Heard
+after_process h ts = record h {
+  allowed = record h.allowed { extra_lines = true };
+  shown = h.shown ++ map Process ts;
+  numbers = h.numbers ++ map (λ t. next_number h) ts;
+  count = next_number h;
+}
+
+-- The same, if there are such threads.
+abbrev pub after_threads : Heard → Option (List ℕ) → Result Heard Cause
+after_threads h None = Err Command
+after_threads h (Some ts) = Ok (after_process h ts)
+
 -- One more line of the text, by what it says.
 abbrev pub after_said : Heard → Option Said → Result Heard Cause
 after_said h None = Err Command
@@ -89,11 +108,16 @@ after_said h (Some (Limits t m c s)) =
 after_said h (Some (Allow r)) = after_allow h r
 after_said h (Some (Shown l)) = Ok (after_shown h l)
 
+-- One more line of this text: several threads of a process, or what it says.
+unfoldable pub after_text : Heard → List ℕ → Result Heard Cause
+after_text h text =
+    elim (several_in (words text)) [ Some names ↦ after_threads h (threads_in names) | None ↦ after_said h (said_in text) ]
+
 -- One more line of the text, of these bytes.
 unfoldable pub after_line : Heard → List ℕ → Result Heard Cause
 after_line h bytes =
     if is_long (next_number h) bytes then Err Long
-    else after_said h (said_in (text_of_line (next_number h) bytes))
+    else after_text h (text_of_line (next_number h) bytes)
 
 -- A fault of the next line.
 abbrev pub fault_at : Heard → Cause → Result Heard Fault

@@ -64,11 +64,19 @@ none_in text =
     else if bytes_eq (drop (length text - 5) text) (codes " none")
     then none_before (take (length text - 5) text) else None
 
--- A line of two words that is no command of scripts: `dying tN` or `rests tN`.
+-- A line of one word: `halted` or `resumed`.
+unfoldable pub line_of_one : List ℕ → Option Line
+line_of_one name =
+    if bytes_eq name (codes "halted") then Some line.Halted
+    else if bytes_eq name (codes "resumed") then Some line.Resumed
+    else None
+
+-- A line of two words that is no command of scripts: `dying tN`, `rests tN` or `process tN`.
 unfoldable pub line_of_two : List ℕ → List ℕ → Option Line
 line_of_two name word =
     if bytes_eq name (codes "dying") then option_map line.Dying (thread_in word)
     else if bytes_eq name (codes "rests") then option_map line.Rests (thread_in word)
+    else if bytes_eq name (codes "process") then option_map line.Process (thread_in word)
     else None
 
 -- A line of three words that is no command of scripts: `answer tN A` or `prio tN P`.
@@ -86,6 +94,7 @@ line_of_three name first second =
 
 -- The line that words make, if they make one that is no command of scripts.
 unfoldable pub line_of_words : List (List ℕ) → Option Line
+line_of_words (a ∷ []) = line_of_one a
 line_of_words (a ∷ b ∷ []) = line_of_two a b
 line_of_words (a ∷ b ∷ c ∷ []) = line_of_three a b c
 line_of_words more = None
@@ -103,6 +112,21 @@ unfoldable pub said_in : List ℕ → Option Said
 said_in text =
     if is_passed text then Some Nothing
     else elim (command_in text) [ Some c ↦ command_said c | None ↦ said_by_text text ]
+
+-- ---- the threads of a process
+
+-- What words say behind `process`, if there are two or more: a line of one thread is a line of two words.
+unfoldable pub several_in : List (List ℕ) → Option (List (List ℕ))
+several_in (name ∷ first ∷ second ∷ more) = if bytes_eq name (codes "process") then Some (first ∷ second ∷ more) else None
+several_in fewer = None
+
+-- The threads that words name, if each names one.
+abbrev pub threads_in : List (List ℕ) → Option (List ℕ)
+threads_in [] = Some []
+threads_in (word ∷ more) = do
+  t ← thread_in word
+  ts ← threads_in more
+  Some (t ∷ ts)
 
 -- ---- the text of a line
 

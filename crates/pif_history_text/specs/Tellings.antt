@@ -55,10 +55,12 @@ rules_telling by = if is_any by then codes " " ++ names_of by ++ codes "\n" else
 abbrev pub rules_front : Rules → List ℕ
 rules_front by = if is_any by then names_of by ++ codes ":" else []
 
--- What a thread does at its end: all at one moment; or by `ends_apart` it leaves, and one of its mutexes passes on later.
+-- What a thread does at its end: all at one moment; or by `ends_apart` it leaves, and one of its mutexes passes on later. If
+-- one had stayed with it, that passes on when its process has ended.
 abbrev pub end_words : Rules → (lived : Bool) → List ℕ
 end_words by true = if by.ends_apart then codes " leaves\n" else codes " ends\n"
-end_words by false = codes " passes a mutex on\n"
+end_words by false =
+    if by.ends_apart then codes " passes a mutex on\n" else codes " passes a mutex on: its process has ended\n"
 
 -- The line of an end, by these rules.
 abbrev pub end_telling : Rules → (t : ℕ) → (lived : Bool) → List ℕ

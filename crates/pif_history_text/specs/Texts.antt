@@ -9,14 +9,14 @@ use Rattle.pif_text_model.specs.Replies.{thread_name}
 use Rattle.pif_history_model.specs.declared.lines.Protocol.{Protocol}
 use Rattle.pif_history_model.specs.declared.lines.Protocol.TheVariants.{PrioInherit, PrioNone}
 use Rattle.pif_history_model.specs.declared.lines.Line.{Line}
-use Rattle.pif_history_model.specs.declared.lines.Line.TheVariants.{Thread, Mutex, Cond, Begin, Answer, Dying, End, Tick, Rests, Prio}
+use Rattle.pif_history_model.specs.declared.lines.Line.TheVariants.{Thread, Mutex, Cond, Begin, Answer, Dying, End, Tick, Rests, Prio, Process, Halted, Resumed, Undefined}
 
 -- What stands behind the kind of a mutex, and whether it is robust, for its protocol.
 abbrev pub protocol_text : Protocol → List ℕ
 protocol_text PrioInherit = []
 protocol_text PrioNone = codes " none"
 
--- The text of a line, without a line feed: the words that say it, with one space between them.
+-- The text of a line, without a line feed: the words that say it, with one space between them. No history has the last.
 unfoldable pub line_text : Line → List ℕ
 line_text (Thread p) = command_text (command.Add (addition.Thread p))
 line_text (Mutex k robust p) = mutex_text k robust ++ protocol_text p
@@ -28,6 +28,10 @@ line_text (Answer t a) = codes "answer " ++ thread_name t ++ (codes " " ++ decim
 line_text (Dying t) = codes "dying " ++ thread_name t
 line_text (Rests t) = codes "rests " ++ thread_name t
 line_text (Prio t p) = codes "prio " ++ thread_name t ++ (codes " " ++ decimal p)
+line_text (Process t) = codes "process " ++ thread_name t
+line_text Halted = codes "halted"
+line_text Resumed = codes "resumed"
+line_text (Undefined t) = codes "undefined " ++ thread_name t
 
 -- A line whose numbers a text can write.
 abbrev pub IsLineWritten : Line → Type 0
@@ -41,3 +45,7 @@ IsLineWritten (Answer t a) = IsName t × IsNumber a
 IsLineWritten (Dying t) = IsName t
 IsLineWritten (Rests t) = IsName t
 IsLineWritten (Prio t p) = IsName t × IsNumber p
+IsLineWritten (Process t) = IsName t
+IsLineWritten Halted = Unit {0}
+IsLineWritten Resumed = Unit {0}
+IsLineWritten (Undefined t) = ⊥

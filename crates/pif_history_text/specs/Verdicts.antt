@@ -6,7 +6,7 @@ use Rattle.pif_text_model.specs.Replies.{add_fault_word, refusal_word, fault_of}
 use Rattle.pif_history_model.specs.declared.lines.Line.{Line}
 use Rattle.pif_history_model.specs.declared.lines.Line.TheVariants.{Begin}
 use Rattle.pif_history_model.specs.declared.refusals.LineRefusal.{LineRefusal}
-use Rattle.pif_history_model.specs.declared.refusals.LineRefusal.TheVariants.{Addition, Event}
+use Rattle.pif_history_model.specs.declared.refusals.LineRefusal.TheVariants.{Addition, Event, Halt}
 use Rattle.pif_history_text.specs.Texts.{line_text}
 
 -- A number behind what it counts or numbers.
@@ -37,6 +37,7 @@ fault_line number cause = fault_of number cause ++ codes "\n"
 abbrev pub line_refusal_word : LineRefusal → List ℕ
 line_refusal_word (Addition why) = add_fault_word why
 line_refusal_word (Event why) = refusal_word why
+line_refusal_word Halt = codes "halted"
 
 -- No run has the line, whatever was answered.
 abbrev pub refused_line : LineRefusal → List ℕ

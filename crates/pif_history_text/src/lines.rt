@@ -1,7 +1,7 @@
-ghost use Rattle.std.specs.Prelude.{◌≡◌, ◌∷◌, ◌+◌, ◌≤◌, ◌<◌, ◌↔◌, ◌==◌, IsTrue, length, option_map};
+ghost use Rattle.std.specs.Prelude.{◌≡◌, ◌∷◌, ◌+◌, ◌≤◌, ◌<◌, ◌↔◌, ◌==◌, IsTrue, length, option_copied, option_map};
 ghost use Rattle.pif_types.specs.Numbers.{number_of};
 ghost use Rattle.pif_text_model.specs.Words.{words};
-ghost use Rattle.pif_history_text.specs.Lines.{addition_said, answer_in, command_said, event_said, is_long, lending_nothing, line_of_three, line_of_two, line_of_words, none_before, none_in, said_by_text, said_by_words, said_in, text_of_line};
+ghost use Rattle.pif_history_text.specs.Lines.{addition_said, answer_in, command_said, event_said, is_long, lending_nothing, line_of_one, line_of_three, line_of_two, line_of_words, none_before, none_in, said_by_text, said_by_words, said_in, several_in, text_of_line};
 
 use crate::Said;
 use crate::allowed::allowed_of;
@@ -105,6 +105,20 @@ fn none_of(text: &[u8]) -> Option<Line>
     }
 }
 
+/// The line of one word.
+#[tactic(auto, unfolding(crate::specs::Lines::line_of_one))]
+fn of_one(name: &[u8]) -> Option<Line>
+    ensures { result ≡ line_of_one name.now }
+{
+    if is_word(name, b"halted") {
+        Some(Line::Halted)
+    } else if is_word(name, b"resumed") {
+        Some(Line::Resumed)
+    } else {
+        None
+    }
+}
+
 /// The line of two words.
 #[tactic(auto, unfolding(crate::specs::Lines::line_of_two))]
 fn of_two(name: &[u8], word: &[u8]) -> Option<Line>
@@ -115,6 +129,8 @@ fn of_two(name: &[u8], word: &[u8]) -> Option<Line>
         Some(Line::Dying(thread))
     } else if is_word(name, b"rests") {
         Some(Line::Rests(thread))
+    } else if is_word(name, b"process") {
+        Some(Line::Process(thread))
     } else {
         None
     }
@@ -156,8 +172,28 @@ fn of_words(text: &[u8]) -> Option<Line>
 {
     let (name, rest) = split_first(text);
     match rest {
-        None => None,
+        None => of_one(name),
         Some(rest) => of_named(name, rest),
+    }
+}
+
+/// What stands behind `process` in a text, if that is two words or more: a line of one thread is a line of two words.
+#[tactic(auto, unfolding(crate::specs::Lines::several_in), using(crate::proofs::SplitLemmas::several, crate::proofs::SplitLemmas::none_several))]
+pub fn several_of(text: &[u8]) -> Option<&[u8]>
+    ensures { option_map words (option_copied result) ≡ several_in (words text.now) }
+{
+    let (name, rest) = split_first(text);
+    let Some(names) = rest else {
+        return None;
+    };
+    let (_, more) = split_first(names);
+    let Some(_more) = more else {
+        return None;
+    };
+    if is_word(name, b"process") {
+        Some(names)
+    } else {
+        None
     }
 }
 

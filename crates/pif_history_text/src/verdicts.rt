@@ -93,6 +93,7 @@ pub fn refusal_word(why: LineRefusal) -> &'static [u8]
     match why {
         LineRefusal::Addition(fault) => add_fault_word(fault),
         LineRefusal::Event(refusal) => pif_text::refusal_word(refusal),
+        LineRefusal::Halt => b"halted",
     }
 }
 

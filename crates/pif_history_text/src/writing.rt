@@ -15,7 +15,7 @@ use pif_text::{
 };
 use pif_types::{Kind, Tid};
 
-/// Appends a name of at most seven letters with its space, and a thread.
+/// Appends a name with its space, and a thread.
 fn append_of_thread(out: &mut Text, name: &[u8], thread: Tid)
     requires { array_vec_len out.old + length name.now + 11 ≤ TEXT_ROOM }
     ensures items { out.new.items ≡ out.old.items ++ (name.now ++ thread_name thread) }
@@ -48,7 +48,8 @@ fn append_mutex(out: &mut Text, kind: Kind, robust: bool, protocol: Protocol)
     }
 }
 
-/// Appends a line of a history, with no line feed, at most `COMMAND_ROOM` bytes. What stands in `out` stays.
+/// Appends a line of a history, with no line feed, at most `COMMAND_ROOM` bytes. What stands in `out` stays. `Undefined` is
+/// no line of a history: what is written for it can't be read.
 #[tactic(auto, unfolding(crate::specs::Texts::line_text))]
 pub fn line_text(line: Line, out: &mut Text)
     requires { array_vec_len out.old + COMMAND_ROOM ≤ TEXT_ROOM }
@@ -74,6 +75,10 @@ pub fn line_text(line: Line, out: &mut Text)
             append_of_thread(out, b"prio ", thread);
             append_last(out, priority);
         }
+        Line::Process(thread) => append_of_thread(out, b"process ", thread),
+        Line::Halted => append(out, b"halted"),
+        Line::Resumed => append(out, b"resumed"),
+        Line::Undefined(thread) => append_of_thread(out, b"undefined ", thread),
     }
 }
 

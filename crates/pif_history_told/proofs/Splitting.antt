@@ -1,5 +1,5 @@
 -- A step with rules is there with few of them: a move with one at most, and any other with those that change an end.
-use Rattle.std.proofs.Common.{ℕ, ◌≡◌, ◌∙◌, Bool, true, false, ◌||◌, ◌∷◌, filter, map, Contains, arith, refl}
+use Rattle.std.proofs.Common.{ℕ, ◌≡◌, ◌∙◌, Bool, true, false, ◌||◌, ◌∷◌, Option, Some, None, filter, map, Contains, arith, refl}
 use Rattle.std.proofs.lemmas.List.Elements.{Contains-push}
 use Rattle.pif_types.specs.Bounds.{Bounds}
 use Rattle.pif_model.specs.Posix.{World}
@@ -10,7 +10,7 @@ use Rattle.pif_rules_model.specs.declared.rules.Rule.TheVariants.{Steal, AnyWait
 use Rattle.pif_rules_model.specs.declared.rules.Rules.{Rules}
 use Rattle.pif_rules_model.specs.Sets.{has, no_rules, rules_in_order}
 use Rattle.pif_rules_model.specs.Lending.{not_owned}
-use Rattle.pif_rules_model.specs.Rules.{Wide, hidden_from, WideEnters, WideEnds, EndsInSteps, WideEndsApart, MovesByRule, DoesBy, EndsBy, HasReleased, MayRevive, FindsHealth, PassesBy, ReleasesBy}
+use Rattle.pif_rules_model.specs.Rules.{Wide, hidden_from, WideEnters, WideEnds, EndsInSteps, WideEndsApart, InWorld, PassesLater, WidePassesLater, as_process_ends, end_of, MovesByRule, DoesBy, EndsBy, HasReleased, MayRevive, FindsHealth, PassesBy, ReleasesBy}
 use Rattle.pif_rules_model.specs.Rules.WideMoves.{plain, ruled}
 use Rattle.pif_rules_model.specs.Rules.WideEnters.{ended as wide_end, other as wide_other}
 use Rattle.pif_rules_model.specs.Rules.EndsInSteps.{leaves, passes as wide_passes}
@@ -22,13 +22,14 @@ use Rattle.pif_rules_model.specs.Rules.HasReleased.{at_once as released_at_once,
 use Rattle.pif_rules_model.proofs.Lending.{sees_more}
 use Rattle.pif_rules.specs.Sets.{both, only}
 use Rattle.pif_history_model.specs.declared.lines.Line.{Line}
-use Rattle.pif_history_model.specs.declared.lines.Line.TheVariants.{Mutex}
+use Rattle.pif_history_model.specs.declared.lines.Line.TheVariants.{Mutex, Process, Halted, Resumed, Undefined}
 use Rattle.pif_history_model.specs.declared.lines.Protocol.TheVariants.{PrioNone}
+use Rattle.pif_history_model.specs.Lines.{is_among}
 use Rattle.pif_history_model.specs.declared.labels.Label.{Label}
 use Rattle.pif_history_model.specs.declared.labels.Label.TheVariants.{Shown, Moves, Ends}
-use Rattle.pif_history_model.specs.Searched.{Configuration, Advances, IsThrough}
+use Rattle.pif_history_model.specs.Searched.{Configuration, Steps, Advances, IsThrough, at_end_of, at_entry}
 use Rattle.pif_history_model.specs.Searched.IsThrough.{at_once as through_at_once, released as through_released}
-use Rattle.pif_history_model.specs.Searched.Advances.{moves, ends, ends_apart, enters, adds_none, sees, has_ended}
+use Rattle.pif_history_model.specs.Searched.Steps.{moves, ends, ends_apart, enters, adds_none, sees, has_ended, exits, passes_later, halts, resumes, is_undefined}
 use Rattle.pif_history_told.specs.Sets.{sets_but_all, sets_in_order}
 use Rattle.pif_history_told.specs.Steps.{IsStepBy, asked_with, of_ends, of_lines, sets_for}
 
@@ -75,6 +76,15 @@ enters_by a b h l s e n (wide_end t q x) =
     wide_end t q (sees_more (WideEnds a t) (WideEnds b t) (wide_ends_by a b h t) (not_owned s.world t s.prio_none) s n x)
 enters_by a b h l s e n (wide_other v q x f) = wide_other v q x f
 
+passes_later_by : (a b : Rules) → EndsAlike a b → (t : ℕ) (w v : World) → PassesLater a t w v → PassesLater b t w v
+passes_later_by a b h t w v x = record {
+  ended = x.ended;
+  mutex = x.mutex;
+  owns = x.owns;
+  robust = x.robust;
+  passes = passes_on a b h x.mutex _ v x.passes;
+}
+
 in_steps_by : (a b : Rules) → EndsAlike a b → (t : ℕ) (s n : Wide) → EndsInSteps a t s n → EndsInSteps b t s n
 in_steps_by a b h t s n (leaves v x f) =
     leaves v (record {
@@ -87,15 +97,41 @@ in_steps_by a b h t s n (leaves v x f) =
 in_steps_by a b h t s n (wide_passes v there x f) =
     wide_passes v there (record {
       apart = h.ends_apart ∙ x.apart;
-      ended = x.ended;
-      mutex = x.mutex;
-      owns = x.owns;
-      robust = x.robust;
-      passes = passes_on a b h x.mutex _ v x.passes;
+      later = passes_later_by a b h t s.world v x.later;
     }) f
 
 apart_by : (a b : Rules) → EndsAlike a b → (t : ℕ) (s n : Wide) → WideEndsApart a t s n → WideEndsApart b t s n
 apart_by a b h t s n x = sees_more (EndsInSteps a t) (EndsInSteps b t) (in_steps_by a b h t) (not_owned s.world t s.prio_none) s n x
+
+-- also if the process of the thread ends with it
+exiting_alike : (a b : Rules) → EndsAlike a b → (ending : Bool) → EndsAlike (as_process_ends ending a) (as_process_ends ending b)
+exiting_alike a b h false = h
+exiting_alike a b h true = record {
+  revives = h.revives;
+  barge = h.barge;
+  ends_apart = h.ends_apart;
+  stays_locked = refl;
+  cut_unlock = h.cut_unlock;
+}
+
+end_alike : (a b : Rules) → EndsAlike a b → (s : Configuration) (t : ℕ) → EndsAlike (at_end_of s a t) (at_end_of s b t)
+end_alike a b h s t = exiting_alike a b h (is_among s.exiting t)
+
+ended_alike : (a b : Rules) → EndsAlike a b → (s : Configuration) (ended : Option ℕ)
+    → EndsAlike (elim ended [ None ↦ a | Some t ↦ at_end_of s a t ]) (elim ended [ None ↦ b | Some t ↦ at_end_of s b t ])
+ended_alike a b h s None = h
+ended_alike a b h s (Some t) = end_alike a b h s t
+
+entry_alike : (a b : Rules) → EndsAlike a b → (s : Configuration) (e : Entry) → EndsAlike (at_entry s a e) (at_entry s b e)
+entry_alike a b h s e = ended_alike a b h s (end_of e)
+
+later_in_world : (a b : Rules) → EndsAlike a b → (t : ℕ) (s n : Wide) → InWorld (PassesLater a t) s n → InWorld (PassesLater b t) s n
+later_in_world a b h t s n x =
+    record { world = x.world; step = passes_later_by a b h t s.world x.world x.step; same = x.same }
+
+later_by : (a b : Rules) → EndsAlike a b → (t : ℕ) (s n : Wide) → WidePassesLater a t s n → WidePassesLater b t s n
+later_by a b h t s n x =
+    sees_more (InWorld (PassesLater a t)) (InWorld (PassesLater b t)) (later_in_world a b h t) (not_owned s.world t s.prio_none) s n x
 
 has_released : (a b : Rules) → EndsAlike a b → (t : ℕ) (s : Wide) → HasReleased a t s → HasReleased b t s
 has_released a b h t s (released_at_once e) = released_at_once e
@@ -220,37 +256,76 @@ alone_listed r rule e =
 
 -- ALL STEPS
 
+-- whether b lets a line add a mutex of PTHREAD_PRIO_NONE, and be `process`, `halted` or `resumed`, as a does
+record LinesAlike (a b : Rules) : Type 0 where
+  prio_none : b.prio_none ≡ a.prio_none
+  extra_lines : b.extra_lines ≡ a.extra_lines
+
 -- a step that is no move is there with rules that change an end alike
 no_move : (a b : Rules) → EndsAlike a b → (l : Bounds) (s : Configuration) (x : Label) (n : Configuration)
-    → ((t : ℕ) → x ≡ Moves t → ⊥) → ((line : Line) → x ≡ Shown line → b.prio_none ≡ a.prio_none) → Advances a l s x n
-    → Advances b l s x n
-no_move a b h l s x n none adds (moves t v i m e) = absurd (none t i)
-no_move a b h l s x n none adds (ends t v i d g e) = ends t v i d (enters_by a b h l s.wide _ v g) e
-no_move a b h l s x n none adds (ends_apart t v i d g e) = ends_apart t v i d (apart_by a b h t s.wide v g) e
-no_move a b h l s x n none adds (enters line c v i k d g e) = enters line c v i k d (enters_by a b h l s.wide c v g) e
-no_move a b h l s x n none adds (adds_none m k c v i g w e) =
-    adds_none m k c v i (adds (Mutex k c PrioNone) i ∙ g) (enters_by a b h l s.wide _ v w) e
-no_move a b h l s x n none adds (sees line i d g e) = sees line i d g e
-no_move a b h l s x n none adds (has_ended t i d g q e) = has_ended t i d g (is_through a b h t s.wide q) e
+    → ((t : ℕ) → x ≡ Moves t → ⊥) → ((line : Line) → x ≡ Shown line → LinesAlike a b) → Steps a l s x n → Steps b l s x n
+no_move a b h l s x n none lines (moves t v i m e) = absurd (none t i)
+no_move a b h l s x n none lines (ends t v i d g e) =
+    ends t v i d (enters_by (at_end_of s a t) (at_end_of s b t) (end_alike a b h s t) l s.wide _ v g) e
+no_move a b h l s x n none lines (ends_apart t v i d g e) =
+    ends_apart t v i d (apart_by (at_end_of s a t) (at_end_of s b t) (end_alike a b h s t) t s.wide v g) e
+no_move a b h l s x n none lines (enters line c v i k d g e) =
+    enters line c v i k d (enters_by (at_entry s a c) (at_entry s b c) (entry_alike a b h s c) l s.wide c v g) e
+no_move a b h l s x n none lines (adds_none m k c v i g w e) =
+    adds_none m k c v i ((lines (Mutex k c PrioNone) i).prio_none ∙ g) (enters_by a b h l s.wide _ v w) e
+no_move a b h l s x n none lines (sees line i d g e) = sees line i d g e
+no_move a b h l s x n none lines (has_ended t i d g q e) =
+    has_ended t i d g (is_through (at_end_of s a t) (at_end_of s b t) (end_alike a b h s t) t s.wide q) e
+no_move a b h l s x n none lines (exits t i g d k e) = exits t i ((lines (Process t) i).extra_lines ∙ g) d k e
+no_move a b h l s x n none lines (passes_later t v i d g p e) =
+    passes_later t v i d (h.stays_locked ∙ g) (later_by a b h t s.wide v p) e
+no_move a b h l s x n none lines (halts i g e) = halts i ((lines Halted i).extra_lines ∙ g) e
+no_move a b h l s x n none lines (resumes i g e) = resumes i ((lines Resumed i).extra_lines ∙ g) e
+no_move a b h l s x n none lines (is_undefined t i g d u e) =
+    is_undefined t i ((lines (Undefined t) i).extra_lines ∙ g) d u e
+
+-- a move is there with one rule or none
+by_move : (r : Rules) (l : Bounds) (s : Configuration) (t : ℕ) (n : Configuration) → Steps r l s (Moves t) n
+    → (q : Rules) × Contains (no_rules ∷ map (only r) (filter (has r) rules_in_order)) q × Steps q l s (Moves t) n
+by_move r l s t n (moves u v i (plain m) e) =
+    (no_rules, in_first no_rules (map (only r) (filter (has r) rules_in_order)), moves u v i (plain m) e)
+by_move r l s t n (moves u v i (ruled a m) e) =
+    (only r m.rule, alone_listed r m.rule m.allowed, moves u v i (ruled a (moves_alone r u s.wide v m)) e)
+by_move r l s t n (ends u v i d h e) = absurd (cc)
+by_move r l s t n (ends_apart u v i d h e) = absurd (cc)
+by_move r l s t n (enters line c v i k d h e) = absurd (cc)
+by_move r l s t n (adds_none m k b v i a h e) = absurd (cc)
+by_move r l s t n (sees line i d h e) = absurd (cc)
+by_move r l s t n (has_ended u i d h g e) = absurd (cc)
+by_move r l s t n (exits u i g d k e) = absurd (cc)
+by_move r l s t n (passes_later u v i d g p e) = absurd (cc)
+by_move r l s t n (halts i g e) = absurd (cc)
+by_move r l s t n (resumes i g e) = absurd (cc)
+by_move r l s t n (is_undefined u i g d x e) = absurd (cc)
 
 pub by_set : (r : Rules) (l : Bounds) (s : Configuration) (x : Label) (n : Configuration) → Advances r l s x n
     → (q : Rules) × IsStepBy r l s x q n
 unfolding sets_for
-by_set r l s (Moves t) n (moves u v i (plain m) e) =
-    (no_rules, (in_first no_rules (map (only r) (filter (has r) rules_in_order)), moves u v i (plain m) e))
-by_set r l s (Moves t) n (moves u v i (ruled a m) e) =
-    (only r m.rule, (alone_listed r m.rule m.allowed, moves u v i (ruled a (moves_alone r u s.wide v m)) e))
-by_set r l s (Moves t) n (ends u v i d h e) = absurd (cc)
-by_set r l s (Moves t) n (ends_apart u v i d h e) = absurd (cc)
-by_set r l s (Moves t) n (enters line c v i k d h e) = absurd (cc)
-by_set r l s (Moves t) n (adds_none m k b v i a h e) = absurd (cc)
-by_set r l s (Moves t) n (sees line i d h e) = absurd (cc)
-by_set r l s (Moves t) n (has_ended u i d h g e) = absurd (cc)
+by_set r l s (Moves t) n a =
+    let move = by_move r l s t n a.step in (move.0, (move.1, record { comes = a.comes; step = move.2 }))
 by_set r l s (Shown line) n a = (
   last_of (of_lines r),
-  (last_shown (of_lines r), no_move r _ (lines_alike r line) l s (Shown line) n (λ t i. cc) (λ other i. refl) a),
+  (
+    last_shown (of_lines r),
+    record {
+      comes = a.comes;
+      step = no_move r _ (lines_alike r line) l s (Shown line) n (λ t i. cc)
+          (λ other i. record { prio_none = refl; extra_lines = refl }) a.step;
+    },
+  ),
 )
 by_set r l s (Ends u) n a = (
   last_of (of_ends r),
-  (last_shown (of_ends r), no_move r _ (ends_alike r u) l s (Ends u) n (λ t i. cc) (λ line i. absurd (cc)) a),
+  (
+    last_shown (of_ends r),
+    record {
+      comes = a.comes;
+      step = no_move r _ (ends_alike r u) l s (Ends u) n (λ t i. cc) (λ line i. absurd (cc)) a.step;
+    },
+  ),
 )

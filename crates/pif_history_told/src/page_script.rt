@@ -8,6 +8,8 @@ const objects = at('lines').textContent.split('\n').filter(Boolean).map(line => 
 // What POSIX says of a history that isn't legal, if it was asked; behind it come a verdict and a run with its rules.
 const asked = objects.findIndex(one => 'posix' in one), posix = objects[asked];
 const first = objects[0], [verdict, ...lines] = objects.slice(asked + 1);
+// Whether the verdict is of a line behind the run.
+const isWrong = verdict.text !== undefined;
 const view = at('view'), track = at('track'), svg = track.querySelector('svg');
 
 // A state: its threads, mutexes and condition variables by their names. A whole one takes the place of all.
@@ -25,7 +27,7 @@ for (const line of lines) {
   for (const move of line.moves)
     steps.push({kind: 'end' in move ? 'ends' : 'move', thread: move.move || move.end, line: line.line, by: move});
   const words = line.text.split(' ');
-  const isOf = ['begin', 'answer', 'dying', 'end', 'rests', 'prio'].includes(words[0]);
+  const isOf = ['begin', 'answer', 'dying', 'end', 'rests', 'prio', 'process'].includes(words[0]);
   steps.push({kind: words[0], thread: isOf ? words[1] : null, line: line.line, text: line.text, by: line});
 }
 
@@ -138,7 +140,7 @@ function concerned() {
 }
 function chosenSteps() {
   const every = steps.map((step, place) => place);
-  if (verdict.verdict !== 'illegal' || at('all').checked) return every;
+  if (!isWrong || at('all').checked) return every;
   const names = concerned(), touches = words => words.some(word => names.has(word));
   if (!names.size) return every;
   const isFree = step => !step.open.some(touches) && !step.owned.some(name => names.has(name));
@@ -146,8 +148,8 @@ function chosenSteps() {
   const kept = every.filter(place => place > from);
   const threads = new Set(kept.filter(place => touches(steps[place].words)).map(place => steps[place].thread));
   threads.add(verdict.text.split(' ')[1]);
-  const ofThread = ['dying', 'end', 'ends', 'rests', 'prio'];
-  return kept.filter(place => touches(steps[place].words) || steps[place].kind === 'tick'
+  const ofThread = ['dying', 'end', 'ends', 'rests', 'prio', 'process'], ofAll = ['tick', 'halted', 'resumed'];
+  return kept.filter(place => touches(steps[place].words) || ofAll.includes(steps[place].kind)
     || (ofThread.includes(steps[place].kind) && threads.has(steps[place].thread)));
 }
 
@@ -159,7 +161,7 @@ function layOut() {
   column = new Map(shown.map((place, k) => [place, k]));
   const isAll = shown.length === steps.length;
   const names = isAll ? [...last.threads.keys()] : [...new Set(shown.map(place => steps[place].thread).filter(Boolean))];
-  const wrong = verdict.verdict === 'illegal' ? verdict.text.split(' ')[1] : null;
+  const wrong = isWrong ? verdict.text.split(' ')[1] : null;
   if (wrong && /^t\d+$/.test(wrong) && !names.includes(wrong)) names.push(wrong);
   lanes = names.sort((a, b) => Number(a.slice(1)) - Number(b.slice(1)));
   at('names').style.paddingTop = TOP + 'px';
@@ -236,7 +238,7 @@ function draw() {
     if (isHidden(steps[shown[k]])) moves.push(middle(k) + ',' + laneOf(steps[shown[k]].thread));
   add('polyline', {class: 'run', points: moves.join(' ')});
   for (let k = first; k < end; k += 1) drawMark(shown[k], middle(k));
-  if (verdict.verdict === 'illegal') drawWrong();
+  if (isWrong) drawWrong();
 }
 
 // THE STATE BEHIND A STEP
@@ -258,7 +260,9 @@ function choose(place) {
   if (place < 0 || place >= steps.length) return;
   chosen = place;
   const step = steps[place], before = place ? stateAt(place - 1) : empty(), state = stateAt(place);
-  const said = [...(step.by.rule ? [`by the rule ${step.by.rule}`] : []), ...wordsOf(before, step.by)];
+  const isLate = step.kind === 'ends' && before.threads.get(step.thread)?.living === false;
+  const passes = isLate && !(step.by.rule || '').includes('ends_apart') ? ['its process has ended'] : [];
+  const said = [...(step.by.rule ? [`by the rule ${step.by.rule}`] : []), ...passes, ...wordsOf(before, step.by)];
   const lit = new Set(step.by.whole ? [] : [...step.by.threads, ...step.by.mutexes].map(one => one.name));
   at('where').textContent = 'After ' + titleOf(place);
   at('words').textContent = said.length ? said.join('; ') : place && !step.by.whole ? 'nothing changes' : 'the whole state';
@@ -302,12 +306,14 @@ function whyOf(verdict) {
 function posixWords() {
   const beside = word => posix.with ? word + posix.with : '';
   if (posix.posix === 'forbids') return 'POSIX' + beside(' and ') + (posix.with ? ' forbid' : ' forbids') + ' it from ' + posix.line;
+  if (posix.posix === 'undefined') return 'POSIX' + beside(' and ') + ' may leave it undefined: ' + posix.line + ': ' + posix.text;
   if (posix.posix === 'undecided') return 'POSIX' + beside(' and ') + ': undecided';
   return 'POSIX allows it' + beside(' with ') + (posix.rules ? ': ' + posix.rules : '') + (posix.least ? '' : ', perhaps fewer');
 }
 function tell() {
   const calls = {0: 'with no call', 1: '1 call'}[first.calls] || first.calls + ' calls';
   const says = {legal: () => 'legal, ' + calls + ': a run shows all lines', illegal: () => 'illegal at ' + first.line + ': ' + first.text,
+    log: () => 'a mistake of the log at ' + first.line + ': ' + first.text,
     undecided: () => 'undecided at ' + first.line + ': too many states, or the time was over'};
   at('verdict').textContent = says[first.verdict]();
   at('verdict').className = first.verdict;
@@ -317,7 +323,7 @@ function tell() {
   else if (posix) why.push('The run shows all lines, by these rules.');
   if (verdict.left_out) why.push('The first ' + verdict.left_out + ' lines of the history are left out.');
   at('why').replaceChildren(...why.map(text => Object.assign(document.createElement('p'), {textContent: text})));
-  at('switch').hidden = verdict.verdict !== 'illegal';
+  at('switch').hidden = !isWrong;
 }
 svg.addEventListener('click', event => {
   const mark = event.target.closest('[data-step]');
@@ -337,7 +343,7 @@ width = Math.min(64, Math.max(30, Math.floor(view.clientWidth / (shown.length + 
 at('width').value = width;
 draw();
 if (steps.length) {
-  const place = verdict.verdict === 'illegal' ? shown[shown.length - 1] : shown[0];
+  const place = isWrong ? shown[shown.length - 1] : shown[0];
   if (verdict.verdict !== 'legal') view.scrollLeft = middle(shown.length);
   choose(place === undefined ? steps.length - 1 : place);
 }

@@ -7,7 +7,7 @@ pub const STYLE: &str = r#"<!DOCTYPE html>
 @media(prefers-color-scheme:dark){:root{--back:#0d1117;--text:#e6edf3;--faint:#8b949e;--line:#30363d;--bar:#0c2d6b;--edge:#388bfd;--run:#d2a8ff;--red:#ff7b72;--lit:#4d3800}}
 body{font:14px/1.45 system-ui,sans-serif;margin:0 16px 16px;background:var(--back);color:var(--text)}
 h1{font-size:20px;margin:14px 0 2px}
-h1.illegal{color:var(--red)}
+h1.illegal,h1.log{color:var(--red)}
 p{margin:2px 0}
 .faint{color:var(--faint)}
 #bar{margin:8px 0;display:flex;gap:20px;flex-wrap:wrap;align-items:center}

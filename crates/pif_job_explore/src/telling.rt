@@ -18,14 +18,20 @@ fn push_mark(out: &mut Vec<u8>, mark: &Mark, word: &str, met: &str, unmet: &str)
     }
 }
 
-/// Appends whether schedules came to outcomes.
+/// Appends whether schedules came to an outcome.
+fn push_outcome(out: &mut Vec<u8>, mark: &Mark) -> Result<(), Stop>
+    ensures { OnOk result (out.new.items ≡ out.old.items ++ outcome_told mark.now) }
+{
+    let unseen = ": not seen on the core\n";
+    push_mark(out, mark, "outcome ", ": seen on the core\n", unseen)
+}
+
+/// Appends that of each outcome.
 fn push_outcomes(out: &mut Vec<u8>, marks: &[Mark]) -> Result<(), Stop>
     ensures { OnOk result (out.new.items ≡ out.old.items ++ flat_map outcome_told marks.now) }
 {
-    let met = ": seen on the core\n";
-    let unmet = ": not seen on the core\n";
     for mark in marks {
-        push_mark(out, mark, "outcome ", met, unmet)?;
+        push_outcome(out, mark)?;
     }
     Ok(())
 }

@@ -24,16 +24,17 @@ use Rattle.pif_search.specs.declared.machine.Stop.{Stop}
 use Rattle.pif_job_judge.specs.declared.faults.Ended.{Ended}
 use Rattle.pif_job_judge.specs.declared.faults.Ended.TheVariants as ended
 use Rattle.pif_job_judge.specs.declared.faults.JudgeFault.{JudgeFault}
-use Rattle.pif_job_judge.specs.Endings.{result_of}
+use Rattle.pif_job_judge.specs.Endings.{is_legal, result_of}
 use Rattle.pif_job_judge.specs.declared.forms.Form.{Form}
 use Rattle.pif_job_judge.specs.declared.forms.Form.TheVariants.{Text, Witness, Json, Page}
 use Rattle.pif_job_judge.specs.Judging.{AppendsAll, AppendsTold, Judges, WritesText, asks}
-use Rattle.pif_job_judge.specs.Judging.TellsAll.{asked as posix_asked, verdict as verdict_alone}
-use Rattle.pif_job_judge.specs.Asked.{AppendsAsked, AppendsBrief, AppendsWhy, is_legal}
+use Rattle.pif_job_judge.specs.Judging.TellsAll.{asked as posix_asked, log as log_alone, verdict as verdict_alone}
+use Rattle.pif_job_judge.specs.Asked.{AppendsAsked, AppendsBrief, AppendsWhy}
 use Rattle.pif_job_judge.specs.Asked.IsBrief.{illegal as illegal_alone, undecided as undecided_alone}
 use Rattle.pif_history_told.specs.WhyTexts.{unfound_text, why_text}
 use Rattle.pif_job_judge.specs.Lines.{AppendsLines, HasUnlisted, TellsIllegal, TellsIllegalLine, TellsLegal, TellsRun, TellsUndecided, TellsVerdict, TellsWhy}
 use Rattle.pif_job_judge.specs.Lines.IsTold.{legal, illegal, undecided}
+use Rattle.pif_job_judge.specs.Mistakes.{AppendsLog}
 use Rattle.pif_job_judge.specs.Objects.{AppendsObjects, AreObjects}
 use Rattle.pif_history_told.specs.Why.{ArePossible, IsKnown, IsNumbered, IsUnfound, has_number, open_of}
 
@@ -161,6 +162,11 @@ told_alone plain form h v old new is unasked end told = (told.0, verdict_alone t
 pub told_asked : (plain : Bool) (form : Form) (h : Heard) (v : Verdict) (old new : List ℕ) → IsVerdictOf h.allowed (limits_of h) h.shown v
     → asks plain (is_legal v) ≡ true → (end : Ended) → AppendsAsked form h end old new → AppendsAll plain form h end old new
 told_asked plain form h v old new is wanted end told = (told.0, posix_asked told.1 (v, is, wanted), told.2)
+
+-- a mistake of the log
+pub told_log : (plain : Bool) (form : Form) (h : Heard) (old new : List ℕ) → (end : Ended) → AppendsLog form h end old new
+    → AppendsAll plain form h end old new
+told_log plain form h old new end told = (told.0, log_alone told.1, told.2)
 
 pub asked_wrong : (plain legal : Bool) → asks plain legal ≡ true → legal ≡ false
 asked_wrong true b e = absurd (cc)

@@ -9,7 +9,7 @@ use Rattle.pif_job_judge.specs.Endings.{result_of}
 use Rattle.pif_job_judge.specs.declared.forms.Form.{Form}
 use Rattle.pif_job_judge.specs.declared.forms.Form.TheVariants.{Text}
 use Rattle.pif_job_judge.specs.Judging.{Judges, TellsAll, WritesText, allowing, front_of}
-use Rattle.pif_job_judge.specs.Asked.{IsJudged}
+use Rattle.pif_job_judge.specs.Mistakes.{IsJudged}
 use Rattle.pif_job_judge.specs.Least.{JudgesLeast}
 use Rattle.pif_job_judge.specs.Least.IsTold.{judged, needed}
 use Rattle.pif_job_judge.specs.Needed.{AppendsNeeded}

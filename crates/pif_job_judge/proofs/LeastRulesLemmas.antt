@@ -85,7 +85,7 @@ behind_more l lines first sets rest all r are before found = (
 
 found_more : (l : Bounds) (lines : List Line) (first sets rest all : List Rules) (found : Needed) → all ≡ first ++ (sets ++ rest)
     → All (IsIllegalSomewhere l lines) first → IsFoundIn l lines sets found → IsFoundIn l lines all found
-found_more l lines first sets rest all (Legal r) are before f = (f.0, behind_more l lines first sets rest all r are before f.1)
+found_more l lines first sets rest all (Legal e) are before f = (f.0, behind_more l lines first sets rest all e.set are before f.1)
 found_more l lines first sets rest all (Undecided r n) are before f =
     (f.0, f.1, behind_more l lines first sets rest all r are before f.2)
 

@@ -3,3 +3,4 @@ mod JudgingLemmas
 mod LeastLemmas
 mod ObjectLemmas
 mod LeastRulesLemmas
+mod MistakeLemmas

@@ -1,11 +1,10 @@
 -- What is told of a history that isn't legal, if POSIX is asked: the verdict, what POSIX says, and what is told with the
 -- rules with which it says so.
-use Rattle.std.specs.Prelude.{ℕ, ◌≡◌, ◌-◌, Bool, true, false, List, [], ◌++◌, slice_get, Option, Some, None}
+use Rattle.std.specs.Prelude.{ℕ, ◌≡◌, ◌-◌, List, [], ◌++◌, slice_get, Option, Some, None}
 use Rattle.pif_rules_model.specs.declared.rules.Rules.{Rules}
 use Rattle.pif_history_model.specs.declared.labels.Label.{Label}
 use Rattle.pif_history_model.specs.declared.lines.Line.{Line}
 use Rattle.pif_history_model.specs.Verdicts.{IsLegal}
-use Rattle.pif_history_machine.specs.declared.verdicts.Verdict.{Verdict}
 use Rattle.pif_history_machine.specs.declared.verdicts.Verdict.TheVariants as verdict
 use Rattle.pif_history_machine.specs.Verdicts.{IsVerdictOf}
 use Rattle.pif_history_text.specs.Histories.{Heard, limits_of}
@@ -21,20 +20,10 @@ use Rattle.pif_job_judge.specs.declared.forms.Form.TheVariants.{Text, Witness, J
 use Rattle.pif_job_judge.specs.declared.faults.Ended.{Ended}
 use Rattle.pif_job_judge.specs.declared.faults.Ended.TheVariants as ended
 use Rattle.pif_job_judge.specs.declared.posix.Says.{Says}
-use Rattle.pif_job_judge.specs.declared.posix.Says.TheVariants.{Least, Found, Forbids, Undecided}
+use Rattle.pif_job_judge.specs.declared.posix.Says.TheVariants.{Least, Found, Forbids, Undefined, Undecided}
 use Rattle.pif_job_judge.specs.Lines.{IsTold, TellsRun, TellsWhy}
 use Rattle.pif_job_judge.specs.Objects.{AreObjects}
-use Rattle.pif_job_judge.specs.Posix.{IsNumberedBy, IsSaid, forbids_text, posix_end, posix_object, posix_text, under, undecided_text}
-
--- Whether a verdict is that lines are legal.
-abbrev pub is_legal : Verdict → Bool
-is_legal (verdict.Legal witness) = true
-is_legal (verdict.Illegal n) = false
-is_legal (verdict.Undecided n) = false
-
--- A verdict on a history, with the rules that it allows, is that it is legal; or isn't.
-abbrev pub IsJudged : Heard → (legal : Bool) → Type 0
-IsJudged h legal = (v : Verdict) × IsVerdictOf h.allowed (limits_of h) h.shown v × (is_legal v ≡ legal)
+use Rattle.pif_job_judge.specs.Posix.{IsNumberedBy, IsSaid, forbids_text, posix_end, posix_object, posix_text, under, undecided_text, undefined_text}
 
 -- IN LINES
 
@@ -53,12 +42,12 @@ IsFirst form h (Forbids n) text end = IsBrief h text end
 IsFirst form h other text end = IsTold form h text end
 
 -- What POSIX says of a history that it allows, which has the rules with which it does: by a run of it, with the first answer
--- that no page has, if it has one; and the run, if it is wanted. Without a run if the search for it was given up.
-pub data TellsAllowed (form : Form) (base : Rules) (h : Heard) (says : Says) (number : ℕ) (text : List ℕ) : Type 0 where
-  run : (labels : List Label) (found : Option Unlisted) (more : List ℕ) → IsLegal h.allowed (limits_of h) h.shown labels
-      → IsFirstUnlisted h.allowed (limits_of h) labels found → TellsRun form h.allowed (limits_of h) labels more
-      → text ≡ posix_text base says number h.numbers found ++ more → TellsAllowed form base h says number text
-  none : IsJudged h false → text ≡ posix_text base says number h.numbers None → TellsAllowed form base h says number text
+-- that no page has, if it has one; and the run, if it is wanted.
+abbrev pub TellsAllowed : Form → (base : Rules) → Heard → Says → (number : ℕ) → (text : List ℕ) → Type 0
+TellsAllowed form base h says number text =
+    (labels : List Label) × (found : Option Unlisted) × (more : List ℕ) × IsLegal h.allowed (limits_of h) h.shown labels
+    × IsFirstUnlisted h.allowed (limits_of h) labels found × TellsRun form h.allowed (limits_of h) labels more
+    × (text ≡ posix_text base says number h.numbers found ++ more)
 
 -- What is possible at the nth line of a history.
 abbrev pub TellsWhyAt : Heard → (n : ℕ) → (text : List ℕ) → Type 0
@@ -67,10 +56,11 @@ TellsWhyAt h n text = (line : Line) × (slice_get h.shown (n - 1) ≡ Some line)
 -- What POSIX says of a history, and what is told behind it, with the rules with which it says so: a run, if it allows the
 -- history and that is wanted; or what is possible at the line from which on it forbids it.
 abbrev pub IsRest : Form → Heard → Says → (number : ℕ) → (text : List ℕ) → Type 0
-IsRest form h (Least r) number text = TellsAllowed form h.allowed (under (Least r) h) (Least r) number text
-IsRest form h (Found r) number text = TellsAllowed form h.allowed (under (Found r) h) (Found r) number text
+IsRest form h (Least e) number text = TellsAllowed form h.allowed (under (Least e) h) (Least e) number text
+IsRest form h (Found e) number text = TellsAllowed form h.allowed (under (Found e) h) (Found e) number text
 IsRest form h (Forbids n) number text =
     (why : List ℕ) × TellsWhyAt (under (Forbids n) h) n why × (text ≡ forbids_text h.allowed number ++ why)
+IsRest form h (Undefined n b) number text = text ≡ undefined_text h.allowed number b
 IsRest form h (Undecided n) number text = text ≡ undecided_text h.allowed
 
 -- TOGETHER
@@ -131,9 +121,10 @@ AppendsRest form h says number old new = (text : List ℕ) × IsRest form h says
 abbrev pub AppendsBrief : Heard → Ended → (old new : List ℕ) → Type 0
 AppendsBrief h end old new = (text : List ℕ) × IsBrief h text end × (new ≡ old ++ text)
 
-abbrev pub AppendsAllowed : Form → (base : Rules) → Heard → Says → (number : ℕ) → (old new : List ℕ) → Type 0
-AppendsAllowed form base h says number old new =
-    (text : List ℕ) × TellsAllowed form base h says number text × (new ≡ old ++ text)
+-- They grew by what POSIX says, which forbids a history, and by what is possible at its nth line.
+abbrev pub AppendsForbidden : (base : Rules) → Heard → Says → (number n : ℕ) → (old new : List ℕ) → Type 0
+AppendsForbidden base h says number n old new =
+    (why : List ℕ) × TellsWhyAt h n why × (new ≡ old ++ (posix_text base says number h.numbers None ++ why))
 
 -- They grew by what POSIX says by a run whose steps have these labels, and by the run, if it is wanted.
 abbrev pub AppendsAllowedBy : Form → (base : Rules) → Heard → Says → (number : ℕ) → List Label → (old new : List ℕ) → Type 0

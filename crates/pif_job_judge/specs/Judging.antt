@@ -18,10 +18,11 @@ use Rattle.pif_job_judge.specs.declared.forms.Form.TheVariants.{Text, Witness, J
 use Rattle.pif_job_judge.specs.declared.faults.Ended.{Ended}
 use Rattle.pif_job_judge.specs.declared.faults.JudgeFault.{JudgeFault}
 use Rattle.pif_job_judge.specs.declared.faults.JudgeFault.TheVariants as fault
-use Rattle.pif_job_judge.specs.Endings.{result_of}
+use Rattle.pif_job_judge.specs.Endings.{is_legal, result_of}
 use Rattle.pif_job_judge.specs.Lines.{IsTold}
+use Rattle.pif_job_judge.specs.Mistakes.{TellsLog}
 use Rattle.pif_job_judge.specs.Objects.{AreObjects}
-use Rattle.pif_job_judge.specs.Asked.{TellsAsked, is_legal}
+use Rattle.pif_job_judge.specs.Asked.{TellsAsked}
 
 -- What stands in front of what is told: the name, if it is to be told, and if that is told in lines.
 abbrev pub front_of : (name : Option (List ℕ)) → Form → List ℕ
@@ -50,10 +51,12 @@ abbrev pub IsAskedOf : (plain : Bool) → Heard → (asked : Bool) → Type 0
 IsAskedOf plain h asked =
     (v : Verdict) × IsVerdictOf h.allowed (limits_of h) h.shown v × (asks plain (is_legal v) ≡ asked)
 
--- All that is told of a history, and how that ends: the verdict, and what POSIX says if it is asked.
+-- All that is told of a history, and how that ends: the verdict, and what POSIX says if it is asked; or the mistake of the
+-- log.
 pub data TellsAll (plain : Bool) (form : Form) (h : Heard) (text : List ℕ) (end : Ended) : Type 0 where
   verdict : Tells form h text end → IsAskedOf plain h false → TellsAll plain form h text end
   asked : TellsAsked form h text end → IsAskedOf plain h true → TellsAll plain form h text end
+  log : TellsLog form h text end → TellsAll plain form h text end
 
 -- Bytes grew by all that is told of a history that ends so.
 abbrev pub AppendsAll : (plain : Bool) → Form → Heard → (end : Ended) → (old new : List ℕ) → Type 0

@@ -1,5 +1,5 @@
 -- Judging a history with sets of rules: by the bytes that the reader gave, what the writer was given.
-use Rattle.std.specs.Prelude.{ℕ, ◌≡◌, ◌⊎◌, Bool, false, List, ◌++◌, Option, Result, Ok, Err}
+use Rattle.std.specs.Prelude.{ℕ, ◌⊎◌, Bool, false, List, ◌++◌, Option, Result, Ok, Err}
 use Rattle.pif_script_model.specs.declared.faults.CliFault.{CliFault}
 use Rattle.pif_rules_model.specs.declared.rules.Rules.{Rules}
 use Rattle.pif_history_text.specs.Histories.{Heard}
@@ -9,7 +9,7 @@ use Rattle.pif_job_judge.specs.declared.faults.Ended.{Ended}
 use Rattle.pif_job_judge.specs.declared.faults.JudgeFault.{JudgeFault}
 use Rattle.pif_job_judge.specs.Endings.{result_of}
 use Rattle.pif_job_judge.specs.Judging.{HadNoMemory, Judges, TellsAll, WritesText, allowing}
-use Rattle.pif_job_judge.specs.Asked.{IsJudged}
+use Rattle.pif_job_judge.specs.Mistakes.{IsJudged}
 use Rattle.pif_job_judge.specs.Needed.{TellsNeeded}
 
 -- What is told of a history, which may allow rules itself, and how that ends:

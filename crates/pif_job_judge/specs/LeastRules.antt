@@ -5,6 +5,7 @@ use Rattle.pif_rules_model.specs.declared.rules.Rules.{Rules}
 use Rattle.pif_history_model.specs.declared.labels.Label.{Label}
 use Rattle.pif_history_model.specs.declared.lines.Line.{Line}
 use Rattle.pif_history_model.specs.Verdicts.{IsLegal, IsIllegal}
+use Rattle.pif_job_judge.specs.declared.search.Enough.{Enough}
 use Rattle.pif_job_judge.specs.declared.search.Needed.{Needed}
 use Rattle.pif_job_judge.specs.declared.search.Needed.TheVariants.{Legal, Undecided}
 use Rattle.pif_history_told.specs.Sets.{sets_in_order}
@@ -22,10 +23,18 @@ abbrev pub IsBehind : Bounds → List Line → (sets : List Rules) → Rules →
 IsBehind l lines sets r =
     (before behind : List Rules) × (sets ≡ before ++ r ∷ behind) × All (IsIllegalSomewhere l lines) before
 
+-- r is a set with other bounds of `recursion`.
+abbrev pub IsBoundAnew : (set r : Rules) → Type 0
+IsBoundAnew set r = r ≡ record set { recursion = r.recursion }
+
+-- Lines are legal with a set of rules, and by a run with it that may have other bounds of `recursion`.
+abbrev pub IsEnough : Bounds → List Line → Enough → Type 0
+IsEnough l lines e = IsLegalSomehow l lines e.set × IsBoundAnew e.set e.rules × IsLegal e.rules l lines e.labels.items
+
 -- What is found in sets: the first one with which lines are legal, or one with which the search was given up at a line.
 -- With each set before it they are illegal.
 abbrev pub IsFoundIn : Bounds → List Line → (sets : List Rules) → Needed → Type 0
-IsFoundIn l lines sets (Legal r) = IsLegalSomehow l lines r × IsBehind l lines sets r
+IsFoundIn l lines sets (Legal e) = IsEnough l lines e × IsBehind l lines sets e.set
 IsFoundIn l lines sets (Undecided r n) = (1 ≤ n) × (n ≤ length lines) × IsBehind l lines sets r
 
 -- What is found first in sets; nothing, if lines are illegal with each of them.

@@ -3,7 +3,9 @@ pub mod Endings
 pub mod Judging
 pub mod Least
 pub mod Lines
+pub mod Mistakes
 pub mod Needed
 pub mod Objects
 pub mod LeastRules
 pub mod Posix
+pub mod Undefined

@@ -13,7 +13,7 @@ use Rattle.pif_history_told.specs.Why.{IsNumbered}
 
 -- The line that tells what was found, and how that ends.
 abbrev pub TellsFound : Heard → Needed → (text : List ℕ) → (end : Ended) → Type 0
-TellsFound h (Legal r) text end = (text ≡ legal_with h.count (calls_in h) h.allowed r) × (end ≡ legal_end (calls_in h))
+TellsFound h (Legal e) text end = (text ≡ legal_with h.count (calls_in h) h.allowed e.rules) × (end ≡ legal_end (calls_in h))
 TellsFound h (Undecided r n) text end =
     (number : ℕ) × IsNumbered h n number × (text ≡ undecided_with number h.allowed r) × (end ≡ ended.Undecided number)
 

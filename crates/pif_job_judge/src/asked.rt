@@ -3,18 +3,18 @@ ghost use Rattle.pif_history_machine.specs.Verdicts.{IsVerdictOf};
 ghost use Rattle.pif_history_text.specs.Histories.{limits_of};
 ghost use Rattle.pif_history_text.specs.Reading.{IsPaired, heard_of};
 ghost use Rattle.pif_history_told.specs.Ways.{IsRun};
-ghost use Rattle.pif_job_judge.specs.Posix.{IsSaid, IsSaidOf};
+ghost use Rattle.pif_job_judge.specs.Posix.{IsSaid};
 ghost use Rattle.pif_job_judge.specs.Objects.{AppendsObjects};
-ghost use Rattle.pif_job_judge.specs.Asked.{AppendsAllowed, AppendsAllowedBy, AppendsAsked, AppendsAskedLines, AppendsAskedObjects, AppendsFirst, AppendsRest, is_legal};
+ghost use Rattle.pif_job_judge.specs.Endings.{is_legal};
+ghost use Rattle.pif_job_judge.specs.Asked.{AppendsAllowedBy, AppendsAsked, AppendsAskedLines, AppendsAskedObjects, AppendsFirst, AppendsForbidden, AppendsRest};
 
 use crate::faults::Ended;
 use crate::forms::{Form, Judging};
-use crate::judging::{Numbered, verdict_on};
+use crate::judging::Numbered;
 use crate::lines::{tell_briefly, tell_lines, tell_why_at, told_run};
 use crate::objects::tell_objects;
 use crate::posix::{
-    Says, allows, append_says, end_of, forbidden_from, number_of, push_says, said_of, under,
-    verdict_said,
+    Says, append_says, end_of, forbidden_from, number_of, push_says, said_of, under, verdict_said,
 };
 use pif_history_machine::Verdict;
 use pif_history_model::Label;
@@ -64,38 +64,34 @@ fn tell_allowed_by(
 {
     let limits = history.limits();
     let found = first_unlisted(alloc, &history.allowed, limits, labels)?;
-    let run = told_run(alloc, form, &history.allowed, limits, labels)?;
+    let more = told_run(alloc, form, &history.allowed, limits, labels)?;
     let numbers = history.numbers.as_slice();
     push_says(alloc, base, says, number, numbers, found, out)?;
-    out.extend_from_slice(run.as_slice())?;
+    out.extend_from_slice(more.as_slice())?;
     Ok(())
 }
 
-/// Appends that POSIX allows a history, which has the rules with which it does; and a run that shows it, if that is wanted
-/// and a search finds one.
-fn tell_allowed<V: WatchLines>(
+/// Appends that POSIX forbids a history, which has all its rules, from the nth line on, and what is possible there.
+fn tell_forbidden<V: WatchLines>(
     alloc: Global,
     asked: &Judging<'_>,
     base: &Rules,
     history: &History,
     says: &Says,
     number: u32,
+    count: usize,
     out: &mut Vec<u8>,
     watch: &mut V,
 ) -> Result<(), Stop>
-    ensures { OnOk result (AppendsAllowed asked.now.form base.now (heard_of history.now) says.now number out.old.items out.new.items) }
+    requires paired { IsPaired history.now }
+    requires within { (1 ≤ count) × (count ≤ vec_len history.now.shown) }
+    ensures { OnOk result (AppendsForbidden base.now (heard_of history.now) says.now number count out.old.items out.new.items) }
 {
-    let mut numbered = Numbered::of(history, watch);
-    let verdict = verdict_on(alloc, asked, history, &mut numbered)?;
     let numbers = history.numbers.as_slice();
-    match verdict {
-        Verdict::Legal(witness) => {
-            let labels = witness.as_slice();
-            tell_allowed_by(alloc, asked.form, base, history, says, number, labels, out)
-        }
-        Verdict::Illegal(_) => push_says(alloc, base, says, number, numbers, None, out),
-        Verdict::Undecided(_) => push_says(alloc, base, says, number, numbers, None, out),
-    }
+    push_says(alloc, base, says, number, numbers, None, out)?;
+    let mut numbered = Numbered::of(history, watch);
+    let states = asked.states as usize;
+    tell_why_at(alloc, states, history, count, out, &mut numbered)
 }
 
 /// Appends, in lines, what POSIX says of a history, and what is told behind that, with the rules with which it says so.
@@ -113,18 +109,31 @@ fn tell_said<V: WatchLines>(
     ensures { OnOk result (AppendsRest asked.now.form (heard_of history) says.now number out.old.items out.new.items) }
 {
     let base = history.allowed;
+    let form = asked.form;
     let history = under(says, history);
-    if allows(says) {
-        return tell_allowed(alloc, asked, &base, &history, says, number, out, watch);
+    match says {
+        Says::Least(e) => {
+            let labels = e.labels.as_slice();
+            tell_allowed_by(alloc, form, &base, &history, says, number, labels, out)
+        }
+        Says::Found(e) => {
+            let labels = e.labels.as_slice();
+            tell_allowed_by(alloc, form, &base, &history, says, number, labels, out)
+        }
+        Says::Forbids(count) => {
+            tell_forbidden(
+                alloc, asked, &base, &history, says, number, *count, out, watch,
+            )
+        }
+        Says::Undecided(_) => {
+            let numbers = history.numbers.as_slice();
+            push_says(alloc, &base, says, number, numbers, None, out)
+        }
+        Says::Undefined(_, _) => {
+            let numbers = history.numbers.as_slice();
+            push_says(alloc, &base, says, number, numbers, None, out)
+        }
     }
-    let numbers = history.numbers.as_slice();
-    push_says(alloc, &base, says, number, numbers, None, out)?;
-    let Some(count) = forbidden_from(says) else {
-        return Ok(());
-    };
-    let mut numbered = Numbered::of(&history, watch);
-    let states = asked.states as usize;
-    tell_why_at(alloc, states, &history, count, out, &mut numbered)
 }
 
 /// Appends what is told in lines of a history with this verdict, by which it isn't legal, and of what POSIX says. Answers
@@ -151,40 +160,21 @@ fn tell_asked_lines<V: WatchLines>(
     Ok(end_of(told, says, number))
 }
 
-/// The verdict on a history with the rules with which POSIX says this.
-fn verdict_under<V: WatchLines>(
-    alloc: Global,
-    asked: &Judging<'_>,
-    history: &History,
-    says: &Says,
-    watch: &mut V,
-) -> Result<Verdict, Stop>
-    requires { IsSaidOf (heard_of history.now) says.now }
-    ensures { IfOk result (IsVerdictOf history.now.allowed (limits_of (heard_of history.now)) history.now.shown.items) }
-{
-    match verdict_said(says) {
-        Some(verdict) => Ok(verdict),
-        None => verdict_on(alloc, asked, history, watch),
-    }
-}
-
-/// Appends what is told in lines of JSON of a history with these rules, with which POSIX says this.
+/// Appends what is told in lines of JSON of a history with the rules with which POSIX says this, which is this verdict.
 fn append_behind<V: WatchLines>(
     alloc: Global,
     asked: &Judging<'_>,
     history: &History,
-    says: &Says,
+    verdict: Verdict,
     out: &mut Vec<u8>,
     watch: &mut V,
 ) -> Result<Ended, Stop>
     requires paired { IsPaired history.now }
-    requires said { IsSaidOf (heard_of history.now) says.now }
+    requires verdict { IsVerdictOf history.now.allowed (limits_of (heard_of history.now)) history.now.shown.items verdict }
     ensures { IfOk result (λ end. AppendsObjects asked.now.form (heard_of history.now) end out.old.items out.new.items) }
 {
     let mut numbered = Numbered::of(history, watch);
-    let verdict = verdict_under(alloc, asked, history, says, &mut numbered)?;
-    let shown = numbered.shown;
-    tell_objects(alloc, asked, history, verdict, shown, out, &mut numbered)
+    tell_objects(alloc, asked, history, verdict, 0, out, &mut numbered)
 }
 
 /// Appends what is told in lines of JSON of a history with this verdict, by which it isn't legal, and of what POSIX says.
@@ -195,22 +185,23 @@ fn tell_asked_objects<V: WatchLines>(
     history: History,
     verdict: Verdict,
     shown: usize,
-    says: &Says,
+    says: Says,
     out: &mut Vec<u8>,
     watch: &mut V,
 ) -> Result<Ended, Stop>
     requires paired { IsPaired history }
     requires verdict { IsVerdictOf history.allowed (limits_of (heard_of history)) history.shown.items verdict }
-    requires said { IsSaid history.allowed (limits_of (heard_of history)) history.shown.items says.now }
+    requires said { IsSaid history.allowed (limits_of (heard_of history)) history.shown.items says }
     ensures { IfOk result (λ end. AppendsAskedObjects asked.now.form (heard_of history) end out.old.items out.new.items) }
 {
-    let number = number_of(&history, says);
+    let number = number_of(&history, &says);
     let mut numbered = Numbered::of(&history, watch);
     let told = tell_objects(alloc, asked, &history, verdict, shown, out, &mut numbered)?;
-    append_says(alloc, &history.allowed, says, number, out)?;
-    let history = under(says, history);
-    append_behind(alloc, asked, &history, says, out, watch)?;
-    Ok(end_of(told, says, number))
+    append_says(alloc, &history.allowed, &says, number, out)?;
+    let history = under(&says, history);
+    let end = end_of(told, &says, number);
+    append_behind(alloc, asked, &history, verdict_said(says), out, watch)?;
+    Ok(end)
 }
 
 /// Appends a page with that. Answers what that is.
@@ -220,14 +211,14 @@ fn tell_asked_page<V: WatchLines>(
     history: History,
     verdict: Verdict,
     shown: usize,
-    says: &Says,
+    says: Says,
     out: &mut Vec<u8>,
     watch: &mut V,
 ) -> Result<Ended, Stop>
     requires page { asked.now.form ≡ Form.Page }
     requires paired { IsPaired history }
     requires verdict { IsVerdictOf history.allowed (limits_of (heard_of history)) history.shown.items verdict }
-    requires said { IsSaid history.allowed (limits_of (heard_of history)) history.shown.items says.now }
+    requires said { IsSaid history.allowed (limits_of (heard_of history)) history.shown.items says }
     ensures { IfOk result (λ end. AppendsAsked asked.now.form (heard_of history) end out.old.items out.new.items) }
 {
     let mut lines = Vec::new(alloc);
@@ -263,7 +254,7 @@ pub fn tell_asked<V: WatchLines>(
         Form::Text | Form::Witness => {
             tell_asked_lines(alloc, asked, history, verdict, shown, &says, out, watch)
         }
-        Form::Json => tell_asked_objects(alloc, asked, history, verdict, shown, &says, out, watch),
-        Form::Page => tell_asked_page(alloc, asked, history, verdict, shown, &says, out, watch),
+        Form::Json => tell_asked_objects(alloc, asked, history, verdict, shown, says, out, watch),
+        Form::Page => tell_asked_page(alloc, asked, history, verdict, shown, says, out, watch),
     }
 }

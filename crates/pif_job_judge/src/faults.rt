@@ -14,8 +14,13 @@ pub enum JudgeFault {
     Undecided(u64),
     /// At the line of this number, from 1, there is no run, or the search was given up, and POSIX allows the history.
     PosixAllows(u64),
+    /// At the line of this number, from 1, a call begins whose behaviour POSIX leaves undefined, in some run. POSIX forbids
+    /// the history at a later line.
+    PosixUndefined(u64),
     /// It is legal, and begins no call, so that nothing was judged.
     NoCall,
+    /// The line of this number, from 1, is a mistake of the log: the lines before it are legal, and refuse it.
+    Log(u64),
 }
 
 /// What was told of a history.
@@ -31,6 +36,10 @@ pub enum Ended {
     Undecided(u64),
     /// At the line of this number, from 1, there is no run, or the search was given up, and POSIX allows the history.
     PosixAllows(u64),
+    /// At the line of this number, from 1, a call begins whose behaviour POSIX leaves undefined.
+    PosixUndefined(u64),
+    /// The line of this number, from 1, is a mistake of the log.
+    Log(u64),
 }
 
 impl Ended {
@@ -55,6 +64,8 @@ impl Ended {
             Ended::Illegal(line) => Err(JudgeFault::Cli(CliFault::Differs(line))),
             Ended::Undecided(line) => Err(JudgeFault::Undecided(line)),
             Ended::PosixAllows(line) => Err(JudgeFault::PosixAllows(line)),
+            Ended::PosixUndefined(line) => Err(JudgeFault::PosixUndefined(line)),
+            Ended::Log(line) => Err(JudgeFault::Log(line)),
         }
     }
 }

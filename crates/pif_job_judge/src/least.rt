@@ -1,21 +1,20 @@
 ghost use Rattle.std.specs.Prelude.{◌≡◌, IfOk, Ok, option_copied};
-ghost use Rattle.pif_history_machine.specs.Verdicts.{IsVerdictOf};
 ghost use Rattle.pif_history_text.specs.Histories.{limits_of};
 ghost use Rattle.pif_history_text.specs.Reading.{IsPaired, heard_of};
 ghost use Rattle.pif_job_judge.specs.Judging.{front_of};
 ghost use Rattle.pif_job_judge.specs.Least.{JudgesLeast, JudgesLeastTo};
-ghost use Rattle.pif_job_judge.specs.LeastRules.{IsLeast, IsLegalSomehow};
+ghost use Rattle.pif_job_judge.specs.LeastRules.{IsLeast};
+ghost use Rattle.pif_history_model.specs.Verdicts.{IsLegal};
 ghost use Rattle.pif_job_judge.specs.Needed.{AppendsNeeded};
 ghost use Rattle.pif_rules.specs.Sets.{both};
 
 use crate::faults::{Ended, JudgeFault, fault_of};
 use crate::forms::{Form, Judging};
-use crate::judging::{
-    Numbered, allowing, front, is_legal, judge_fault, judged, write_all, write_told,
-};
+use crate::judging::{Numbered, allowing, front, judge_fault, judged, write_all, write_told};
+use crate::mistakes::run_of;
 use crate::needed::tell_needed;
 use crate::search::{Needed, least};
-use pif_history_machine::Verdict;
+use pif_history_model::Label;
 use pif_history_text::{History, read_history};
 use pif_rules_model::Rules;
 use pif_script_model::CliFault;
@@ -38,15 +37,16 @@ fn in_lines<'a>(asked: &Judging<'a>) -> Judging<'a>
     }
 }
 
-/// The rules that a history needs, which is legal with all.
+/// The rules that a history needs, which is legal with all by a run of these labels.
 fn needed_of<V: WatchLines>(
     alloc: Global,
     asked: &Rules,
     states: u32,
     history: &History,
+    labels: &[Label],
     watch: &mut V,
 ) -> Result<Needed, Stop>
-    requires { IsLegalSomehow (limits_of (heard_of history.now)) history.now.shown.items (both asked.now history.now.allowed) }
+    requires { IsLegal (both asked.now history.now.allowed) (limits_of (heard_of history.now)) history.now.shown.items labels.now }
     ensures { IfOk result (IsLeast history.now.allowed asked.now (limits_of (heard_of history.now)) history.now.shown.items) }
 {
     let limits = history.limits();
@@ -58,43 +58,47 @@ fn needed_of<V: WatchLines>(
         asked,
         limits,
         lines,
+        labels,
         states as usize,
         &mut numbered,
     )
 }
 
-/// Appends what is told of the rules that a history needs, which is legal with all. Answers what that is.
+/// Appends what is told of the rules that a history needs, which is legal with all by a run of these labels. Answers what
+/// that is.
 fn tell_least<V: WatchLines>(
     alloc: Global,
     asked: &Judging<'_>,
     history: &History,
+    labels: &[Label],
     out: &mut Vec<u8>,
     watch: &mut V,
 ) -> Result<Ended, Stop>
     requires paired { IsPaired history.now }
-    requires legal { IsLegalSomehow (limits_of (heard_of history.now)) history.now.shown.items (both asked.now.allowed history.now.allowed) }
+    requires legal { IsLegal (both asked.now.allowed history.now.allowed) (limits_of (heard_of history.now)) history.now.shown.items labels.now }
     ensures { IfOk result (λ end. AppendsNeeded asked.now.allowed (heard_of history.now) end out.old.items out.new.items) }
 {
-    let found = needed_of(alloc, &asked.allowed, asked.states, history, watch)?;
+    let found = needed_of(alloc, &asked.allowed, asked.states, history, labels, watch)?;
     tell_needed(alloc, &asked.allowed, history, found, out)
 }
 
-/// Writes what is told of the rules that a history needs, which is legal with all.
+/// Writes what is told of the rules that a history needs, which is legal with all by a run of these labels.
 fn write_least<W: Write, V: WatchLines>(
     alloc: Global,
     asked: &Judging<'_>,
     history: &History,
+    labels: &[Label],
     writer: &mut W,
     watch: &mut V,
 ) -> Result<(), JudgeFault>
     requires paired { IsPaired history.now }
-    requires legal { IsLegalSomehow (limits_of (heard_of history.now)) history.now.shown.items (both asked.now.allowed history.now.allowed) }
+    requires legal { IsLegal (both asked.now.allowed history.now.allowed) (limits_of (heard_of history.now)) history.now.shown.items labels.now }
     ensures { JudgesLeast asked.now.plain asked.now.allowed (Ok (heard_of history.now)) (W.contents writer.old) (W.contents writer.new) (front_of (option_copied asked.now.name) Form.Text) result }
 {
     let Ok(mut out) = front(alloc, asked.name, Form::Text) else {
         return Err(JudgeFault::Cli(CliFault::NoMemory));
     };
-    match tell_least(alloc, asked, history, &mut out, watch) {
+    match tell_least(alloc, asked, history, labels, &mut out, watch) {
         Ok(told) => write_told(out.as_slice(), told.as_result(), writer),
         Err(stop) => Err(fault_of(stop)),
     }
@@ -113,16 +117,19 @@ fn judge_history<W: Write, V: WatchLines>(
 {
     let own = history.allowed;
     let mut history = allowing(&asked.allowed, history);
-    let (verdict, shown) = match judged(alloc, asked, &history, watch) {
-        Ok(judged) => judged,
+    let found = match judged(alloc, asked, &history, watch) {
+        Ok(found) => found,
         Err(stop) => return Err(fault_of(stop)),
     };
-    if is_legal(&verdict) {
-        history.allowed = own;
-        write_least(alloc, asked, &history, writer, watch)
-    } else {
-        let asked = in_lines(asked);
-        write_all(alloc, &asked, history, verdict, shown, writer, watch)
+    match run_of(found) {
+        Ok(labels) => {
+            history.allowed = own;
+            write_least(alloc, asked, &history, labels.as_slice(), writer, watch)
+        }
+        Err(wrong) => {
+            let asked = in_lines(asked);
+            write_all(alloc, &asked, history, wrong, writer, watch)
+        }
     }
 }
 

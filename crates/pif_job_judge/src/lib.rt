@@ -5,11 +5,14 @@
 //! |---|---|
 //! | `faults` | what was told of a history, and why it was not found to be legal |
 //! | `forms` | how a history is judged, and in which form that is told |
+//! | `holds` | what threads hold by the answers in lines |
 //! | `known` | what is known of an illegal line |
 //! | `unfound` | what is found of the first line for which no run was |
 //! | `lines` | verdicts in lines for a person |
 //! | `objects` | a history as lines of JSON: its verdict, and its run |
+//! | `mistakes` | mistakes of the log |
 //! | `posix` | what POSIX says of a history that isn't legal |
+//! | `undefined` | calls whose behaviour POSIX leaves undefined |
 //! | `asked` | a verdict with what POSIX says, in each form |
 //! | `judging` | a history, read and judged |
 //!
@@ -23,14 +26,17 @@
 mod asked;
 mod faults;
 mod forms;
+mod holds;
 mod judging;
 mod known;
 mod least;
 mod lines;
+mod mistakes;
 mod needed;
 mod objects;
 mod posix;
 mod search;
+mod undefined;
 mod unfound;
 
 pub use faults::JudgeFault;

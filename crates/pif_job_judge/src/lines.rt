@@ -3,7 +3,8 @@ ghost use Rattle.pif_history_machine.specs.Verdicts.{IsVerdictOf};
 ghost use Rattle.pif_history_told.specs.Ways.{IsRun};
 ghost use Rattle.pif_history_text.specs.Histories.{limits_of};
 ghost use Rattle.pif_history_text.specs.Reading.{IsPaired, heard_of};
-ghost use Rattle.pif_job_judge.specs.Asked.{AppendsBrief, AppendsWhy, is_legal};
+ghost use Rattle.pif_job_judge.specs.Endings.{is_legal};
+ghost use Rattle.pif_job_judge.specs.Asked.{AppendsBrief, AppendsWhy};
 ghost use Rattle.pif_job_judge.specs.Lines.{AppendsLines, TellsIllegal, TellsIllegalLine, TellsLegal, TellsRun, TellsUndecided};
 
 use crate::faults::Ended;

@@ -30,9 +30,10 @@ pub fn tell_needed(
     ensures { IfOk result (λ end. AppendsNeeded asked.now (heard_of history.now) end out.old.items out.new.items) }
 {
     match found {
-        Needed::Legal(rules) => {
+        Needed::Legal(found) => {
             let calls = calls_in(history);
-            push_legal_with(alloc, history.count, calls, &history.allowed, &rules, out)?;
+            let rules = &found.rules;
+            push_legal_with(alloc, history.count, calls, &history.allowed, rules, out)?;
             Ok(Ended::of_legal(calls))
         }
         Needed::Undecided(rules, count) => {

@@ -23,7 +23,7 @@ use pif_search::{Stop, WatchLines};
 use std::alloc::Global;
 
 /// How many lines are left out of a run that shows so many, in this form.
-fn left_out(form: Form, lines: usize) -> usize
+pub fn left_out(form: Form, lines: usize) -> usize
     ensures { result ≡ left_out_of form lines }
 {
     match form {
@@ -33,7 +33,11 @@ fn left_out(form: Form, lines: usize) -> usize
 }
 
 /// A number of lines, as it is written.
-fn written(lines: usize) -> Result<u32, Stop>
+///
+/// # Errors
+///
+/// It is too great, which that of no history is.
+pub fn written(lines: usize) -> Result<u32, Stop>
     ensures { IfOk result (λ n. n ≡ lines) }
 {
     match u32::try_from(lines) {
@@ -53,7 +57,11 @@ fn began_with(known: &Known, began: Option<Began>) -> Option<Began>
 }
 
 /// Appends the lines of a run whose steps have these labels, newest first, but for so many of its first lines.
-fn append_steps(
+///
+/// # Errors
+///
+/// Out of memory, or a run that can't be told.
+pub fn append_steps(
     alloc: Global,
     history: &History,
     left_out: usize,

@@ -1,34 +1,38 @@
-ghost use Rattle.std.specs.Prelude.{◌≡◌, ◌++◌, IfOk, OnOk};
-ghost use Rattle.pif_history_model.specs.Verdicts.{IsLegal};
+ghost use Rattle.std.specs.Prelude.{◌≡◌, ◌≤◌, ◌++◌, length, IfOk, OnOk};
+ghost use Rattle.pif_history_model.specs.Verdicts.{IsIllegal, IsLegal};
 ghost use Rattle.pif_history_text.specs.Histories.{limits_of};
 ghost use Rattle.pif_history_text.specs.Reading.{IsPaired, heard_of};
 ghost use Rattle.pif_rules_model.specs.Sets.{posix_rules};
 ghost use Rattle.pif_rules.specs.Sets.{both};
-ghost use Rattle.pif_job_judge.specs.Posix.{IsSaid, IsNumberedBy, against, allowed_at, allows, allows_front, allows_object, allows_text, beside_text, forbidden_from, forbids_text, line_said_object, posix_end, posix_object, posix_text, rules_said, said_front, under, undecided_text, verdict_said};
+ghost use Rattle.pif_job_judge.specs.Posix.{IsSaid, IsNumberedBy, against, allowed_at, allows_front, allows_object, allows_text, beside_text, forbidden_from, forbids_text, line_said_object, posix_end, posix_object, posix_text, rules_said, said_front, under, undecided_text, undefined_object, undefined_text, verdict_said};
 
 use crate::faults::Ended;
 use crate::judging::Numbered;
-use crate::search::{Needed, least};
+use crate::search::{Enough, Needed, bounded, least};
+use crate::undefined::{Begun, undefined_among};
 use pif_history::judge_lines;
 use pif_history_machine::Verdict;
 use pif_history_model::{HistoryLimits, Label, Line};
-use pif_history_text::History;
+use pif_history_text::{History, line_text};
 use pif_history_told::{Unlisted, number_at, push_but_for, push_needed, rule_names, rules_of_run};
 use pif_rules::{both, is_any, no_rules, posix_rules, push_names};
 use pif_rules_model::Rules;
 use pif_search::{Stop, WatchLines};
-use pif_text::{Member, append_decimal, append_members};
+use pif_text::{Member, Text, append_decimal, append_members};
 use std::alloc::Global;
 
 /// What POSIX says of the lines of a history that weren't found to be legal with the rules that hold.
 #[derive(Drop)]
 pub enum Says {
     /// It allows them: with these rules there is a run that shows them. With each set that comes before there is none.
-    Least(Rules),
+    Least(Enough),
     /// It allows them: with these rules there is a run that shows them, and perhaps with fewer.
-    Found(Rules),
+    Found(Enough),
     /// With all its rules no run shows the lines up to this one, from 1, and some run shows those before.
     Forbids(usize),
+    /// With all its rules no run shows the lines up to this one, from 1, and some run shows those before. In a run of the
+    /// lines before it POSIX leaves undefined what the call does that begins so.
+    Undefined(usize, Begun),
     /// The search with all its rules was given up at this line, from 1.
     Undecided(usize),
 }
@@ -41,40 +45,75 @@ fn found_with<V: WatchLines>(
     all: &Rules,
     limits: HistoryLimits,
     lines: &[Line],
-    witness: &[Label],
+    labels: Vec<Label>,
     states: usize,
     watch: &mut V,
 ) -> Result<Says, Stop>
-    requires { IsLegal all.now limits lines.now witness.now }
+    requires { IsLegal all.now limits lines.now labels.items }
     ensures { IfOk result (IsSaid base.now limits lines.now) }
 {
-    let used = both(&rules_of_run(alloc, all, limits, witness)?, base);
-    match judge_lines(alloc, &used, limits, lines, states, watch)? {
-        Verdict::Legal(_) => Ok(Says::Found(used)),
-        Verdict::Illegal(_) | Verdict::Undecided(_) => Ok(Says::Found(*all)),
+    let used = both(&rules_of_run(alloc, all, limits, labels.as_slice())?, base);
+    if let Verdict::Legal(fewer) = judge_lines(alloc, &used, limits, lines, states, watch)? {
+        let found = bounded(alloc, base, &used, limits, lines, fewer, states, watch)?;
+        return Ok(Says::Found(found));
     }
+    let found = bounded(alloc, base, all, limits, lines, labels, states, watch)?;
+    Ok(Says::Found(found))
 }
 
-/// The rules of POSIX that these lines need, which are legal with all of them.
+/// The rules of POSIX that these lines need, which are legal with all of them by a run of these labels.
 fn allowed_with<V: WatchLines>(
     alloc: Global,
     base: &Rules,
     all: &Rules,
     limits: HistoryLimits,
     lines: &[Line],
-    witness: &[Label],
+    labels: Vec<Label>,
     states: usize,
     watch: &mut V,
 ) -> Result<Says, Stop>
     requires all { all.now ≡ both posix_rules base.now }
-    requires legal { IsLegal all.now limits lines.now witness.now }
+    requires legal { IsLegal all.now limits lines.now labels.items }
     ensures { IfOk result (IsSaid base.now limits lines.now) }
 {
-    match least(alloc, base, &posix_rules(), limits, lines, states, watch)? {
-        Needed::Legal(rules) => Ok(Says::Least(rules)),
-        Needed::Undecided(_, _) => {
-            found_with(alloc, base, all, limits, lines, witness, states, watch)
-        }
+    let posix = posix_rules();
+    match least(
+        alloc,
+        base,
+        &posix,
+        limits,
+        lines,
+        labels.as_slice(),
+        states,
+        watch,
+    )? {
+        Needed::Legal(found) => Ok(Says::Least(found)),
+        Needed::Undecided(_, _) => found_with(
+            alloc, base, all, limits, lines, labels, states, watch,
+        ),
+    }
+}
+
+/// That POSIX forbids these lines from the nth on; or that it may leave them undefined.
+fn forbidden_with<V: WatchLines>(
+    alloc: Global,
+    base: &Rules,
+    all: &Rules,
+    limits: HistoryLimits,
+    lines: &[Line],
+    count: usize,
+    states: usize,
+    watch: &mut V,
+) -> Result<Says, Stop>
+    requires all { all.now ≡ both posix_rules base.now }
+    requires within { (1 ≤ count) × (count ≤ length lines.now) }
+    requires illegal { IsIllegal all.now limits lines.now count }
+    ensures { IfOk result (IsSaid base.now limits lines.now) }
+{
+    let before = &lines[..count - 1];
+    match undefined_among(alloc, all, limits, before, states, watch)? {
+        Some(begun) => Ok(Says::Undefined(count, begun)),
+        None => Ok(Says::Forbids(count)),
     }
 }
 
@@ -96,19 +135,12 @@ fn posix_of<V: WatchLines>(
 {
     let all = both(&posix_rules(), base);
     match judge_lines(alloc, &all, limits, lines, states, watch)? {
-        Verdict::Legal(witness) => {
-            allowed_with(
-                alloc,
-                base,
-                &all,
-                limits,
-                lines,
-                witness.as_slice(),
-                states,
-                watch,
-            )
+        Verdict::Legal(labels) => {
+            allowed_with(alloc, base, &all, limits, lines, labels, states, watch)
         }
-        Verdict::Illegal(line) => Ok(Says::Forbids(line)),
+        Verdict::Illegal(line) => {
+            forbidden_with(alloc, base, &all, limits, lines, line, states, watch)
+        }
         Verdict::Undecided(line) => Ok(Says::Undecided(line)),
     }
 }
@@ -191,6 +223,22 @@ fn push_forbids(base: &Rules, number: u32, out: &mut Vec<u8>) -> Result<(), Stop
     Ok(())
 }
 
+/// Appends that POSIX may leave undefined what the call does that begins at the line of this number.
+fn push_undefined(base: &Rules, number: u32, begun: &Begun, out: &mut Vec<u8>) -> Result<(), Stop>
+    ensures { OnOk result (out.new.items ≡ out.old.items ++ undefined_text base.now number begun.now) }
+{
+    let mut line = Text::new();
+    line_text(Line::Begin(begun.thread, begun.request), &mut line);
+    out.extend_from_slice(b"POSIX")?;
+    push_beside(b" and", base, out)?;
+    out.extend_from_slice(b" may leave it undefined: ")?;
+    append_decimal(out, u64::from(number))?;
+    out.extend_from_slice(b": ")?;
+    out.extend_from_slice(line.as_slice())?;
+    out.extend_from_slice(b"\n")?;
+    Ok(())
+}
+
 /// Appends that the search was given up with all rules of POSIX.
 fn push_undecided(base: &Rules, out: &mut Vec<u8>) -> Result<(), Stop>
     ensures { OnOk result (out.new.items ≡ out.old.items ++ undecided_text base.now) }
@@ -210,6 +258,7 @@ pub fn number_of(history: &History, says: &Says) -> u32
     match says {
         Says::Least(_) | Says::Found(_) => 0,
         Says::Forbids(line) => number_at(history, *line),
+        Says::Undefined(_, begun) => number_at(history, begun.count),
         Says::Undecided(line) => number_at(history, *line),
     }
 }
@@ -232,11 +281,20 @@ pub fn push_says(
     ensures { OnOk result (out.new.items ≡ out.old.items ++ posix_text base.now says.now number numbers.now found) }
 {
     match says {
-        Says::Least(rules) => push_allows(alloc, base, rules, b"", numbers, found, out),
-        Says::Found(rules) => {
-            push_allows(alloc, base, rules, b", perhaps fewer", numbers, found, out)
+        Says::Least(e) => push_allows(alloc, base, &e.rules, b"", numbers, found, out),
+        Says::Found(e) => {
+            push_allows(
+                alloc,
+                base,
+                &e.rules,
+                b", perhaps fewer",
+                numbers,
+                found,
+                out,
+            )
         }
         Says::Forbids(_) => push_forbids(base, number, out),
+        Says::Undefined(_, begun) => push_undefined(base, number, begun, out),
         Says::Undecided(_) => push_undecided(base, out),
     }
 }
@@ -248,6 +306,7 @@ fn allowed_at(told: Ended) -> Ended
     match told {
         Ended::Illegal(line) | Ended::Undecided(line) => Ended::PosixAllows(line),
         Ended::Legal | Ended::NoCall | Ended::PosixAllows(_) => told,
+        Ended::PosixUndefined(_) | Ended::Log(_) => told,
     }
 }
 
@@ -258,6 +317,7 @@ pub fn end_of(told: Ended, says: &Says, number: u32) -> Ended
     match says {
         Says::Least(_) | Says::Found(_) => allowed_at(told),
         Says::Forbids(_) => Ended::Illegal(u64::from(number)),
+        Says::Undefined(_, _) => Ended::PosixUndefined(u64::from(number)),
         Says::Undecided(_) => Ended::Undecided(u64::from(number)),
     }
 }
@@ -288,34 +348,25 @@ pub fn said_of<V: WatchLines>(
     )
 }
 
-/// Whether it allows the lines.
-pub fn allows(says: &Says) -> bool
-    ensures { result ≡ allows says.now }
-{
-    match says {
-        Says::Least(_) | Says::Found(_) => true,
-        Says::Forbids(_) | Says::Undecided(_) => false,
-    }
-}
-
-/// The line from which on it forbids them, from 1, if it does.
+/// The line from which on it forbids them, from 1, if it does, and nothing is undefined before.
 pub fn forbidden_from(says: &Says) -> Option<usize>
     ensures { result ≡ forbidden_from says.now }
 {
     match says {
         Says::Forbids(line) => Some(*line),
-        Says::Least(_) | Says::Found(_) | Says::Undecided(_) => None,
+        Says::Least(_) | Says::Found(_) => None,
+        Says::Undefined(_, _) | Says::Undecided(_) => None,
     }
 }
 
-/// What is said, as a verdict with these rules, if it is one.
-pub fn verdict_said(says: &Says) -> Option<Verdict>
-    ensures { result ≡ verdict_said says.now }
+/// What is said, as a verdict on the lines with the rules with which it is said.
+pub fn verdict_said(says: Says) -> Verdict
+    ensures { result ≡ verdict_said says }
 {
     match says {
-        Says::Forbids(line) => Some(Verdict::Illegal(*line)),
-        Says::Undecided(line) => Some(Verdict::Undecided(*line)),
-        Says::Least(_) | Says::Found(_) => None,
+        Says::Forbids(line) | Says::Undefined(line, _) => Verdict::Illegal(line),
+        Says::Undecided(line) => Verdict::Undecided(line),
+        Says::Least(e) | Says::Found(e) => Verdict::Legal(e.labels),
     }
 }
 
@@ -324,8 +375,10 @@ fn rules_said(base: &Rules, says: &Says) -> Rules
     ensures { result ≡ rules_said base.now says.now }
 {
     match says {
-        Says::Least(rules) | Says::Found(rules) => *rules,
-        Says::Forbids(_) | Says::Undecided(_) => both(&posix_rules(), base),
+        Says::Least(e) | Says::Found(e) => e.rules,
+        Says::Forbids(_) | Says::Undefined(_, _) | Says::Undecided(_) => {
+            both(&posix_rules(), base)
+        }
     }
 }
 
@@ -401,6 +454,31 @@ fn append_line_said(
     Ok(())
 }
 
+/// Appends, in JSON, that POSIX may leave undefined what the call does that begins at the line of this number.
+fn append_undefined(
+    alloc: Global,
+    base: &Rules,
+    number: u32,
+    begun: &Begun,
+    out: &mut Vec<u8>,
+) -> Result<(), Stop>
+    ensures { OnOk result (out.new.items ≡ out.old.items ++ undefined_object base.now number begun.now) }
+{
+    let mut line = Text::new();
+    line_text(Line::Begin(begun.thread, begun.request), &mut line);
+    append_said(alloc, b"undefined", base, out)?;
+    append_members(
+        out,
+        b',',
+        &[
+            Member::Number("line", number),
+            Member::Quoted("text", line.as_slice()),
+        ],
+    )?;
+    out.extend_from_slice(b"}\n")?;
+    Ok(())
+}
+
 /// Appends what POSIX says as a line of JSON, which names the line of this number if it names one.
 ///
 /// # Errors
@@ -416,9 +494,10 @@ pub fn append_says(
     ensures { OnOk result (out.new.items ≡ out.old.items ++ posix_object base.now says.now number) }
 {
     match says {
-        Says::Least(rules) => append_allows(alloc, base, rules, true, out),
-        Says::Found(rules) => append_allows(alloc, base, rules, false, out),
+        Says::Least(e) => append_allows(alloc, base, &e.rules, true, out),
+        Says::Found(e) => append_allows(alloc, base, &e.rules, false, out),
         Says::Forbids(_) => append_line_said(alloc, b"forbids", base, number, out),
+        Says::Undefined(_, begun) => append_undefined(alloc, base, number, begun, out),
         Says::Undecided(_) => append_line_said(alloc, b"undecided", base, number, out),
     }
 }

@@ -1,7 +1,6 @@
 ghost use Rattle.std.specs.Prelude.{◌≡◌, [], map, if◌then◌else◌, All, Contains, IfOk};
-ghost use Rattle.pif_rules_model.specs.Lending.{not_owned};
 ghost use Rattle.pif_rules_model.specs.Rules.{Wide as Widened, WideEndsApart, has_ended_apart};
-ghost use Rattle.pif_rules_model.specs.Ruled.{beside, seeing_lending, passed_apart, ended_in_steps, ended_apart, has_released};
+ghost use Rattle.pif_rules_model.specs.Ruled.{beside, passed_apart, passing_later, passed_later, ended_in_steps, ended_apart, has_released};
 
 use crate::deeds::Deed;
 use crate::ruled_ends::{left_apart, passed_apart};
@@ -13,15 +12,28 @@ use std::alloc::Global;
 
 /// Ends that happen piece by piece.
 impl Wide {
-    /// The states once one of the robust mutexes of a thread that ended by `ends_apart` has passed on, or is left free.
+    /// The states once one of the robust mutexes that a thread, which has ended, still owns has passed on, or is left
+    /// free, if each mutex inherits.
+    pub(crate) fn passing_later(
+        &self,
+        alloc: Global,
+        thread: u32,
+        rules: &Rules,
+    ) -> Result<Vec<Wide>, Stop>
+        ensures { IfOk result (λ v. v.items ≡ passing_later rules.now thread self.now) }
+    {
+        let passed = passed_apart(alloc, &self.state, rules, thread);
+        self.beside(alloc, passed)
+    }
+
+    /// The same of a thread that ended by `ends_apart`.
     fn passed_apart(&self, alloc: Global, thread: u32, rules: &Rules) -> Result<Vec<Wide>, Stop>
         ensures { IfOk result (λ v. v.items ≡ (if has_ended_apart self.now thread then map (beside self.now) (passed_apart rules.now thread self.now.world) else [])) }
     {
         if !self.has_ended_apart(thread) {
             return Ok(Vec::new(alloc));
         }
-        let passed = passed_apart(alloc, &self.state, rules, thread);
-        self.beside(alloc, passed)
+        self.passing_later(alloc, thread, rules)
     }
 
     /// The states to which a step of a thread's end leads that no line shows, if each mutex inherits.
@@ -47,21 +59,7 @@ impl Wide {
         if !rules.ends_apart {
             return Ok(Vec::new(alloc));
         }
-        self.ended_seeing_lending(alloc, thread, rules)
-    }
-
-    /// The same as `ended_in_steps`, in this state as lending sees it.
-    fn ended_seeing_lending(
-        &self,
-        alloc: Global,
-        thread: u32,
-        rules: &Rules,
-    ) -> Result<Vec<Wide>, Stop>
-        ensures { IfOk result (λ v. v.items ≡ seeing_lending (not_owned self.now.world thread self.now.prio_none) (ended_in_steps rules.now thread) self.now) }
-    {
-        let none = self.prio_none.as_slice();
-        let hidden = self.state.not_owned(alloc, thread, none);
-        self.seeing_lending(alloc, thread, rules, &Deed::EndsInSteps, hidden)
+        self.seeing_own(alloc, thread, rules, &Deed::EndsInSteps)
     }
 
     /// The states to which one step of a thread's end leads that no line shows, by the rule `ends_apart`: the thread
@@ -77,6 +75,19 @@ impl Wide {
         ensures value { IfOk result (λ vs. vs.items ≡ ended_apart rules.now thread self.now) }
     {
         self.ended_apart(alloc, thread, rules)
+    }
+
+    /// The states to which it leads that no line shows if the process of a thread, which has ended, ends, too: one of the
+    /// robust mutexes that had stayed with the thread by the rule `stays_locked` passes on, or by `barge` is left free.
+    /// None for a thread that lives or was never added. This state stays as it is.
+    ///
+    /// # Errors
+    ///
+    /// Out of memory, or a number got too great for a state.
+    pub fn passed_later(&self, alloc: Global, thread: u32, rules: &Rules) -> Result<Vec<Wide>, Stop>
+        ensures { IfOk result (λ v. v.items ≡ passed_later rules.now thread self.now) }
+    {
+        self.seeing_own(alloc, thread, rules, &Deed::PassesLater)
     }
 
     /// Whether a thread, which has ended, has released its robust mutexes as it has to: if it ended by `ends_apart`, it

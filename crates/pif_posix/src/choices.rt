@@ -2,6 +2,7 @@ ghost use Rattle.std.specs.Prelude.{◌≡◌, ◌<◌, ◌++◌, ◌==◌, ℕ,
 ghost use Rattle.std.specs.List.{filter, list_all, list_any};
 ghost use Rattle.pif_model.specs.Posix.{blocked_below, is_still_blocked, effective_of, with_call_by, after_unblocking};
 ghost use Rattle.pif_posix_steps.specs.Doing.{signalled, broadcast, chosen, all_blocked, found_left, woken};
+ghost use Rattle.pif_rules_model.specs.Ruled.{is_some_of};
 ghost use Rattle.pif_posix.specs.Choices.{wakings};
 
 use crate::progress::Progress;
@@ -71,6 +72,18 @@ impl State {
             }
         }
         Ok(all)
+    }
+
+    /// Whether a thread is blocked on a variable.
+    pub(crate) fn is_anyone_blocked(&self, variable: u32) -> bool
+        ensures { result ≡ is_some_of (all_blocked self.now variable) }
+    {
+        for u in (0..self.thread_count()).rev() {
+            if self.is_blocked_on(u, variable) {
+                return true;
+            }
+        }
+        false
     }
 
     /// Whether the signal or broadcast of a thread found another blocked on its variable, which still is by that wait.

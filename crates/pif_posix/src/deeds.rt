@@ -1,4 +1,5 @@
 ghost use Rattle.std.specs.Prelude.{◌≡◌, ℕ, List, map, IfOk};
+ghost use Rattle.pif_rules_model.specs.Lending.{not_owned};
 ghost use Rattle.pif_rules_model.specs.Rules.{seen_by_lending, owned_as_before};
 ghost use Rattle.pif_rules_model.specs.Ruled.{seeing_lending, done_by};
 ghost use Rattle.pif_posix.specs.Deeds.{done_as};
@@ -19,6 +20,8 @@ pub(crate) enum Deed {
     Ends,
     /// It does a step of an end that no line shows.
     EndsInSteps,
+    /// It has ended, and what had stayed with it passes on, since its process ends.
+    PassesLater,
 }
 
 /// Where a thread leads that does something, if mutexes lend nothing.
@@ -55,6 +58,7 @@ impl Wide {
             Deed::By(rule) => self.done_by_rule(alloc, thread, rules, *rule),
             Deed::Ends => self.ended_remembering(alloc, thread, rules),
             Deed::EndsInSteps => self.ended_in_steps(alloc, thread, rules),
+            Deed::PassesLater => self.passing_later(alloc, thread, rules),
         }
     }
 
@@ -91,6 +95,21 @@ impl Wide {
             return self.done_as(alloc, thread, rules, deed, none);
         }
         self.done_behind(alloc, thread, rules, deed, none, hidden)
+    }
+
+    /// The same, if those look free that the thread doesn't own.
+    pub(crate) fn seeing_own(
+        &self,
+        alloc: Global,
+        thread: u32,
+        rules: &Rules,
+        deed: &Deed,
+    ) -> Result<Vec<Wide>, Stop>
+        ensures { IfOk result (λ v. v.items ≡ seeing_lending (not_owned self.now.world thread self.now.prio_none) (done_as deed.now rules.now thread self.now.prio_none) self.now) }
+    {
+        let none = self.prio_none.as_slice();
+        let hidden = self.state.not_owned(alloc, thread, none);
+        self.seeing_lending(alloc, thread, rules, deed, hidden)
     }
 
     /// The same, if those that look free could be listed.

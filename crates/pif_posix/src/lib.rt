@@ -36,6 +36,7 @@ mod ruled_moves;
 mod ruled_variables;
 mod same;
 mod state;
+mod undefined;
 mod variables;
 mod waiting;
 mod wakes;

@@ -40,9 +40,7 @@ impl Wide {
     fn widely_ended(&self, alloc: Global, thread: u32, rules: &Rules) -> Result<Vec<Wide>, Stop>
         ensures { IfOk result (λ v. v.items ≡ widely_ended rules.now thread self.now) }
     {
-        let none = self.prio_none.as_slice();
-        let hidden = self.state.not_owned(alloc, thread, none);
-        self.seeing_lending(alloc, thread, rules, &Deed::Ends, hidden)
+        self.seeing_own(alloc, thread, rules, &Deed::Ends)
     }
 
     /// One entry: all states to which it leads.

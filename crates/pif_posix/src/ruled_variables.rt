@@ -1,7 +1,6 @@
 ghost use Rattle.std.specs.Prelude.{◌≡◌, ◌<◌, ℕ, length, map, IfOk};
-ghost use Rattle.pif_posix_steps.specs.Doing.{all_blocked};
 ghost use Rattle.pif_rules_model.specs.Rules.{bound_to};
-ghost use Rattle.pif_rules_model.specs.Ruled.{is_some_of, consumed_with, signallers, signal_consumed, bound_anew, used_by};
+ghost use Rattle.pif_rules_model.specs.Ruled.{consumed_with, signallers, signal_consumed, bound_anew, used_by};
 
 use crate::next::{blocked_on, is_mutex_of, signalling, used_next, waited_next};
 use crate::{Progress, State};
@@ -79,14 +78,6 @@ pub(crate) fn signal_consumed(alloc: Global, state: &State, thread: u32) -> Resu
     }
 }
 
-/// Whether a thread is blocked on a variable.
-fn is_anyone_blocked(alloc: Global, state: &State, variable: u32) -> Result<bool, Stop>
-    ensures { IfOk result (λ b. b ≡ is_some_of (all_blocked state.now variable)) }
-{
-    let all = state.all_blocked(alloc, variable)?;
-    Ok(all.len() != 0)
-}
-
 /// The state once a variable is bound to a mutex.
 fn bound_to(alloc: Global, state: &State, variable: usize, mutex: u32) -> Result<State, Stop>
     requires { variable < length state.now.variables }
@@ -109,8 +100,7 @@ pub(crate) fn bound_anew(alloc: Global, state: &State, thread: u32) -> Result<Ve
             if state.bound(at) == mutex {
                 return Ok(Vec::new(alloc));
             }
-            let blocked = is_anyone_blocked(alloc, state, variable)?;
-            if blocked {
+            if state.is_anyone_blocked(variable) {
                 return Ok(Vec::new(alloc));
             }
             let next = bound_to(alloc, state, at, mutex)?;

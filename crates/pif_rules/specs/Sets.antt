@@ -90,6 +90,7 @@ both a b = record {
   consistent_by_any = a.consistent_by_any || b.consistent_by_any;
   cut_unlock = a.cut_unlock || b.cut_unlock;
   prio_none = a.prio_none || b.prio_none;
+  extra_lines = a.extra_lines || b.extra_lines;
 }
 
 -- Whether a rule is one of both.

@@ -32,6 +32,7 @@ all_rules = record {
   consistent_by_any = true;
   cut_unlock = true;
   prio_none = false;
+  extra_lines = false;
 }
 
 -- Whether bounds stand behind the name of a rule.

@@ -36,6 +36,7 @@ pub fn posix_rules() -> Rules
         consistent_by_any: true,
         cut_unlock: true,
         prio_none: false,
+        extra_lines: false,
     }
 }
 
@@ -104,8 +105,8 @@ fn either(a: bool, b: bool) -> bool
     a || b
 }
 
-/// The rules of both. Of two bounds of `recursion` the wider count, on each side. Mutexes of PTHREAD_PRIO_NONE may be added
-/// if either has them.
+/// The rules of both. Of two bounds of `recursion` the wider count, on each side. Mutexes of PTHREAD_PRIO_NONE may be added,
+/// and lines as `halted` may stand, if either has them.
 pub fn both(a: &Rules, b: &Rules) -> Rules
     ensures { result ≡ both a.now b.now }
 {
@@ -131,6 +132,7 @@ pub fn both(a: &Rules, b: &Rules) -> Rules
         consistent_by_any: either(a.consistent_by_any, b.consistent_by_any),
         cut_unlock: either(a.cut_unlock, b.cut_unlock),
         prio_none: either(a.prio_none, b.prio_none),
+        extra_lines: either(a.extra_lines, b.extra_lines),
     }
 }
 

@@ -47,6 +47,7 @@ pub fn all_rules() -> Rules
         consistent_by_any: true,
         cut_unlock: true,
         prio_none: false,
+        extra_lines: false,
     }
 }
 

@@ -1,5 +1,5 @@
 -- The ends and entries that rules allow are those that are listed.
-use Rattle.std.proofs.Common.{ℕ, zero, suc, ◌≡◌, ◌≢◌, ◌⊎◌, ◌∙◌, Bool, true, false, List, [], ◌++◌, length, Option, Some, None, map, refl, sym, ap, subst, inl, inr, arith, if◌then◌else◌, Contains, flat_map}
+use Rattle.std.proofs.Common.{ℕ, zero, suc, ◌≡◌, ◌≢◌, ◌⊎◌, ◌∙◌, Bool, true, false, List, [], length, Option, Some, None, map, refl, sym, ap, subst, inl, inr, arith, if◌then◌else◌, Contains, flat_map}
 use Rattle.std.proofs.lemmas.Bool.{cases_Bool, both_ways, false_from_ne_true}
 use Rattle.std.proofs.lemmas.List.Elements.{Contains-append_left, Contains-append_right, Contains-append_cases}
 use Rattle.pif_types.specs.Bounds.{Bounds}
@@ -17,15 +17,15 @@ use Rattle.pif_posix_steps.proofs.DoingEnds.{robust_of_to, robust_of_from, owns_
 use Rattle.pif_posix_steps.proofs.DoingEntries.{entered_from, entered_to}
 use Rattle.pif_rules_model.specs.declared.rules.Rules.{Rules}
 use Rattle.pif_rules_model.specs.Lending.{not_owned}
-use Rattle.pif_rules_model.specs.Rules.{Wide, seen_by_lending, WideEnds, EndsInSteps, MayRevive, FindsHealth, PassesBy, ReleasesBy, EndsBy, EndsApartBy, PassesApart, HasReleased, WideEnters, WideEndsApart, of_call, unlocked_next_by, is_unusable, revived, has_ended_apart, end_of}
+use Rattle.pif_rules_model.specs.Rules.{Wide, seen_by_lending, WideEnds, EndsInSteps, MayRevive, FindsHealth, PassesBy, ReleasesBy, EndsBy, EndsApartBy, PassesLater, InWorld, HasReleased, WideEnters, WideEndsApart, WidePassesLater, of_call, unlocked_next_by, is_unusable, revived, has_ended_apart, end_of}
 use Rattle.pif_rules_model.specs.Rules.MayRevive.{revives, cut}
 use Rattle.pif_rules_model.specs.Rules.FindsHealth.{as_it_is, one}
 use Rattle.pif_rules_model.specs.Rules.PassesBy.{passes, left_free}
 use Rattle.pif_rules_model.specs.Rules.ReleasesBy.{none_left, they_stay, one_more}
 use Rattle.pif_rules_model.specs.Rules.HasReleased.{at_once, none_left as none_kept, they_stay as they_are_kept}
 use Rattle.pif_rules_model.specs.Rules.WideEnters.{ended as wide_end, other as wide_other}
-use Rattle.pif_rules_model.specs.Rules.EndsInSteps.{leaves, passes as passes_later}
-use Rattle.pif_rules_model.specs.Ruled.{beside, seeing_lending, ended_remembering, ended_in_steps, remembering, remembering_apart, is_mutex_of, is_some_of, one_if, may_revive, revived_if, found_by, passed_by, passed_by_death, released_by, all_released, ended_found, ended_by, widely_ended, left_apart, passed_apart, ended_apart, has_released, entered_as, widely_entered}
+use Rattle.pif_rules_model.specs.Rules.EndsInSteps.{leaves, passes as passes_apart}
+use Rattle.pif_rules_model.specs.Ruled.{beside, seeing_lending, ended_remembering, ended_in_steps, remembering, remembering_apart, is_mutex_of, is_some_of, one_if, may_revive, revived_if, found_by, passed_by, passed_by_death, released_by, all_released, ended_found, ended_by, left_apart, passed_apart, ended_apart, passing_later, passed_later, has_released, entered_as, widely_entered}
 use Rattle.pif_rules_model.proofs.Listing.{in_one_if, in_one_if_from, some_is_there, none_is_there}
 use Rattle.pif_rules_model.proofs.Moves.{is_mutex_of-is, is_mutex_of-from}
 use Rattle.pif_rules_model.proofs.Lending.{sees_to, sees_from}
@@ -229,13 +229,12 @@ module _ (r : Rules) (t : ℕ) where
       in_then_from (is_allowed w (End t)) (map (after_end t) (found_by r t w)) v (allowed_from w (End t) h.allowed)
       (subst (Contains (map (after_end t) (found_by r t w))) (sym h.leaves) (in_map_from (after_end t) (found_by r t w) h.found (found_from w h.found h.finds)))
 
-  pub passed_apart_to : r.ends_apart ≡ true → (w v : World) → Contains (passed_apart r t w) v → PassesApart r t w v
-  passed_apart_to apart w v k =
+  passed_apart_to : (w v : World) → Contains (passed_apart r t w) v → PassesLater r t w v
+  passed_apart_to w v k =
       let a = in_else (is_living w t) (flat_map (passed_by_death r w) (robust_of w t)) v k in
       let b = in_flat_map (passed_by_death r w) (robust_of w t) v a.1 in
       let owned = robust_of_to w t b.0 b.1 in
       record {
-        apart = apart;
         ended = a.0;
         mutex = b.0;
         owns = owned.1;
@@ -243,7 +242,7 @@ module _ (r : Rules) (t : ℕ) where
         passes = passed_by_to b.0 (after_owner_death b.0 w) v b.2;
       }
 
-  pub passed_apart_from : (w v : World) → PassesApart r t w v → Contains (passed_apart r t w) v
+  passed_apart_from : (w v : World) → PassesLater r t w v → Contains (passed_apart r t w) v
   passed_apart_from w v h =
       in_else_from (is_living w t) (flat_map (passed_by_death r w) (robust_of w t)) v h.ended
       (in_flat_map_from (passed_by_death r w) (robust_of w t) h.mutex v (robust_of_from w t h.mutex h.robust h.owns)
@@ -254,33 +253,44 @@ module _ (r : Rules) (t : ℕ) where
     abbrev leaving : List Wide
     leaving = map (remembering_apart t s) (left_apart r t s.world)
 
-    abbrev passing_later : List Wide
-    passing_later = if has_ended_apart s t then map (beside s) (passed_apart r t s.world) else []
+    abbrev passing_apart : List Wide
+    passing_apart = if has_ended_apart s t then map (beside s) (passed_apart r t s.world) else []
 
     in_steps_to : r.ends_apart ≡ true → (n : Wide) → Contains (ended_in_steps r t s) n → EndsInSteps r t s n
-    in_steps_to a n k = elim (Contains-append_cases leaving passing_later n k) [
+    in_steps_to a n k = elim (Contains-append_cases leaving passing_apart n k) [
       | inl c ↦ (
           let x = in_map (remembering_apart t s) (left_apart r t s.world) n c in
           leaves x.0 (left_apart_to a s.world x.0 x.1) (sym x.2))
       | inr c ↦ (
           let y = in_then (has_ended_apart s t) (map (beside s) (passed_apart r t s.world)) n c in
           let x = in_map (beside s) (passed_apart r t s.world) n y.1 in
-          passes_later x.0 y.0 (passed_apart_to a s.world x.0 x.1) (sym x.2))
+          passes_apart x.0 y.0 (record { apart = a; later = passed_apart_to s.world x.0 x.1 }) (sym x.2))
     ]
 
     in_steps_from : (n : Wide) → EndsInSteps r t s n → Contains (ended_in_steps r t s) n
     in_steps_from n (leaves v h e) =
-        Contains-append_left leaving passing_later n
+        Contains-append_left leaving passing_apart n
         (subst (Contains leaving) (sym e) (in_map_from (remembering_apart t s) (left_apart r t s.world) v (left_apart_from s.world v h)))
-    in_steps_from n (passes_later v b h e) =
-        Contains-append_right leaving passing_later n
+    in_steps_from n (passes_apart v b h e) =
+        Contains-append_right leaving passing_apart n
         (in_then_from (has_ended_apart s t) (map (beside s) (passed_apart r t s.world)) n b
         (subst (Contains (map (beside s) (passed_apart r t s.world))) (sym e)
-        (in_map_from (beside s) (passed_apart r t s.world) v (passed_apart_from s.world v h))))
+        (in_map_from (beside s) (passed_apart r t s.world) v (passed_apart_from s.world v h.later))))
 
     needs_apart : (n : Wide) → EndsInSteps r t s n → r.ends_apart ≡ true
     needs_apart n (leaves v h e) = h.apart
-    needs_apart n (passes_later v b h e) = h.apart
+    needs_apart n (passes_apart v b h e) = h.apart
+
+    -- what had stayed passes on
+    later_to : (n : Wide) → Contains (passing_later r t s) n → InWorld (PassesLater r t) s n
+    later_to n k =
+        let x = in_map (beside s) (passed_apart r t s.world) n k in
+        record { world = x.0; step = passed_apart_to s.world x.0 x.1; same = sym x.2 }
+
+    later_from : (n : Wide) → InWorld (PassesLater r t) s n → Contains (passing_later r t s) n
+    later_from n h =
+        subst (Contains (passing_later r t s)) (sym h.same)
+        (in_map_from (beside s) (passed_apart r t s.world) h.world (passed_apart_from s.world h.world h.step))
 
   module _ (s : Wide) where
     pub ended_apart_to : (n : Wide) → Contains (ended_apart r t s) n → WideEndsApart r t s n
@@ -293,6 +303,12 @@ module _ (r : Rules) (t : ℕ) where
         in_then_from r.ends_apart (seeing_lending (not_owned s.world t s.prio_none) (ended_in_steps r t) s) n
         (needs_apart (seen_by_lending (not_owned s.world t s.prio_none) s) h.after h.step)
         (sees_from (EndsInSteps r t) (ended_in_steps r t) in_steps_from (not_owned s.world t s.prio_none) s n h)
+
+    pub passed_later_to : (n : Wide) → Contains (passed_later r t s) n → WidePassesLater r t s n
+    passed_later_to n k = sees_to (InWorld (PassesLater r t)) (passing_later r t) later_to (not_owned s.world t s.prio_none) s n k
+
+    pub passed_later_from : (n : Wide) → WidePassesLater r t s n → Contains (passed_later r t s) n
+    passed_later_from n h = sees_from (InWorld (PassesLater r t)) (passing_later r t) later_from (not_owned s.world t s.prio_none) s n h
 
     -- whether all that has to be released is
     pub released_is : has_released r t s ≡ true → HasReleased r t s

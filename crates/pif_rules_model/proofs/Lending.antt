@@ -3,14 +3,14 @@ use Rattle.std.proofs.Common.{◌≡◌, ◌⊎◌, ◌∙◌, ℕ, ◌==◌, Bo
 use Rattle.std.specs.List.{list_any}
 use Rattle.std.proofs.lemmas.Bool.{cases_Bool, both_ways}
 use Rattle.pif_model.specs.declared.events.Event.TheVariants.{Go}
-use Rattle.pif_model.specs.Posix.{World, IsHeldByAnother, mutex_at, leads_to}
+use Rattle.pif_model.specs.Posix.{World, mutex_at, leads_to}
 use Rattle.pif_posix_steps.specs.Once.{MovesOnce}
 use Rattle.pif_posix_steps.specs.Doing.{moved, is_allowed}
 use Rattle.pif_posix_steps.proofs.DoingCases.{choose_then, choose_else}
 use Rattle.pif_posix_steps.proofs.DoingLists.{in_then, in_then_from, in_map, in_map_from}
 use Rattle.pif_posix_steps.proofs.DoingMoves.{moved_from, moved_to, allowed_from, allowed_to}
 use Rattle.pif_rules_model.specs.Lending.{not_named, not_owned}
-use Rattle.pif_rules_model.specs.Rules.{Wide, SeesLending, ClosesUnseen, MovesOrWaits, InWorld, WaitsInCycle, of_call, locked_next_by, seen_by_lending, owned_as_before}
+use Rattle.pif_rules_model.specs.Rules.{Wide, SeesLending, ClosesUnseen, MovesOrWaits, InWorld, of_call, locked_next_by, seen_by_lending, owned_as_before}
 use Rattle.pif_rules_model.specs.Rules.MovesOrWaits.{plain, waits}
 use Rattle.pif_rules_model.specs.Ruled.{seeing_lending, closes_unseen_with, closes_unseen, moved_or_waiting, is_held_by_another, waiting_in_cycle}
 use Rattle.pif_rules_model.proofs.Moves.{held_to, held_from, waits_in_cycle_to, waits_in_cycle_from}

@@ -4,3 +4,4 @@ pub mod Lending
 pub mod Ruling
 pub mod Entries
 pub mod Sets
+pub mod Later

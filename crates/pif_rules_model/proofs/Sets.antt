@@ -1,5 +1,5 @@
 -- With more rules there is each step that there is with fewer, and with none there are those of the plain machine.
-use Rattle.std.proofs.Common.{ℕ, ◌≡◌, false, [], Option, Some, None, refl, sym, subst, inl, inr, arith}
+use Rattle.std.proofs.Common.{ℕ, ◌≡◌, Bool, true, false, [], Option, Some, None, refl, sym, subst, inl, inr, arith}
 use Rattle.std.proofs.lemmas.Bool.{both_ways}
 use Rattle.pif_types.specs.Bounds.{Bounds}
 use Rattle.pif_model.specs.declared.events.Event.{Event}
@@ -20,7 +20,7 @@ use Rattle.pif_rules_model.specs.declared.rules.Rule.TheVariants.{Steal, AnyWait
 use Rattle.pif_rules_model.specs.declared.rules.Rules.{Rules}
 use Rattle.pif_rules_model.specs.Sets.{has, no_rules, AreAmong, AreWithin}
 use Rattle.pif_rules_model.specs.Lending.{not_owned}
-use Rattle.pif_rules_model.specs.Rules.{Wide, seen_by_lending, hidden_from, WideEnds, EndsInSteps, LocksBeyond, LocksWithin, DoesBy, MovesByRule, WideMoves, MayRevive, FindsHealth, PassesBy, ReleasesBy, EndsBy, EndsApartBy, PassesApart, HasReleased, WideEnters, WideEndsApart, end_of, lost_by}
+use Rattle.pif_rules_model.specs.Rules.{Wide, seen_by_lending, hidden_from, WideEnds, EndsInSteps, LocksBeyond, LocksWithin, DoesBy, MovesByRule, WideMoves, MayRevive, FindsHealth, PassesBy, ReleasesBy, EndsBy, EndsApartBy, PassesApart, PassesLater, InWorld, HasReleased, WideEnters, WideEndsApart, WidePassesLater, as_process_ends, end_of, lost_by}
 use Rattle.pif_rules_model.specs.Rules.WideMoves.{plain, ruled}
 use Rattle.pif_rules_model.specs.Rules.MayRevive.{revives, cut}
 use Rattle.pif_rules_model.specs.Rules.FindsHealth.{as_it_is, one}
@@ -28,7 +28,7 @@ use Rattle.pif_rules_model.specs.Rules.PassesBy.{passes, left_free}
 use Rattle.pif_rules_model.specs.Rules.ReleasesBy.{none_left, they_stay, one_more}
 use Rattle.pif_rules_model.specs.Rules.HasReleased.{at_once, none_left as none_kept, they_stay as they_are_kept}
 use Rattle.pif_rules_model.specs.Rules.WideEnters.{ended, other}
-use Rattle.pif_rules_model.specs.Rules.EndsInSteps.{leaves, passes as passes_later}
+use Rattle.pif_rules_model.specs.Rules.EndsInSteps.{leaves, passes as passes_apart}
 use Rattle.pif_rules_model.proofs.Entries.{plainly_released, widely_released}
 use Rattle.pif_rules_model.proofs.Lending.{sees_more, moves_plainly, plain_moves_are_seen, ends_plainly, plain_ends_are_seen}
 
@@ -119,9 +119,8 @@ module _ (a b : Rules) (more : AreAmong a b) where
     leaves = h.leaves;
   }
 
-  pub passes_apart_more : (t : ℕ) (w v : World) → PassesApart a t w v → PassesApart b t w v
-  passes_apart_more t w v h = record {
-    apart = more.among EndsApart h.apart;
+  passes_later_more : (t : ℕ) (w v : World) → PassesLater a t w v → PassesLater b t w v
+  passes_later_more t w v h = record {
     ended = h.ended;
     mutex = h.mutex;
     owns = h.owns;
@@ -129,12 +128,58 @@ module _ (a b : Rules) (more : AreAmong a b) where
     passes = passes_more h.mutex (after_owner_death h.mutex w) v h.passes;
   }
 
+  pub passes_apart_more : (t : ℕ) (w v : World) → PassesApart a t w v → PassesApart b t w v
+  passes_apart_more t w v h = record {
+    apart = more.among EndsApart h.apart;
+    later = passes_later_more t w v h.later;
+  }
+
   in_steps_more : (t : ℕ) (s n : Wide) → EndsInSteps a t s n → EndsInSteps b t s n
   in_steps_more t s n (leaves v h e) = leaves v (leaves_more t s.world v h) e
-  in_steps_more t s n (passes_later v i h e) = passes_later v i (passes_apart_more t s.world v h) e
+  in_steps_more t s n (passes_apart v i h e) = passes_apart v i (passes_apart_more t s.world v h) e
 
   pub ends_apart_more : (t : ℕ) (s n : Wide) → WideEndsApart a t s n → WideEndsApart b t s n
   ends_apart_more t s n h = sees_more (EndsInSteps a t) (EndsInSteps b t) (in_steps_more t) (not_owned s.world t s.prio_none) s n h
+
+  later_more : (t : ℕ) (s n : Wide) → InWorld (PassesLater a t) s n → InWorld (PassesLater b t) s n
+  later_more t s n h = record { world = h.world; step = passes_later_more t s.world h.world h.step; same = h.same }
+
+  pub passed_later_more : (t : ℕ) (s n : Wide) → WidePassesLater a t s n → WidePassesLater b t s n
+  passed_later_more t s n h =
+      sees_more (InWorld (PassesLater a t)) (InWorld (PassesLater b t)) (later_more t) (not_owned s.world t s.prio_none) s n h
+
+  -- all but `stays_locked`
+  among_kept : (x : Rule) → has (record a { stays_locked = false }) x ≡ true → has (record b { stays_locked = false }) x ≡ true
+  among_kept StaysLocked e = absurd (both_ways false refl e)
+  among_kept Steal e = more.among Steal e
+  among_kept AnyWaiter e = more.among AnyWaiter e
+  among_kept Spurious e = more.among Spurious e
+  among_kept Recursion e = more.among Recursion e
+  among_kept OwnErrorcheck e = more.among OwnErrorcheck e
+  among_kept AnyConsistent e = more.among AnyConsistent e
+  among_kept HeldWait e = more.among HeldWait e
+  among_kept LostSignal e = more.among LostSignal e
+  among_kept Revives e = more.among Revives e
+  among_kept Barge e = more.among Barge e
+  among_kept CycleWaits e = more.among CycleWaits e
+  among_kept CycleRefused e = more.among CycleRefused e
+  among_kept TimeoutConsumes e = more.among TimeoutConsumes e
+  among_kept EndsApart e = more.among EndsApart e
+  among_kept Rebinds e = more.among Rebinds e
+  among_kept MoreUses e = more.among MoreUses e
+  among_kept RefusesSetprio e = more.among RefusesSetprio e
+  among_kept ConsistentByAny e = more.among ConsistentByAny e
+  among_kept CutUnlock e = more.among CutUnlock e
+
+  -- so also for the end of a thread whose process ends with it
+  pub as_process_ends_more : (x : Bool) → AreAmong (as_process_ends x a) (as_process_ends x b)
+  as_process_ends_more false = more
+  as_process_ends_more true = record {
+    among = among_kept;
+    recursion = more.recursion;
+    prio_none = more.prio_none;
+    extra_lines = more.extra_lines;
+  }
 
   pub released_more : (t : ℕ) (s : Wide) → HasReleased a t s → HasReleased b t s
   released_more t s (at_once e) = at_once e
@@ -180,7 +225,13 @@ none_among r = record {
   among = λ x e. absurd (both_ways (has no_rules x) (none_is_among x) e);
   recursion = λ x e. absurd (cc);
   prio_none = λ e. absurd (cc);
+  extra_lines = λ e. absurd (cc);
 }
+
+-- a process that ends has none of them either
+pub as_process_ends_none : (x : Bool) → as_process_ends x no_rules ≡ no_rules
+as_process_ends_none false = refl
+as_process_ends_none true = refl
 
 no_rule_moves : (t : ℕ) (s n : Wide) → MovesByRule no_rules t s n → ⊥
 no_rule_moves t s n h = both_ways (has no_rules h.rule) (none_is_among h.rule) h.allowed
@@ -197,7 +248,7 @@ none_ends_apart t s n h = by_step (seen_by_lending (not_owned s.world t s.prio_n
   where
     by_step : (u v : Wide) → EndsInSteps no_rules t u v → ⊥
     by_step u v (leaves x i e) = both_ways false refl i.apart
-    by_step u v (passes_later x a i e) = both_ways false refl i.apart
+    by_step u v (passes_apart x a i e) = both_ways false refl i.apart
 
 -- AN ENTRY OF THE PLAIN MACHINE
 

@@ -355,6 +355,13 @@ abbrev pub ended_apart : Rules → ℕ → Wide → List Wide
 ended_apart r t s =
     if r.ends_apart then seeing_lending (not_owned s.world t s.prio_none) (ended_in_steps r t) s else []
 
+-- one of the robust mutexes that stayed with t, who has ended, passes on: all results
+abbrev pub passing_later : Rules → ℕ → Wide → List Wide
+passing_later r t s = map (beside s) (passed_apart r t s.world)
+
+abbrev pub passed_later : Rules → ℕ → Wide → List Wide
+passed_later r t s = seeing_lending (not_owned s.world t s.prio_none) (passing_later r t) s
+
 -- whether t, who has ended, has released its robust mutexes as it has to
 abbrev pub has_released : Rules → ℕ → Wide → Bool
 has_released r t s =

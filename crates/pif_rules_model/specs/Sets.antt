@@ -60,6 +60,7 @@ no_rules = record {
   consistent_by_any = false;
   cut_unlock = false;
   prio_none = false;
+  extra_lines = false;
 }
 
 -- a recursive mutex may be held as often by the second bounds, and a lock of it may be refused as early
@@ -72,6 +73,7 @@ pub record AreAmong (a b : Rules) : Type 0 where
   pub among : (x : Rule) → has a x ≡ true → has b x ≡ true
   pub recursion : (x : HoldLimits) → a.recursion ≡ Some x → (y : HoldLimits) × (b.recursion ≡ Some y) × AreWithin x y
   pub prio_none : a.prio_none ≡ true → b.prio_none ≡ true
+  pub extra_lines : a.extra_lines ≡ true → b.extra_lines ≡ true
 
 -- Whether POSIX.1-2017 allows what a rule adds. The others are what implementations do against it. That these are all
 -- that POSIX leaves open beside the machine is trusted.
@@ -121,4 +123,5 @@ posix_rules = record {
   consistent_by_any = true;
   cut_unlock = true;
   prio_none = false;
+  extra_lines = false;
 }

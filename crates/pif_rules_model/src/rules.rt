@@ -101,6 +101,8 @@ pub struct Rules {
     pub cut_unlock: bool,
     /// Whether mutexes of PTHREAD_PRIO_NONE may be added. That is no rule: it stands here since the plain machine has none.
     pub prio_none: bool,
+    /// Whether the lines `halted`, `resumed` and `process` may stand in a history. That is no rule either.
+    pub extra_lines: bool,
 }
 
 /// All rules, in the order in which they are told and tried.
@@ -153,6 +155,7 @@ pub fn no_rules() -> Rules
         consistent_by_any: false,
         cut_unlock: false,
         prio_none: false,
+        extra_lines: false,
     }
 }
 

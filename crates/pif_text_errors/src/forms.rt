@@ -130,6 +130,8 @@ pub enum Rest {
     Condition,
     /// Times that rise.
     Ticks,
+    /// More threads, or none.
+    Threads,
 }
 
 /// Parts that stand one behind the other.

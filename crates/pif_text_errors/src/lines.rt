@@ -87,6 +87,8 @@ enum Next {
     Rules,
     /// A time, or the end.
     Tick,
+    /// A thread, or the end.
+    Threads,
     /// A statement, or what ends none.
     Statement,
     /// What ends a statement.
@@ -163,6 +165,7 @@ fn after_parts(rest: Rest) -> Next {
         Rest::Test => Next::Guard(true),
         Rest::Condition => Next::Subject(true),
         Rest::Ticks => Next::Tick,
+        Rest::Threads => Next::Threads,
     }
 }
 
@@ -225,6 +228,12 @@ impl LineSoFar {
         let is_last = ends_early(word, part);
         self.begin(if is_last { Parts::Of(&[]) } else { more }, self.behind);
         Ok(())
+    }
+
+    /// Takes one more thread.
+    fn take_thread(&mut self, word: &[u8]) -> Result<(), Slip> {
+        self.parts = Parts::Of(&[Part::Thread]);
+        self.take_part(word)
     }
 
     /// Takes a word of a table, behind whose parts this may stand. `other` is wrong with a word that is none of them.
@@ -406,6 +415,7 @@ impl LineSoFar {
                 .map(|_| ()),
             Next::Rule | Next::Rules => self.take_rule(word),
             Next::Tick => self.take_tick(word),
+            Next::Threads => self.take_thread(word),
             Next::Statement => self.take_statement(word),
             Next::Else if word == b"else".as_slice() => {
                 self.next = Next::Brace;
@@ -431,7 +441,7 @@ impl LineSoFar {
     /// Ends the line, unless another word is wanted.
     pub fn end(&self) -> Result<(), Slip> {
         let wrong = match self.next {
-            Next::End | Next::Optional | Next::Rules | Next::Tick => return Ok(()),
+            Next::End | Next::Optional | Next::Rules | Next::Tick | Next::Threads => return Ok(()),
             Next::Statement | Next::Semicolon | Next::Closed | Next::Else
                 if self.blocks.is_empty() => {
                 return Ok(());

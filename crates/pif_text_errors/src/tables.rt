@@ -128,7 +128,7 @@ pub static COMMANDS: [Form; 15] = [
 ];
 
 /// The lines of histories, by their first word.
-pub static HISTORY: [Form; 12] = [
+pub static HISTORY: [Form; 15] = [
     LIMITS,
     ALLOW,
     THREAD,
@@ -159,6 +159,24 @@ pub static HISTORY: [Form; 12] = [
         name: "prio",
         text: "prio tN P",
         parts: Parts::Of(&[Part::Thread, Part::Number]),
+        rest: Rest::End,
+    },
+    Form {
+        name: "process",
+        text: "process tN ..",
+        parts: Parts::Of(&[Part::Thread]),
+        rest: Rest::Threads,
+    },
+    Form {
+        name: "halted",
+        text: "halted",
+        parts: Parts::Of(&[]),
+        rest: Rest::End,
+    },
+    Form {
+        name: "resumed",
+        text: "resumed",
+        parts: Parts::Of(&[]),
         rest: Rest::End,
     },
 ];

@@ -3,7 +3,7 @@ use Rattle.clap.specs.Words.{Text, kind_of}
 use Rattle.pif_script_model.specs.declared.faults.CliFault.{CliFault}
 use Rattle.pif_script_model.specs.declared.faults.CliFault.TheVariants.{Read, Write, NoMemory, Script, Differs}
 use Rattle.pif_cli_messages.specs.declared.statuses.JobFault.{JobFault}
-use Rattle.pif_cli_messages.specs.declared.statuses.JobFault.TheVariants.{Cli, Threads, Unsettled, Undecided, PosixAllows, NotOnCore, NoCall}
+use Rattle.pif_cli_messages.specs.declared.statuses.JobFault.TheVariants.{Cli, Threads, Unsettled, Undecided, PosixAllows, PosixUndefined, NotOnCore, NoCall, Mistake}
 use Rattle.pif_cli_messages.specs.Messages.{TellsAt, TellsFault, TellsLine, TellsOf}
 use Rattle.pif_cli_messages.specs.Statuses.{fault_status, job_fault_status, job_status}
 use Rattle.pif_story.specs.Notes.{notes_text}
@@ -13,8 +13,8 @@ use Rattle.pif_cli.specs.Words.{Did, RefusesInput, no_file_text}
 use Rattle.pif_cli.proofs.WordsLemmas.{EndsIf-refused, refusal_tells}
 use Rattle.pif_cli.proofs.words.command.Goals as goal
 
--- one line, at a status from 2 to 8
-tells_line : (status given : ℕ) (held holds : Option (List ℕ)) → 2 ≤ given → given ≤ 8 → status ≡ given
+-- one line, at a status from 2 to 10
+tells_line : (status given : ℕ) (held holds : Option (List ℕ)) → 2 ≤ given → given ≤ 10 → status ≡ given
     → TellsLine held holds → TellsAt status held holds
 tells_line status given held holds low high is told =
     inr (inr (inl (omega (arith, is, low), omega (arith, is, high), told)))
@@ -44,6 +44,9 @@ fault_tells (Undecided line) status held holds is told = tells_line status 7 hel
 fault_tells (PosixAllows line) status held holds is told =
     tells_line status 8 held holds (omega arith) (omega arith) is told
 fault_tells (NotOnCore mutex) status held holds is told = tells_line status 2 held holds (omega arith) (omega arith) is told
+fault_tells (PosixUndefined line) status held holds is told =
+    tells_line status 9 held holds (omega arith) (omega arith) is told
+fault_tells (Mistake line) status held holds is told = tells_line status 10 held holds (omega arith) (omega arith) is told
 fault_tells NoCall status held holds is told = tells_line status 7 held holds (omega arith) (omega arith) is told
 
 -- what a job tells them

@@ -12,12 +12,12 @@ pub returns : goal.returns
 returns c =
     let h = heard_of c.args.history.now in
     let found = c.in_ok-found.found in
-    let run = c.in_ok-run.run'.items in
+    let run = c.in_ok-more.more.items in
     let line = λ (numbers : List ℕ). posix_text c.args.base.now c.args.says.now c.args.number numbers found in (
       found,
       run,
       subst (λ (k : Bounds). IsFirstUnlisted h.allowed k c.args.labels.now found) c.limits-limits.ensures c.in_ok-found.ensures,
-      subst (λ (k : Bounds). TellsRun c.args.form h.allowed k c.args.labels.now run) c.limits-limits.ensures c.in_ok-run.ensures,
+      subst (λ (k : Bounds). TellsRun c.args.form h.allowed k c.args.labels.now run) c.limits-limits.ensures c.in_ok-more.ensures,
       both c.args.out.now.items c.push_says.new.out.items c.extend_from_slice.new.self.items (line h.numbers) run
           (c.in_ok-push_says.ensures ∙ ap (λ (ns : List ℕ). c.args.out.now.items ++ line ns) c.as_slice-numbers.ensures.value)
           (c.in_ok-extend_from_slice.ensures.items

@@ -1,21 +1,20 @@
-use Rattle.std.proofs.Common.{◌∙◌, sym}
+use Rattle.std.proofs.Common.{subst}
 use Rattle.pif_history_text.specs.Reading.{heard_of}
-use Rattle.pif_job_judge.proofs.JudgingLemmas.{asked_wrong, if_ok, told_alone, told_asked}
+use Rattle.pif_job_judge.specs.declared.mistakes.Outcome.{Outcome}
+use Rattle.pif_job_judge.specs.Mistakes.{IsFound}
+use Rattle.pif_job_judge.proofs.JudgingLemmas.{if_ok, told_log}
 use Rattle.pif_job_judge.proofs.judging.tell_all.Goals as goal
 
-pub returns-then-asks : goal.returns-then-asks
-returns-then-asks g c =
-    if_ok c.tell_asked.result _ _
-    (told_asked c.args.asked.now.plain c.args.asked.now.form (heard_of c.args.history) c.args.verdict c.args.out.now.items
-    c.tell_asked.new.out.items c.requires.verdict (sym c.asks.ensures ∙ c.if-asks.true))
-    c.tell_asked.ensures
+pub returns-in-Log : goal.returns-in-Log
+returns-in-Log g c =
+    if_ok c.tell_log.result _ _
+    (told_log c.args.asked.now.plain c.args.asked.now.form (heard_of c.args.history) c.args.out.now.items c.tell_log.new.out.items)
+    c.tell_log.ensures
 
-pub returns-else-asks : goal.returns-else-asks
-returns-else-asks g c =
-    if_ok c.tell.result _ _
-    (told_alone c.args.asked.now.plain c.args.asked.now.form (heard_of c.args.history) c.args.verdict c.args.out.now.items
-    c.tell.new.out.items c.requires.verdict (sym c.asks.ensures ∙ c.if-asks.false))
-    c.tell.ensures
+pub tell_log-requires-clause-mistake : goal.tell_log-requires-clause-mistake
+tell_log-requires-clause-mistake g c =
+    subst (λ (x : Outcome). IsFound (heard_of c.args.history) x) c.in-Log.is c.requires.found
 
-pub tell_asked-requires-clause-wrong : goal.tell_asked-requires-clause-wrong
-tell_asked-requires-clause-wrong g c = asked_wrong c.args.asked.now.plain _ (sym c.asks.ensures ∙ c.if-asks.true)
+pub tell_verdict-requires-clause-verdict : goal.tell_verdict-requires-clause-verdict
+tell_verdict-requires-clause-verdict g c =
+    subst (λ (x : Outcome). IsFound (heard_of c.args.history) x) c.in-Verdict.is c.requires.found

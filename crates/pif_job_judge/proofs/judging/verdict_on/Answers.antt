@@ -1,4 +1,4 @@
-use Rattle.std.proofs.Common.{List, Result, subst, IfOk}
+use Rattle.std.proofs.Common.{List, subst, IfOk}
 use Rattle.pif_types.specs.Bounds.{Bounds}
 use Rattle.pif_history_model.specs.declared.lines.Line.{Line}
 use Rattle.pif_history_machine.specs.Verdicts.{IsVerdictOf}

@@ -12,7 +12,7 @@ use Rattle.pif_job_judge.proofs.needed.tell_needed.Goals as goal
 pub number_at-number-requires : goal.number_at-number-requires
 number_at-number-requires c =
     let h = heard_of c.args.history.now in
-    let least = subst (λ (found : Needed). IsLeast h.allowed c.args.asked.now (limits_of h) h.shown found) c.in-Undecided.is
+    let least = subst (λ (x : Needed). IsLeast h.allowed c.args.asked.now (limits_of h) h.shown x) c.in-Undecided.is
     c.requires.found in
     record {
       within = (
@@ -24,12 +24,13 @@ number_at-number-requires c =
 pub returns-in_ok-push_legal_with-in-Legal : goal.returns-in_ok-push_legal_with-in-Legal
 returns-in_ok-push_legal_with-in-Legal c =
     let h = heard_of c.args.history.now in
-    let rules = c.in-Legal.rules in
-    let least = subst (λ (found : Needed). IsLeast h.allowed c.args.asked.now (limits_of h) h.shown found) c.in-Legal.is
+    let found = c.in-Legal.found in
+    let rules = found.rules in
+    let least = subst (λ (x : Needed). IsLeast h.allowed c.args.asked.now (limits_of h) h.shown x) c.in-Legal.is
     c.requires.found in (
       legal_with h.count (calls_in h) h.allowed rules,
       (
-        Legal rules,
+        Legal found,
         least,
         (refl, c.of_legal.ensures ∙ ap (λ (k : ℕ). legal_end k) c.calls_in-calls.ensures),
       ),
@@ -42,7 +43,7 @@ returns-in_ok-push_undecided_with-in-Undecided c =
     let h = heard_of c.args.history.now in
     let rules = c.in-Undecided.rules in
     let number = c.number_at-number.result in
-    let least = subst (λ (found : Needed). IsLeast h.allowed c.args.asked.now (limits_of h) h.shown found) c.in-Undecided.is
+    let least = subst (λ (x : Needed). IsLeast h.allowed c.args.asked.now (limits_of h) h.shown x) c.in-Undecided.is
     c.requires.found in (
       undecided_with number h.allowed rules,
       (

@@ -3,7 +3,9 @@ use Rattle.pif_rules_model.specs.declared.rules.Rule.{Rule}
 use Rattle.pif_rules_model.specs.declared.rules.Rules.{Rules}
 use Rattle.pif_history_told.specs.Sets.{sets_of_size}
 use Rattle.pif_job_judge.specs.declared.search.Needed.{Needed}
-use Rattle.pif_job_judge.specs.LeastRules.{IsFirst, IsLegalSomehow}
+use Rattle.pif_history_model.specs.declared.labels.Label.{Label}
+use Rattle.pif_history_model.specs.Verdicts.{IsLegal}
+use Rattle.pif_job_judge.specs.LeastRules.{IsFirst}
 use Rattle.pif_job_judge.proofs.LeastRulesLemmas.{found_of_size, none_before, none_of_size, all_below}
 use Rattle.pif_job_judge.proofs.search.least.Goals as goal
 
@@ -34,11 +36,15 @@ loop-size-preserved g c =
     (subst (λ (o : Option Needed). IsFirst c.args.limits c.args.lines.now c.in_ok-sets.sets.items o) c.in_default.is c.in_ok-first.ensures))
 
 pub returns : goal.returns
-returns g c =
-    let legal = subst (λ (r : Rules). IsLegalSomehow c.args.limits c.args.lines.now r) (sym c.both.ensures) c.requires in (
-      legal,
-      all_below c.args.base.now c.args.asked.now c.args.limits c.args.lines.now c.loop-size.size c.in_ok-rules.rules.items
-          c.both.result c.in_ok-rules.ensures
-          (omega (arith, c.loop-size-test.false, c.len-size-end.ensures, c.in_ok-rules.rules.ok.0)) c.both.ensures
-          c.loop-size.invariant,
-    )
+returns g c = (
+  c.in_ok-last.ensures.enough,
+  all_below c.args.base.now c.args.asked.now c.args.limits c.args.lines.now c.loop-size.size c.in_ok-rules.rules.items
+      c.in_ok-last.last.set c.in_ok-rules.ensures
+      (omega (arith, c.loop-size-test.false, c.len-size-end.ensures, c.in_ok-rules.rules.ok.0))
+      (c.in_ok-last.ensures.set ∙ c.both-all.ensures) c.loop-size.invariant,
+)
+
+pub bounded-requires : goal.bounded-requires
+bounded-requires g c =
+    subst (λ (ls : List Label). IsLegal c.both-all.result c.args.limits c.args.lines.now ls) (sym c.in_ok-copied.ensures.items)
+    (subst (λ (r : Rules). IsLegal r c.args.limits c.args.lines.now c.args.labels.now) (sym c.both-all.ensures) c.requires)

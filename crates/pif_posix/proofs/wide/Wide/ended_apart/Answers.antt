@@ -10,5 +10,5 @@ pub returns : goal.returns
 returns c =
     let s = c.args.self.now in
     let ended : List Wide = seeing_lending (not_owned s.world c.args.thread s.prio_none) (ended_in_steps c.args.rules.now c.args.thread) s in
-    subst (λ (ns : List Wide). IfOk c.ended_seeing_lending.result (λ v. v.items ≡ ns))
-    (sym (choose_then c.args.rules.now.ends_apart ended [] c.if-not-rules.false)) c.ended_seeing_lending.ensures
+    subst (λ (ns : List Wide). IfOk c.seeing_own.result (λ v. v.items ≡ ns))
+    (sym (choose_then c.args.rules.now.ends_apart ended [] c.if-not-rules.false)) c.seeing_own.ensures

@@ -1,6 +1,7 @@
 use Rattle.std.proofs.Common.{sym, ◌∙◌}
 use Rattle.std.proofs.lemmas.Str.{IsUtf8-past_char, chars_past_char}
-use Rattle.pif_cli_messages.proofs.messages.is_shown.Goals as goal
+use Rattle.pif_cli_messages.proofs.ShownLemmas.{none_in}
+use Rattle.pif_cli_messages.proofs.messages.are_printable.Goals as goal
 
 pub returns-then-not-is_printable : goal.returns-then-not-is_printable
 returns-then-not-is_printable c =
@@ -17,3 +18,6 @@ loop-character-preserved c =
       IsUtf8-past_char _ _ c.in-Some.character held.0 parts,
       rw (chars_past_char _ _ c.in-Some.character held.0 parts, shown) at held.1,
     )
+
+pub returns : goal.returns
+returns c = rw (none_in _ c.in-None.ensures.steps.0.0) at c.loop-character.invariant.1

@@ -1,0 +1,367 @@
+//! Mistakes of a log: a line that those before it refuse by themselves, whatever was answered.
+ghost use Rattle.std.specs.Prelude.{◌≡◌, ◌≤◌, ◌++◌, false, take, vec_len, Some, IfErr, IfOk, IfSome, OnOk};
+ghost use Rattle.pif_history_machine.specs.Verdicts.{IsRefusalThere, IsVerdictOf};
+ghost use Rattle.pif_history_model.specs.Verdicts.{IsLegal};
+ghost use Rattle.pif_history_text.specs.Histories.{Heard, limits_of};
+ghost use Rattle.pif_history_text.specs.Reading.{IsPaired, heard_of};
+ghost use Rattle.pif_job_judge.specs.Mistakes.{AppendsLog, AppendsLogLines, AppendsLogObjects, IsFound, IsMistake, IsRefused, is_found_legal, log_object, log_text};
+
+use crate::faults::Ended;
+use crate::forms::{Form, Judging};
+use crate::judging::Numbered;
+use crate::objects::{append_steps, left_out, written};
+use crate::unfound::find_further;
+use pif_history::judge_lines;
+use pif_history_machine::{Verdict, comes_while, halted_after, refusal};
+use pif_history_model::{HistoryLimits, Label, Line, LineRefusal};
+use pif_history_text::{History, line_text, push_refused, refusal_word};
+use pif_history_told::{append_page, line_at, number_at};
+use pif_search::{Stop, WatchLines, push};
+use pif_text::{Member, Text, append_decimal, append_members};
+use pif_types::{Prio, Request, Tid};
+use std::alloc::Global;
+
+/// A line of a history that is refused, and a run that shows the lines before it.
+#[derive(Drop)]
+pub struct Mistake {
+    /// Its place among the lines, from 1.
+    pub count: usize,
+    /// Why it is refused.
+    pub why: LineRefusal,
+    /// The labels of the steps of the run, newest first.
+    pub labels: Vec<Label>,
+}
+
+/// What was found of a history.
+#[derive(Drop)]
+pub enum Outcome {
+    /// A line is a mistake of the log.
+    Log(Mistake),
+    /// The verdict on it, and for how many of its first lines searches found runs.
+    Verdict(Verdict, usize),
+}
+
+/// The labels of the run that was found, newest first, if a history is legal; else what was found of it.
+pub fn run_of(found: Outcome) -> Result<Vec<Label>, Outcome>
+    ensures legal { IfOk result (λ labels. (h : Heard) → IsFound h found → IsLegal h.allowed (limits_of h) h.shown labels.items) }
+    ensures wrong { IfErr result (λ other. (other ≡ found) × (is_found_legal other ≡ false)) }
+{
+    match found {
+        Outcome::Log(mistake) => Err(Outcome::Log(mistake)),
+        Outcome::Verdict(verdict, shown) => match verdict {
+            Verdict::Legal(labels) => Ok(labels),
+            Verdict::Illegal(line) => Err(Outcome::Verdict(Verdict::Illegal(line), shown)),
+            Verdict::Undecided(line) => Err(Outcome::Verdict(Verdict::Undecided(line), shown)),
+        },
+    }
+}
+
+/// A line that is refused, the nth, and why.
+#[derive(Clone, Copy)]
+pub struct Refused {
+    /// Its place among the lines, from 1.
+    pub count: usize,
+    /// Why it is refused.
+    pub why: LineRefusal,
+}
+
+/// How far a thread has come by the lines.
+#[derive(Clone, Copy, PartialEq, Eq)]
+enum Come {
+    /// It was added, and has no call open.
+    Added,
+    /// It has a call open.
+    Calling,
+    /// It is dying.
+    Dying,
+    /// It has ended.
+    Gone,
+}
+
+/// What lines tell of whether the next one is refused.
+#[derive(Drop)]
+struct Front {
+    halted: bool,
+    threads: Vec<Come>,
+    mutexes: u32,
+    conds: u32,
+    time: u32,
+}
+
+impl Front {
+    /// Before any line.
+    fn new(alloc: Global) -> Front {
+        Front {
+            halted: false,
+            threads: Vec::new(alloc),
+            mutexes: 0,
+            conds: 0,
+            time: 0,
+        }
+    }
+
+    /// Whether a thread was added, and has come so far.
+    fn has(&self, thread: Tid, come: Come) -> bool {
+        let place = thread.get() as usize - 1;
+        place < self.threads.len() && self.threads[place] == come
+    }
+
+    /// Whether a thread was added, and is neither dying nor has ended.
+    fn lives(&self, thread: Tid) -> bool {
+        self.has(thread, Come::Added) || self.has(thread, Come::Calling)
+    }
+
+    /// Whether the names of a request were added.
+    fn knows(&self, request: &Request) -> bool {
+        let named = request.names();
+        let mutex = match named.mutex {
+            Some(mutex) => mutex.get() <= self.mutexes,
+            None => true,
+        };
+        match named.cond {
+            Some(cond) => mutex && cond.get() <= self.conds,
+            None => mutex,
+        }
+    }
+
+    /// Whether a line may come behind these. It may be false of one that does.
+    fn takes(&self, limits: HistoryLimits, line: &Line) -> bool {
+        comes_while(self.halted, line) && self.takes_running(limits, line)
+    }
+
+    /// Whether a line may come behind these but for a halt.
+    fn takes_running(&self, limits: HistoryLimits, line: &Line) -> bool {
+        match *line {
+            Line::Thread(base) => {
+                Prio::new(base).is_some() && self.threads.len() < limits.threads as usize
+            }
+            Line::Mutex(_, _, _) => self.mutexes < limits.mutexes,
+            Line::Cond(mutex) => mutex.get() <= self.mutexes && self.conds < limits.conds,
+            Line::Begin(thread, request) => self.has(thread, Come::Added) && self.knows(&request),
+            Line::Answer(thread, _) => self.has(thread, Come::Calling),
+            Line::Tick(time) => time >= self.time,
+            Line::End(thread) => self.lives(thread) || self.has(thread, Come::Dying),
+            Line::Process(thread) => self.lives(thread) || self.has(thread, Come::Gone),
+            Line::Dying(thread) | Line::Rests(thread) | Line::Prio(thread, _) => {
+                self.lives(thread)
+            }
+            Line::Halted | Line::Resumed => true,
+            Line::Undefined(_) => false,
+        }
+    }
+
+    /// Takes note of how far a thread has come, if it was added.
+    fn note(&mut self, thread: Tid, come: Come) {
+        let place = thread.get() as usize - 1;
+        if place < self.threads.len() {
+            self.threads[place] = come;
+        }
+    }
+
+    /// Hears one line more.
+    fn hear(&mut self, line: &Line) -> Result<(), Stop> {
+        self.halted = halted_after(line, self.halted);
+        match *line {
+            Line::Thread(_) => return push(&mut self.threads, Come::Added),
+            Line::Mutex(_, _, _) => self.mutexes = self.mutexes.saturating_add(1),
+            Line::Cond(_) => self.conds = self.conds.saturating_add(1),
+            Line::Tick(time) => self.time = time,
+            Line::Begin(thread, _) => self.note(thread, Come::Calling),
+            Line::Answer(thread, _) => self.note(thread, Come::Added),
+            Line::Dying(thread) => self.note(thread, Come::Dying),
+            Line::End(thread) => self.note(thread, Come::Gone),
+            _ => {}
+        }
+        Ok(())
+    }
+
+    /// Why a line is refused behind the lines before it, oldest first, which are these; None if it isn't.
+    fn refusal_of(
+        &self,
+        limits: HistoryLimits,
+        before: &[Line],
+        line: &Line,
+    ) -> Result<Option<LineRefusal>, Stop>
+        ensures { IfOk result (λ o. IfSome o (λ why. IsRefusalThere limits before.now line.now (Some why))) }
+    {
+        if self.takes(limits, line) {
+            return Ok(None);
+        }
+        refusal(limits, before, line)
+    }
+}
+
+/// The first line of a history that is refused, whatever was answered, and why.
+///
+/// # Errors
+///
+/// Out of memory.
+pub fn refused_in(alloc: Global, history: &History) -> Result<Option<Refused>, Stop>
+    ensures { IfOk result (λ o. IfSome o (λ x. IsRefused (heard_of history.now) x.count x.why)) }
+{
+    let mut front = Front::new(alloc);
+    let limits = history.limits();
+    for place in 0..history.shown.len() {
+        let count = place + 1;
+        let line = line_at(history, count);
+        let before = &history.shown.as_slice()[..place];
+        if let Some(why) = front.refusal_of(limits, before, &line)? {
+            return Ok(Some(Refused { count, why }));
+        }
+        front.hear(&line)?;
+    }
+    Ok(None)
+}
+
+/// The verdict on the first lines of a history with the rules that it allows.
+fn verdict_before<V: WatchLines>(
+    alloc: Global,
+    states: usize,
+    history: &History,
+    before: usize,
+    watch: &mut V,
+) -> Result<Verdict, Stop>
+    requires { before ≤ vec_len history.now.shown }
+    ensures { IfOk result (IsVerdictOf history.now.allowed (limits_of (heard_of history.now)) (take before history.now.shown.items)) }
+{
+    let lines = &history.shown.as_slice()[..before];
+    let limits = history.limits();
+    judge_lines(alloc, &history.allowed, limits, lines, states, watch)
+}
+
+/// What is found of a history with a line that is refused. It is a mistake of the log if the lines before it are legal.
+///
+/// # Errors
+///
+/// That of a search.
+pub fn judged_before<V: WatchLines>(
+    alloc: Global,
+    asked: &Judging<'_>,
+    history: &History,
+    refused: Refused,
+    watch: &mut Numbered<'_, '_, V>,
+) -> Result<Outcome, Stop>
+    requires { IsRefused (heard_of history.now) refused.count refused.why }
+    ensures { IfOk result (IsFound (heard_of history.now)) }
+{
+    let Refused { count, why } = refused;
+    let states = asked.states as usize;
+    match verdict_before(alloc, states, history, count - 1, watch)? {
+        Verdict::Legal(labels) => Ok(Outcome::Log(Mistake { count, why, labels })),
+        Verdict::Illegal(line) => Ok(Outcome::Verdict(Verdict::Illegal(line), watch.shown)),
+        Verdict::Undecided(line) => {
+            find_further(alloc, states, history, watch)?;
+            Ok(Outcome::Verdict(Verdict::Undecided(line), watch.shown))
+        }
+    }
+}
+
+/// Appends the line that tells of a mistake of the log. Answers what that is.
+fn tell_log_line(history: &History, mistake: &Mistake, out: &mut Vec<u8>) -> Result<Ended, Stop>
+    requires paired { IsPaired history.now }
+    requires mistake { IsMistake (heard_of history.now) mistake.now.count mistake.now.why mistake.now.labels.items }
+    ensures { IfOk result (λ end. AppendsLogLines (heard_of history.now) end out.old.items out.new.items) }
+{
+    let number = number_at(history, mistake.count);
+    push_log(number, mistake.why, out)?;
+    Ok(Ended::Log(u64::from(number)))
+}
+
+/// Appends that the line of this number is a mistake of the log, and why.
+fn push_log(number: u32, why: LineRefusal, out: &mut Vec<u8>) -> Result<(), Stop>
+    ensures { OnOk result (out.new.items ≡ out.old.items ++ log_text number why) }
+{
+    out.extend_from_slice(b"log ")?;
+    append_decimal(out, u64::from(number))?;
+    out.extend_from_slice(b": ")?;
+    push_refused(out, why)?;
+    Ok(())
+}
+
+/// Appends the same, as a line of JSON, with the text of the line. So many lines of the run behind it are left out.
+fn append_log(
+    number: u32,
+    line: Line,
+    why: LineRefusal,
+    left_out: u32,
+    out: &mut Vec<u8>,
+) -> Result<(), Stop>
+    ensures { OnOk result (out.new.items ≡ out.old.items ++ log_object number line why left_out) }
+{
+    let mut text = Text::new();
+    line_text(line, &mut text);
+    append_members(
+        out,
+        b'{',
+        &[
+            Member::Quoted("verdict", b"log"),
+            Member::Number("line", number),
+            Member::Quoted("text", text.as_slice()),
+            Member::Number("left_out", left_out),
+        ],
+    )?;
+    append_members(out, b',', &[Member::Quoted("refused", refusal_word(why))])?;
+    out.extend_from_slice(b"}\n")?;
+    Ok(())
+}
+
+/// Appends what is told in lines of JSON of a mistake of the log, and of the run that shows the lines before it. Answers
+/// what that is.
+fn append_log_history(
+    alloc: Global,
+    form: Form,
+    history: &History,
+    mistake: &Mistake,
+    out: &mut Vec<u8>,
+) -> Result<Ended, Stop>
+    requires paired { IsPaired history.now }
+    requires mistake { IsMistake (heard_of history.now) mistake.now.count mistake.now.why mistake.now.labels.items }
+    ensures { IfOk result (λ end. AppendsLogObjects form (heard_of history.now) end out.old.items out.new.items) }
+{
+    let number = number_at(history, mistake.count);
+    let line = line_at(history, mistake.count);
+    let left = left_out(form, mistake.count - 1);
+    append_log(number, line, mistake.why, written(left)?, out)?;
+    append_steps(alloc, history, left, mistake.labels.as_slice(), out)?;
+    Ok(Ended::Log(u64::from(number)))
+}
+
+/// Appends a page with that. Answers what that is.
+fn tell_log_page(
+    alloc: Global,
+    history: &History,
+    mistake: &Mistake,
+    out: &mut Vec<u8>,
+) -> Result<Ended, Stop>
+    requires paired { IsPaired history.now }
+    requires mistake { IsMistake (heard_of history.now) mistake.now.count mistake.now.why mistake.now.labels.items }
+    ensures { IfOk result (λ end. AppendsLog Form.Page (heard_of history.now) end out.old.items out.new.items) }
+{
+    let mut lines = Vec::new(alloc);
+    let end = append_log_history(alloc, Form::Page, history, mistake, &mut lines)?;
+    append_page(lines.as_slice(), out)?;
+    Ok(end)
+}
+
+/// Appends what is told of a mistake of the log. Answers what that is.
+///
+/// # Errors
+///
+/// Out of memory, or a run that can't be told.
+pub fn tell_log(
+    alloc: Global,
+    form: Form,
+    history: &History,
+    mistake: &Mistake,
+    out: &mut Vec<u8>,
+) -> Result<Ended, Stop>
+    requires paired { IsPaired history.now }
+    requires mistake { IsMistake (heard_of history.now) mistake.now.count mistake.now.why mistake.now.labels.items }
+    ensures { IfOk result (λ end. AppendsLog form (heard_of history.now) end out.old.items out.new.items) }
+{
+    match form {
+        Form::Text | Form::Witness => tell_log_line(history, mistake, out),
+        Form::Json => append_log_history(alloc, Form::Json, history, mistake, out),
+        Form::Page => tell_log_page(alloc, history, mistake, out),
+    }
+}
