@@ -27,7 +27,7 @@ OUT = Path(os.environ.get("OTHERS_CACHE") or Path.home() / ".cache" / "pif-other
 C = HERE / "c"
 FLAGS = ["-std=c11", "-O2", "-g", "-Wall", "-Wextra", "-Werror", "-D_GNU_SOURCE", "-pthread", "-I", str(C), "-I", str(RECORD)]
 HUNG, NICE, AT_ONCE, PLACES = 9, 10, 2, ("packages", "root")
-LEGAL, FORBIDDEN, UNDECIDED = "legal", "forbidden", "undecided"
+LEGAL, FORBIDDEN, UNDEFINED, UNDECIDED = "legal", "forbidden", "undefined", "undecided"
 UNLIMITED_USES, ANY_HOLDS = "more_uses", "recursion=1..4294967295"
 
 
@@ -196,6 +196,8 @@ def verdict_of(history, asked):
         return (LEGAL if first == LEGAL else told.strip() or "no verdict"), told
     if allowed:
         return re.sub("=[0-9.]+|, (perhaps fewer|but for).*", "", allowed[1]), told
+    if re.search(r"(?m)^POSIX may leave it undefined: ", told):
+        return UNDEFINED, told
     least = judged(history, asked, "--plain", *reachable_rules(), "--least")
     told += "with all rules but %s: %s" % (UNLIMITED_USES, least)
     with_rules = re.match(r"legal \d+, .*, with (.*)$", least.split("\n")[0])

@@ -352,8 +352,13 @@ static void put_event(Joining *joining, const Event *event)
         return;
     }
     Record *record = new_joined(joining, event->what, event->thread);
-    if (record != NULL)
+    if (record != NULL && event->what == PROCESS_ENDS) {
+        record->process = event->process;
+        record->stamp = event->place;
+        record->is_sure = true;
+    } else if (record != NULL) {
         record->named = event->named;
+    }
     put_begin(joining, record, event->time);
 }
 

@@ -13,8 +13,8 @@ from typing import NamedTuple
 HERE = Path(__file__).resolve().parent
 TOP = HERE.parent.parent
 LIBRARY = HERE / "librecord.so"
-LEGAL, FAULT, UNREAD, ILLEGAL, UNDECIDED = 0, 2, 3, 5, 7
-VERDICTS = (LEGAL, FAULT, ILLEGAL, UNDECIDED)
+LEGAL, FAULT, UNREAD, ILLEGAL, UNDECIDED, MISTAKE = 0, 2, 3, 5, 7, 10
+VERDICTS = (LEGAL, FAULT, ILLEGAL, UNDECIDED, MISTAKE)
 
 
 class Verdict(NamedTuple):
@@ -22,7 +22,7 @@ class Verdict(NamedTuple):
 
     status: int
     text: str
-    line: int  # of an illegal or undecided one; else 0
+    line: int  # of an illegal or undecided one, or of a mistake of the log; else 0
 
 
 def make(*targets):
@@ -88,7 +88,7 @@ def judge(history, pif=None, states=None, seconds=None, rules=()):
         done = subprocess.run(words, stdin=subprocess.DEVNULL, capture_output=True, text=True, timeout=seconds)
     except subprocess.TimeoutExpired:
         return Verdict(UNDECIDED, "undecided: it takes more than %d seconds\n" % seconds, 0)
-    found = re.match(r"(?:illegal|undecided) at (\d+)", done.stdout)
+    found = re.match(r"(?:illegal at|undecided at|log) (\d+)", done.stdout)
     told = done.stdout if done.stdout else done.stderr
     return Verdict(done.returncode, told, int(found[1]) if found else 0)
 

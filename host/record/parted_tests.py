@@ -121,6 +121,11 @@ def test_killed_anywhere(kit, place, _):
     demand_legal(kit, place / "history")
 
 
+def test_holding(kit, place, name, is_stored):
+    kit.demand_ended(name, names_of(kit, place))
+    kit.compare("holds_to_the_end", kit.plain(joined(kit, place)[0]), "", is_stored)
+
+
 def test_own_end(kit, place, name, number, is_stored):
     done = kit.run([kit.FEATURES, name], env=names_of(kit, place))
     kit.demand(done.returncode == -number, "status %d" % done.returncode)
@@ -152,7 +157,7 @@ def test_rights(kit, place, _):
 
 def test_judge(kit, place, is_stored):
     kept = place / "kept"
-    kit.demand_judged(kit.judge_words("--parts", "--keep", kept, kit.FEATURES, "leaves_at_once"), 0, ["legal 7, 2 calls"])
+    kit.demand_judged(kit.judge_words("--parts", "--keep", kept, kit.FEATURES, "leaves_at_once"), 0, ["legal 8, 2 calls"])
     kit.demand_judged(kit.judge_words("--parts", kit.FEATURES, "names_used_again"), 0, ["legal 28, 6 calls"])
     kit.demand_judged(kit.judge_words("--parts", kit.FEATURES, "no_call"), 3, [])
     kit.demand_judged(kit.judge_words("--parts", "--shared", kit.FEATURES, "no_call"), 1, [])
@@ -434,6 +439,8 @@ def all_tests(kit):
     """The name and the body of each."""
     for name, body in ALL.items():
         yield "parts_" + name, lambda place, keep, body=body: body(kit, place, keep)
+    for name in kit.HOLDING:
+        yield "parts_" + name, lambda place, keep, name=name: test_holding(kit, place, name, keep)
     for feature in kit.FEATURE_TESTS:
         if feature[0] not in OTHERWISE:
             yield "parts_" + feature[0], lambda place, keep, feature=feature: test_feature(kit, place, feature, keep)

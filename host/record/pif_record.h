@@ -24,7 +24,8 @@
        PIF_ADD("# m%u is uart_lock", m);           what one is called; it counts as one that is added
        PIF_BEGIN(t, "lock m%u", m);                before the call is entered
        PIF_ANSWER(t, a);                           after it has returned a: 0, or the number of an error
-       PIF_LINE("tick %u", time);                  any other line of a history: tick, dying, end, rests, prio
+       PIF_LINE("tick %u", time);                  any other line of a history: tick, dying, end, rests,
+                                                   prio, halted, resumed, process
        PIF_FORGET();                               now all is as it was added: start anew here
        lost = pif_dump(put);                       writes it, a character at a time, while nothing else is recorded
 

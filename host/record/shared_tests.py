@@ -13,6 +13,9 @@ HELD_AT_FORK = "left out: copies of mutexes that were held when a process was fo
 FEATURES = [
     ("one_is_killed", [], ["2 calls on semaphores"], ""),
     ("killed_in_a_lock", [], ["2 calls on semaphores"], ""),
+    ("threads_are_killed", [], ["2 calls on semaphores"], ""),
+    ("killed_unseen", [], ["2 calls on semaphores"], ""),
+    ("ends_by_itself", [], [], ""),
     ("one_exits", [], [], ""),
     ("end_unseen", [], [], ""),
     ("variable_of_two", [], ["2 calls on semaphores"], "each thread"),
@@ -21,7 +24,7 @@ FEATURES = [
     ("copy_in_child", [], [], ""),
     ("held_at_fork", [HELD_AT_FORK + "1"], ["1 call on copies of mutexes that were held at a fork"], ""),
     ("mapped_again", [], [], ""),
-    ("hidden_memory", [UNIDENTIFIED + "3"], ["2 calls on shared objects whose memory can't be identified"], ""),
+    ("hidden_memory", [UNIDENTIFIED + "4"], ["2 calls on shared objects whose memory can't be identified"], ""),
     ("made_by_another", [SHARED + "1"], ["2 calls on objects shared between processes"], ""),
 ]
 
@@ -55,6 +58,11 @@ def test_feature(kit, place, feature, is_stored):
     kit.demand(re.findall(r"(?m)^# not seen: (.*)$", text) == passed_by, "the history has others than %s" % passed_by)
     kit.demand(re.search(r"(?m)^# t1 is features of process \d+$", text), "t1 has no process")
     kit.compare(name, kit.plain(text), how, is_stored)
+
+
+def test_holding(kit, place, name, is_stored):
+    kit.demand_ended(name, names_of(kit, place))
+    kit.compare("holds_to_the_end", kit.plain(merged(kit, place, [], ["2 calls on semaphores"])), "", is_stored)
 
 
 def test_killed(kit, place, is_stored):
@@ -99,7 +107,7 @@ def test_refused(kit, place, _):
 
 def test_judge(kit, place, is_stored):
     kept = place / "kept"
-    kit.demand_judged(kit.judge_words("--shared", "--keep", kept, kit.FEATURES, "one_is_killed"), 0, ["legal 19, 5 calls"])
+    kit.demand_judged(kit.judge_words("--shared", "--keep", kept, kit.FEATURES, "one_is_killed"), 0, ["legal 20, 5 calls"])
     kit.compare("one_is_killed", kit.plain(kit.checked(kept)), "", is_stored)
     kit.demand_judged(kit.judge_words("--shared", kit.FEATURES, "no_call"), 3, [])
 
@@ -114,6 +122,8 @@ def all_tests(kit):
     """The name and the body of each."""
     for feature in FEATURES:
         yield feature[0], lambda place, keep, feature=feature: test_feature(kit, place, feature, keep)
+    for name in kit.HOLDING:
+        yield "shared_%s" % name, lambda place, keep, name=name: test_holding(kit, place, name, keep)
     for name, body in (("killed", test_killed), ("cut", test_cut), ("refused", test_refused), ("judge", test_judge),
                        ("measure", test_measure)):
         yield "shared_%s" % name, lambda place, keep, body=body: body(kit, place, keep)

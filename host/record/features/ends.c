@@ -1,4 +1,5 @@
 /* How a history ends, and of which program it is. */
+#include <signal.h>
 #include <stdatomic.h>
 #include <stdio.h>
 #include <stdlib.h>
@@ -57,6 +58,40 @@ static void hangs(void)
     make_inheriting(&mutex);
     pthread_mutex_lock(&mutex);
     run_to_end(lock_it, NULL);
+}
+
+/* The first thread has a robust mutex, and the second one waits for it. */
+static void hold_robust(void)
+{
+    make_mutex(&mutex, PTHREAD_MUTEX_NORMAL, true, PTHREAD_PRIO_INHERIT);
+    pthread_mutex_lock(&mutex);
+    start(wait_for_it, NULL);
+    until(&is_there);
+    until_blocked(atomic_load(&waiter));
+}
+
+static void holds_and_exits(void)
+{
+    hold_robust();
+    exit(0);
+}
+
+static void holds_and_leaves(void)
+{
+    hold_robust();
+    _exit(0);
+}
+
+static void holds_and_aborts(void)
+{
+    hold_robust();
+    abort();
+}
+
+static void holds_and_is_ended(void)
+{
+    hold_robust();
+    raise(SIGTERM);
 }
 
 static void alarm_of_its_own(void)
@@ -178,6 +213,11 @@ const Feature end_features[] = {
     {"hangs", "two threads wait for good", hangs},
     {"alarm_of_its_own", "the same, up to SIGALRM", alarm_of_its_own},
     {"aborts", "a program that ends by abort", aborts},
+    {"holds_to_the_end", "main returns with a robust mutex, for which another thread waits", hold_robust},
+    {"holds_and_exits", "the same, by exit", holds_and_exits},
+    {"holds_and_leaves", "the same, by _exit", holds_and_leaves},
+    {"holds_and_aborts", "the same, by abort", holds_and_aborts},
+    {"holds_and_is_ended", "the same, by SIGTERM", holds_and_is_ended},
     {"faults", "a program that writes where there is no memory", faults},
     {"later_than_all", "calls after 2^32 microseconds", later_than_all},
     {"child_of_recorded", "a fork after the first call", child_of_recorded},

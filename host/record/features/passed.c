@@ -1,6 +1,7 @@
 /* What passes the recorder by, and is counted alone; and the names of what it records. */
 #include <dlfcn.h>
 #include <sched.h>
+#include <signal.h>
 #include <stdlib.h>
 #include <threads.h>
 #include <unistd.h>
@@ -218,6 +219,13 @@ static void leaves_at_once(void)
     _exit(0);
 }
 
+static void is_killed(void)
+{
+    make_inheriting(&kept);
+    lock_and_unlock(&kept);
+    raise(SIGKILL);
+}
+
 const Feature passed_features[] = {
     {"passed_by", "each kind of call that isn't recorded", passed_by},
     {"made_anew_while_held", "a static initialiser over a mutex that another thread holds", made_anew_while_held},
@@ -225,5 +233,6 @@ const Feature passed_features[] = {
     {"drops_rights", "a program that gives its rights up between two calls", drops_rights},
     {"drops_rights_early", "the same, and a thousand calls more", drops_rights_early},
     {"leaves_at_once", "_exit after a call", leaves_at_once},
+    {"is_killed", "SIGKILL after a call", is_killed},
     {NULL, NULL, NULL},
 };

@@ -12,7 +12,7 @@
 
 /* What is shared, and semaphores for the turns. */
 typedef struct {
-    pthread_mutex_t robust, plain;
+    pthread_mutex_t robust, second, plain;
     pthread_cond_t variable;
     sem_t is_held;
 } Shared;
@@ -45,6 +45,7 @@ static void make_all(Shared *shared)
     pthread_condattr_t attributes;
 
     make_shared_mutex(&shared->robust, true);
+    make_shared_mutex(&shared->second, true);
     make_shared_mutex(&shared->plain, false);
     pthread_condattr_init(&attributes);
     pthread_condattr_setpshared(&attributes, PTHREAD_PROCESS_SHARED);
@@ -71,13 +72,15 @@ static void hold_robust(Shared *shared)
         pause();
 }
 
-/* Takes what the dead had, and makes it consistent. */
-static void recover(Shared *shared)
+static void recover_one(pthread_mutex_t *mutex)
 {
-    pthread_mutex_lock(&shared->robust);
-    pthread_mutex_consistent(&shared->robust);
-    pthread_mutex_unlock(&shared->robust);
+    pthread_mutex_lock(mutex);
+    pthread_mutex_consistent(mutex);
+    pthread_mutex_unlock(mutex);
 }
+
+/* Takes what the dead had, and makes it consistent. */
+static void recover(Shared *shared) { recover_one(&shared->robust); }
 
 static void one_is_killed(void)
 {
@@ -128,6 +131,94 @@ static void killed_in_a_lock(void)
     waitpid(child, NULL, 0);
     pthread_mutex_unlock(&shared->plain);
     lock_and_unlock(&shared->plain);
+}
+
+static void *end_with_second(void *shared)
+{
+    pthread_mutex_lock(&((Shared *)shared)->second);
+    return NULL;
+}
+
+static void *wait_in_thread(void *shared)
+{
+    wait_for_plain(shared);
+    return NULL;
+}
+
+static void hold_with_threads(Shared *shared)
+{
+    run_to_end(end_with_second, shared);
+    pthread_mutex_lock(&shared->robust);
+    pthread_join(start(wait_in_thread, shared), NULL);
+}
+
+/* One thread has a robust mutex, one waits, and one has ended with a robust mutex. */
+static void threads_are_killed(void)
+{
+    Shared *shared = map_shared(-1);
+
+    make_all(shared);
+    pthread_mutex_lock(&shared->plain);
+    pid_t child = start_child(hold_with_threads, shared);
+    until(&shared->is_held);
+    sleep_ms(SHORT_MS);
+    kill(child, SIGKILL);
+    waitpid(child, NULL, 0);
+    recover(shared);
+    recover_one(&shared->second);
+    pthread_mutex_unlock(&shared->plain);
+}
+
+static void *use_plain_and_stay(void *shared)
+{
+    lock_and_unlock(&((Shared *)shared)->plain);
+    sem_post(&((Shared *)shared)->is_held);
+    for (;;)
+        pause();
+    return NULL;
+}
+
+static void hold_and_let_another_go(Shared *shared)
+{
+    pthread_mutex_lock(&shared->robust);
+    pthread_join(start(use_plain_and_stay, shared), NULL);
+}
+
+/* By who isn't seen: each thread was alive at its last line. */
+static void killed_unseen(void)
+{
+    Shared *shared = map_shared(-1);
+
+    make_all(shared);
+    pid_t child = start_child(hold_and_let_another_go, shared);
+    until(&shared->is_held);
+    syscall(SYS_kill, child, SIGKILL);
+    waitpid(child, NULL, 0);
+    recover(shared);
+}
+
+static void leave_by_signal(Shared *shared)
+{
+    pthread_mutex_lock(&shared->robust);
+    raise(SIGTERM);
+}
+
+static void leave_at_once(Shared *shared)
+{
+    pthread_mutex_lock(&shared->robust);
+    _exit(0);
+}
+
+/* Nobody who is recorded sees how it ends, but itself. */
+static void ends_by_itself(void)
+{
+    Shared *shared = map_shared(-1);
+
+    make_all(shared);
+    waitpid(start_child(leave_by_signal, shared), NULL, 0);
+    recover(shared);
+    waitpid(start_child(leave_at_once, shared), NULL, 0);
+    recover(shared);
 }
 
 static void hold_to_exit(Shared *shared) { pthread_mutex_lock(&shared->robust); }
@@ -320,6 +411,9 @@ static void hidden_memory(void)
 const Feature process_features[] = {
     {"one_is_killed", "two processes, one of which is killed with a robust mutex", one_is_killed},
     {"killed_in_a_lock", "likewise, while it waits for a mutex", killed_in_a_lock},
+    {"threads_are_killed", "likewise, with threads that wait, hold a robust mutex or have ended with one", threads_are_killed},
+    {"killed_unseen", "a process that is killed by the bare call", killed_unseen},
+    {"ends_by_itself", "processes that end by a signal and by _exit, each with a robust mutex", ends_by_itself},
     {"one_exits", "a process that ends with a robust mutex", one_exits},
     {"end_unseen", "the same, and nobody waits for it", end_unseen},
     {"variable_of_two", "a condition variable of two processes", variable_of_two},

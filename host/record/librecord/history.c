@@ -128,63 +128,6 @@ static void cut_by_time(History *history)
     }
 }
 
-static void note_place(Record *record, uint64_t place)
-{
-    if (record->what == THREAD_ADDED)
-        record->named->last_place = place;
-    else if (record->what == THREAD_DYING)
-        record->named->dying_place = place;
-    else if (record->what == THREAD_ENDED)
-        record->named->ended_place = record->named->ended_place == 0 ? place : record->named->ended_place;
-    else if (record->what == THREAD_ALIVE && atomic_load(&record->is_alive))
-        record->named->last_place = place;
-    else if (is_call(record)) {
-        record->thread->last_place = place;
-        record->thread->open = is_begin(record, place) ? record : NULL;
-    }
-}
-
-/* Of a shared run: whether the thread's process may have ended before the last line of another one. */
-static bool may_be_survived(const Thread *thread)
-{
-    for (const Process *other = atomic_load(&run->processes); other != NULL; other = other->next)
-        if (thread->process != NULL && other != thread->process && other->last_place > thread->last_place)
-            return true;
-    return false;
-}
-
-/* `dying` stands at its stamp, or behind a call that came later. Who was joined without a stamp left by other ways, and
-   was alive at its last line. A thread with a call open isn't dying, unless it was joined, or its process may have been
-   killed. */
-static void place_death(Thread *thread)
-{
-    bool is_survived = may_be_survived(thread);
-    bool may_die = thread->dying_place != 0 || thread->ended_place != 0 || is_survived;
-
-    if (may_die && thread->last_place > thread->dying_place) {
-        bool is_inside = thread->open != NULL && thread->ended_place == 0 && !is_survived;
-        thread->dying_place = is_inside ? 0 : thread->last_place;
-    }
-    thread->open = NULL;
-}
-
-static void note_process(Thread *thread)
-{
-    if (thread->process != NULL && thread->last_place > thread->process->last_place)
-        thread->process->last_place = thread->last_place;
-}
-
-static void note_threads(History *history)
-{
-    for (uint64_t place = 1; place < history->cut; place++)
-        if (history->at[place] != NULL)
-            note_place(history->at[place], place);
-    for (Thread *thread = atomic_load(&run->threads); thread != NULL; thread = thread->next)
-        note_process(thread);
-    for (Thread *thread = atomic_load(&run->threads); thread != NULL; thread = thread->next)
-        place_death(thread);
-}
-
 /* Whether it is written. */
 static bool write_text(History *history, bool *is_opened)
 {
@@ -216,7 +159,7 @@ bool write_collected(History *history)
     if (!make_clock(history))
         return say_no_memory();
     cut_by_time(history);
-    note_threads(history);
+    place_deaths(history);
     leave_out_cancelled(history);
     number_all(history);
     count_missed(history);

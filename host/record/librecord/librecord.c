@@ -213,10 +213,7 @@ __attribute__((constructor)) void be_ready(void)
 /* A signal that would end the program ends it, with its history written first. */
 static void end_by_signal(int number)
 {
-    if (getpid() == process && is_parted_run())
-        keep_names();
-    else if (getpid() == process && !atomic_load(&is_refused))
-        write_history();
+    end_of_program();
     signal(number, SIG_DFL);
     raise(number);
 }
@@ -259,6 +256,8 @@ void take_the_file(void)
 
     if (atomic_load_explicit(&taken, memory_order_relaxed) || atomic_exchange(&taken, true))
         return;
+    for (size_t i = 0; i < sizeof last_signals / sizeof *last_signals; i++)
+        write_at_signal(last_signals[i]);
     if (is_shared_run()) {
         atomic_store(&run->has_call, true);
         atomic_store(&run->most_records, most_records);
@@ -272,34 +271,36 @@ void take_the_file(void)
         atomic_store(&run->has_call, true);
     else
         open_at_first();
-    for (size_t i = 0; i < sizeof last_signals / sizeof *last_signals; i++)
-        write_at_signal(last_signals[i]);
 }
 
 static void end_parts(void)
 {
     if (atomic_load(&taken)) {
-        keep_names();
+        end_process();
         atomic_store(&run->has_ended, true);
     } else if (lost_place() == UINT64_MAX) {
         say_no_history();
     }
 }
 
-__attribute__((destructor)) static void end_of_program(void)
+static void end_history(void)
 {
-    if (records_in_parts() && getpid() == process)
-        end_parts();
-    if (records_in_parts() || is_parted_run())
-        return;
-    if (is_shared_run()) {
-        end_process();
+    if (!atomic_load(&taken)) {
+        say_no_history();
         return;
     }
-    if (history_file == NULL || getpid() != process || atomic_load(&is_refused))
+    end_process();
+    write_history();
+}
+
+__attribute__((destructor)) void end_of_program(void)
+{
+    if (is_shared_run())
+        end_process();
+    else if (getpid() != process)
         return;
-    if (atomic_load(&taken))
-        write_history();
-    else
-        say_no_history();
+    else if (records_in_parts())
+        end_parts();
+    else if (!is_parted_run() && history_file != NULL && !atomic_load(&is_refused))
+        end_history();
 }

@@ -138,6 +138,7 @@ static void write_call(History *history, Record *record, uint64_t place)
         return;
     }
     write_answer(record->thread, record->answer);
+    note_holder(record);
     forget_deadline(history, record->thread);
     record->thread->open = NULL;
 }
@@ -150,28 +151,16 @@ static void write_added(Thread *thread)
     write_name_of_thread(thread);
 }
 
-static void write_death(const char *what, const Thread *thread)
-{
-    if (thread->number == 0)
-        return;
-    write_about(what, thread);
-    end_line();
-}
-
 static void write_record(History *history, Record *record, uint64_t place)
 {
-    bool is_of_named = record->what == THREAD_ADDED || record->what == THREAD_ALIVE;
-    const Thread *of = is_of_named ? record->named : record->thread;
-
     pass_time(history, record, place);
     if (is_call(record) && is_written(record))
         write_call(history, record, place);
     else if (record->what == THREAD_ADDED && record->named->number != 0)
         write_added(record->named);
     else if (record->what == THREAD_ENDED && record->named->ended_place == place)
-        write_death("end ", record->named);
-    if (of->dying_place == place)
-        write_death("dying ", of);
+        write_end(record->named);
+    write_deaths(history, record, place);
 }
 
 static void write_comment(const char *line)

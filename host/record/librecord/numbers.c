@@ -60,6 +60,20 @@ static void number_thread(History *history, Thread *thread)
         thread->number = ++history->thread_count;
 }
 
+static void collect_thread(History *history, Thread *thread)
+{
+    if (thread->number != 0 && history->threads != NULL)
+        history->threads[thread->number - 1] = thread;
+}
+
+static void collect_threads(History *history)
+{
+    history->threads = map_memory(((size_t)history->thread_count + 1) * sizeof *history->threads);
+    history->no_memory |= history->threads == NULL;
+    for (Thread *thread = atomic_load(&run->threads); thread != NULL; thread = thread->next)
+        collect_thread(history, thread);
+}
+
 void number_all(History *history)
 {
     for (uint64_t place = 1; place < history->cut; place++) {
@@ -71,4 +85,5 @@ void number_all(History *history)
         else if (is_call(record) && is_written(record))
             number_call(history, record);
     }
+    collect_threads(history);
 }

@@ -1,9 +1,9 @@
-/* The processes of a shared run, and how they end. Nothing of a process that is killed runs any more, so others say it:
+/* The processes of a run, and how they end. Nothing of a process that is killed runs any more, so others say it:
 
    - A thread was alive at each of its own stamps. `dying` stands at the last of them, which is right however it ended.
-   - Who is about to kill a process stamps each of its threads first, and looks at it then. One that hasn't begun to end
-     at that look was alive at the stamp, so `dying` stands there. Linux marks a thread as exiting before it passes its
-     robust mutexes on. A process that ends by `exit` does the same of its own threads.
+   - Who is about to kill a process makes a stamp first, and looks at its threads then. One that hasn't begun to end at
+     that look was alive at the stamp, so `dying` stands there. Linux marks a thread as exiting before it passes its
+     robust mutexes on. A process that ends by `exit`, `_exit` or a signal that it could handle does so itself.
    - Linux lets a process be waited for when all its threads have passed their mutexes on. So `end` is stamped after the
      wait. Nor is anything left of the program that a process ran before its `execve`, or of an older process of the
      same number.
@@ -29,6 +29,7 @@ enum { IS_EXITING = 4, FIELDS_BEFORE_FLAGS = 6, MOST_OF_STAT = 512, MOST_OF_PATH
 
 static struct {
     int (*kill)(pid_t, int);
+    void (*exit)(int) __attribute__((noreturn));
     pid_t (*wait)(int *);
     pid_t (*waitpid)(pid_t, int *, int);
     pid_t (*wait3)(int *, int, struct rusage *);
@@ -41,6 +42,7 @@ static _Atomic(Process *) present_one;
 void find_waits(void)
 {
     *(void **)&real_waits.kill = below("kill");
+    *(void **)&real_waits.exit = below("_exit");
     *(void **)&real_waits.wait = below("wait");
     *(void **)&real_waits.waitpid = below("waitpid");
     *(void **)&real_waits.wait3 = below("wait3");
@@ -146,7 +148,7 @@ static bool is_alive(const Thread *thread)
 {
     char path[MOST_OF_PATH] = "/proc/", room[MOST_DIGITS + 1], stat[MOST_OF_STAT];
 
-    strcat(path, digits_of((uint64_t)thread->process->number, 10, room));
+    strcat(path, digits_of((uint64_t)(thread->process == NULL ? getpid() : thread->process->number), 10, room));
     strcat(path, "/task/");
     strcat(path, digits_of((uint64_t)thread->number_of_kernel, 10, room));
     strcat(path, "/stat");
@@ -166,52 +168,79 @@ static bool may_be_alive(const Thread *thread)
            && atomic_load(&thread->rounds) < PTHREAD_DESTRUCTOR_ITERATIONS;
 }
 
-/* The stamp comes before the look. */
-static void stamp_alive(const Process *of)
+/* The stamp comes before the looks. NULL: there was no room for it. */
+static Record *stamp_end(Process *ended, Record *own)
+{
+    Thread *maker = this_or_no_thread();
+    Record *record = maker == NULL ? NULL : is_parted_run() ? own : new_record(maker, PROCESS_ENDS);
+
+    if (record == NULL)
+        return NULL;
+    record->thread = maker;
+    record->what = PROCESS_ENDS;
+    record->process = ended;
+    stamp_begin(record);
+    record->stamp = atomic_load(&record->begin_place);
+    for (Thread *thread = atomic_load(&run->threads); thread != NULL; thread = thread->next)
+        if (thread->process == ended && may_be_alive(thread) && is_alive(thread))
+            atomic_store(&thread->alive_place, record->stamp);
+    return record;
+}
+
+/* Whether it is sure is known of a process that ends itself. */
+static Record *note_process_end(Process *ended, Record *own, bool is_sure)
 {
     int number = errno;
-    Thread *maker = this_thread();
+    Record *record = stamp_end(ended, own);
 
-    for (Thread *thread = atomic_load(&run->threads); maker != NULL && thread != NULL; thread = thread->next) {
-        bool is_asked = thread->process == of && may_be_alive(thread);
-        Record *record = is_asked ? new_record(maker, THREAD_ALIVE) : NULL;
-        if (record == NULL)
-            continue;
-        record->named = thread;
-        stamp_begin(record);
-        atomic_store(&record->is_alive, is_alive(thread));
-    }
+    if (record != NULL)
+        atomic_store(&record->is_sure, is_sure);
     errno = number;
+    return record;
 }
 
 /* Names are those at the end, as far as that is seen. */
-void keep_names(void)
+static void keep_names(Process *own)
 {
-    Process *own = present_process();
-
-    if (own == NULL)
-        return;
     keep_maps(own);
     for (Thread *thread = atomic_load(&run->threads); thread != NULL; thread = thread->next)
         if (thread->process == own && thread->name[0] == '\0')
             read_name(thread);
 }
 
+/* Not by a child of vfork, which has its parent's memory. */
 void end_process(void)
 {
-    keep_names();
-    if (present_process() != NULL)
-        stamp_alive(present_process());
+    Process *own = present_process();
+    Record record = {.named = NULL};
+
+    if (own != NULL && own->number != getpid())
+        return;
+    if (own != NULL)
+        keep_names(own);
+    if ((own != NULL || !is_shared_run()) && lost_place() == UINT64_MAX)
+        note_process_end(own, &record, true);
 }
 
 int kill(pid_t number, int signal)
 {
     be_ready();
     Process *victim = signal == SIGKILL || signal == SIGTERM ? process_of(number) : NULL;
-    if (victim != NULL)
-        stamp_alive(victim);
-    return real_waits.kill(number, signal);
+    Record *noted = victim == NULL ? NULL : note_process_end(victim, NULL, false);
+    int answer = real_waits.kill(number, signal);
+    if (noted != NULL && answer == 0 && signal == SIGKILL)
+        atomic_store(&noted->is_sure, true);
+    return answer;
 }
+
+void _exit(int status)
+{
+    be_ready();
+    end_of_program();
+    real_waits.exit(status);
+}
+
+void _Exit(int status) { _exit(status); }
 
 static void note_end(pid_t number)
 {

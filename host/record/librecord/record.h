@@ -20,7 +20,7 @@ typedef enum {
     THREAD_ADDED,
     THREAD_DYING,
     THREAD_ENDED,
-    THREAD_ALIVE, /* of a shared run: it was alive here, if it is said so */
+    PROCESS_ENDS, /* it does, or is killed; its threads know which of them were alive behind this stamp */
     DETAIL,       /* of a recording in parts: more of the call that this thread begins next */
 } What;
 
@@ -88,6 +88,9 @@ typedef struct Process {
     /* while the history is written */
     Names *names;
     uint64_t last_place; /* of all its threads */
+    uint64_t end_place;  /* the last stamp of its end behind which one of them was alive; 0: there is none */
+    bool is_over;        /* it ends, or has ended, by a line of the history */
+    bool is_survived;    /* another one may have seen that */
 } Process;
 
 /* Where a mutex or variable of a shared run is that several processes may use. */
@@ -145,6 +148,8 @@ typedef struct Object {
     struct Thread *owner;                     /* of a mutex at this line; NULL: nobody, or it isn't known */
     uint64_t owned_since;                     /* the place of the answer by which the owner got it */
     uint32_t takers;                          /* open calls that may give up what another thread owns */
+    struct Thread *holder;                    /* of a mutex: who may have it at this line; NULL: nobody */
+    uint32_t holds;                           /* so often */
 } Object;
 
 /* A call, or what befell a thread. Times are nanoseconds of CLOCK_MONOTONIC, read after the stamp. */
@@ -156,10 +161,12 @@ typedef struct {
     union {
         uint64_t deadline;
         int64_t priority;
+        uint64_t stamp; /* of PROCESS_ENDS: its place when it was recorded, as threads have it */
     };
     union {
         Object *object;
         struct Thread *named; /* of CALL_SETPRIO, THREAD_ADDED and THREAD_ENDED */
+        Process *process;     /* of PROCESS_ENDS; NULL: the only one */
     };
     Object *mutex;         /* of a wait */
     struct Thread *thread; /* which made the call */
@@ -168,7 +175,7 @@ typedef struct {
     bool found_free;       /* of a lock: its mutex was free between the begin's stamp and the real call */
     int16_t answer;
     bool bad_time; /* the timespec is none, or its clock: the call is a lock or wait if it isn't answered EINVAL */
-    _Atomic bool is_alive;  /* of THREAD_ALIVE: it was, when this was stamped */
+    _Atomic bool is_sure;   /* of PROCESS_ENDS: it does end */
     bool takes_from_others; /* while the history is written: it is one of its mutex's takers */
 } Record;
 
@@ -180,6 +187,7 @@ typedef struct {
     union {
         Object *object;
         struct Thread *named;
+        Process *process;
     };
     Object *mutex; /* of a wait */
     union {
@@ -236,6 +244,7 @@ typedef struct Thread {
     _Atomic bool is_set; /* a call gives it a priority */
     _Atomic bool in_call;
     _Atomic bool joined;
+    _Atomic uint64_t alive_place; /* the last stamp of a PROCESS_ENDS behind which somebody found it alive */
     _Atomic int rounds; /* of the keys' destructors */
     Record present;           /* of a recording in parts: the call that is open */
     uint64_t deadline_of_next; /* in a process that reads one: the detail of the next begin */
@@ -255,9 +264,12 @@ typedef struct Thread {
 
     /* while the history is written */
     uint32_t number;      /* 0: it has no line there */
-    uint64_t last_place;  /* the last stamp of a call of its own */
+    uint64_t last_place;  /* the last at which it was alive */
     uint64_t dying_place; /* behind which its `dying` stands; 0: nowhere */
     uint64_t ended_place;
+    bool ends_with_process; /* and not by itself */
+    bool is_survived;       /* another one may have seen that it has ended */
+    bool has_end;           /* its `end` stands before this line */
     Record *open;      /* the call that is open at this line */
     uint64_t deadline; /* of the open call; 0: none that isn't reached */
     uint32_t waiting_at;
@@ -354,6 +366,7 @@ extern const char *history_file;
 void be_ready(void); /* before a call of `real`, or a look at `recording`; it costs nothing the second time */
 void take_the_file(void);
 void rest(void);
+void end_of_program(void); /* of this process; also if its end was said before */
 void count(Count);
 uint64_t counted(Count);
 
@@ -422,7 +435,6 @@ Process *present_process(void); /* NULL: it has no record yet, or the run isn't 
 Process *the_process(void);
 void forget_process(void);
 void end_older(void);   /* says the end of what had this process's number before */
-void keep_names(void);
 void end_process(void); /* before its own end */
 
 /* shared.c */
@@ -468,6 +480,7 @@ void leave_call(void *record);
 
 /* threads.c */
 Thread *this_thread(void);
+Thread *this_or_no_thread(void); /* if this one has made no call: one that has no line */
 bool note_thread(Thread *maker, What, Thread *); /* false: there was no room for it */
 void forget_thread(void); /* in a child: its thread is a new one */
 bool make_key(void);
@@ -480,6 +493,7 @@ typedef struct {
     bool is_late;   /* cut by the time */
     bool no_memory;
     uint32_t mutex_count, variable_count, thread_count;
+    Thread **threads; /* those with a line, in the order of their numbers */
     Object *first_mutex, *last_mutex;
     Variable *first_variable, *last_variable;
     Thread **waiting; /* threads with an open deadline that isn't reached */
@@ -506,8 +520,12 @@ uint64_t microseconds_of_deadline(const History *, uint64_t deadline);
 uint64_t ticks_of(const History *, uint64_t time);
 uint64_t ticks_of_deadline(const History *, uint64_t deadline);
 
-/* its parts: leave_out.c, missed.c, passed.c, numbers.c, ticks.c, lines.c */
+/* its parts: leave_out.c, deaths.c, missed.c, passed.c, numbers.c, ticks.c, lines.c */
 void leave_out_cancelled(History *);
+void place_deaths(History *);
+void note_holder(const Record *); /* at an answer */
+void write_end(Thread *);
+void write_deaths(const History *, const Record *, uint64_t place);
 void count_missed(History *);
 void say_left_out(const History *);
 void tell_passed(const History *, void (*tell)(const char *line));

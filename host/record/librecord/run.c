@@ -22,7 +22,7 @@ enum { LARGE = 1 << 20, PAGE = 4096 };
 /* The files are sparse. Neither loaders nor sanitizers put anything at this address. */
 static const uint64_t sizes[] = {[SHARED_RUN] = (uint64_t)1 << 36, [PARTED_RUN] = (uint64_t)1 << 28};
 static const uintptr_t address_of_run = (uintptr_t)0x200000000000;
-static const char marks[][MOST_OF_MARK] = {[SHARED_RUN] = "pif recording 2", [PARTED_RUN] = "pif parts 1"};
+static const char marks[][MOST_OF_MARK] = {[SHARED_RUN] = "pif recording 3", [PARTED_RUN] = "pif parts 2"};
 
 static Run own;
 Run *run = &own;

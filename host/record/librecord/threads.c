@@ -97,6 +97,18 @@ Thread *this_thread(void)
     return present != NULL ? present : find_out_who();
 }
 
+/* A thread has a line by its THREAD_ADDED alone. */
+Thread *this_or_no_thread(void)
+{
+    Thread *present = atomic_load(&self);
+    int number = errno;
+
+    if (present == NULL)
+        present = new_thread(LEAST_PRIORITY);
+    errno = number;
+    return present;
+}
+
 /* Other keys' destructors may still make calls, up to the last round; a call behind this stamp moves it. */
 static void round_of_destructors(void *value)
 {
