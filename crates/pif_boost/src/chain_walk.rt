@@ -90,6 +90,7 @@ pub fn walk_to(
     let mut at = start;
     for hop in 0..owners.threads() {
         let prio = owners.maximum(table, at).unwrap();
+        // Right already: whatever comes later on the chain was right before, and nothing changes for it.
         if has_local(owners, table, at, prio) {
             return (hop + 1, at);
         }
@@ -102,6 +103,7 @@ pub fn walk_to(
             }
         }
     }
+    // No chain closes, so that it has at most as many threads as there are.
     unreachable!()
 }
 

@@ -160,6 +160,7 @@ impl<P: Pause + Drop> Desk<P> {
         match self.bells.of(t) {
             Some(bell) => {
                 let shared = self.linger(rt, bell, shared, t);
+                // The wait itself gives up the lock: an event between the look and the sleep would be a lost wake-up.
                 bell.wait_while(rt, shared, |shared| shared.is_to_sleep(t))
             }
             None => shared,
@@ -177,6 +178,7 @@ impl<P: Pause + Drop> Desk<P> {
         if !shared.is_to_sleep(t) {
             return shared;
         }
+        // Read under the lock, so that no ring after that is missed.
         let rung = bell.notifications();
         drop(shared);
         for look in 1..=LOOKS {

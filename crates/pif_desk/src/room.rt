@@ -140,6 +140,7 @@ impl Room {
         ensures fits { IfOk result (λ seen. is_answer_of event seen ≡ true) }
         ensures unchanged { OnErr result (self.new ≡ self.old) }
     {
+        // Room first: a step can't be taken back, and the journal would lack the entry of one that found no room.
         make_room(&mut self.journal, self.growth)?;
         Ok(step(&mut self.core, &mut self.journal, event))
     }

@@ -47,6 +47,7 @@ fn pass_on<C: Chains + Drop>(parts: &mut Parts<C>, words: &mut Words, t: Tid, m:
         return;
     }
     let word = words.load(Cell::Mutex(m));
+    // The pending field may name a mutex that the thread hasn't taken yet or has released, which isn't the thread's.
     if number(word) != t.get() {
         return;
     }

@@ -112,6 +112,8 @@ impl<C: Chains + Drop> PiKernel for KernelOn<C> {
                 Ok(Took::Owns)
             }
             Found::Held(word, owner, key) => {
+                // In one call with the queueing: if the owner could free the word in between, without a call of the
+                // kernel, a thread would be queued on a mutex that nobody hands over.
                 words.store(Cell::Mutex(m), mark_word(word));
                 self.parts.queue_on(t, m, owner, key);
                 Ok(Took::Queued)
@@ -181,6 +183,8 @@ impl<C: Chains + Drop> PiKernel for KernelOn<C> {
     }
 
     fn exit(&mut self, words: &mut Words, lists: &mut RobustLists, t: Tid) {
+        // It leaves what it waits for first, because only a thread that is queued on nothing hands over. Its list goes
+        // last, because the walk over its mutexes reads it.
         self.parts.leave_as(t, Status::Ended);
         pass_all_on(&mut self.parts, words, lists, t);
         lists.forget(t);

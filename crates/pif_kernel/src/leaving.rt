@@ -18,6 +18,7 @@ impl<C: Chains + Drop> Parts<C> {
         ensures after { kernel_of self.new ≡ kernel_after_expire t (kernel_of self.old) }
         ensures sound { IsSoundInside self.new }
     {
+        // Stopped in between, on no queue and no level: it joins its level once all that it boosted is walked.
         self.leave_as(t, Status::Stopped);
         self.wake(t, Woken::Expired);
     }

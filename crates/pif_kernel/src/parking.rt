@@ -20,6 +20,7 @@ impl<C: Chains + Drop> Parts<C> {
     {
         self.statuses[t.get() as usize] = Status::Parked(c);
         self.chains.park(t, c, m);
+        // No walk: a parked thread waits for no thread, and what it owns still boosts it, so that no priority changes.
         self.chains.take_out(t);
     }
 

@@ -32,6 +32,7 @@ impl<C: Chains + Drop> Parts<C> {
         self.chains.enqueue(key, t, prio, ticket);
         self.statuses[t.get() as usize] = Status::Queued(m);
         self.chains.take_out(t);
+        // Last, and from the owner: waiting gives `t` no waiter, so its own priority stays, but the owner's may rise.
         self.chains.walk(owner);
     }
 
@@ -62,12 +63,16 @@ impl<C: Chains + Drop> Parts<C> {
         ensures sound { IsSoundInside self.new }
     {
         let next = self.chains.hand_over(key);
+        // With nobody queued the word alone says who owns the mutex. The next owner may free it there without a call of
+        // the kernel, and a state that stayed would then name an owner that the word doesn't.
         if self.chains.top(key).is_none() {
             self.chains.close(m, key);
         }
         self.statuses[next.get() as usize] = Status::Ready(Woken::Owns);
         let level = self.chains.local(next).unwrap();
         self.chains.add(next, level);
+        // The next owner needs no walk, because no other waiter of the mutex has more than it has. The holder's boost
+        // ends.
         self.chains.walk(holder);
         next
     }

@@ -22,6 +22,8 @@ pub fn number_anew<C: Chains>(chains: &mut C, statuses: &[Status]) -> u64
 {
     let mut ticket = 1;
     while let Some(t) = first_from(chains, statuses.len() as u32, ticket) {
+        // From the lowest on, so that the new ticket is no greater than the old one: no two are equal in between, and
+        // the order stays.
         chains.set_ticket(t, ticket);
         ticket += 1;
     }

@@ -29,6 +29,7 @@ pub(crate) fn take_all<C: Chains + Drop>(
     ensures sound { IsSoundInside parts.new }
 {
     for taken in 0..u64::from(more) + 1 {
+        // Asked anew each time: a thread that was queued before may boost one that is still parked.
         match parts.next_parked(c) {
             Some(u) => take(parts, words, u, m),
             None => return taken as u32,
@@ -61,6 +62,8 @@ fn take<C: Chains + Drop>(parts: &mut Parts<C>, words: &mut Words, u: Tid, m: Mu
             parts.wake(u, Woken::Again);
             parts.queue_on(u, m, owner, parts.key(m));
         }
+        // The owner has ended, or waits for this thread. It locks for itself, so that the refusal is its own call's
+        // answer and not that of the thread which wakes it.
         Some(_) => parts.wake(u, Woken::Again),
     }
 }

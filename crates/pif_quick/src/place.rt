@@ -84,6 +84,7 @@ pub(crate) fn release<T>(
     ensures place { IsPlaceOf shelf.now.table_id word pass place.new }
     ensures told { MatchResult result (λ _. record_of place.new ≡ closed pass value (record_of place.old)) (λ v. (v ≡ value) × (record_of place.new ≡ record_of place.old)) }
 {
+    // The value is home before the word is free, because whoever gets the word picks the value up at once.
     put_down(shelf, place, word, value);
     let own = u64::from(pass);
     if shelf.compare_exchange::<Release>(place, word, own, 0) == own {

@@ -39,5 +39,5 @@ pub struct Held<T> {
     home: Snapshot<Shelf<T>>,
 }
 
-/// How many places of the table lie between two words.
+/// How many places of the table lie between two words, so that no two share a line of the cache (64 bytes).
 const SPACING: usize = 8;

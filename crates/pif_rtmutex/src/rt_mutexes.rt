@@ -258,6 +258,8 @@ impl RtMutexes {
         ensures holds { HoldsStates self.new table.new }
     {
         let state = self.state(key);
+        // Read before the waiters change, because `settle` has to find the one that stands among the owner's top
+        // waiters, also if it isn't the first any more.
         let was = self.first_in(table, key, state);
         self.put_waiter(table, key, state, t, prio, ticket);
         self.settle(table, key, state, was);
@@ -343,6 +345,8 @@ impl RtMutexes {
         let next = self.first_in(table, key, state).unwrap();
         self.take_waiter(table, key, state, next);
         self.set_owner(key, state, next);
+        // `state` still names the old owner, among whose top waiters `next` stands. The waiter after it goes to the new
+        // owner's.
         self.retop(table, key, state, Some(next), next);
         next
     }
@@ -640,6 +644,7 @@ impl RtMutexes {
         if let Some(t) = first {
             let prio = table.key(self.wait_node(t)).prio;
             let node = self.top_node(t);
+            // No ticket: only the greatest priority of the top waiters is asked, so that equals may stand in any order.
             self.tops(to).insert(table, node, prio, 0);
         }
     }

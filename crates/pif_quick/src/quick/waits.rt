@@ -139,6 +139,8 @@ impl<T: Drop> Quick<T> {
         let shelf = &self.board.shared;
         let mut order = self.order.lock(rt);
         let bits = place::look(shelf, place, word);
+        // Marked under the lock of the order. Otherwise the holder could hand the word over before this pass stands in
+        // the order, and this pass would sleep with nobody to wake it.
         if number(bits) == 0 || !place::mark(shelf, place, word, bits) {
             return;
         }
@@ -177,6 +179,7 @@ impl<T: Drop> Quick<T> {
             let mut order = self.order.lock(rt);
             value = match place::hand_over(shelf, place, word, pass, &mut order, value) {
                 Ok(next) => {
+                    // Woken once the lock is free, for which it would have to wait otherwise.
                     drop(order);
                     self.wake(next);
                     return;
