@@ -25,10 +25,13 @@ pub fn without_return(line: &[u8]) -> &[u8]
     }
 }
 
-/// Whether a byte is one of the marks `;`, `{`, `}`, `(`, `)`, `:` and `=`, each of which is a word of its own in a
-/// program and in a history.
+/// Whether a byte is one of the marks `;`, `{`, `}`, `(`, `)`, `:`, `=`, `<` and `>`, each of which is a word of its own
+/// in a program and in a history.
 pub fn is_mark(byte: u8) -> bool
-    ensures { result ≡ (byte == 59 || byte == 123 || byte == 125 || byte == 40 || byte == 41 || byte == 58 || byte == 61) }
+    ensures { result ≡ (byte == 59 || byte == 123 || byte == 125 || byte == 40 || byte == 41 || byte == 58 || byte == 61 || byte == 60 || byte == 62) }
 {
-    matches!(byte, b';' | b'{' | b'}' | b'(' | b')' | b':' | b'=')
+    matches!(
+        byte,
+        b';' | b'{' | b'}' | b'(' | b')' | b':' | b'=' | b'<' | b'>'
+    )
 }
