@@ -1,17 +1,23 @@
 """Legal histories for `pif judge`, made by playing threads on mutexes, one effect at a time.
 
 A kind is `locks` (lock and unlock), `tries` (60 % of the locks are trylocks), `waits` (wait, signal and broadcast), `timed`
-(half of the waits have deadlines), `mixed` (all of these, and locks with deadlines), or `program` (a third of the locks are
-trylocks; wait, signal and broadcast). Each mutex has one variable, and a thread holds one mutex at a time.
+(half of the waits have deadlines), `mixed` (all of these, and locks with deadlines), `dying` (the same with robust mutexes,
+whose owners may end), `held` (the same with recursive ones, which are held up to three times), or `program` (a third of the
+locks are trylocks; wait, signal and broadcast). Each mutex has one variable, and a thread holds one mutex at a time.
 """
 
 import random
 
-KINDS = ("locks", "tries", "waits", "timed", "mixed")
-WAITS, TIMED = ("waits", "timed", "mixed", "program"), ("timed", "mixed")
-BUSY, TIMED_OUT = "EBUSY", "ETIMEDOUT"
+KINDS = ("locks", "tries", "waits", "timed", "mixed", "dying", "held")
+WAITS, TIMED = ("waits", "timed", "mixed", "dying", "held", "program"), ("timed", "mixed", "dying", "held")
+MUTEXES = {"dying": "mutex normal robust", "held": "mutex recursive"}
+BUSY, TIMED_OUT, INVALID, OWNER_DEAD, UNUSABLE = "EBUSY", "ETIMEDOUT", "EINVAL", "EOWNERDEAD", "ENOTRECOVERABLE"
+MOST_HOLDS = 3
+# how often the time goes on
+TICKS = {"dying": 0.08, "held": 0.04}
 # of each kind how often a lock is a lock, a trylock and a timed lock
-LOCKS = {"locks": (1, 0, 0), "tries": (4, 6, 0), "waits": (1, 0, 0), "timed": (1, 0, 0), "mixed": (2, 1, 1), "program": (2, 1, 0)}
+LOCKS = {"locks": (1, 0, 0), "tries": (4, 6, 0), "waits": (1, 0, 0), "timed": (1, 0, 0), "mixed": (2, 1, 1), "dying": (2, 1, 1),
+         "held": (2, 1, 1), "program": (2, 1, 0)}
 
 
 class Thread:
@@ -26,6 +32,7 @@ class Thread:
         self.answer = None
         self.deadline = None
         self.owns = False
+        self.holds = 0
         self.used = False
 
 
@@ -37,10 +44,12 @@ class Play:
         self.chance = chance
         self.threads = [Thread(n + 1, 10 + n % priorities) for n in range(threads)]
         self.owners = {m: None for m in range(1, mutexes + 1)}
+        # of each mutex what its next owner is answered in place of 0, since an owner ended
+        self.health = {m: "0" for m in self.owners}
         self.time = 0
         self.lines = ["thread %d" % t.base for t in self.threads]
         for m in self.owners:
-            self.lines += ["mutex normal", "cond m%d" % m]
+            self.lines += [MUTEXES.get(kind, "mutex normal"), "cond m%d" % m]
 
     def blocked(self, mutex):
         """The threads that are blocked on the variable of a mutex."""
@@ -52,6 +61,10 @@ class Play:
             t.used = False
             t.mutex = self.chance.randint(1, len(self.owners))
             return self.chance.choices(("lock", "trylock", "timedlock"), LOCKS[self.kind])[0]
+        if self.kind == "held" and t.holds < MOST_HOLDS and self.chance.random() < 0.3:
+            return self.chance.choice(["lock", "trylock"])
+        if self.health[t.mutex] == OWNER_DEAD and self.chance.random() < 0.6:
+            return "consistent"
         if self.kind in WAITS and not t.used:
             t.used = True
             waiting = sum(1 for u in self.threads if u.call in ("wait", "timedwait"))
@@ -77,14 +90,29 @@ class Play:
         t.stage, t.answer = "done", answer
 
     def take(self, t, answer):
-        """Takes its mutex, if nobody owns it."""
-        if self.owners[t.mutex] is None:
-            self.owners[t.mutex], t.owns = t, True
-            self.done(t, answer)
+        """Takes its mutex, if nobody owns it, or is told that nobody can."""
+        if self.owners[t.mutex] is not None:
+            return
+        if self.health[t.mutex] != UNUSABLE:
+            self.owners[t.mutex], t.owns, t.holds = t, True, 1
+        self.done(t, answer if self.health[t.mutex] == "0" else self.health[t.mutex])
+
+    def hold_more(self, t):
+        """Holds its mutex once more."""
+        t.holds += 1
+        self.done(t, "0")
 
     def give_up(self, t):
-        """Gives its mutex up."""
-        self.owners[t.mutex], t.owns = None, False
+        """Gives its mutex up, which nobody can lock any more if an owner ended and it wasn't made consistent."""
+        self.owners[t.mutex], t.owns, t.holds = None, False, 0
+        if self.health[t.mutex] == OWNER_DEAD:
+            self.health[t.mutex] = UNUSABLE
+
+    def end(self, t):
+        """A thread ends that owns a mutex."""
+        self.lines.append("end %s" % t.name)
+        self.owners[t.mutex], self.health[t.mutex] = None, OWNER_DEAD
+        self.threads.remove(t)
 
     def signalled(self, t):
         """The threads that a signal or a broadcast unblocks: of a signal one of the greatest priority."""
@@ -101,6 +129,8 @@ class Play:
         elif t.stage == "blocked":
             if t.call == "timedwait" and t.deadline <= self.time:
                 t.stage, t.answer = "owing", TIMED_OUT
+        elif t.owns and t.call in ("lock", "trylock"):
+            self.hold_more(t)
         elif t.call in ("lock", "timedlock"):
             self.take(t, "0")
             if t.stage == "fresh" and t.call == "timedlock" and t.deadline <= self.time:
@@ -111,8 +141,15 @@ class Play:
             else:
                 self.done(t, BUSY)
         elif t.call == "unlock":
-            self.give_up(t)
+            t.holds -= 1
+            if t.holds == 0:
+                self.give_up(t)
             self.done(t, "0")
+        elif t.call == "consistent":
+            self.health[t.mutex] = "0"
+            self.done(t, "0")
+        elif t.call in ("wait", "timedwait") and t.holds > 1:
+            self.done(t, INVALID)
         elif t.call in ("wait", "timedwait"):
             self.give_up(t)
             t.stage = "blocked"
@@ -128,11 +165,14 @@ class Play:
 
     def step(self):
         """One thread does one thing, or the time goes on."""
-        if self.kind in TIMED and self.chance.random() < 0.02:
+        if self.kind in TIMED and self.chance.random() < TICKS.get(self.kind, 0.02):
             self.time += 1
             self.lines.append("tick %d" % self.time)
         t = self.chance.choice(self.threads)
-        if t.call is None:
+        may_end = self.kind == "dying" and t.owns and len(self.threads) > 1
+        if t.call is None and may_end and self.chance.random() < 0.1:
+            self.end(t)
+        elif t.call is None:
             self.begin(t)
         elif t.stage == "done":
             self.close(t)

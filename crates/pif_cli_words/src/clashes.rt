@@ -55,8 +55,8 @@ impl Clash {
                 "'judge --allow' takes a rule: steal, any_waiter, spurious, recursion=N (256 to \
                 4294967295) or recursion=A..B, own_errorcheck, any_consistent, held_wait, lost_signal, \
                 revives, barge, cycle_waits, cycle_refused, timeout_consumes, ends_apart, \
-                stays_locked, rebinds, more_uses, refuses_setprio, consistent_by_any, cut_unlock, posix, \
-                all"
+                stays_locked, rebinds, more_uses, refuses_setprio, consistent_by_any, cut_unlock, \
+                other_error, wait_gives_all, posix, all"
             }
         }
     }

@@ -10,7 +10,7 @@ use Rattle.pif_posix_steps.specs.Doing.{entered}
 use Rattle.pif_posix_steps.proofs.DoingLists.{in_one_from}
 use Rattle.pif_posix_steps.proofs.DoingEntries.{entered_to}
 use Rattle.pif_rules_model.specs.declared.rules.Rules.{Rules}
-use Rattle.pif_rules_model.specs.Rules.{Wide, WideMoves, WideEnters, end_of}
+use Rattle.pif_rules_model.specs.Rules.{Wide, WideMoves, WideEnters, end_of, has_all_again}
 use Rattle.pif_rules_model.specs.Rules.WideEnters.{other}
 use Rattle.pif_rules_model.proofs.Sets.{moves_widely}
 use Rattle.pif_search.specs.declared.machine.Stop.{Stop}
@@ -62,11 +62,11 @@ moves_from r s t n v same none m =
     subst (λ (u : Wide). WideMoves r n u (record t { world = v })) same (moves_widely r n t v (ap (λ (u : Wide). u.prio_none) same ∙ none) m)
 
 -- an entry that is no end of a thread, and has one result
-pub enters_from : (r : Rules) (l : Bounds) (s t : Wide) (e : Entry) (v : World) → t ≡ s → end_of e ≡ None → entered l t.world e ≡ v ∷ []
-    → WideEnters r l s e (record t { world = v })
-enters_from r l s t e v same is one =
+pub enters_from : (r : Rules) (l : Bounds) (s t : Wide) (e : Entry) (v : World) → t ≡ s → end_of e ≡ None → has_all_again s e ≡ true
+    → entered l t.world e ≡ v ∷ [] → WideEnters r l s e (record t { world = v })
+enters_from r l s t e v same is all one =
     let step = entered_to l t.world e v (subst (λ (vs : List World). Contains vs v) (sym one) (in_one_from v v refl)) in
-    subst (λ (u : Wide). WideEnters r l u e (record t { world = v })) same (other v is step refl)
+    subst (λ (u : Wide). WideEnters r l u e (record t { world = v })) same (other v is (ap (λ (u : Wide). has_all_again u e) same ∙ all) step refl)
 
 -- the same of a position in which threads run, if t stands for s
 pub goes_from : (r : Rules) (l : Bounds) (s t : Configuration) (n : ℕ) (v : Wide) → t ≡ s → s.halted ≡ false → WideMoves r n t.wide v

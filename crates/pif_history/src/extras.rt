@@ -1,5 +1,5 @@
 //! What rules add to the hidden steps that are worth trying before a line.
-use crate::needs::Need;
+use crate::needs::{Need, is_wait};
 use crate::scene::Scene;
 use pif_history_model::Line;
 use pif_posix::named_by;
@@ -24,6 +24,13 @@ pub(crate) enum Extra {
 pub(crate) struct Allowed<'a> {
     pub(crate) scene: Scene<'a>,
     pub(crate) rules: &'a Rules,
+}
+
+/// Whether this is an error that may hold of a call beside the one that is its result.
+fn is_other_error(answer: Answer) -> bool {
+    answer == Errno::TimedOut.number()
+        || answer == Errno::Busy.number()
+        || answer == Errno::NotRecoverable.number()
 }
 
 /// The thread moves by a rule, as one more step that is worth trying.
@@ -56,10 +63,29 @@ impl Allowed<'_> {
         }
     }
 
+    /// Whether the open call of a thread failed and will be answered an error that may hold of it, too.
+    fn may_fail_otherwise(&self, thread: usize) -> bool {
+        if !self.rules.other_error {
+            return false;
+        }
+        match (self.scene.need(thread), self.scene.known(thread)) {
+            (Need::Has(result_of), Some(answer)) => result_of != 0 && is_other_error(answer),
+            _ => false,
+        }
+    }
+
+    /// Whether the open call of a thread, which has its result, may change by a rule: it is answered another error, or is
+    /// a wait that takes its holds again.
+    fn may_change_at_its_end(&self, thread: usize) -> bool {
+        let takes = self.rules.wait_gives_all && is_wait(self.scene.world(), thread);
+        takes || self.may_fail_otherwise(thread)
+    }
+
     /// Whether the open calls may all be answered yet as they will be.
     pub(crate) fn is_hopeful(&self) -> bool {
         for thread in 0..self.thread_count() {
-            if self.scene.is_doomed(thread) && !self.may_be_robbed(thread) {
+            let may_change = self.may_be_robbed(thread) || self.may_fail_otherwise(thread);
+            if self.scene.is_doomed(thread) && !may_change {
                 return false;
             }
         }
@@ -156,6 +182,7 @@ impl Allowed<'_> {
             }
             Need::Sets(other, _) => self.try_before_setting(other as usize, answer, extras),
             Need::Acts => self.try_before_mending(thread, extras),
+            Need::Has(_) if self.may_change_at_its_end(thread) => try_by_rule(extras, thread),
             _ => Ok(()),
         }
     }
@@ -169,6 +196,9 @@ impl Allowed<'_> {
         extras: &mut Vec<Extra>,
     ) -> Result<(), Stop> {
         let owner = self.scene.owner(mutex);
+        if self.rules.other_error && is_other_error(answer) {
+            push(extras, Extra::Moves(thread))?;
+        }
         if owner == 0 {
             self.try_to_wake(thread, mutex, extras)?;
             return self.try_waiters(mutex, extras);

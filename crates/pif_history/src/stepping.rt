@@ -102,6 +102,9 @@ fn come_on(
     requires { end_of entry.now ≡ None }
     ensures { IfOk result (λ b. b ≡ true → (r : Rules) → WideEnters r limits.now wide.old entry.now wide.new) }
 {
+    if !wide.has_all_again(entry) {
+        return Ok(false);
+    }
     wide.state.come(alloc, limits, entry)
 }
 

@@ -1,21 +1,22 @@
 -- What no move by a rule changes, nor what passes on at an end by one: how many threads, mutexes and variables there are,
 -- the time, who lives, and whose call is open.
-use Rattle.std.proofs.Common.{ℕ, ◌⊎◌, false, List, [], ◌∷◌, Option, Some, None, refl, sym, subst, inl, inr}
+use Rattle.std.proofs.Common.{ℕ, ◌⊎◌, ◌==◌, Bool, true, false, List, [], ◌∷◌, Option, Some, None, refl, sym, subst, inl, inr, if◌then◌else◌}
 use Rattle.pif_model.specs.declared.events.Event.TheVariants.{End}
 use Rattle.pif_model.specs.NamedNumbers.{EPERM, ESRCH, EAGAIN, EDEADLK, EINVAL}
 use Rattle.pif_model.specs.World.Progress.{Has, Waiting, Blocked, Used, Reacquiring}
-use Rattle.pif_model.specs.Posix.{World, Thread, Progress, Comes, IsAllowed, mutex_at, taken, without_waiter, after_timeout, after_end, with_progress}
+use Rattle.pif_model.specs.Posix.{World, Thread, Progress, Comes, IsAllowed, mutex_at, taken, without_waiter, after_timeout, after_end, with_progress, with_one_hold_more}
 use Rattle.pif_model_simulation.proofs.runs.Worlds.{end_allowed}
 use Rattle.pif_rules_model.specs.declared.rules.HoldLimits.{HoldLimits}
 use Rattle.pif_rules_model.specs.declared.rules.Rule.{Rule}
-use Rattle.pif_rules_model.specs.declared.rules.Rule.TheVariants.{Steal, AnyWaiter, Spurious, Recursion, OwnErrorcheck, AnyConsistent, HeldWait, LostSignal, Barge, CycleWaits, CycleRefused, TimeoutConsumes, Rebinds, MoreUses, RefusesSetprio, ConsistentByAny}
+use Rattle.pif_rules_model.specs.declared.rules.Rule.TheVariants.{Steal, AnyWaiter, Spurious, Recursion, OwnErrorcheck, AnyConsistent, HeldWait, LostSignal, Barge, CycleWaits, CycleRefused, TimeoutConsumes, Rebinds, MoreUses, RefusesSetprio, ConsistentByAny, OtherError, WaitGivesAll}
 use Rattle.pif_rules_model.specs.declared.rules.Rules.{Rules}
 use Rattle.pif_rules_model.specs.Lending.{with_owner, looking_free, owned_as_in, not_named, not_owned}
-use Rattle.pif_rules_model.specs.Rules.{Wide, InWorld, SeesLending, MovesOrWaits, DoesBy, WideMoves, WideEnds, EndsInSteps, WideEndsApart, WidePassesLater, Steals, LocksBeyond, LocksWithin, TriesOwn, Barges, WaitsInCycle, RefusesCycle, WakesAny, WakesItself, ConsumesSignal, WaitsHolding, BindsAnew, UsesUncounted, LosesSignal, MakesConsistentByAny, MakesAnyConsistent, RefusesPriority, FindsHealth, PassesBy, ReleasesBy, EndsBy, PassesLater, seen_by_lending, hidden_from, with_first_waiter}
+use Rattle.pif_rules_model.specs.Rules.{Wide, InWorld, SeesLending, MovesOrWaits, DoesBy, WideMoves, WideEnds, EndsInSteps, WideEndsApart, WidePassesLater, Steals, LocksBeyond, LocksWithin, TriesOwn, Barges, WaitsInCycle, RefusesCycle, WakesAny, WakesItself, ConsumesSignal, WaitsHolding, BindsAnew, UsesUncounted, LosesSignal, MakesConsistentByAny, MakesAnyConsistent, RefusesPriority, FailsOtherwise, MovesHold, held_again_by, FindsHealth, PassesBy, ReleasesBy, EndsBy, PassesLater, seen_by_lending, hidden_from, with_first_waiter}
 use Rattle.pif_rules_model.specs.Rules.WideMoves.{plain as plain_move, ruled}
 use Rattle.pif_rules_model.specs.Rules.MovesOrWaits.{plain, waits}
 use Rattle.pif_rules_model.specs.Rules.Barges.{frees, takes}
 use Rattle.pif_rules_model.specs.Rules.MakesAnyConsistent.{mends, is_refused}
+use Rattle.pif_rules_model.specs.Rules.MovesHold.{gives as gives_hold, takes as takes_hold}
 use Rattle.pif_rules_model.specs.Rules.FindsHealth.{as_it_is, one}
 use Rattle.pif_rules_model.specs.Rules.PassesBy.{passes, left_free}
 use Rattle.pif_rules_model.specs.Rules.ReleasesBy.{none_left, they_stay, one_more}
@@ -99,6 +100,17 @@ keeps_in_world P f s n h = subst (λ (k : Wide). Keeps s.world k.world) (sym h.s
 keeps_lost : (t : ℕ) (s n : Wide) → LosesSignal t s n → Keeps s.world n.world
 keeps_lost t s n h = subst (λ (k : Wide). Keeps s.world k.world) (sym h.comes) (keeps_progress s.world t (Has 0))
 
+keeps_held_again : (t m : ℕ) (w : World) → Keeps w (held_again_by t m w)
+keeps_held_again t m w = by_owner ((mutex_at w m).owner == t)
+  where
+    by_owner : (b : Bool) → Keeps w (if b then with_one_hold_more m w else w)
+    by_owner true = keeps_mutex w m _
+    by_owner false = stays w
+
+keeps_hold : (t : ℕ) (s n : Wide) → MovesHold t s n → Keeps s.world n.world
+keeps_hold t s n (gives_hold h) = subst (λ (k : Wide). Keeps s.world k.world) (sym h.comes) (keeps_mutex s.world h.mutex _)
+keeps_hold t s n (takes_hold h) = subst (λ (k : Wide). Keeps s.world k.world) (sym h.comes) (keeps_held_again t h.mutex s.world)
+
 keeps_does : (r : Rules) (x : Rule) (t : ℕ) (s n : Wide) → DoesBy r x t s n → Keeps s.world n.world
 keeps_does r Steal t s n h = keeps_in_world (Steals t) (λ w v k. keeps_steal k) s n h
 keeps_does r AnyWaiter t s n h = keeps_in_world (WakesAny t) (λ w v k. keeps_any_waiter k) s n h
@@ -116,6 +128,8 @@ keeps_does r Rebinds t s n h = keeps_in_world (BindsAnew t) (λ w v k. rw k.bind
 keeps_does r MoreUses t s n h = keeps_in_world (UsesUncounted t) (λ w v k. keeps_come t Used (keeps_uncounted k.variable w) k.comes) s n h
 keeps_does r RefusesSetprio t s n h = keeps_in_world (RefusesPriority t) (λ w v k. keeps_priority k) s n h
 keeps_does r ConsistentByAny t s n h = keeps_in_world (MakesConsistentByAny t) (λ w v k. keeps_made_consistent k) s n h
+keeps_does r OtherError t s n h = keeps_in_world (FailsOtherwise t) (λ w v k. keeps_come t (Has k.error) (stays w) k.comes) s n h
+keeps_does r WaitGivesAll t s n h = keeps_hold t s n h
 keeps_does r _ t s n h = absurd h
 
 -- MUTEXES THAT LEND NOTHING

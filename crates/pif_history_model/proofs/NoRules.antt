@@ -5,7 +5,7 @@ use Rattle.std.specs.List.{All}
 use Rattle.std.proofs.lemmas.List.Elements.{All-nil, All-cons, All-contains}
 use Rattle.pif_rules_model.specs.declared.rules.HoldLimits.{HoldLimits}
 use Rattle.pif_rules_model.specs.declared.rules.Rule.{Rule}
-use Rattle.pif_rules_model.specs.declared.rules.Rule.TheVariants.{Steal, AnyWaiter, Spurious, Recursion, OwnErrorcheck, AnyConsistent, HeldWait, LostSignal, Revives, Barge, CycleWaits, CycleRefused, TimeoutConsumes, EndsApart, StaysLocked, Rebinds, MoreUses, RefusesSetprio, ConsistentByAny, CutUnlock}
+use Rattle.pif_rules_model.specs.declared.rules.Rule.TheVariants.{Steal, AnyWaiter, Spurious, Recursion, OwnErrorcheck, AnyConsistent, HeldWait, LostSignal, Revives, Barge, CycleWaits, CycleRefused, TimeoutConsumes, EndsApart, StaysLocked, Rebinds, MoreUses, RefusesSetprio, ConsistentByAny, CutUnlock, OtherError, WaitGivesAll}
 use Rattle.pif_rules_model.specs.declared.rules.Rules.{Rules}
 use Rattle.pif_rules_model.specs.Sets.{has, no_rules, rules_in_order}
 use Rattle.pif_rules_model.proofs.Ruling.{each_is_in_order}
@@ -38,6 +38,8 @@ are_none r none inherits plain = λ i. record {
   refuses_setprio = none RefusesSetprio i;
   consistent_by_any = none ConsistentByAny i;
   cut_unlock = none CutUnlock i;
+  other_error = none OtherError i;
+  wait_gives_all = none WaitGivesAll i;
   prio_none = inherits i;
   extra_lines = plain i;
 }

@@ -73,7 +73,7 @@ follows-from_wide {l} {lines} {d} r s v x e y of apart (wide_end t is h) =
     let still : is_line_among d (line.End t) ≡ false = subst (λ z. is_line_among d z ≡ false) (sym same) apart in
     subst (λ z. Follows l lines z v.world d) same
     (one_end t y still (wide_end_allowed r t s v h) (leaves_wide_end r t s v h))
-follows-from_wide {l} {lines} {d} r s v x e y of apart (wide_other w is h f) =
+follows-from_wide {l} {lines} {d} r s v x e y of apart (wide_other w is all h f) =
     subst (λ (z : Wide). Follows l lines x z.world d) (sym f) (follows-from_entry x e y of apart h)
 
 -- the process of a thread ends
@@ -107,7 +107,7 @@ module _ (r : Rules) (l : Bounds) (lines : List Line) (s n : Configuration) (x :
   ended_leaves q t v (wide_end u is h) =
       let same : u ≡ t = cc in
       subst (λ (k : ℕ). Leaves k s.wide.world v.world) same (leaves_wide_end q u s.wide v h)
-  ended_leaves q t v (wide_other w is h f) = absurd (cc)
+  ended_leaves q t v (wide_other w is all h f) = absurd (cc)
 
   step_tells : Steps r l s x n → StepTells l lines x n
   step_tells (moves t v i h e) =

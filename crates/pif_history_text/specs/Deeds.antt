@@ -3,13 +3,13 @@
 use Rattle.std.specs.Prelude.{ℕ, ◌==◌, Bool, true, false, List, [], ◌++◌, Option, Some, None, codes, decimal}
 use Rattle.pif_types.specs.declared.requests.Request.{Request}
 use Rattle.pif_model.specs.Posix.{Progress, named_by, variable_of}
-use Rattle.pif_model.specs.World.Progress.{Waiting, Stuck, Leaving, Has, Checked, Enlisted, Blocked, Reacquiring, Used}
+use Rattle.pif_model.specs.World.Progress.{Fresh, Waiting, Stuck, Leaving, Has, Checked, Enlisted, Blocked, Reacquiring, Used}
 use Rattle.pif_text_model.specs.Replies.{thread_name, mutex_name, cond_name}
 use Rattle.pif_rules_model.specs.declared.rules.Rule.{Rule}
-use Rattle.pif_rules_model.specs.declared.rules.Rule.TheVariants.{Steal, Spurious, HeldWait}
+use Rattle.pif_rules_model.specs.declared.rules.Rule.TheVariants.{Steal, Spurious, HeldWait, WaitGivesAll}
 use Rattle.pif_rules.specs.Sets.{name_of}
 use Rattle.pif_history_text.specs.declared.deeds.Deed.{Deed}
-use Rattle.pif_history_text.specs.declared.deeds.Deed.TheVariants.{Takes, TakesFrom, IsHanded, WaitsFor, WaitsForGood, Frees, SpoilsIt, Checks, IsBlocked, GoesOnWaiting, IsUnblocked, TimesOut, Uses, Comes}
+use Rattle.pif_history_text.specs.declared.deeds.Deed.TheVariants.{Takes, TakesFrom, IsHanded, WaitsFor, WaitsForGood, Frees, SpoilsIt, Checks, IsBlocked, GoesOnWaiting, IsUnblocked, TimesOut, Uses, GivesHold, TakesHold, Comes}
 
 -- A call came to a result, by whether its thread owned the mutex that it names, and owns it. One that waited was not
 -- handed the mutex by its own move: it ran out of time.
@@ -44,11 +44,17 @@ plain_deed p owned owns Reacquiring = owing_deed p
 plain_deed p owned owns Used = Uses
 plain_deed p owned owns now = SpoilsIt
 
+-- What a thread does by `wait_gives_all`: its wait is about to begin, or is over.
+abbrev pub hold_deed : (now : Progress) → Deed
+hold_deed Fresh = GivesHold
+hold_deed _ = TakesHold
+
 -- What t does by its own move, by a rule or by none. The mutex that its call names had this owner.
 abbrev pub own_deed : Option Rule → (t : ℕ) → Progress → (owner : ℕ) → (owns : Bool) → (now : Progress) → Deed
 own_deed (Some Steal) t p owner owns now = TakesFrom owner
 own_deed (Some Spurious) t p owner owns now = IsUnblocked
 own_deed (Some HeldWait) t p owner owns now = IsBlocked
+own_deed (Some WaitGivesAll) t p owner owns now = hold_deed now
 own_deed rule t p owner owns now = plain_deed p (owner == t) owns now
 
 -- What happens to a thread by the move of another one, or by its end.
@@ -74,6 +80,8 @@ deed_words q GoesOnWaiting = codes " is told to wait on " ++ cond_name (variable
 deed_words q IsUnblocked = codes " is unblocked"
 deed_words q TimesOut = codes " times out"
 deed_words q Uses = codes " uses " ++ cond_name (variable_of q)
+deed_words q GivesHold = codes " gives one hold of " ++ mutex_name (named_by q)
+deed_words q TakesHold = codes " takes one hold of " ++ mutex_name (named_by q) ++ codes " again"
 deed_words q (Comes a) = codes " comes to " ++ decimal a
 
 -- What stands in front of a line of a step: the name of the rule that it needs, if it does.

@@ -3,7 +3,7 @@ ghost use Rattle.arrayvec.specs.ArrayVec.{array_vec_len};
 ghost use Rattle.pif_model.specs.Posix.{named_by, variable_of};
 ghost use Rattle.pif_posix.specs.Shapes.{progress_of};
 ghost use Rattle.pif_text_model.specs.Replies.{mutex_name, cond_name};
-ghost use Rattle.pif_history_text.specs.Deeds.{blocked_deed, deed_line, deed_words, other_deed, owing_deed, own_deed, plain_deed, result_deed, rule_front};
+ghost use Rattle.pif_history_text.specs.Deeds.{blocked_deed, deed_line, deed_words, hold_deed, other_deed, owing_deed, own_deed, plain_deed, result_deed, rule_front};
 
 use pif_posix::{Progress, named_by, variable_of};
 use pif_rules::{Rule, name_of};
@@ -39,6 +39,10 @@ pub enum Deed {
     TimesOut,
     /// Its signal or broadcast counts.
     Uses,
+    /// It gives up one of several holds of the mutex with which it is about to wait.
+    GivesHold,
+    /// It takes one of these holds again, or has lost the mutex.
+    TakesHold,
     /// Its call has this result: 0, or the number of an error.
     Comes(u32),
 }
@@ -95,6 +99,16 @@ fn plain_deed(before: Progress, owned: bool, owns: bool, after: Progress) -> Dee
     }
 }
 
+/// What a thread does by `wait_gives_all`, whose wait is about to begin, or is over.
+fn hold_deed(after: Progress) -> Deed
+    ensures { result ≡ hold_deed (progress_of after) }
+{
+    match after {
+        Progress::Fresh => Deed::GivesHold,
+        _ => Deed::TakesHold,
+    }
+}
+
 /// What a thread does by its own move, by a rule or by none. The mutex that its call names had this owner.
 pub fn own_deed(
     rule: Option<Rule>,
@@ -110,6 +124,7 @@ pub fn own_deed(
         Some(Rule::Steal) => Deed::TakesFrom(owner),
         Some(Rule::Spurious) => Deed::IsUnblocked,
         Some(Rule::HeldWait) => Deed::IsBlocked,
+        Some(Rule::WaitGivesAll) => hold_deed(after),
         _ => plain_deed(before, owner == thread, owns, after),
     }
 }
@@ -182,6 +197,11 @@ fn append_deed(request: &Request, deed: Deed, out: &mut Text)
         Deed::IsUnblocked => append(out, b" is unblocked"),
         Deed::TimesOut => append(out, b" times out"),
         Deed::Uses => append_with_cond(request, b" uses ", out),
+        Deed::GivesHold => append_with_mutex(request, b" gives one hold of ", out),
+        Deed::TakesHold => {
+            append_with_mutex(request, b" takes one hold of ", out);
+            append(out, b" again");
+        }
         Deed::Comes(answer) => {
             append(out, b" comes to ");
             append_number(out, answer);

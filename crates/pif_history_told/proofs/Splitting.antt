@@ -6,7 +6,7 @@ use Rattle.pif_model.specs.Posix.{World}
 use Rattle.pif_model.specs.declared.events.Entry.{Entry}
 use Rattle.pif_posix_steps.proofs.DoingLists.{in_filter_from, in_first, in_map_from, in_rest}
 use Rattle.pif_rules_model.specs.declared.rules.Rule.{Rule}
-use Rattle.pif_rules_model.specs.declared.rules.Rule.TheVariants.{Steal, AnyWaiter, Spurious, Recursion, OwnErrorcheck, AnyConsistent, HeldWait, LostSignal, Revives, Barge, CycleWaits, CycleRefused, TimeoutConsumes, EndsApart, StaysLocked, Rebinds, MoreUses, RefusesSetprio, ConsistentByAny, CutUnlock}
+use Rattle.pif_rules_model.specs.declared.rules.Rule.TheVariants.{Steal, AnyWaiter, Spurious, Recursion, OwnErrorcheck, AnyConsistent, HeldWait, LostSignal, Revives, Barge, CycleWaits, CycleRefused, TimeoutConsumes, EndsApart, StaysLocked, Rebinds, MoreUses, RefusesSetprio, ConsistentByAny, CutUnlock, OtherError, WaitGivesAll}
 use Rattle.pif_rules_model.specs.declared.rules.Rules.{Rules}
 use Rattle.pif_rules_model.specs.Sets.{has, no_rules, rules_in_order}
 use Rattle.pif_rules_model.specs.Lending.{not_owned}
@@ -74,7 +74,7 @@ wide_ends_by a b h t s n x = record { world = x.world; ends = ends_by a b h t s.
 enters_by : (a b : Rules) → EndsAlike a b → (l : Bounds) (s : Wide) (e : Entry) (n : Wide) → WideEnters a l s e n → WideEnters b l s e n
 enters_by a b h l s e n (wide_end t q x) =
     wide_end t q (sees_more (WideEnds a t) (WideEnds b t) (wide_ends_by a b h t) (not_owned s.world t s.prio_none) s n x)
-enters_by a b h l s e n (wide_other v q x f) = wide_other v q x f
+enters_by a b h l s e n (wide_other v q all x f) = wide_other v q all x f
 
 passes_later_by : (a b : Rules) → EndsAlike a b → (t : ℕ) (w v : World) → PassesLater a t w v → PassesLater b t w v
 passes_later_by a b h t w v x = record {
@@ -199,6 +199,8 @@ in_order MoreUses = (16, omega arith, refl)
 in_order RefusesSetprio = (17, omega arith, refl)
 in_order ConsistentByAny = (18, omega arith, refl)
 in_order CutUnlock = (19, omega arith, refl)
+in_order OtherError = (20, omega arith, refl)
+in_order WaitGivesAll = (21, omega arith, refl)
 
 -- a rule is one of those that it has alone
 has_alone : (r : Rules) (rule : Rule) → has r rule ≡ true → has (only r rule) rule ≡ true
@@ -222,6 +224,8 @@ has_alone r MoreUses e = e
 has_alone r RefusesSetprio e = e
 has_alone r ConsistentByAny e = e
 has_alone r CutUnlock e = e
+has_alone r OtherError e = e
+has_alone r WaitGivesAll e = e
 
 does_alone : (r : Rules) (rule : Rule) (t : ℕ) (s n : Wide) → DoesBy r rule t s n → DoesBy (only r rule) rule t s n
 does_alone r Recursion t s n d = d
@@ -240,6 +244,8 @@ does_alone r Rebinds t s n d = d
 does_alone r MoreUses t s n d = d
 does_alone r RefusesSetprio t s n d = d
 does_alone r ConsistentByAny t s n d = d
+does_alone r OtherError t s n d = d
+does_alone r WaitGivesAll t s n d = d
 does_alone r _ t s n d = absurd d
 
 moves_alone : (r : Rules) (t : ℕ) (s n : Wide) (m : MovesByRule r t s n) → MovesByRule (only r m.rule) t s n

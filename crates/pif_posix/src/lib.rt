@@ -15,6 +15,8 @@ mod cycles;
 mod deeds;
 mod ends;
 mod entries;
+mod errors;
+mod given;
 mod health;
 mod keys;
 mod lending;

@@ -1,6 +1,6 @@
 ghost use Rattle.std.specs.Prelude.{◌≡◌, ◌==◌, ◌<◌, ◌∷◌, ℕ, length, map, IfOk};
 ghost use Rattle.std.specs.List.{list_any};
-ghost use Rattle.pif_rules_model.specs.Rules.{without_one, lost_by};
+ghost use Rattle.pif_rules_model.specs.Rules.{without_one, given_by_others, lost_by};
 ghost use Rattle.pif_posix.specs.Beside.{with_lists};
 
 use crate::State;
@@ -57,21 +57,36 @@ pub(crate) fn lost_by(
     }
 }
 
-/// These states, with the same variables, threads and mutexes remembered beside each.
+/// These threads without this one.
+pub(crate) fn given_by_others(alloc: Global, thread: u32, given: &[u32]) -> Result<Vec<u32>, Stop>
+    ensures { IfOk result (λ v. v.items ≡ given_by_others thread given.now) }
+{
+    let mut all = Vec::new(alloc);
+    for i in 0..given.len() {
+        if given[i] != thread {
+            push(&mut all, given[i])?;
+        }
+    }
+    Ok(all)
+}
+
+/// These states, with the same variables, threads, mutexes and threads remembered beside each.
 pub(crate) fn all_beside(
     alloc: Global,
     states: Vec<State>,
     lost: &[u32],
     apart: &[u32],
     prio_none: &[u32],
+    given: &[u32],
 ) -> Result<Vec<Wide>, Stop>
-    ensures { IfOk result (λ v. v.items ≡ map (with_lists lost.now apart.now prio_none.now) states.items) }
+    ensures { IfOk result (λ v. v.items ≡ map (with_lists lost.now apart.now prio_none.now given.now) states.items) }
 {
     let mut all = Vec::new(alloc);
     for state in states {
         let lost = Vec::from_slice(alloc, lost)?;
         let apart = Vec::from_slice(alloc, apart)?;
         let prio_none = Vec::from_slice(alloc, prio_none)?;
+        let given = Vec::from_slice(alloc, given)?;
         push(
             &mut all,
             Wide {
@@ -79,6 +94,7 @@ pub(crate) fn all_beside(
                 lost,
                 apart,
                 prio_none,
+                given,
             },
         )?;
     }

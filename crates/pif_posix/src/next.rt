@@ -1,6 +1,6 @@
 ghost use Rattle.std.specs.Prelude.{◌≡◌, ◌==◌, ◌||◌, Some, None, if◌then◌else◌};
 ghost use Rattle.pif_model.specs.NamedNumbers.{EOWNERDEAD};
-ghost use Rattle.pif_rules_model.specs.Rules.{of_call, locked_next_by, locked_first_by, got_by, waited_for_by, tried_next_by, mended_next_by, given_next_by, unlocked_next_by, waited_next_by, used_next_by, signalled_next_by, signalling_by, blocked_by, set_next_by};
+ghost use Rattle.pif_rules_model.specs.Rules.{of_call, locked_next_by, locked_first_by, got_by, waited_for_by, tried_next_by, mended_next_by, given_next_by, unlocked_next_by, waited_next_by, waited_with_by, used_next_by, signalled_next_by, signalling_by, blocked_by, set_next_by};
 ghost use Rattle.pif_rules_model.specs.Ruled.{is_mutex_of};
 ghost use Rattle.pif_posix.specs.Shapes.{given_of};
 
@@ -189,6 +189,21 @@ pub(crate) fn waited_next(state: &State, thread: usize) -> Option<(u32, u32)>
                 progress: Progress::Fresh,
             },
         ) => Some((cond.get(), mutex.get())),
+        _ => None,
+    }
+}
+
+/// The mutex of the open call of a thread, a wait that has its result, if it is one.
+pub(crate) fn waited_with(state: &State, thread: usize) -> Option<u32>
+    ensures { result ≡ of_call waited_with_by state.now thread }
+{
+    match &state.call(thread) {
+        Some(
+            Call {
+                request: Request::Wait(_, mutex),
+                progress: Progress::Has(_),
+            },
+        ) => Some(mutex.get()),
         _ => None,
     }
 }

@@ -34,7 +34,7 @@ fn with_result(alloc: Global, state: &State, thread: u32, answer: Answer) -> Res
 }
 
 /// The states once the call of a thread has one of these results.
-fn each_answered(
+pub(crate) fn each_answered(
     alloc: Global,
     state: &State,
     thread: u32,

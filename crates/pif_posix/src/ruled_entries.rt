@@ -1,6 +1,7 @@
-ghost use Rattle.std.specs.Prelude.{◌≡◌, All, Contains, IfOk};
-ghost use Rattle.pif_rules_model.specs.Rules.{Wide as Widened, WideEnters, end_of};
-ghost use Rattle.pif_rules_model.specs.Ruled.{ended_remembering, widely_ended, widely_entered};
+ghost use Rattle.std.specs.Prelude.{◌≡◌, [], map, if◌then◌else◌, All, Contains, IfOk};
+ghost use Rattle.pif_posix_steps.specs.Doing.{entered};
+ghost use Rattle.pif_rules_model.specs.Rules.{Wide as Widened, WideEnters, has_all_again, end_of};
+ghost use Rattle.pif_rules_model.specs.Ruled.{beside, ended_remembering, widely_ended, widely_entered};
 
 use crate::deeds::Deed;
 use crate::ruled_ends::ended_by;
@@ -43,6 +44,21 @@ impl Wide {
         self.seeing_own(alloc, thread, rules, &Deed::Ends)
     }
 
+    /// One entry that is no end: all states to which it leads.
+    fn entered_beside(
+        &self,
+        alloc: Global,
+        limits: &HistoryLimits,
+        entry: &Entry,
+    ) -> Result<Vec<Wide>, Stop>
+        ensures { IfOk result (λ v. v.items ≡ (if has_all_again self.now entry.now then map (beside self.now) (entered limits.now self.now.world entry.now) else [])) }
+    {
+        if !self.has_all_again(entry) {
+            return Ok(Vec::new(alloc));
+        }
+        self.beside(alloc, self.state.enter(alloc, limits, entry))
+    }
+
     /// One entry: all states to which it leads.
     fn widely_entered(
         &self,
@@ -54,7 +70,7 @@ impl Wide {
         ensures { IfOk result (λ v. v.items ≡ widely_entered rules.now limits.now self.now entry.now) }
     {
         match end_of(entry) {
-            None => self.beside(alloc, self.state.enter(alloc, limits, entry)),
+            None => self.entered_beside(alloc, limits, entry),
             Some(thread) => self.widely_ended(alloc, thread, rules),
         }
     }
@@ -62,7 +78,8 @@ impl Wide {
     /// The states to which one entry of a history leads that a line shows. By the rules `revives` and `cut_unlock`, the
     /// end of a thread may revive a mutex that it is giving up; by `barge` its robust mutexes may be left free, and by
     /// `stays_locked` they may stay with it. It is remembered if the thread is blocked on a variable. All other entries
-    /// lead where `State::enter` says. This state stays as it is.
+    /// lead where `State::enter` says, but the answer of a wait leads nowhere that has holds to take again, by
+    /// `wait_gives_all`. This state stays as it is.
     ///
     /// # Errors
     ///

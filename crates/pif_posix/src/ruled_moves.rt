@@ -6,10 +6,10 @@ ghost use Rattle.pif_rules_model.specs.Lending.{not_named};
 ghost use Rattle.pif_rules_model.specs.Rules.{Wide as Widened, WideMoves, hidden_from, without_one};
 ghost use Rattle.pif_rules_model.specs.Ruled.{one_if, seeing_lending, plainly_moved, signal_lost, done_by, moved_by_rule, widely_moved};
 
-use crate::Progress;
 use crate::barging::barged;
 use crate::cycles::{refused_cycle, waiting_in_cycle};
 use crate::deeds::Deed;
+use crate::errors::failed_otherwise;
 use crate::health::{mended_by_any, mended_or_refused};
 use crate::lending::moved_or_waiting;
 use crate::locks::{locked_within, stolen_by, tried_own};
@@ -20,12 +20,29 @@ use crate::ruled_variables::{bound_anew, signal_consumed, used_by};
 use crate::wakes::{any_woken, waiting_held, woken_by_itself};
 use crate::wide::Wide;
 use crate::wide_lists::{append, joined};
+use crate::{Progress, State};
 use pif_rules_model::{RULES, Rule, Rules, has};
 use pif_search::{Stop, one};
 use std::alloc::Global;
 
 /// Where moves lead, by the plain machine and by rules.
 impl Wide {
+    /// This state of the machine, with what is remembered here, and these variables for the signals that may be lost.
+    fn with_lost(&self, alloc: Global, state: State, lost: Vec<u32>) -> Result<Wide, Stop>
+        ensures { IfOk result (λ n. n ≡ record self.now { world = state; lost = lost.items }) }
+    {
+        let apart = Vec::from_slice(alloc, self.apart.as_slice())?;
+        let prio_none = Vec::from_slice(alloc, self.prio_none.as_slice())?;
+        let given = Vec::from_slice(alloc, self.given.as_slice())?;
+        Ok(Wide {
+            state,
+            lost,
+            apart,
+            prio_none,
+            given,
+        })
+    }
+
     /// The state once a signal of a thread on a variable is lost; none if it can't be lost.
     fn signal_lost_on(&self, alloc: Global, thread: u32, variable: u32) -> Result<Vec<Wide>, Stop>
         requires { thread < length self.now.world.threads }
@@ -37,17 +54,8 @@ impl Wide {
         let mut state = self.state.copied(alloc)?;
         state.set_progress(thread as usize, Progress::Has(0));
         let lost = without_one(alloc, variable, self.lost.as_slice())?;
-        let apart = Vec::from_slice(alloc, self.apart.as_slice())?;
-        let prio_none = Vec::from_slice(alloc, self.prio_none.as_slice())?;
-        one(
-            alloc,
-            Wide {
-                state,
-                lost,
-                apart,
-                prio_none,
-            },
-        )
+        let next = self.with_lost(alloc, state, lost)?;
+        one(alloc, next)
     }
 
     /// The state once a signal of a thread is lost; none if it can't be lost.
@@ -92,6 +100,8 @@ impl Wide {
             Rule::MoreUses => self.beside(alloc, used_by(alloc, state, thread)),
             Rule::RefusesSetprio => self.beside(alloc, priority_refused(alloc, state, thread)),
             Rule::ConsistentByAny => self.beside(alloc, mended_by_any(alloc, state, thread)),
+            Rule::OtherError => self.beside(alloc, failed_otherwise(alloc, state, thread)),
+            Rule::WaitGivesAll => self.hold_moved(alloc, thread),
             Rule::Revives | Rule::EndsApart | Rule::StaysLocked | Rule::CutUnlock => {
                 Ok(Vec::new(alloc))
             }

@@ -3,7 +3,7 @@ use Rattle.std.specs.Prelude.{ℕ, ◌||◌, ◌&&◌, Bool, nat_lt, List, [], �
 use Rattle.std.specs.List.{flat_map, list_any}
 use Rattle.pif_rules_model.specs.declared.rules.HoldLimits.{HoldLimits}
 use Rattle.pif_rules_model.specs.declared.rules.Rule.{Rule}
-use Rattle.pif_rules_model.specs.declared.rules.Rule.TheVariants.{Steal, AnyWaiter, Spurious, Recursion, OwnErrorcheck, AnyConsistent, HeldWait, LostSignal, Revives, Barge, CycleWaits, CycleRefused, TimeoutConsumes, EndsApart, StaysLocked, Rebinds, MoreUses, RefusesSetprio, ConsistentByAny, CutUnlock}
+use Rattle.pif_rules_model.specs.declared.rules.Rule.TheVariants.{Steal, AnyWaiter, Spurious, Recursion, OwnErrorcheck, AnyConsistent, HeldWait, LostSignal, Revives, Barge, CycleWaits, CycleRefused, TimeoutConsumes, EndsApart, StaysLocked, Rebinds, MoreUses, RefusesSetprio, ConsistentByAny, CutUnlock, OtherError, WaitGivesAll}
 use Rattle.pif_rules_model.specs.declared.rules.Rules.{Rules}
 use Rattle.pif_rules_model.specs.Sets.{has, no_rules, rules_in_order}
 
@@ -29,6 +29,8 @@ name_of MoreUses = codes "more_uses"
 name_of RefusesSetprio = codes "refuses_setprio"
 name_of ConsistentByAny = codes "consistent_by_any"
 name_of CutUnlock = codes "cut_unlock"
+name_of OtherError = codes "other_error"
+name_of WaitGivesAll = codes "wait_gives_all"
 
 -- Of these rules this one alone, if it is one of them.
 abbrev pub only : Rules → Rule → Rules
@@ -52,6 +54,8 @@ only r MoreUses = record no_rules { more_uses = r.more_uses }
 only r RefusesSetprio = record no_rules { refuses_setprio = r.refuses_setprio }
 only r ConsistentByAny = record no_rules { consistent_by_any = r.consistent_by_any }
 only r CutUnlock = record no_rules { cut_unlock = r.cut_unlock }
+only r OtherError = record no_rules { other_error = r.other_error }
+only r WaitGivesAll = record no_rules { wait_gives_all = r.wait_gives_all }
 
 -- The lesser and the greater of two numbers.
 abbrev pub lesser : ℕ → ℕ → ℕ
@@ -89,6 +93,8 @@ both a b = record {
   refuses_setprio = a.refuses_setprio || b.refuses_setprio;
   consistent_by_any = a.consistent_by_any || b.consistent_by_any;
   cut_unlock = a.cut_unlock || b.cut_unlock;
+  other_error = a.other_error || b.other_error;
+  wait_gives_all = a.wait_gives_all || b.wait_gives_all;
   prio_none = a.prio_none || b.prio_none;
   extra_lines = a.extra_lines || b.extra_lines;
 }

@@ -31,6 +31,8 @@ all_rules = record {
   refuses_setprio = true;
   consistent_by_any = true;
   cut_unlock = true;
+  other_error = true;
+  wait_gives_all = true;
   prio_none = false;
   extra_lines = false;
 }

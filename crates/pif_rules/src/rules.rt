@@ -29,6 +29,8 @@ pub fn name_of(rule: Rule) -> &'static [u8]
         Rule::RefusesSetprio => b"refuses_setprio",
         Rule::ConsistentByAny => b"consistent_by_any",
         Rule::CutUnlock => b"cut_unlock",
+        Rule::OtherError => b"other_error",
+        Rule::WaitGivesAll => b"wait_gives_all",
     }
 }
 
@@ -41,7 +43,8 @@ pub fn is_of_posix(rule: Rule) -> bool
         | Rule::OwnErrorcheck
         | Rule::AnyConsistent
         | Rule::LostSignal
-        | Rule::Revives => false,
+        | Rule::Revives
+        | Rule::WaitGivesAll => false,
         _ => true,
     }
 }

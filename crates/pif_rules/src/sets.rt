@@ -35,6 +35,8 @@ pub fn posix_rules() -> Rules
         refuses_setprio: true,
         consistent_by_any: true,
         cut_unlock: true,
+        other_error: true,
+        wait_gives_all: false,
         prio_none: false,
         extra_lines: false,
     }
@@ -66,6 +68,8 @@ pub fn only(rules: &Rules, rule: Rule) -> Rules
         Rule::RefusesSetprio => alone.refuses_setprio = rules.refuses_setprio,
         Rule::ConsistentByAny => alone.consistent_by_any = rules.consistent_by_any,
         Rule::CutUnlock => alone.cut_unlock = rules.cut_unlock,
+        Rule::OtherError => alone.other_error = rules.other_error,
+        Rule::WaitGivesAll => alone.wait_gives_all = rules.wait_gives_all,
     }
     alone
 }
@@ -131,6 +135,8 @@ pub fn both(a: &Rules, b: &Rules) -> Rules
         refuses_setprio: either(a.refuses_setprio, b.refuses_setprio),
         consistent_by_any: either(a.consistent_by_any, b.consistent_by_any),
         cut_unlock: either(a.cut_unlock, b.cut_unlock),
+        other_error: either(a.other_error, b.other_error),
+        wait_gives_all: either(a.wait_gives_all, b.wait_gives_all),
         prio_none: either(a.prio_none, b.prio_none),
         extra_lines: either(a.extra_lines, b.extra_lines),
     }

@@ -17,7 +17,7 @@ use Rattle.pif_posix_steps.proofs.DoingEnds.{robust_of_to, robust_of_from, owns_
 use Rattle.pif_posix_steps.proofs.DoingEntries.{entered_from, entered_to}
 use Rattle.pif_rules_model.specs.declared.rules.Rules.{Rules}
 use Rattle.pif_rules_model.specs.Lending.{not_owned}
-use Rattle.pif_rules_model.specs.Rules.{Wide, seen_by_lending, WideEnds, EndsInSteps, MayRevive, FindsHealth, PassesBy, ReleasesBy, EndsBy, EndsApartBy, PassesLater, InWorld, HasReleased, WideEnters, WideEndsApart, WidePassesLater, of_call, unlocked_next_by, is_unusable, revived, has_ended_apart, end_of}
+use Rattle.pif_rules_model.specs.Rules.{Wide, seen_by_lending, WideEnds, EndsInSteps, MayRevive, FindsHealth, PassesBy, ReleasesBy, EndsBy, EndsApartBy, PassesLater, InWorld, HasReleased, WideEnters, WideEndsApart, WidePassesLater, of_call, unlocked_next_by, is_unusable, revived, has_ended_apart, has_all_again, end_of}
 use Rattle.pif_rules_model.specs.Rules.MayRevive.{revives, cut}
 use Rattle.pif_rules_model.specs.Rules.FindsHealth.{as_it_is, one}
 use Rattle.pif_rules_model.specs.Rules.PassesBy.{passes, left_free}
@@ -367,7 +367,10 @@ module _ (r : Rules) (l : Bounds) (s : Wide) (e : Entry) where
   widely_entered_to n k = by_end (end_of e) refl k
     where
       by_end : (o : Option ℕ) → end_of e ≡ o → Contains (entered_as r l s e o) n → WideEnters r l s e n
-      by_end None is c = let x = in_map (beside s) (entered l s.world e) n c in wide_other x.0 is (entered_to l s.world e x.0 x.1) (sym x.2)
+      by_end None is c =
+          let a = in_then (has_all_again s e) (map (beside s) (entered l s.world e)) n c in
+          let x = in_map (beside s) (entered l s.world e) n a.1 in
+          wide_other x.0 is a.0 (entered_to l s.world e x.0 x.1) (sym x.2)
       by_end (Some t) is c =
           wide_end t is (sees_to (WideEnds r t) (ended_remembering r t) (wide_ends_to r t) (not_owned s.world t s.prio_none) s n c)
 
@@ -375,6 +378,7 @@ module _ (r : Rules) (l : Bounds) (s : Wide) (e : Entry) where
   widely_entered_from n (wide_end t is h) =
       subst (λ (o : Option ℕ). Contains (entered_as r l s e o) n) (sym is)
       (sees_from (WideEnds r t) (ended_remembering r t) (wide_ends_from r t) (not_owned s.world t s.prio_none) s n h)
-  widely_entered_from n (wide_other v is h f) =
+  widely_entered_from n (wide_other v is all h f) =
       subst (λ (o : Option ℕ). Contains (entered_as r l s e o) n) (sym is)
-      (subst (Contains (map (beside s) (entered l s.world e))) (sym f) (in_map_from (beside s) (entered l s.world e) v (entered_from l s.world e v h)))
+      (in_then_from (has_all_again s e) (map (beside s) (entered l s.world e)) n all
+      (subst (Contains (map (beside s) (entered l s.world e))) (sym f) (in_map_from (beside s) (entered l s.world e) v (entered_from l s.world e v h))))

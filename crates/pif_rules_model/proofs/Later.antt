@@ -19,5 +19,8 @@ module _ (r : Rules) (t : ℕ) (s n : Wide) (h : WidePassesLater r t s n) where
   pub later-apart : n.apart ≡ s.apart
   later-apart = in_world-beside (λ (k : Wide). k.apart) (λ k w. refl) _ (not_owned s.world t s.prio_none) s n h
 
+  pub later-given : n.given ≡ s.given
+  later-given = in_world-beside (λ (k : Wide). k.given) (λ k w. refl) _ (not_owned s.world t s.prio_none) s n h
+
   pub later-none : n.prio_none ≡ s.prio_none
   later-none = in_world-beside (λ (k : Wide). k.prio_none) (λ k w. refl) _ (not_owned s.world t s.prio_none) s n h

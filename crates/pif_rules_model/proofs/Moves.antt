@@ -16,11 +16,12 @@ use Rattle.pif_posix_steps.proofs.DoingCases.{choose_then, choose_else}
 use Rattle.pif_posix_steps.proofs.DoingLists.{not_in_none, in_first, in_rest, in_cases, in_one, in_one_from, in_then, in_then_from, in_else, in_else_from, in_map, in_map_from, passing_to, passing_from}
 use Rattle.pif_posix_steps.proofs.DoingChoices.{all_blocked_to, all_blocked_from}
 use Rattle.pif_rules_model.specs.declared.rules.HoldLimits.{HoldLimits}
-use Rattle.pif_rules_model.specs.Rules.{Wide, of_call, locked_next_by, locked_first_by, got_by, waited_for_by, tried_next_by, mended_next_by, given_next_by, waited_next_by, used_next_by, signalled_next_by, signalling_by, blocked_by, set_next_by, stolen, is_recursive, is_errorcheck, never_goes_on, bound_to, used_uncounted, Steals, WakesAny, WakesItself, LocksBeyond, LocksWithin, TriesOwn, Frees, TakesFree, Barges, WaitsInCycle, LeadsToNoEnd, IsHopeless, RefusesCycle, ConsumesSignal, WaitsHolding, BindsAnew, UsesUncounted, LosesSignal, MakesConsistentByAny, IsRefusedFree, MakesAnyConsistent, RefusesPriority}
+use Rattle.pif_rules_model.specs.Rules.{Wide, of_call, locked_next_by, locked_first_by, got_by, waited_for_by, tried_next_by, mended_next_by, given_next_by, waited_next_by, used_next_by, signalled_next_by, signalling_by, blocked_by, set_next_by, stolen, is_recursive, is_errorcheck, never_goes_on, bound_to, used_uncounted, Steals, WakesAny, WakesItself, LocksBeyond, LocksWithin, TriesOwn, Frees, TakesFree, Barges, WaitsInCycle, LeadsToNoEnd, IsHopeless, RefusesCycle, ConsumesSignal, WaitsHolding, BindsAnew, UsesUncounted, LosesSignal, MakesConsistentByAny, IsRefusedFree, MakesAnyConsistent, RefusesPriority, FailsOtherwise, other_errors, GivesHold, TakesHold, MovesHold, has_given, held_again_by, waited_with_by, without_one}
 use Rattle.pif_rules_model.specs.Rules.Barges.{frees, takes}
+use Rattle.pif_rules_model.specs.Rules.MovesHold.{gives, takes as takes_hold}
 use Rattle.pif_rules_model.specs.Rules.IsHopeless.{own, orphaned, circle, behind}
 use Rattle.pif_rules_model.specs.Rules.MakesAnyConsistent.{mends, is_refused}
-use Rattle.pif_rules_model.specs.Ruled.{is_mutex_of, is_some_of, listed_of, one_if, stolen_from, stolen_by, any_woken, woken_by_itself, locked_more_or_refused, beyond, locked_beyond, locked_within, tried_own, is_inconsistent, freed, freed_by, taken_free, barged, is_held_by_another, waiting_in_cycle, leads_to_no_end, deadlocks, is_hopeless, refused_cycle, consumed_with, signallers, signal_consumed, waiting_held, bound_anew, used_by, mended, mending, mended_by_any, refused_free, mended_or_refused, with_result, priority_refused, signal_lost}
+use Rattle.pif_rules_model.specs.Ruled.{is_mutex_of, is_some_of, listed_of, one_if, stolen_from, stolen_by, any_woken, woken_by_itself, locked_more_or_refused, beyond, locked_beyond, locked_within, tried_own, is_inconsistent, freed, freed_by, taken_free, barged, is_held_by_another, waiting_in_cycle, leads_to_no_end, deadlocks, is_hopeless, refused_cycle, consumed_with, signallers, signal_consumed, waiting_held, bound_anew, used_by, mended, mending, mended_by_any, refused_free, mended_or_refused, with_result, priority_refused, failed_otherwise, signal_lost, hold_given, hold_taken, hold_moved}
 use Rattle.pif_rules_model.proofs.Listing.{in_listed, in_listed_from, in_one_if, in_one_if_from, some_is_there, some_from_there, none_is_there}
 
 -- whether a mutex that may be there is this
@@ -608,6 +609,16 @@ module _ (t : ℕ) (w : World) where
       in_listed_from (of_call set_next_by w t) (λ u. map (with_result t w) (answers_of u)) v s.thread s.sets
       (subst (Contains (map (with_result t w) (answers_of s.thread))) (sym x.2) (in_map_from (with_result t w) (answers_of s.thread) x.0 x.1))
 
+  -- SEVERAL ERRORS
+
+  pub fails_otherwise_to : (v : World) → Contains (failed_otherwise t w) v → FailsOtherwise t w v
+  fails_otherwise_to v k =
+      let x = in_map (with_result t w) (other_errors w t) v k in record { error = x.0; holds = x.1; comes = sym x.2 }
+
+  pub fails_otherwise_from : (v : World) → FailsOtherwise t w v → Contains (failed_otherwise t w) v
+  fails_otherwise_from v s =
+      subst (Contains (failed_otherwise t w)) (sym s.comes) (in_map_from (with_result t w) (other_errors w t) s.error s.holds)
+
 module _ (t : ℕ) (s : Wide) where
   pub loses_to : (n : Wide) → Contains (signal_lost t s) n → LosesSignal t s n
   loses_to n k =
@@ -619,3 +630,48 @@ module _ (t : ℕ) (s : Wide) where
   loses_from n h =
       in_listed_from (of_call signalled_next_by s.world t) _ n h.variable h.signals
       (in_one_if_from (list_any (λ c. c == h.variable) s.lost) _ n h.ended h.comes)
+
+  gives_hold_to : (n : Wide) → Contains (hold_given t s) n → GivesHold t s n
+  gives_hold_to n k =
+      let x = in_listed (of_call waited_next_by s.world t) _ n k in
+      let c = x.0.0 in
+      let m = x.0.1 in
+      let a = in_then ((variable_at s.world c).mutex == m) _ n x.2 in
+      let b = in_then ((mutex_at s.world m).owner == t) _ n a.1 in
+      let d = in_one_if (nat_lt 1 (mutex_at s.world m).count) _ n b.1 in
+      record {
+        variable = c;
+        mutex = m;
+        waits = x.1;
+        bound = eqb-true (variable_at s.world c).mutex m a.0;
+        owns = eqb-true (mutex_at s.world m).owner t b.0;
+        more = ltb-true 1 (mutex_at s.world m).count d.0;
+        comes = d.1;
+      }
+
+  gives_hold_from : (n : Wide) → GivesHold t s n → Contains (hold_given t s) n
+  gives_hold_from n h =
+      in_listed_from (of_call waited_next_by s.world t) _ n (h.variable, h.mutex) h.waits
+      (in_then_from ((variable_at s.world h.variable).mutex == h.mutex) _ n (eq-eqb (variable_at s.world h.variable).mutex h.mutex h.bound)
+      (in_then_from ((mutex_at s.world h.mutex).owner == t) _ n (eq-eqb (mutex_at s.world h.mutex).owner t h.owns)
+      (in_one_if_from (nat_lt 1 (mutex_at s.world h.mutex).count) _ n (lt-ltb 1 (mutex_at s.world h.mutex).count h.more) h.comes)))
+
+  takes_hold_to : (n : Wide) → Contains (hold_taken t s) n → TakesHold t s n
+  takes_hold_to n k =
+      let x = in_listed (of_call waited_with_by s.world t) _ n k in
+      let y = in_one_if (has_given s t) _ n x.2 in
+      record { mutex = x.0; waited = x.1; given = y.0; comes = y.1 }
+
+  takes_hold_from : (n : Wide) → TakesHold t s n → Contains (hold_taken t s) n
+  takes_hold_from n h =
+      in_listed_from (of_call waited_with_by s.world t) _ n h.mutex h.waited (in_one_if_from (has_given s t) _ n h.given h.comes)
+
+  pub moves_hold_to : (n : Wide) → Contains (hold_moved t s) n → MovesHold t s n
+  moves_hold_to n k = elim (Contains-append_cases (hold_given t s) (hold_taken t s) n k) [
+    | inl c ↦ gives (gives_hold_to n c)
+    | inr c ↦ takes_hold (takes_hold_to n c)
+  ]
+
+  pub moves_hold_from : (n : Wide) → MovesHold t s n → Contains (hold_moved t s) n
+  moves_hold_from n (gives h) = Contains-append_left (hold_given t s) (hold_taken t s) n (gives_hold_from n h)
+  moves_hold_from n (takes_hold h) = Contains-append_right (hold_given t s) (hold_taken t s) n (takes_hold_from n h)

@@ -7,15 +7,15 @@ use Rattle.pif_posix_steps.specs.Doing.{is_allowed}
 use Rattle.pif_posix_steps.proofs.DoingLists.{not_in_none, in_then, in_then_from, in_map, in_map_from, in_flat_map, in_flat_map_from}
 use Rattle.pif_posix_steps.proofs.DoingMoves.{allowed_from, allowed_to}
 use Rattle.pif_rules_model.specs.declared.rules.Rule.{Rule}
-use Rattle.pif_rules_model.specs.declared.rules.Rule.TheVariants.{Steal, AnyWaiter, Spurious, Recursion, OwnErrorcheck, AnyConsistent, HeldWait, LostSignal, Revives, Barge, CycleWaits, CycleRefused, TimeoutConsumes, EndsApart, StaysLocked, Rebinds, MoreUses, RefusesSetprio, ConsistentByAny, CutUnlock}
+use Rattle.pif_rules_model.specs.declared.rules.Rule.TheVariants.{Steal, AnyWaiter, Spurious, Recursion, OwnErrorcheck, AnyConsistent, HeldWait, LostSignal, Revives, Barge, CycleWaits, CycleRefused, TimeoutConsumes, EndsApart, StaysLocked, Rebinds, MoreUses, RefusesSetprio, ConsistentByAny, CutUnlock, OtherError, WaitGivesAll}
 use Rattle.pif_rules_model.specs.declared.rules.Rules.{Rules}
 use Rattle.pif_rules_model.specs.Sets.{has, rules_in_order}
 use Rattle.pif_rules_model.specs.Lending.{not_named}
-use Rattle.pif_rules_model.specs.Rules.{Wide, InWorld, MovesOrWaits, hidden_from, DoesBy, MovesByRule, WideMoves, Steals, WakesAny, WakesItself, LocksWithin, TriesOwn, Barges, WaitsInCycle, RefusesCycle, ConsumesSignal, WaitsHolding, BindsAnew, UsesUncounted, MakesConsistentByAny, MakesAnyConsistent, RefusesPriority}
+use Rattle.pif_rules_model.specs.Rules.{Wide, InWorld, MovesOrWaits, hidden_from, DoesBy, MovesByRule, WideMoves, Steals, WakesAny, WakesItself, LocksWithin, TriesOwn, Barges, WaitsInCycle, RefusesCycle, ConsumesSignal, WaitsHolding, BindsAnew, UsesUncounted, MakesConsistentByAny, MakesAnyConsistent, RefusesPriority, FailsOtherwise}
 use Rattle.pif_rules_model.specs.Rules.WideMoves.{plain, ruled}
-use Rattle.pif_rules_model.specs.Ruled.{beside, seeing_lending, moved_or_waiting, plainly_moved, done_by, done_if_allowed, moved_by_rule, widely_moved, stolen_by, any_woken, woken_by_itself, locked_within, tried_own, mended_or_refused, waiting_held, barged, waiting_in_cycle, refused_cycle, signal_consumed, bound_anew, used_by, priority_refused, mended_by_any}
+use Rattle.pif_rules_model.specs.Ruled.{beside, seeing_lending, moved_or_waiting, plainly_moved, done_by, done_if_allowed, moved_by_rule, widely_moved, stolen_by, any_woken, woken_by_itself, locked_within, tried_own, mended_or_refused, waiting_held, barged, waiting_in_cycle, refused_cycle, signal_consumed, bound_anew, used_by, priority_refused, mended_by_any, failed_otherwise}
 use Rattle.pif_rules_model.proofs.Lending.{sees_to, sees_from, moves_or_waits_to, moves_or_waits_from}
-use Rattle.pif_rules_model.proofs.Moves.{steals_to, steals_from, wakes_any_to, wakes_any_from, wakes_itself_to, wakes_itself_from, locks_within_to, locks_within_from, tries_own_to, tries_own_from, makes_any_to, makes_any_from, waits_to, waits_from, loses_to, loses_from, barges_to, barges_from, waits_in_cycle_to, waits_in_cycle_from, refuses_cycle_to, refuses_cycle_from, consumes_to, consumes_from, binds_to, binds_from, uses_to, uses_from, refuses_priority_to, refuses_priority_from, makes_by_any_to, makes_by_any_from}
+use Rattle.pif_rules_model.proofs.Moves.{steals_to, steals_from, wakes_any_to, wakes_any_from, wakes_itself_to, wakes_itself_from, locks_within_to, locks_within_from, tries_own_to, tries_own_from, makes_any_to, makes_any_from, waits_to, waits_from, loses_to, loses_from, barges_to, barges_from, waits_in_cycle_to, waits_in_cycle_from, refuses_cycle_to, refuses_cycle_from, consumes_to, consumes_from, binds_to, binds_from, uses_to, uses_from, refuses_priority_to, refuses_priority_from, makes_by_any_to, makes_by_any_from, fails_otherwise_to, fails_otherwise_from, moves_hold_to, moves_hold_from}
 
 -- each rule stands in the order
 pub each_is_in_order : (x : Rule) → Contains rules_in_order x
@@ -39,6 +39,8 @@ each_is_in_order MoreUses = (16, omega arith, refl)
 each_is_in_order RefusesSetprio = (17, omega arith, refl)
 each_is_in_order ConsistentByAny = (18, omega arith, refl)
 each_is_in_order CutUnlock = (19, omega arith, refl)
+each_is_in_order OtherError = (20, omega arith, refl)
+each_is_in_order WaitGivesAll = (21, omega arith, refl)
 
 module _ (t : ℕ) (s : Wide) where
   -- what happens to the state of the POSIX machine alone
@@ -71,6 +73,8 @@ module _ (t : ℕ) (s : Wide) where
   does_to r RefusesSetprio n k = in_world_to (RefusesPriority t) (priority_refused t s.world) (refuses_priority_to t s.world) n k
   does_to r ConsistentByAny n k = in_world_to (MakesConsistentByAny t) (mended_by_any t s.world) (makes_by_any_to t s.world) n k
   does_to r CutUnlock n k = absurd (not_in_none n k)
+  does_to r OtherError n k = in_world_to (FailsOtherwise t) (failed_otherwise t s.world) (fails_otherwise_to t s.world) n k
+  does_to r WaitGivesAll n k = moves_hold_to t s n k
 
   pub does_from : (r : Rules) (x : Rule) (n : Wide) → DoesBy r x t s n → Contains (done_by r x t s) n
   does_from r Steal n h = in_world_from (Steals t) (stolen_by t s.world) (steals_from t s.world) n h
@@ -93,6 +97,8 @@ module _ (t : ℕ) (s : Wide) where
   does_from r RefusesSetprio n h = in_world_from (RefusesPriority t) (priority_refused t s.world) (refuses_priority_from t s.world) n h
   does_from r ConsistentByAny n h = in_world_from (MakesConsistentByAny t) (mended_by_any t s.world) (makes_by_any_from t s.world) n h
   does_from r CutUnlock n h = absurd h
+  does_from r OtherError n h = in_world_from (FailsOtherwise t) (failed_otherwise t s.world) (fails_otherwise_from t s.world) n h
+  does_from r WaitGivesAll n h = moves_hold_from t s n h
 
 module _ (r : Rules) (t : ℕ) (s : Wide) where
   pub ruled_to : (n : Wide) → Contains (moved_by_rule r t s) n → MovesByRule r t s n

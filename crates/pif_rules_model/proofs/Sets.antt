@@ -1,5 +1,6 @@
 -- With more rules there is each step that there is with fewer, and with none there are those of the plain machine.
-use Rattle.std.proofs.Common.{ℕ, ◌≡◌, Bool, true, false, [], Option, Some, None, refl, sym, subst, inl, inr, arith}
+use Rattle.std.proofs.Common.{ℕ, ◌≡◌, ◌∙◌, ◌==◌, Bool, true, false, not, List, [], Option, Some, None, refl, sym, ap, subst, inl, inr, arith}
+use Rattle.std.specs.List.{list_any}
 use Rattle.std.proofs.lemmas.Bool.{both_ways}
 use Rattle.pif_types.specs.Bounds.{Bounds}
 use Rattle.pif_model.specs.declared.events.Event.{Event}
@@ -16,11 +17,11 @@ use Rattle.pif_posix_steps.proofs.DoingEnds.{ended_to}
 use Rattle.pif_posix_steps.proofs.DoingEntries.{entered_from}
 use Rattle.pif_rules_model.specs.declared.rules.HoldLimits.{HoldLimits}
 use Rattle.pif_rules_model.specs.declared.rules.Rule.{Rule}
-use Rattle.pif_rules_model.specs.declared.rules.Rule.TheVariants.{Steal, AnyWaiter, Spurious, Recursion, OwnErrorcheck, AnyConsistent, HeldWait, LostSignal, Revives, Barge, CycleWaits, CycleRefused, TimeoutConsumes, EndsApart, StaysLocked, Rebinds, MoreUses, RefusesSetprio, ConsistentByAny, CutUnlock}
+use Rattle.pif_rules_model.specs.declared.rules.Rule.TheVariants.{Steal, AnyWaiter, Spurious, Recursion, OwnErrorcheck, AnyConsistent, HeldWait, LostSignal, Revives, Barge, CycleWaits, CycleRefused, TimeoutConsumes, EndsApart, StaysLocked, Rebinds, MoreUses, RefusesSetprio, ConsistentByAny, CutUnlock, OtherError, WaitGivesAll}
 use Rattle.pif_rules_model.specs.declared.rules.Rules.{Rules}
 use Rattle.pif_rules_model.specs.Sets.{has, no_rules, AreAmong, AreWithin}
 use Rattle.pif_rules_model.specs.Lending.{not_owned}
-use Rattle.pif_rules_model.specs.Rules.{Wide, seen_by_lending, hidden_from, WideEnds, EndsInSteps, LocksBeyond, LocksWithin, DoesBy, MovesByRule, WideMoves, MayRevive, FindsHealth, PassesBy, ReleasesBy, EndsBy, EndsApartBy, PassesApart, PassesLater, InWorld, HasReleased, WideEnters, WideEndsApart, WidePassesLater, as_process_ends, end_of, lost_by}
+use Rattle.pif_rules_model.specs.Rules.{Wide, seen_by_lending, hidden_from, WideEnds, EndsInSteps, LocksBeyond, LocksWithin, DoesBy, MovesByRule, WideMoves, MayRevive, FindsHealth, PassesBy, ReleasesBy, EndsBy, EndsApartBy, PassesApart, PassesLater, InWorld, HasReleased, WideEnters, WideEndsApart, WidePassesLater, as_process_ends, end_of, lost_by, has_given, given_by_others, has_all_again, answered_by}
 use Rattle.pif_rules_model.specs.Rules.WideMoves.{plain, ruled}
 use Rattle.pif_rules_model.specs.Rules.MayRevive.{revives, cut}
 use Rattle.pif_rules_model.specs.Rules.FindsHealth.{as_it_is, one}
@@ -71,6 +72,8 @@ module _ (a b : Rules) (more : AreAmong a b) where
   does_more MoreUses t s n h = h
   does_more RefusesSetprio t s n h = h
   does_more ConsistentByAny t s n h = h
+  does_more OtherError t s n h = h
+  does_more WaitGivesAll t s n h = h
   does_more _ t s n h = h
 
   ruled_more : (t : ℕ) (s n : Wide) → MovesByRule a t s n → MovesByRule b t s n
@@ -170,6 +173,8 @@ module _ (a b : Rules) (more : AreAmong a b) where
   among_kept RefusesSetprio e = more.among RefusesSetprio e
   among_kept ConsistentByAny e = more.among ConsistentByAny e
   among_kept CutUnlock e = more.among CutUnlock e
+  among_kept OtherError e = more.among OtherError e
+  among_kept WaitGivesAll e = more.among WaitGivesAll e
 
   -- so also for the end of a thread whose process ends with it
   pub as_process_ends_more : (x : Bool) → AreAmong (as_process_ends x a) (as_process_ends x b)
@@ -192,7 +197,7 @@ module _ (a b : Rules) (more : AreAmong a b) where
   pub enters_more : (l : Bounds) (s : Wide) (e : Entry) (n : Wide) → WideEnters a l s e n → WideEnters b l s e n
   enters_more l s e n (ended t is h) =
       ended t is (sees_more (WideEnds a t) (WideEnds b t) (wide_ends_more t) (not_owned s.world t s.prio_none) s n h)
-  enters_more l s e n (other v is h f) = other v is h f
+  enters_more l s e n (other v is all h f) = other v is all h f
 
 -- NO RULES
 
@@ -218,6 +223,8 @@ none_is_among MoreUses = refl
 none_is_among RefusesSetprio = refl
 none_is_among ConsistentByAny = refl
 none_is_among CutUnlock = refl
+none_is_among OtherError = refl
+none_is_among WaitGivesAll = refl
 
 -- none of them is among any
 pub none_among : (r : Rules) → AreAmong no_rules r
@@ -291,7 +298,7 @@ module _ (l : Bounds) (s : Wide) (e : Entry) where
       let x = ends_plainly (WideEnds no_rules t) t s.prio_none none s n h in
       subst (λ (y : Wide). Enters l s.world e y.world) (sym x.same)
       (subst (λ (y : Entry). Enters l s.world y x.world) (sym this) (entered refl refl (ends t refl (ends_as_ever t s.world x.world x.ends))))
-  plain_enters n none (other v is h f) = subst (λ (x : Wide). Enters l s.world e x.world) (sym f) h
+  plain_enters n none (other v is all h f) = subst (λ (x : Wide). Enters l s.world e x.world) (sym f) h
 
   ends_widely : (r : Rules) (t : ℕ) (w v : World) → Ends t w v → EndsBy r t w v
   ends_widely r t w v h = record {
@@ -301,20 +308,29 @@ module _ (l : Bounds) (s : Wide) (e : Entry) where
     releases = widely_released r t (after_end t w) v h.releases;
   }
 
+  -- no wait has holds to take again
+  all_again : s.given ≡ [] → has_all_again s e ≡ true
+  all_again none = by_answer (answered_by e)
+    where
+      by_answer : (o : Option ℕ) → elim o [ None ↦ true | Some t ↦ not (has_given s t) ] ≡ true
+      by_answer None = refl
+      by_answer (Some t) = ap (λ (us : List ℕ). not (list_any (λ u. u == t) us)) none
+
   -- what is remembered of threads that ended apart stays, and so do the mutexes that lend nothing
-  pub enters_widely : (r : Rules) (v : World) → s.prio_none ≡ [] → Enters l s.world e v
-      → (n : Wide) × WideEnters r l s e n × (n.world ≡ v) × (n.apart ≡ s.apart) × (n.prio_none ≡ s.prio_none)
-  enters_widely r v none h = by_end (end_of e) refl
+  pub enters_widely : (r : Rules) (v : World) → s.prio_none ≡ [] → s.given ≡ [] → Enters l s.world e v
+      → (n : Wide) × WideEnters r l s e n × (n.world ≡ v) × (n.apart ≡ s.apart) × (n.prio_none ≡ s.prio_none) × (n.given ≡ s.given)
+  enters_widely r v none all h = by_end (end_of e) refl
     where
       by_end : (o : Option ℕ) → end_of e ≡ o
-          → (n : Wide) × WideEnters r l s e n × (n.world ≡ v) × (n.apart ≡ s.apart) × (n.prio_none ≡ s.prio_none)
-      by_end None is = (record s { world = v }, other v is h refl, refl, refl, refl)
+          → (n : Wide) × WideEnters r l s e n × (n.world ≡ v) × (n.apart ≡ s.apart) × (n.prio_none ≡ s.prio_none) × (n.given ≡ s.given)
+      by_end None is = (record s { world = v }, other v is (all_again all) h refl, refl, refl, refl, refl)
       by_end (Some t) is =
           let this : Enters l s.world (Happened (End t) Ended) v = subst (λ (x : Entry). Enters l s.world x v) (end_is e t is) h in
           let end : Ends t s.world v = ended_to t s.world v (entered_from l s.world (Happened (End t) Ended) v this) in
-          let n : Wide = record s { world = v; lost = lost_by s.world t s.lost } in
+          let n : Wide = record s { world = v; lost = lost_by s.world t s.lost; given = given_by_others t s.given } in
           let ends : WideEnds r t s n = record { world = v; ends = ends_widely r t s.world v end; same = refl } in
-          (n, ended t is (plain_ends_are_seen (WideEnds r t) t s.prio_none none s n ends), refl, refl, refl)
+          let nobody : given_by_others t s.given ≡ s.given = ap (given_by_others t) all ∙ sym all in
+          (n, ended t is (plain_ends_are_seen (WideEnds r t) t s.prio_none none s n ends), refl, refl, refl, nobody)
 
 pub moves_widely : (r : Rules) (t : ℕ) (s : Wide) (v : World) → s.prio_none ≡ [] → MovesOnce t s.world v
     → WideMoves r t s (record s { world = v })

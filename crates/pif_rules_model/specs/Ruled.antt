@@ -16,11 +16,11 @@ use Rattle.pif_model.specs.Posix.{World, is_due, effective_of, mutex_at, variabl
 use Rattle.pif_posix_steps.specs.Doing.{all_blocked, woken, moved, entered, is_allowed, robust_of, passed_on, passing, all_inherited}
 use Rattle.pif_rules_model.specs.declared.rules.HoldLimits.{HoldLimits}
 use Rattle.pif_rules_model.specs.declared.rules.Rule.{Rule}
-use Rattle.pif_rules_model.specs.declared.rules.Rule.TheVariants.{Steal, AnyWaiter, Spurious, Recursion, OwnErrorcheck, AnyConsistent, HeldWait, LostSignal, Barge, CycleWaits, CycleRefused, TimeoutConsumes, Rebinds, MoreUses, RefusesSetprio, ConsistentByAny}
+use Rattle.pif_rules_model.specs.declared.rules.Rule.TheVariants.{Steal, AnyWaiter, Spurious, Recursion, OwnErrorcheck, AnyConsistent, HeldWait, LostSignal, Barge, CycleWaits, CycleRefused, TimeoutConsumes, Rebinds, MoreUses, RefusesSetprio, ConsistentByAny, OtherError, WaitGivesAll}
 use Rattle.pif_rules_model.specs.declared.rules.Rules.{Rules}
 use Rattle.pif_rules_model.specs.Sets.{has, rules_in_order}
 use Rattle.pif_rules_model.specs.Lending.{not_named, not_owned}
-use Rattle.pif_rules_model.specs.Rules.{Wide, seen_by_lending, owned_as_before, hidden_from, of_call, locked_next_by, locked_first_by, got_by, waited_for_by, tried_next_by, mended_next_by, given_next_by, unlocked_next_by, waited_next_by, used_next_by, signalled_next_by, signalling_by, blocked_by, set_next_by, stolen, is_recursive, is_errorcheck, never_goes_on, bound_to, used_uncounted, without_one, lost_by, revived, is_unusable, has_ended_apart, end_of}
+use Rattle.pif_rules_model.specs.Rules.{Wide, seen_by_lending, owned_as_before, hidden_from, of_call, locked_next_by, locked_first_by, got_by, waited_for_by, tried_next_by, mended_next_by, given_next_by, unlocked_next_by, waited_next_by, waited_with_by, used_next_by, signalled_next_by, signalling_by, blocked_by, set_next_by, other_errors, stolen, is_recursive, is_errorcheck, never_goes_on, bound_to, used_uncounted, without_one, has_given, held_again_by, given_by_others, has_all_again, lost_by, revived, is_unusable, has_ended_apart, end_of}
 
 -- what f lists of what is there, or nothing
 abbrev pub listed_of : {A B : Type 0} → Option A → (A → List B) → List B
@@ -182,6 +182,24 @@ signal_lost t s = listed_of (of_call signalled_next_by s.world t)
     (λ c. one_if (list_any (λ x. x == c) s.lost)
     (record s { world = with_progress t (Has 0) s.world; lost = without_one c s.lost }))
 
+-- a wait of t gives up one of several holds
+abbrev pub hold_given : ℕ → Wide → List Wide
+hold_given t s = listed_of (of_call waited_next_by s.world t)
+    (λ x. if (variable_at s.world x.0).mutex == x.1
+    then (if (mutex_at s.world x.1).owner == t
+    then one_if (nat_lt 1 (mutex_at s.world x.1).count)
+    (record s { world = with_one_hold_less x.1 s.world; given = t ∷ s.given }) else [])
+    else [])
+
+-- a wait of t takes one hold again
+abbrev pub hold_taken : ℕ → Wide → List Wide
+hold_taken t s = listed_of (of_call waited_with_by s.world t)
+    (λ m. one_if (has_given s t)
+    (record s { world = held_again_by t m s.world; given = without_one t s.given }))
+
+abbrev pub hold_moved : ℕ → Wide → List Wide
+hold_moved t s = hold_given t s ++ hold_taken t s
+
 -- HEALTH AND PRIORITY
 
 -- what the page says of m, whoever t is
@@ -214,6 +232,9 @@ abbrev pub priority_refused : ℕ → World → List World
 priority_refused t w = listed_of (of_call set_next_by w t)
     (λ u. map (with_result t w) (EPERM ∷ EINVAL ∷ (if is_living w u then [] else ESRCH ∷ 0 ∷ [])))
 
+abbrev pub failed_otherwise : ℕ → World → List World
+failed_otherwise t w = map (with_result t w) (other_errors w t)
+
 -- MOVES
 
 -- states of the machine, with what is remembered beside
@@ -238,6 +259,8 @@ done_by r Rebinds t s = map (beside s) (bound_anew t s.world)
 done_by r MoreUses t s = map (beside s) (used_by t s.world)
 done_by r RefusesSetprio t s = map (beside s) (priority_refused t s.world)
 done_by r ConsistentByAny t s = map (beside s) (mended_by_any t s.world)
+done_by r OtherError t s = map (beside s) (failed_otherwise t s.world)
+done_by r WaitGivesAll t s = hold_moved t s
 done_by r _ t s = []
 
 -- what f lists of the state as lending sees it, if these mutexes look free
@@ -326,7 +349,7 @@ ended_by r t w = if is_allowed w (End t) then flat_map (ended_found r t) (found_
 
 -- the state of the machine once t has ended, with what is remembered beside
 abbrev pub remembering : ℕ → Wide → World → Wide
-remembering t s w = record s { world = w; lost = lost_by s.world t s.lost }
+remembering t s w = record s { world = w; lost = lost_by s.world t s.lost; given = given_by_others t s.given }
 
 abbrev pub ended_remembering : Rules → ℕ → Wide → List Wide
 ended_remembering r t s = map (remembering t s) (ended_by r t s.world)
@@ -344,7 +367,12 @@ passed_apart r t w = if is_living w t then [] else flat_map (passed_by_death r w
 
 -- the same with what is remembered beside
 abbrev pub remembering_apart : ℕ → Wide → World → Wide
-remembering_apart t s w = record s { world = w; lost = lost_by s.world t s.lost; apart = t ∷ s.apart }
+remembering_apart t s w = record s {
+  world = w;
+  lost = lost_by s.world t s.lost;
+  apart = t ∷ s.apart;
+  given = given_by_others t s.given;
+}
 
 abbrev pub ended_in_steps : Rules → ℕ → Wide → List Wide
 ended_in_steps r t s =
@@ -370,7 +398,7 @@ has_released r t s =
 
 -- an entry that a line shows: all results
 abbrev pub entered_as : Rules → Bounds → Wide → Entry → Option ℕ → List Wide
-entered_as r l s e None = map (beside s) (entered l s.world e)
+entered_as r l s e None = if has_all_again s e then map (beside s) (entered l s.world e) else []
 entered_as r l s e (Some t) = widely_ended r t s
 
 abbrev pub widely_entered : Rules → Bounds → Wide → Entry → List Wide

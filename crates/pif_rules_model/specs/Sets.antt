@@ -2,7 +2,7 @@
 -- POSIX doesn't allow. Each rule is one such thing, and has a name by which a history or a program allows it.
 use Rattle.std.specs.Prelude.{◌≡◌, ◌≤◌, Bool, true, false, is_some, List, [], ◌∷◌, Some, None}
 use Rattle.pif_rules_model.specs.declared.rules.Rule.{Rule}
-use Rattle.pif_rules_model.specs.declared.rules.Rule.TheVariants.{Steal, AnyWaiter, Spurious, Recursion, OwnErrorcheck, AnyConsistent, HeldWait, LostSignal, Revives, Barge, CycleWaits, CycleRefused, TimeoutConsumes, EndsApart, StaysLocked, Rebinds, MoreUses, RefusesSetprio, ConsistentByAny, CutUnlock}
+use Rattle.pif_rules_model.specs.declared.rules.Rule.TheVariants.{Steal, AnyWaiter, Spurious, Recursion, OwnErrorcheck, AnyConsistent, HeldWait, LostSignal, Revives, Barge, CycleWaits, CycleRefused, TimeoutConsumes, EndsApart, StaysLocked, Rebinds, MoreUses, RefusesSetprio, ConsistentByAny, CutUnlock, OtherError, WaitGivesAll}
 use Rattle.pif_rules_model.specs.declared.rules.HoldLimits.{HoldLimits}
 use Rattle.pif_rules_model.specs.declared.rules.Rules.{Rules}
 
@@ -11,7 +11,7 @@ abbrev pub rules_in_order : List Rule
 rules_in_order =
     Steal ∷ AnyWaiter ∷ Spurious ∷ Recursion ∷ OwnErrorcheck ∷ AnyConsistent ∷ HeldWait ∷ LostSignal ∷ Revives ∷ Barge
     ∷ CycleWaits ∷ CycleRefused ∷ TimeoutConsumes ∷ EndsApart ∷ StaysLocked ∷ Rebinds ∷ MoreUses ∷ RefusesSetprio
-    ∷ ConsistentByAny ∷ CutUnlock ∷ []
+    ∷ ConsistentByAny ∷ CutUnlock ∷ OtherError ∷ WaitGivesAll ∷ []
 
 -- whether a rule is one of these
 abbrev pub has : Rules → Rule → Bool
@@ -35,6 +35,8 @@ has r MoreUses = r.more_uses
 has r RefusesSetprio = r.refuses_setprio
 has r ConsistentByAny = r.consistent_by_any
 has r CutUnlock = r.cut_unlock
+has r OtherError = r.other_error
+has r WaitGivesAll = r.wait_gives_all
 
 -- no rule is allowed
 abbrev pub no_rules : Rules
@@ -59,6 +61,8 @@ no_rules = record {
   refuses_setprio = false;
   consistent_by_any = false;
   cut_unlock = false;
+  other_error = false;
+  wait_gives_all = false;
   prio_none = false;
   extra_lines = false;
 }
@@ -98,6 +102,8 @@ is_of_posix MoreUses = true
 is_of_posix RefusesSetprio = true
 is_of_posix ConsistentByAny = true
 is_of_posix CutUnlock = true
+is_of_posix OtherError = true
+is_of_posix WaitGivesAll = false
 
 -- all that POSIX allows: it names no greatest number of holds
 abbrev pub posix_rules : Rules
@@ -122,6 +128,8 @@ posix_rules = record {
   refuses_setprio = true;
   consistent_by_any = true;
   cut_unlock = true;
+  other_error = true;
+  wait_gives_all = false;
   prio_none = false;
   extra_lines = false;
 }

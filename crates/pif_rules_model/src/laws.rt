@@ -31,10 +31,11 @@ pub fn more_rules_allow_more()
     ensures releases { (a b : Rules) → AreAmong a b → (t : ℕ) (s : Wide) → HasReleased a t s → HasReleased b t s }
 {}
 
-/// A law: if each mutex inherits, each step of the plain machine is there with any rules, and with none there is no other.
+/// A law: if each mutex inherits, and no wait has holds to take again, each step of the plain machine is there with any
+/// rules, and with none there is no other.
 pub fn without_rules_the_machine_is_plain()
     ensures moves { (r : Rules) (t : ℕ) (s : Wide) (v : World) → s.prio_none ≡ [] → MovesOnce t s.world v → WideMoves r t s (record s { world = v }) }
-    ensures entries { (r : Rules) (l : Bounds) (s : Wide) (e : Entry) (v : World) → s.prio_none ≡ [] → Enters l s.world e v → (n : Wide) × WideEnters r l s e n × (n.world ≡ v) }
+    ensures entries { (r : Rules) (l : Bounds) (s : Wide) (e : Entry) (v : World) → s.prio_none ≡ [] → s.given ≡ [] → Enters l s.world e v → (n : Wide) × WideEnters r l s e n × (n.world ≡ v) }
     ensures plain_moves { (t : ℕ) (s n : Wide) → s.prio_none ≡ [] → WideMoves no_rules t s n → MovesOnce t s.world n.world }
     ensures plain_entries { (l : Bounds) (s : Wide) (e : Entry) (n : Wide) → s.prio_none ≡ [] → WideEnters no_rules l s e n → Enters l s.world e n.world }
     ensures no_ends { (t : ℕ) (s n : Wide) → WideEndsApart no_rules t s n → ⊥ }

@@ -45,6 +45,10 @@ pub enum Rule {
     ConsistentByAny,
     /// `cut_unlock`: an unlock that its thread's end cuts off has not made an inconsistent mutex unusable.
     CutUnlock,
+    /// `other_error`: a call of which two errors of its page hold is answered the other one.
+    OtherError,
+    /// `wait_gives_all`: a wait gives up all holds of a recursive mutex, and takes them again before it is answered.
+    WaitGivesAll,
 }
 
 /// How often a recursive mutex may be held.
@@ -99,6 +103,10 @@ pub struct Rules {
     pub consistent_by_any: bool,
     /// `cut_unlock`.
     pub cut_unlock: bool,
+    /// `other_error`.
+    pub other_error: bool,
+    /// `wait_gives_all`.
+    pub wait_gives_all: bool,
     /// Whether mutexes of PTHREAD_PRIO_NONE may be added. That is no rule: it stands here since the plain machine has none.
     pub prio_none: bool,
     /// Whether the lines `halted`, `resumed` and `process` may stand in a history. That is no rule either.
@@ -106,7 +114,7 @@ pub struct Rules {
 }
 
 /// All rules, in the order in which they are told and tried.
-pub const RULES: [Rule; 20] = [
+pub const RULES: [Rule; 22] = [
     Rule::Steal,
     Rule::AnyWaiter,
     Rule::Spurious,
@@ -127,6 +135,8 @@ pub const RULES: [Rule; 20] = [
     Rule::RefusesSetprio,
     Rule::ConsistentByAny,
     Rule::CutUnlock,
+    Rule::OtherError,
+    Rule::WaitGivesAll,
 ];
 
 /// No rule.
@@ -154,6 +164,8 @@ pub fn no_rules() -> Rules
         refuses_setprio: false,
         consistent_by_any: false,
         cut_unlock: false,
+        other_error: false,
+        wait_gives_all: false,
         prio_none: false,
         extra_lines: false,
     }
@@ -184,5 +196,7 @@ pub fn has(rules: &Rules, rule: Rule) -> bool
         Rule::RefusesSetprio => rules.refuses_setprio,
         Rule::ConsistentByAny => rules.consistent_by_any,
         Rule::CutUnlock => rules.cut_unlock,
+        Rule::OtherError => rules.other_error,
+        Rule::WaitGivesAll => rules.wait_gives_all,
     }
 }

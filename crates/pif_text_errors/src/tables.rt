@@ -338,7 +338,7 @@ pub static LENDING: [Form; 1] = [Form {
 }];
 
 /// How many words name rules.
-pub const RULE_COUNT: usize = 21;
+pub const RULE_COUNT: usize = 23;
 
 /// The rules that a history or a program may allow, and the name of those of POSIX.
 pub static RULES: [Form; RULE_COUNT] = [
@@ -458,6 +458,18 @@ pub static RULES: [Form; RULE_COUNT] = [
     },
     Form {
         name: "cut_unlock",
+        text: "allow RULE ..",
+        parts: Parts::Of(&[]),
+        rest: Rest::End,
+    },
+    Form {
+        name: "other_error",
+        text: "allow RULE ..",
+        parts: Parts::Of(&[]),
+        rest: Rest::End,
+    },
+    Form {
+        name: "wait_gives_all",
         text: "allow RULE ..",
         parts: Parts::Of(&[]),
         rest: Rest::End,

@@ -5,7 +5,7 @@ pub returns-clause-moves : goal.returns-clause-moves
 returns-clause-moves c = moves_widely
 
 pub returns-clause-entries : goal.returns-clause-entries
-returns-clause-entries c = λ r l s e v none h. let x = enters_widely l s e r v none h in (x.0, x.1, x.2)
+returns-clause-entries c = λ r l s e v none all h. let x = enters_widely l s e r v none all h in (x.0, x.1, x.2)
 
 pub returns-clause-plain_moves : goal.returns-clause-plain_moves
 returns-clause-plain_moves c = plain_moves
