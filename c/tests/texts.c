@@ -78,7 +78,7 @@ int main(void)
          "illegal at 4: answer t1 16\npossible there: 0\nits call began at 3: begin t1 lock m1\n");
     TEXT(judges, "tick 5\ntick 4\n", PIF_MISTAKE, "log 2: refused past\n");
     TEXT(judges_in_one_state, "thread 10\nmutex normal\nbegin t1 lock m1\nanswer t1 0\n", PIF_UNDECIDED,
-         "undecided at 3\nno witness found from 4 on\nfound there: none\n");
+         "legal up to 3; undecided from 4: answer t1 0; found there: none\n");
     TEXT(judges_with_witness, "# seen\nthread 10\ntick 5\nprio t1 10\n", PIF_UNDECIDED,
          "legal 4, with no call\nthread 10\ntick 5\nprio t1 10\n");
     TEXT(judges, "thread 10\nlock m1\n", PIF_FAULT, "fault 2 command\n");

@@ -1,5 +1,5 @@
 -- What the program does by its words, what is written, and its status.
-use Rattle.std.specs.Prelude.{ℕ, ◌≡◌, ◌⊎◌, ◌==◌, MatchBool, OnOk, Bool, List, [], ◌∷◌, Option, Some, None, Result, Ok, Err, codes, bytes_eq, if◌then◌else◌}
+use Rattle.std.specs.Prelude.{ℕ, ◌≡◌, ◌⊎◌, ◌==◌, ◌||◌, MatchBool, OnOk, Bool, List, [], ◌∷◌, Option, Some, None, Result, Ok, Err, codes, bytes_eq, if◌then◌else◌}
 use Rattle.std.specs.Io.KnownBytes.{Appends, Keeps}
 use Rattle.clap.specs.Words.{IsAmong, Kinds, Text}
 use Rattle.clap.specs.declared.error.kind.ErrorKind.{ErrorKind}
@@ -75,12 +75,16 @@ JudgesAs asked name before after held holds done =
     MatchBool asked.least (JudgesLeastTo asked.plain asked.allowed before after held holds (front_of name form.Text) done)
     (JudgesTo asked.plain (form_of asked) asked.allowed before after held holds (front_of name (form_of asked)) done)
 
--- a history was judged that is told under this name if there are several
+-- the name under which a history is told: if there are several, or a page has it in its title
+abbrev pub told_name : Judging → Text → Option Text
+told_name asked name = if asked.several || asked.html then Some name else None
+
+-- a history of this name was judged
 abbrev pub JudgesNamed : Judging → (name : Text) → (before after held holds : Option (List ℕ))
     → Result (Unit {0}) JobFault → Type 0
 JudgesNamed asked name before after held holds result =
     (done : Result (Unit {0}) JudgeFault)
-    × JudgesAs asked (if asked.several then Some name else None) before after held holds done
+    × JudgesAs asked (told_name asked name) before after held holds done
     × (result ≡ as_judged done)
 
 -- how exploring a program ends. If it has more states than may be kept, its first line stands for all of it

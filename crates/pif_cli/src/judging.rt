@@ -1,7 +1,7 @@
 //! `judge`: a history, judged in the form and the time that the words ask for.
-ghost use Rattle.std.specs.Prelude.{◌≡◌, Some, None, if◌then◌else◌, option_copied};
+ghost use Rattle.std.specs.Prelude.{◌≡◌, option_copied};
 ghost use Rattle.pif_cli.specs.Names.{shown_name};
-ghost use Rattle.pif_cli.specs.Words.{JudgesAs, JudgesNamed, as_judged, form_of};
+ghost use Rattle.pif_cli.specs.Words.{JudgesAs, JudgesNamed, as_judged, form_of, told_name};
 
 use crate::names::Name;
 use crate::times::Timed;
@@ -26,11 +26,15 @@ fn as_judged(done: Result<(), JudgeFault>) -> Result<(), JobFault>
     }
 }
 
-/// The name that is told of a history, if there are several.
-fn told_name<'n>(several: bool, name: &'n Name<'_>) -> Option<&'n [u8]>
-    ensures { option_copied result ≡ if several then Some (shown_name name.now) else None }
+/// The name that is told of a history, if there are several, or a page has it in its title.
+fn told_name<'n>(asked: pif_cli_words::Judging, name: &'n Name<'_>) -> Option<&'n [u8]>
+    ensures { option_copied result ≡ told_name asked (shown_name name.now) }
 {
-    if several { Some(name.shown()) } else { None }
+    if asked.several || asked.html {
+        Some(name.shown())
+    } else {
+        None
+    }
 }
 
 /// The form in which a verdict is told.
@@ -85,7 +89,7 @@ pub fn judge_input<C: Clock, R: Read, W: Write, V: WatchLines>(
 ) -> Result<(), JobFault>
     ensures { JudgesNamed asked (shown_name name.now) (R.remaining input.old) (R.remaining input.new) (W.contents output.old) (W.contents output.new) result }
 {
-    let told = told_name(asked.several, name);
+    let told = told_name(asked, name);
     let mut timed = Timed::new(clock, asked.seconds, watch);
     as_judged(judge_as(alloc, asked, told, input, output, &mut timed))
 }

@@ -393,19 +393,19 @@ For each history it prints:
     some run of the POSIX machine, with the rules, shows its N lines, which
     begin C calls; ', but for 41: EPERM of consistent' if it has an answer that
     no page of POSIX has; 'legal N, with no call' if none begins: nothing was
-    judged
+    judged. 'open at the end: t1 lock m2, ..' has the calls without an answer,
+    and 'deadlock at the end: t1 m2, ..' says that none can have one any more
   illegal at L: LINE
     no run shows the lines up to L; 'possible there: A ..' has the answers with
-    which one does, and 'refused WORD' says why there is none, whatever was
-    answered
+    which one does, 'refused WORD' says why there is none, whatever was
+    answered, and 'legal if line K had A' has another answer that mends it
   log L: refused WORD
     the lines before L are legal, and refuse line L by themselves: a mistake of
     the log
-  undecided at L
-    more states than --states were made for line L, or the time of --seconds was
-    over. 'no witness found from M on' says that no run was found for the lines
-    up to M, and 'found there: A ..' with which answers in it one was: they
-    claim nothing of others
+  legal up to K; undecided from L: LINE; found there: A ..
+    some run shows the lines up to K, and it isn't known whether one shows those
+    up to L: more states than --states were made for a line, or the time of
+    --seconds was over. With these answers in L a run was found
   fault L CAUSE
     line L is the first that is a fault
 Of an illegal or undecided one a line says what POSIX says, unless --plain is

@@ -1,4 +1,5 @@
 mod Settling
+mod Certainty
 mod Guided
 mod Playing
 mod Halves

@@ -6,6 +6,7 @@
 //! |---|---|
 //! | `judge_lines` | a witness, the first line up to which no run exists, or that the search gave up |
 //! | `find_run` | a witness, if a guided search finds one |
+//! | `certain_among` | which facts are so in all states to which the lines can lead |
 //! | `possible_answers`, `possible_priorities` | with which answers, or priorities, a line would be shown |
 //!
 //! Without rules a scan for a wait that nothing can have woken comes first: only the lines before it can have a witness.
@@ -16,6 +17,7 @@
 //! without rules is legal with them. A verdict is a theorem: `IsVerdictOf`.
 #![tactic(auto)]
 
+mod certain;
 mod extras;
 mod failing;
 mod guide;
@@ -34,5 +36,6 @@ mod stepping;
 mod tries;
 mod uses;
 
+pub use certain::certain_among;
 pub use judge::{find_run, judge_lines, possible_answers, possible_priorities};
 pub use pif_search::{Stop, Unwatched, WatchLines};

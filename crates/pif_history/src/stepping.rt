@@ -12,7 +12,7 @@ use crate::scene::Scene;
 use pif_history_machine::{
     HistoryMachine, Later, Position, comes_while, entry_of, is_line_among, is_seen,
 };
-use pif_history_model::{HistoryLimits, Label, Line, Protocol};
+use pif_history_model::{Fact, HistoryLimits, Label, Line, Protocol};
 use pif_model::{Entry, Event};
 use pif_posix::Wide;
 use pif_search::{Stop, unless_many};
@@ -58,7 +58,7 @@ fn comes_in_place(line: &Line) -> bool
         Line::Dying(_) => false,
         Line::End(_) => false,
         Line::Mutex(_, _, Protocol::PrioNone) => false,
-        Line::Process(_) | Line::Halted | Line::Resumed | Line::Undefined(_) => false,
+        Line::Process(_) | Line::Halted | Line::Resumed | Line::Asks(_, _) => false,
         Line::Mutex(_, _, Protocol::PrioInherit)
         | Line::Thread(_)
         | Line::Cond(_)
@@ -181,8 +181,9 @@ fn show_kept(
     requires no_end { ended_by line.now ≡ None }
     ensures { IfOk result (λ b. b ≡ true → (r : Rules) → Advances r limits.now position.old (Shown line.now) position.new) }
 {
-    // The check has to be told of the types of requests and events, which entries hold.
+    // The check has to be told of the types of requests, events and facts, which entries and lines hold.
     let _no_request: Option<Request> = None;
+    let _no_fact: Option<Fact> = None;
     let _no_event: Option<Event> = None;
     match entry_of(position.world(), line)? {
         Some(entry) => come(position, alloc, limits, line, &entry),

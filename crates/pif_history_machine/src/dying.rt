@@ -34,13 +34,13 @@ pub fn thread_of(line: &Line) -> Option<Tid>
         Line::Rests(t) => Some(t),
         Line::Prio(t, _) => Some(t),
         Line::Process(t) => Some(t),
-        Line::Undefined(t) => Some(t),
         Line::Thread(_)
         | Line::Mutex(_, _, _)
         | Line::Cond(_)
         | Line::Tick(_)
         | Line::Halted
-        | Line::Resumed => None,
+        | Line::Resumed
+        | Line::Asks(_, _) => None,
     }
 }
 

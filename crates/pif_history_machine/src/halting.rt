@@ -9,7 +9,7 @@ pub fn comes_while(halted: bool, line: &Line) -> bool
     ensures { result ≡ comes_while halted line.now }
 {
     match *line {
-        Line::Rests(_) | Line::Prio(_, _) | Line::End(_) => true,
+        Line::Rests(_) | Line::Prio(_, _) | Line::End(_) | Line::Asks(_, _) => true,
         Line::Resumed => halted,
         _ => !halted,
     }

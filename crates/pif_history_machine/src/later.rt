@@ -1,6 +1,6 @@
 //! What later lines of a history say of its threads.
 use crate::leaving::Leaving;
-use pif_history_model::Line;
+use pif_history_model::{Fact, Line};
 use pif_search::{Stop, one, push};
 use pif_types::{Answer, CondId, Errno, Request, Tid};
 use std::alloc::Global;
@@ -158,8 +158,9 @@ impl Later {
 
     /// A line tells of the state. It is one of those that were seen while nothing ran, if nothing runs.
     fn hear_look(&mut self, line: &Line) -> Result<(), Stop> {
-        // The check has to be told of the type of requests, which lines hold.
+        // The check has to be told of the types of requests and facts, which lines hold.
         let _no_request: Option<Request> = None;
+        let _no_fact: Option<Fact> = None;
         if !self.halted {
             return Ok(());
         }

@@ -5,6 +5,7 @@ ghost use Rattle.pif_history_model.specs.declared.lines.Line.{Line};
 ghost use Rattle.pif_history_model.specs.Known.{is_over, answer_of, known_answer};
 ghost use Rattle.pif_history_machine.specs.Overs.{places_over, IsTable};
 
+use crate::same::is_same_line;
 use pif_history_model::Line;
 use pif_search::{Stop, push};
 use pif_types::Answer;
@@ -172,8 +173,8 @@ impl KnownLines {
     pub fn has(&self, place: usize, line: &Line) -> bool
         ensures { result ≡ true ↔ drop place self.now ≡ line.now ∷ drop (place + 1) self.now }
     {
-        match self.lines.as_slice().get(place) {
-            Some(other) => *other == *line,
+        match self.line(place) {
+            Some(other) => is_same_line(&other, line),
             None => false,
         }
     }

@@ -93,7 +93,7 @@ impl Told {
             Line::End(t) => self.end_if(t.get() == thread.get()),
             Line::Halted => self.halted = true,
             Line::Resumed => self.halted = false,
-            Line::Rests(_) | Line::Prio(_, _) | Line::Process(_) | Line::Undefined(_) => {}
+            Line::Rests(_) | Line::Prio(_, _) | Line::Process(_) | Line::Asks(_, _) => {}
         }
         Ok(())
     }
@@ -237,7 +237,7 @@ impl Told {
             Line::Tick(time) => of_event(self.tick_refusal(time)),
             Line::Process(t) => of_event(self.process_refusal(t)),
             Line::Dying(t) | Line::Rests(t) | Line::Prio(t, _) => of_event(self.living_refusal(t)),
-            Line::Halted | Line::Resumed | Line::Undefined(_) => None,
+            Line::Halted | Line::Resumed | Line::Asks(_, _) => None,
         }
     }
 

@@ -15,12 +15,12 @@ use Rattle.pif_rules_model.proofs.Ruling.{widely_from, widely_to}
 use Rattle.pif_rules_model.proofs.Entries.{widely_entered_from, widely_entered_to, ended_apart_from, ended_apart_to, passed_later_from, passed_later_to, released_is, released_from_it}
 use Rattle.pif_history_model.specs.declared.lines.Protocol.TheVariants.{PrioNone}
 use Rattle.pif_history_model.specs.declared.lines.Line.{Line}
-use Rattle.pif_history_model.specs.declared.lines.Line.TheVariants.{Mutex, Process, Halted, Resumed, Undefined}
+use Rattle.pif_history_model.specs.declared.lines.Line.TheVariants.{Mutex, Process, Halted, Resumed, Asks}
 use Rattle.pif_history_model.specs.declared.labels.Label.{Label}
 use Rattle.pif_history_model.specs.declared.labels.Label.TheVariants.{Shown, Moves, Ends}
 use Rattle.pif_history_model.specs.Lines.{is_among, adds_no_none, is_no_extra}
 use Rattle.pif_history_model.specs.Searched.{Configuration, Steps, Advances, IsThrough, IsShownWith, start_of, at_end_of, at_entry}
-use Rattle.pif_history_model.specs.Searched.Steps.{moves, ends, ends_apart, enters, adds_none, sees, has_ended, exits, passes_later, halts, resumes, is_undefined}
+use Rattle.pif_history_model.specs.Searched.Steps.{moves, ends, ends_apart, enters, adds_none, sees, has_ended, exits, passes_later, halts, resumes, asks}
 use Rattle.pif_history_model.specs.Searched.IsThrough.{at_once, released}
 use Rattle.pif_history_model.proofs.Soundness.{lines_in, shown-lines_in, same-from_shown}
 
@@ -103,9 +103,9 @@ module _ (r : Rules) (none extra : Bool) where
       let y = ok Halted i in halts i (through_gate Halted is_no_extra r.extra_lines extra y.stands refl f) e
   step_gated l s n x ok (resumes i f e) =
       let y = ok Resumed i in resumes i (through_gate Resumed is_no_extra r.extra_lines extra y.stands refl f) e
-  step_gated l s n x ok (is_undefined t i f a left e) =
-      let y = ok (Undefined t) i in
-      is_undefined t i (through_gate (Undefined t) is_no_extra r.extra_lines extra y.stands refl f) a left e
+  step_gated l s n x ok (asks f b i flag is e) =
+      let y = ok (Asks f b) i in
+      asks f b i (through_gate (Asks f b) is_no_extra r.extra_lines extra y.stands refl flag) is e
 
   -- a run whose lines pass a test, if those that pass it pass the gates
   module _ (test : Line → Bool) (passes : (line : Line) → test line ≡ true → PassesGates r none extra line) where

@@ -30,6 +30,7 @@ pub mod ShownLines
 mod NoRules
 pub mod Widening
 pub mod Gated
+pub mod Always
 pub mod Judging
 pub mod Covered
 pub mod Answered

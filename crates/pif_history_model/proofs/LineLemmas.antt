@@ -16,7 +16,7 @@ use Rattle.pif_posix_steps.specs.Once.Enters.{answered as by_answer, other}
 use Rattle.pif_rules_model.specs.Rules.{end_of}
 use Rattle.pif_history_model.specs.declared.lines.Protocol.TheVariants.{PrioInherit, PrioNone}
 use Rattle.pif_history_model.specs.declared.lines.Line.{Line}
-use Rattle.pif_history_model.specs.declared.lines.Line.TheVariants.{Thread, Mutex, Cond, Begin, Answer, Dying, End, Tick, Rests, Prio, Process, Halted, Resumed, Undefined}
+use Rattle.pif_history_model.specs.declared.lines.Line.TheVariants.{Thread, Mutex, Cond, Begin, Answer, Dying, End, Tick, Rests, Prio, Process, Halted, Resumed, Asks}
 use Rattle.pif_history_model.specs.Lines.{line_of, ended_by}
 use Rattle.pif_history_model.specs.Shown.{IsSeen}
 use Rattle.pif_history_model.specs.Shown.IsSeen.{rests as by_rests, prio as by_prio, dying as by_dying}
@@ -42,7 +42,7 @@ shows-entry_for w (Prio t p) e h = absurd (cc)
 shows-entry_for w (Process t) e h = absurd (cc)
 shows-entry_for w Halted e h = absurd (cc)
 shows-entry_for w Resumed e h = absurd (cc)
-shows-entry_for w (Undefined t) e h = absurd (cc)
+shows-entry_for w (Asks f b) e h = absurd (cc)
 
 -- the entry of a line that says of no thread that it has ended is no end
 pub no_end : (w : World) (line : Line) (e : Entry) → entry_for w line ≡ Some e → ended_by line ≡ None → end_of e ≡ None
@@ -64,7 +64,7 @@ no_end w (Prio t p) e h k = absurd (cc)
 no_end w (Process t) e h k = absurd (cc)
 no_end w Halted e h k = absurd (cc)
 no_end w Resumed e h k = absurd (cc)
-no_end w (Undefined t) e h k = absurd (cc)
+no_end w (Asks f b) e h k = absurd (cc)
 
 -- what is added has the next number
 thread_step : (l : Bounds) (w v : World) (t p : ℕ) → Step l w (entry.Thread t p) v → (t ≡ length w.threads) × (1 ≤ p) × (p ≤ 99)

@@ -21,7 +21,7 @@ use Rattle.pif_history_model.specs.declared.refusals.LineRefusal.{LineRefusal}
 use Rattle.pif_history_model.specs.declared.refusals.LineRefusal.TheVariants.{Halt}
 use Rattle.pif_history_model.specs.Lines.{line_of, is_among, is_line_among, is_no_extra, halted_after, halted_by, comes_while, dying_by, dying_after}
 use Rattle.pif_history_model.specs.Searched.{Configuration, Steps, Advances, IsShownWith, start_of, with_prio_none, told_of, at_end_of, at_entry}
-use Rattle.pif_history_model.specs.Searched.Steps.{moves, ends, ends_apart, enters, adds_none, sees, has_ended, exits, passes_later, halts, resumes, is_undefined}
+use Rattle.pif_history_model.specs.Searched.Steps.{moves, ends, ends_apart, enters, adds_none, sees, has_ended, exits, passes_later, halts, resumes, asks}
 use Rattle.pif_history_model.specs.Refused.{threads_in, is_known, event_refused, refusal_while_running, refusal_of_line}
 use Rattle.pif_history_model.proofs.Extras.{entry_is_plain, look_is_plain}
 use Rattle.pif_history_model.proofs.KeepingByRules.{keeps_wide_move, leaves_wide_end, wide_end_allowed, keeps_later, leaves_or_keeps}
@@ -154,8 +154,8 @@ module _ (r : Rules) (l : Bounds) (lines : List Line) (s n : Configuration) (x :
         record { tells = retold refl refl refl refl (λ u. refl) (λ u. refl) refl y.tells; halted = refl },
         refl,
       )
-  step_tells (is_undefined t i on apart left e) =
-      of_step (Shown (line.Undefined t)) s i e (
+  step_tells (asks f b i on is e) =
+      of_step (Shown (line.Asks f b)) s i e (
         record { tells = retold refl refl refl refl (λ u. refl) (λ u. refl) refl y.tells; halted = y.halted },
         refl,
       )

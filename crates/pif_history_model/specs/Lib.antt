@@ -1,9 +1,11 @@
+pub mod Facts
 pub mod Lines
 pub mod Shown
 pub mod Searched
 pub mod Plain
 pub mod Refused
 pub mod Verdicts
+pub mod Always
 pub mod Forgetting
 pub mod Queues
 pub mod Notes

@@ -7,7 +7,7 @@ use Rattle.pif_model.specs.declared.events.Entry.{Entry}
 use Rattle.pif_model.specs.declared.events.Entry.TheVariants as entry
 use Rattle.pif_history_model.specs.declared.lines.Protocol.TheVariants.{PrioInherit, PrioNone}
 use Rattle.pif_history_model.specs.declared.lines.Line.{Line}
-use Rattle.pif_history_model.specs.declared.lines.Line.TheVariants.{Thread, Mutex, Cond, Begin, Answer, Dying, End, Tick, Rests, Prio, Process, Halted, Resumed, Undefined}
+use Rattle.pif_history_model.specs.declared.lines.Line.TheVariants.{Thread, Mutex, Cond, Begin, Answer, Dying, End, Tick, Rests, Prio, Process, Halted, Resumed, Asks}
 
 -- the line that shows an entry: an addition, the begin of a call, its answer, the end of a thread, or a tick. A step
 -- that went or waited has none, nor has a refused event. Each mutex of the machine inherits
@@ -26,12 +26,12 @@ abbrev pub adds_no_none : Line → Bool
 adds_no_none (Mutex k r PrioNone) = false
 adds_no_none _ = true
 
--- whether a line is none of `process`, `halted` and `resumed`, and asks for no undefined call
+-- whether a line is none of `process`, `halted` and `resumed`, and asks for no fact
 abbrev pub is_no_extra : Line → Bool
 is_no_extra (Process t) = false
 is_no_extra Halted = false
 is_no_extra Resumed = false
-is_no_extra (Undefined t) = false
+is_no_extra (Asks f b) = false
 is_no_extra _ = true
 
 -- whether nothing runs behind one more line, if it did or didn't before it
@@ -51,6 +51,7 @@ comes_while true (Rests t) = true
 comes_while true (Prio t p) = true
 comes_while true (End t) = true
 comes_while true Resumed = true
+comes_while true (Asks f b) = true
 comes_while true _ = false
 comes_while false Resumed = false
 comes_while false _ = true
@@ -69,7 +70,6 @@ thread_of (End t) = Some t
 thread_of (Rests t) = Some t
 thread_of (Prio t p) = Some t
 thread_of (Process t) = Some t
-thread_of (Undefined t) = Some t
 thread_of _ = None
 
 -- whether t is among these threads

@@ -10,7 +10,7 @@ use Rattle.pif_model.specs.Graph.{is_priority}
 use Rattle.pif_model.specs.Posix.{names_known}
 use Rattle.pif_model.specs.Refusals.{begin_refused, go_refused, end_refused, tick_refused}
 use Rattle.pif_history_model.specs.declared.lines.Line.{Line}
-use Rattle.pif_history_model.specs.declared.lines.Line.TheVariants.{Thread, Mutex, Cond, Begin, Answer, Dying, End, Tick, Rests, Prio, Process, Halted, Resumed, Undefined}
+use Rattle.pif_history_model.specs.declared.lines.Line.TheVariants.{Thread, Mutex, Cond, Begin, Answer, Dying, End, Tick, Rests, Prio, Process, Halted, Resumed, Asks}
 use Rattle.pif_history_model.specs.declared.refusals.LineRefusal.{LineRefusal}
 use Rattle.pif_history_model.specs.declared.refusals.LineRefusal.TheVariants.{Addition, Event, Halt}
 use Rattle.pif_history_model.specs.Lines.{is_among, dying_by, halted_by, comes_while}
@@ -90,7 +90,7 @@ refusal_while_running l before (Process t) =
     else Some refusal.NoSuch)
 refusal_while_running l before Halted = None
 refusal_while_running l before Resumed = None
-refusal_while_running l before (Undefined t) = None
+refusal_while_running l before (Asks f b) = None
 
 -- why no run has a line behind these lines, if there is such a reason
 abbrev pub refusal_of_line : Bounds → List Line → Line → Option LineRefusal

@@ -5,6 +5,7 @@
 //! | Type | What it is |
 //! |---|---|
 //! | `Line` | one line of a history |
+//! | `Fact` | what may be so in a state, of which a search is asked |
 //! | `Protocol` | what those that wait for a mutex lend to its owner |
 //! | `HistoryLimits` | how much the machine takes |
 //! | `LineRefusal` | why no run has a line, whatever was answered |
@@ -23,6 +24,8 @@
 #![tactic(auto)]
 
 mod allowed_laws;
+mod always_laws;
+mod facts;
 mod known_laws;
 mod labels;
 mod laws;
@@ -35,6 +38,8 @@ pub use allowed_laws::{
     first_lines_are_shown, more_rules_show_more, only_extra_lines_are_gated,
     only_what_lends_nothing_is_gated, without_rules_lines_are_plain,
 };
+pub use always_laws::what_is_never_otherwise_is_always_so;
+pub use facts::Fact;
 pub use known_laws::{
     failing_trylocks_are_taken_at_once, known_answers_are_kept_thread_by_thread,
     known_answers_forget_as_much, known_answers_judge_all_lines, known_answers_show_as_much,

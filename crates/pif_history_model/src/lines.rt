@@ -1,3 +1,4 @@
+use crate::Fact;
 use pif_types::{Answer, Kind, MutexId, Request, Tid};
 
 /// What the threads that wait for a mutex lend to its owner (POSIX.1-2017, pthread_mutexattr_getprotocol).
@@ -45,7 +46,7 @@ pub enum Line {
     Halted,
     /// `resumed`: the threads go on.
     Resumed,
-    /// POSIX leaves undefined what the open call of the thread does, which has had no effect yet. No history has this line:
-    /// a search is asked for it.
-    Undefined(Tid),
+    /// The fact is so if the second value is true, and isn't if it is false. No history has this line: a search is asked
+    /// for it.
+    Asks(Fact, bool),
 }

@@ -180,7 +180,7 @@ line_back line.Halted r =
     said_words (codes "halted") (codes "halted" ∷ []) line.Halted refl (last_word (codes "halted") refl) refl refl
 line_back line.Resumed r =
     said_words (codes "resumed") (codes "resumed" ∷ []) line.Resumed refl (last_word (codes "resumed") refl) refl refl
-line_back (line.Undefined t) r = absurd r
+line_back (line.Asks f b) r = absurd r
 
 -- ---- lines that are read
 

@@ -9,7 +9,7 @@ use Rattle.pif_text_model.specs.Replies.{thread_name}
 use Rattle.pif_history_model.specs.declared.lines.Protocol.{Protocol}
 use Rattle.pif_history_model.specs.declared.lines.Protocol.TheVariants.{PrioInherit, PrioNone}
 use Rattle.pif_history_model.specs.declared.lines.Line.{Line}
-use Rattle.pif_history_model.specs.declared.lines.Line.TheVariants.{Thread, Mutex, Cond, Begin, Answer, Dying, End, Tick, Rests, Prio, Process, Halted, Resumed, Undefined}
+use Rattle.pif_history_model.specs.declared.lines.Line.TheVariants.{Thread, Mutex, Cond, Begin, Answer, Dying, End, Tick, Rests, Prio, Process, Halted, Resumed, Asks}
 
 -- What stands behind the kind of a mutex, and whether it is robust, for its protocol.
 abbrev pub protocol_text : Protocol → List ℕ
@@ -31,7 +31,7 @@ line_text (Prio t p) = codes "prio " ++ thread_name t ++ (codes " " ++ decimal p
 line_text (Process t) = codes "process " ++ thread_name t
 line_text Halted = codes "halted"
 line_text Resumed = codes "resumed"
-line_text (Undefined t) = codes "undefined " ++ thread_name t
+line_text (Asks f b) = codes "asks"
 
 -- A line whose numbers a text can write.
 abbrev pub IsLineWritten : Line → Type 0
@@ -48,4 +48,4 @@ IsLineWritten (Prio t p) = IsName t × IsNumber p
 IsLineWritten (Process t) = IsName t
 IsLineWritten Halted = Unit {0}
 IsLineWritten Resumed = Unit {0}
-IsLineWritten (Undefined t) = ⊥
+IsLineWritten (Asks f b) = ⊥

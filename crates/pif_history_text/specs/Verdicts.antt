@@ -25,10 +25,6 @@ legal_line lines = at_number (codes "legal ") lines ++ codes "\n"
 abbrev pub illegal_line : (number : ℕ) → Line → List ℕ
 illegal_line number line = at_number (codes "illegal at ") number ++ colon_line line
 
--- At the line of this number the search was given up.
-abbrev pub undecided_line : (number : ℕ) → List ℕ
-undecided_line number = at_number (codes "undecided at ") number ++ codes "\n"
-
 -- The line of this number is the first fault.
 abbrev pub fault_line : (number : ℕ) → Cause → List ℕ
 fault_line number cause = fault_of number cause ++ codes "\n"

@@ -7,6 +7,7 @@
 //! | `allowed` | the rules that a line allows |
 //! | `lines` | a line, read |
 //! | `heard` | a history, line by line |
+//! | `names` | the names that comments give |
 //! | `reading` | a history, read whole |
 //! | `writing` | lines as text |
 //! | `deeds` | what happens to a thread at a move, as words |
@@ -17,6 +18,7 @@ mod allowed;
 mod deeds;
 mod heard;
 mod lines;
+mod names;
 mod reading;
 mod said;
 mod tellings;
@@ -27,12 +29,13 @@ mod writing;
 pub use deeds::Deed;
 pub use heard::{History, MOST_BYTES};
 pub use lines::{answer_of, said_of};
-pub use reading::read_history;
+pub use names::Names;
+pub use reading::{NamedHistory, read_history};
 pub use said::Said;
 pub use tellings::push_step;
 pub use texts::text_of_line;
 pub use verdicts::{
     push_began, push_fault, push_found, push_illegal, push_legal, push_possible,
-    push_possible_undecided, push_refused, push_undecided, refusal_word,
+    push_possible_undecided, push_refused, refusal_word,
 };
 pub use writing::{line_reads_back, line_text, lines_of_texts_are_written};

@@ -1,9 +1,9 @@
 ghost use Rattle.std.specs.Prelude.{◌≡◌, ◌≢◌, ℕ, List, Option, slice_index, ◌+◌, ◌<◌, ◌≤◌, ◌∷◌, ◌++◌, [], Err, IfErr, IfOk, Ok, OnOk, length};
-ghost use Rattle.pif_history_text.specs.Histories.{unheard};
-ghost use Rattle.pif_history_text.specs.Reading.{Brings, Closes, Gives, HasNoFeed, HasRead, IsCutOff, IsPaired, TakesPart, TakesSome, ReadsHistory, heard_of, place_of, start, with_heard};
+ghost use Rattle.pif_history_text.specs.Histories.{after_line, unheard};
+ghost use Rattle.pif_history_text.specs.Reading.{Brings, Closes, Comes, Gives, HasNoFeed, HasRead, IsCutOff, IsPaired, TakesPart, TakesSome, ReadsHistory, heard_of, place_of, start, with_heard};
 
-use crate::History;
 use crate::heard::MOST_BYTES;
+use crate::{History, Names, text_of_line};
 use arrayvec::ArrayVec;
 use pif_script_model::CliFault;
 use pif_text::{Cause, before_feed};
@@ -17,10 +17,20 @@ const CHUNK: usize = 4096;
 /// more has a text that is too long.
 const LINE_ROOM: usize = 124;
 
+/// A history that was read, and the names that its comments give.
+#[derive(Drop)]
+pub struct NamedHistory {
+    /// What its lines say.
+    pub history: History,
+    /// The names beside its numbers.
+    pub names: Names,
+}
+
 /// A history while its text is read.
 #[derive(Drop)]
 struct TextSoFar {
     history: History,
+    names: Names,
     line: ArrayVec<u8, LINE_ROOM>,
 }
 
@@ -32,6 +42,7 @@ impl TextSoFar {
     {
         TextSoFar {
             history: History::new(alloc),
+            names: Names::new(alloc),
             line: ArrayVec::new(),
         }
     }
@@ -52,6 +63,21 @@ impl TextSoFar {
         Ok(())
     }
 
+    /// Hears the line so far: what it says, and what it names if it is a comment.
+    fn hear(&mut self) -> Result<(), CliFault>
+        requires fits { self.old.history.count ≤ 268435456 }
+        ensures heard { Comes (heard_of self.old.history) (after_line (heard_of self.old.history) self.old.line.items) (heard_of self.new.history) result }
+        ensures line { self.new.line.items ≡ self.old.line.items }
+        ensures count { OnOk result (self.new.history.count ≡ self.old.history.count + 1) }
+        ensures paired { OnOk result (IsPaired self.old.history → IsPaired self.new.history) }
+    {
+        let number = self.history.count + 1;
+        match self.history.hear(self.line.as_slice()) {
+            Ok(()) => self.names.hear(text_of_line(number, self.line.as_slice())),
+            Err(fault) => Err(fault),
+        }
+    }
+
     /// Takes the LF that ends a line.
     fn end_line(&mut self) -> Result<(), CliFault>
         requires open { HasNoFeed self.old.line.items }
@@ -61,7 +87,7 @@ impl TextSoFar {
         ensures count { OnOk result (self.new.history.count ≡ self.old.history.count + 1) }
         ensures paired { OnOk result (IsPaired self.old.history → IsPaired self.new.history) }
     {
-        match self.history.hear(self.line.as_slice()) {
+        match self.hear() {
             Ok(()) => {
                 self.line.clear();
                 Ok(())
@@ -124,7 +150,7 @@ impl TextSoFar {
         if self.line.is_empty() {
             return Ok(());
         }
-        self.history.hear(self.line.as_slice())
+        self.hear()
     }
 
     /// The fault of the line in which more bytes stand than a history may have.
@@ -207,18 +233,22 @@ fn read_text<R: Read>(reader: &mut R, text: &mut TextSoFar) -> Result<(), CliFau
     close_full(reader, text)
 }
 
-/// Reads a history to its end, or to its first fault.
+/// Reads a history to its end, or to its first fault, and the names that its comments give.
 ///
 /// # Errors
 ///
 /// `Script` with the number and the cause of the first line that is a fault, whatever stands behind what was read then;
 /// `Read`, if the reader fails; and `NoMemory`.
-pub fn read_history<R: Read>(alloc: Global, reader: &mut R) -> Result<History, CliFault>
-    ensures read { IfOk result (λ history. ReadsHistory (R.remaining reader.old) (R.remaining reader.new) (Ok (heard_of history))) }
+pub fn read_history<R: Read>(alloc: Global, reader: &mut R) -> Result<NamedHistory, CliFault>
+    ensures read { IfOk result (λ x. ReadsHistory (R.remaining reader.old) (R.remaining reader.new) (Ok (heard_of x.history))) }
     ensures failed { IfErr result (λ fault. ReadsHistory (R.remaining reader.old) (R.remaining reader.new) (Err fault)) }
-    ensures paired { IfOk result IsPaired }
+    ensures paired { IfOk result (λ x. IsPaired x.history) }
 {
     let mut text = TextSoFar::new(alloc);
     read_text(reader, &mut text)?;
-    Ok(text.history)
+    text.names.close(&text.history);
+    Ok(NamedHistory {
+        history: text.history,
+        names: text.names,
+    })
 }

@@ -1,6 +1,6 @@
 //! The lines of verdicts. Each is appended to `out`; if out of memory, a part of it may be.
 ghost use Rattle.std.specs.Prelude.{◌≡◌, ◌++◌, None, OnOk, Some, codes, flat_map};
-ghost use Rattle.pif_history_text.specs.Verdicts.{at_number, began_line, colon_line, fault_line, found_line, illegal_line, legal_line, line_refusal_word, possible_line, possible_text, refused_line, undecided_line};
+ghost use Rattle.pif_history_text.specs.Verdicts.{at_number, began_line, colon_line, fault_line, found_line, illegal_line, legal_line, line_refusal_word, possible_line, possible_text, refused_line};
 
 use crate::writing::line_text;
 use itoa::Buffer;
@@ -59,17 +59,6 @@ pub fn push_illegal(out: &mut Vec<u8>, number: u32, line: Line) -> Result<(), Al
     ensures { OnOk result (out.new.items ≡ out.old.items ++ illegal_line number line) }
 {
     push_line_at(out, b"illegal at ", number, line)
-}
-
-/// Appends the line of a history that was given up at the line of this number.
-///
-/// # Errors
-///
-/// Out of memory.
-pub fn push_undecided(out: &mut Vec<u8>, number: u32) -> Result<(), AllocError>
-    ensures { OnOk result (out.new.items ≡ out.old.items ++ undecided_line number) }
-{
-    push_at(out, b"undecided at ", number, b"\n")
 }
 
 /// Appends the line of a fault.

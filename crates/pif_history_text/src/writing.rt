@@ -48,8 +48,8 @@ fn append_mutex(out: &mut Text, kind: Kind, robust: bool, protocol: Protocol)
     }
 }
 
-/// Appends a line of a history, with no line feed, at most `COMMAND_ROOM` bytes. What stands in `out` stays. `Undefined` is
-/// no line of a history: what is written for it can't be read.
+/// Appends a line of a history, with no line feed, at most `COMMAND_ROOM` bytes. What stands in `out` stays. `Asks` is no
+/// line of a history: what is written for it can't be read.
 #[tactic(auto, unfolding(crate::specs::Texts::line_text))]
 pub fn line_text(line: Line, out: &mut Text)
     requires { array_vec_len out.old + COMMAND_ROOM ≤ TEXT_ROOM }
@@ -78,7 +78,7 @@ pub fn line_text(line: Line, out: &mut Text)
         Line::Process(thread) => append_of_thread(out, b"process ", thread),
         Line::Halted => append(out, b"halted"),
         Line::Resumed => append(out, b"resumed"),
-        Line::Undefined(thread) => append_of_thread(out, b"undefined ", thread),
+        Line::Asks(_, _) => append(out, b"asks"),
     }
 }
 

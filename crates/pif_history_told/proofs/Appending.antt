@@ -5,6 +5,7 @@ use Rattle.pif_rules_model.specs.Rules.{Wide}
 use Rattle.pif_history_model.specs.declared.lines.Line.{Line}
 use Rattle.pif_history_text.specs.Texts.{line_text}
 use Rattle.pif_history_told.specs.StateObjects.{call_members, change_lists, change_members, seen_of, thread_object, thread_text}
+use Rattle.pif_history_told.specs.Pages.{IsPageOf}
 use Rattle.pif_history_told.specs.Runs.{line_members, line_object}
 
 -- Bytes that grew by these.
@@ -65,3 +66,15 @@ unfolding line_object
 line_appended whole number line moves names w v old new n text counted read all =
     all ∙ ap (λ k. old ++ line_members whole k text moves names w v) counted
     ∙ ap (λ l. old ++ line_members whole number l moves names w v) read
+
+-- By a page: by the lines between its front and what stands beside them, and then by its end.
+pub page_grown : (old before lines beside behind mid new : List ℕ) → mid ≡ old ++ (before ++ lines ++ beside)
+    → new ≡ mid ++ behind → IsPageOf lines old new
+page_grown old before lines beside behind mid new first second = (
+  before,
+  beside ++ behind,
+  second
+      ∙ (ap (λ (l : List ℕ). l ++ behind) first
+      ∙ (append_assoc old (before ++ lines ++ beside) behind
+      ∙ ap (λ (l : List ℕ). old ++ l) (append_assoc (before ++ lines) beside behind))),
+)

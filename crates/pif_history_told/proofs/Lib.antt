@@ -7,6 +7,8 @@ mod UnlistedLemmas
 mod Appending
 mod RunLemmas
 mod OpenCalls
+mod OpenTables
 mod SetLemmas
 mod HealthLemmas
 pub mod Pieces
+mod InTheWayLemmas

@@ -24,14 +24,15 @@ nest_line : (l0 a l1 b l2 c k l3 d e f g : List ℕ)
     ≡ (((((((((l0 ++ a) ++ l1) ++ b) ++ l2) ++ c) ++ (k ++ l3)) ++ d) ++ e) ++ f) ++ g
 nest_line l0 a l1 b l2 c k l3 d e f g = simp append_assoc
 
-nest_undecided : (l0 a l1 b l2 c d e : List ℕ)
-    → ((l0 ++ (a ++ (l1 ++ (b ++ (l2 ++ c))))) ++ d) ++ e ≡ (((l0 ++ a) ++ (l1 ++ b)) ++ ((l2 ++ c) ++ d)) ++ e
-nest_undecided l0 a l1 b l2 c d e = simp append_assoc
+nest_undecided : (l0 a l1 b l2 c l3 d e f : List ℕ)
+    → ((l0 ++ (a ++ (l1 ++ (b ++ (l2 ++ (c ++ (l3 ++ d))))))) ++ e) ++ f
+    ≡ ((((((((l0 ++ a) ++ l1) ++ b) ++ (l2 ++ c)) ++ l3) ++ d) ++ e) ++ f)
+nest_undecided l0 a l1 b l2 c l3 d e f = simp append_assoc
 
-nest_illegal : (l0 a l1 b l2 c d e f : List ℕ)
-    → (((l0 ++ (a ++ (l1 ++ (b ++ (l2 ++ c))))) ++ d) ++ e) ++ f
-    ≡ ((((l0 ++ a) ++ l1) ++ b) ++ (l2 ++ c)) ++ ((d ++ e) ++ f)
-nest_illegal l0 a l1 b l2 c d e f = simp append_assoc
+nest_illegal : (l0 a l1 b l2 c d e f g : List ℕ)
+    → ((((l0 ++ (a ++ (l1 ++ (b ++ (l2 ++ c))))) ++ d) ++ e) ++ f) ++ g
+    ≡ ((((l0 ++ a) ++ l1) ++ b) ++ (l2 ++ c)) ++ (((d ++ e) ++ f) ++ g)
+nest_illegal l0 a l1 b l2 c d e f g = simp append_assoc
 
 nest_changes : (l0 a l1 b l2 c k : List ℕ)
     → (((l0 ++ a) ++ k) ++ ((l1 ++ b) ++ k)) ++ ((l2 ++ c) ++ k)
@@ -61,21 +62,23 @@ pub line_pieces : (a b c d e f : List ℕ)
 line_pieces a b c d e f =
     nest_line (codes "{\"line\":") a (codes ",\"text\":") b (codes ",\"moves\":[") c (codes "]") (codes ",\"whole\":") d e f (codes "}\n")
 
-pub undecided_pieces : (a b c d : List ℕ)
+pub undecided_pieces : (a b c d e : List ℕ)
     → ((123 ∷ (member (codes "verdict") (quoted (codes "undecided")) ++ 44 ∷ (member (codes "line") a
-    ++ 44 ∷ (member (codes "left_out") b ++ 44 ∷ member (codes "no_witness_from") c)))) ++ d) ++ codes "}\n"
-    ≡ (codes "{\"verdict\":\"undecided\",\"line\":" ++ a ++ (codes ",\"left_out\":" ++ b))
-    ++ (codes ",\"no_witness_from\":" ++ c ++ d) ++ codes "}\n"
-undecided_pieces a b c d =
-    nest_undecided (codes "{\"verdict\":\"undecided\",\"line\":") a (codes ",\"left_out\":") b (codes ",\"no_witness_from\":") c d (codes "}\n")
+    ++ 44 ∷ (member (codes "text") b ++ 44 ∷ (member (codes "left_out") c ++ 44 ∷ member (codes "legal_up_to") d))))) ++ e)
+    ++ codes "}\n"
+    ≡ codes "{\"verdict\":\"undecided\"," ++ (codes "\"line\":" ++ a ++ codes ",\"text\":" ++ b) ++ (codes ",\"left_out\":" ++ c)
+    ++ codes ",\"legal_up_to\":" ++ d ++ e ++ codes "}\n"
+undecided_pieces a b c d e =
+    nest_undecided (codes "{\"verdict\":\"undecided\",\"line\":") a (codes ",\"text\":") b (codes ",\"left_out\":") c
+    (codes ",\"legal_up_to\":") d e (codes "}\n")
 
-pub illegal_pieces : (a b c d e : List ℕ)
-    → (((123 ∷ (member (codes "verdict") (quoted (codes "illegal")) ++ 44 ∷ (member (codes "line") a
-    ++ 44 ∷ (member (codes "text") b ++ 44 ∷ member (codes "left_out") c)))) ++ d) ++ e) ++ codes "}\n"
+pub illegal_pieces : (a b c d e f : List ℕ)
+    → ((((123 ∷ (member (codes "verdict") (quoted (codes "illegal")) ++ 44 ∷ (member (codes "line") a
+    ++ 44 ∷ (member (codes "text") b ++ 44 ∷ member (codes "left_out") c)))) ++ d) ++ e) ++ f) ++ codes "}\n"
     ≡ (codes "{\"verdict\":\"illegal\"," ++ (codes "\"line\":" ++ a ++ codes ",\"text\":" ++ b) ++ (codes ",\"left_out\":" ++ c))
-    ++ (d ++ e ++ codes "}\n")
-illegal_pieces a b c d e =
-    nest_illegal (codes "{\"verdict\":\"illegal\",\"line\":") a (codes ",\"text\":") b (codes ",\"left_out\":") c d e (codes "}\n")
+    ++ (d ++ e ++ f ++ codes "}\n")
+illegal_pieces a b c d e f =
+    nest_illegal (codes "{\"verdict\":\"illegal\",\"line\":") a (codes ",\"text\":") b (codes ",\"left_out\":") c d e f (codes "}\n")
 
 pub changes_pieces : (a b c : List ℕ)
     → ((((44 ∷ quoted (codes "threads") ++ codes ":[") ++ a ++ codes "]") ++ ((44 ∷ quoted (codes "mutexes") ++ codes ":[") ++ b ++ codes "]"))

@@ -22,14 +22,14 @@ use Rattle.pif_rules_model.specs.Rules.HasReleased.{at_once as released_at_once,
 use Rattle.pif_rules_model.proofs.Lending.{sees_more}
 use Rattle.pif_rules.specs.Sets.{both, only}
 use Rattle.pif_history_model.specs.declared.lines.Line.{Line}
-use Rattle.pif_history_model.specs.declared.lines.Line.TheVariants.{Mutex, Process, Halted, Resumed, Undefined}
+use Rattle.pif_history_model.specs.declared.lines.Line.TheVariants.{Mutex, Process, Halted, Resumed, Asks}
 use Rattle.pif_history_model.specs.declared.lines.Protocol.TheVariants.{PrioNone}
 use Rattle.pif_history_model.specs.Lines.{is_among}
 use Rattle.pif_history_model.specs.declared.labels.Label.{Label}
 use Rattle.pif_history_model.specs.declared.labels.Label.TheVariants.{Shown, Moves, Ends}
 use Rattle.pif_history_model.specs.Searched.{Configuration, Steps, Advances, IsThrough, at_end_of, at_entry}
 use Rattle.pif_history_model.specs.Searched.IsThrough.{at_once as through_at_once, released as through_released}
-use Rattle.pif_history_model.specs.Searched.Steps.{moves, ends, ends_apart, enters, adds_none, sees, has_ended, exits, passes_later, halts, resumes, is_undefined}
+use Rattle.pif_history_model.specs.Searched.Steps.{moves, ends, ends_apart, enters, adds_none, sees, has_ended, exits, passes_later, halts, resumes, asks}
 use Rattle.pif_history_told.specs.Sets.{sets_but_all, sets_in_order}
 use Rattle.pif_history_told.specs.Steps.{IsStepBy, asked_with, of_ends, of_lines, sets_for}
 
@@ -287,8 +287,8 @@ no_move a b h l s x n none lines (passes_later t v i d g p e) =
     passes_later t v i d (h.stays_locked ∙ g) (later_by a b h t s.wide v p) e
 no_move a b h l s x n none lines (halts i g e) = halts i ((lines Halted i).extra_lines ∙ g) e
 no_move a b h l s x n none lines (resumes i g e) = resumes i ((lines Resumed i).extra_lines ∙ g) e
-no_move a b h l s x n none lines (is_undefined t i g d u e) =
-    is_undefined t i ((lines (Undefined t) i).extra_lines ∙ g) d u e
+no_move a b h l s x n none lines (asks f holds i g so e) =
+    asks f holds i ((lines (Asks f holds) i).extra_lines ∙ g) so e
 
 -- a move is there with one rule or none
 by_move : (r : Rules) (l : Bounds) (s : Configuration) (t : ℕ) (n : Configuration) → Steps r l s (Moves t) n
@@ -307,7 +307,7 @@ by_move r l s t n (exits u i g d k e) = absurd (cc)
 by_move r l s t n (passes_later u v i d g p e) = absurd (cc)
 by_move r l s t n (halts i g e) = absurd (cc)
 by_move r l s t n (resumes i g e) = absurd (cc)
-by_move r l s t n (is_undefined u i g d x e) = absurd (cc)
+by_move r l s t n (asks f b i g so e) = absurd (cc)
 
 pub by_set : (r : Rules) (l : Bounds) (s : Configuration) (x : Label) (n : Configuration) → Advances r l s x n
     → (q : Rules) × IsStepBy r l s x q n

@@ -1,12 +1,17 @@
 pub mod Why
+pub mod OpenTables
 pub mod Sets
 pub mod Texts
 pub mod Steps
 pub mod Ways
 pub mod Tellings
 pub mod StateObjects
+pub mod Names
 pub mod Pages
 pub mod Runs
+pub mod InTheWay
+pub mod Clues
+pub mod Ends
 pub mod Verdicts
 pub mod WhyTexts
 pub mod Unlisted

@@ -1,25 +1,21 @@
 -- What is known of a line of a history up to which there is no run, and which call is open there.
-use Rattle.std.specs.Prelude.{ℕ, ◌≡◌, ◌≤◌, ◌-◌, ◌==◌, Bool, true, false, List, [], ◌∷◌, reverse, take, slice_get, Option, Some, None, if◌then◌else◌}
+use Rattle.std.specs.Prelude.{ℕ, ◌≡◌, ◌≤◌, ◌-◌, ◌==◌, Bool, true, false, List, [], ◌∷◌, count_by, length, reverse, take, slice_get, Option, Some, None, if◌then◌else◌}
 use Rattle.pif_history_model.specs.declared.lines.Line.{Line}
-use Rattle.pif_history_model.specs.declared.lines.Line.TheVariants.{Answer, Begin, Prio}
+use Rattle.std.specs.List.{flat_map}
+use Rattle.pif_history_model.specs.declared.lines.Line.TheVariants.{Answer, Begin, Prio, Thread}
+use Rattle.pif_history_model.specs.Numbers.{up_to}
 use Rattle.pif_history_model.specs.Verdicts.{ArePossibleAnswers, ArePossiblePriorities}
 use Rattle.pif_history_machine.specs.Verdicts.{IsRefusalThere}
 use Rattle.pif_history_text.specs.Histories.{Heard, limits_of}
 use Rattle.pif_history_told.specs.declared.verdicts.Began.{Began}
 use Rattle.pif_history_told.specs.declared.verdicts.Known.{Known}
 use Rattle.pif_history_told.specs.declared.verdicts.Known.TheVariants.{Refused, Numbers, Nothing}
-use Rattle.pif_history_told.specs.declared.verdicts.Unfound.{Unfound}
 use Rattle.pif_history_told.specs.declared.telling.Says.{Says}
 use Rattle.pif_history_told.specs.declared.telling.Says.TheVariants as says
 
 -- A line of a history, the nth, has this number in the text.
 abbrev pub IsNumbered : Heard → (n : ℕ) → (number : ℕ) → Type 0
 IsNumbered h n number = slice_get h.numbers (n - 1) ≡ Some number
-
--- For the line of this number, the nth or one behind it, no search found a run that shows the lines up to it. It claims
--- nothing: there may be one.
-abbrev pub IsUnfound : Heard → (n : ℕ) → Unfound → Type 0
-IsUnfound h n unfound = (place : ℕ) × (n ≤ place) × IsNumbered h place unfound.number
 
 -- Exactly these numbers may stand, by the rules that a history allows, in a line behind its first `before` lines: as its
 -- answer, or its priority.
@@ -69,3 +65,22 @@ open_call t (line ∷ lines) (n ∷ numbers) = open_behind t n (said_of t line) 
 abbrev pub open_of : (thread : Option ℕ) → Heard → (before : ℕ) → Option Began
 open_of (Some t) h before = open_call t (reverse (take before h.shown)) (reverse (take before h.numbers))
 open_of None h before = None
+
+-- THE END OF A HISTORY
+
+-- Whether a line adds a thread.
+abbrev pub is_thread : Line → Bool
+is_thread (Thread p) = true
+is_thread line = false
+
+-- How many threads a history adds.
+abbrev pub threads_in : Heard → ℕ
+threads_in h = count_by is_thread h.shown
+
+-- The call that t has open behind all lines of a history, if it has one.
+abbrev pub open_of_thread : Heard → (t : ℕ) → List Began
+open_of_thread h t = elim (open_of (Some t) h (length h.shown)) [ Some b ↦ b ∷ [] | None ↦ [] ]
+
+-- The calls that are open behind all of them, in the order of the threads' numbers.
+abbrev pub open_at_end : Heard → List Began
+open_at_end h = flat_map (open_of_thread h) (up_to (threads_in h))

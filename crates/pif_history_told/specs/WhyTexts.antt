@@ -1,6 +1,8 @@
 -- What is told in lines for a person of a line up to which there is no run, or none was found.
 use Rattle.std.specs.Prelude.{ℕ, List, [], ◌++◌, Option, Some, None, codes, decimal}
 use Rattle.std.specs.Global.{Vec}
+use Rattle.pif_history_model.specs.declared.lines.Line.{Line}
+use Rattle.pif_history_text.specs.Texts.{line_text}
 use Rattle.pif_history_text.specs.Verdicts.{began_line, found_line, possible_line, refused_line}
 use Rattle.pif_history_told.specs.declared.verdicts.Began.{Began}
 use Rattle.pif_history_told.specs.declared.verdicts.Known.{Known}
@@ -26,15 +28,20 @@ why_text (Refused why) began = refused_line why
 why_text (Numbers numbers) began = known_text (Numbers numbers) ++ began_text began
 why_text Nothing began = began_text began
 
--- From the line of this number on no search found a witness. It claims nothing: there may be one.
-abbrev pub unfound_line : (number : ℕ) → List ℕ
-unfound_line number = codes "no witness found from " ++ decimal number ++ codes " on\n"
+-- The lines up to that of this number are legal, if one is known.
+abbrev pub up_to_text : Option ℕ → List ℕ
+up_to_text None = []
+up_to_text (Some number) = codes "legal up to " ++ decimal number ++ codes "; "
 
--- With these numbers in place of the answer or the priority a search found a run, if it looked.
+-- With these numbers in place of the answer or the priority a search found a run, if it looked; and the end of the line.
 abbrev pub found_text : Option (Vec ℕ) → List ℕ
-found_text None = []
-found_text (Some numbers) = found_line numbers.items
+found_text None = codes "\n"
+found_text (Some numbers) = codes "; " ++ found_line numbers.items
 
--- The first line for which no run was found.
-abbrev pub unfound_text : Unfound → List ℕ
-unfound_text unfound = unfound_line unfound.number ++ found_text unfound.found
+-- It isn't known whether they are up to this line, of this number.
+abbrev pub undecided_from_text : (number : ℕ) → Line → List ℕ
+undecided_from_text number line = codes "undecided from " ++ decimal number ++ codes ": " ++ line_text line
+
+-- Up to which line a history is legal, and the next one.
+abbrev pub legal_up_to_text : Unfound → List ℕ
+legal_up_to_text u = up_to_text u.up_to ++ undecided_from_text u.number u.line ++ found_text u.found

@@ -21,9 +21,14 @@
 //! |---|---|
 //! | `places` | the lines of a history, and their numbers |
 //! | `telling` | what is told in lines of an illegal line |
+//! | `in_the_way` | what is in the way of an illegal line |
+//! | `open_calls` | the calls that are open at the end |
+//! | `ends` | what is told of them |
+//! | `clues` | what is told behind that: clues to what is wrong |
 //! | `sets` | the sets of rules, in the order in which they are tried |
 //! | `texts` | lines that name a set |
 //! | `verdicts` | a verdict, as a line of JSON |
+//! | `names` | the names that a history gives, beside numbers |
 //! | `pages` | a page around such lines |
 //! | `page_style` | how the page looks |
 //! | `page_script` | what the page does |
@@ -31,9 +36,14 @@
 
 mod calls;
 mod changes;
+mod clues;
+mod ends;
 mod following;
+mod in_the_way;
 mod leading;
 mod likely;
+mod names;
+mod open_calls;
 mod page_script;
 mod page_style;
 mod pages;
@@ -48,12 +58,17 @@ mod unlisted;
 mod verdicts;
 mod ways;
 
+pub use clues::{Clues, LegalIf, tell_clues};
+pub use ends::{AtEnd, tell_at_end};
 pub use following::{rules_of_run, witness_text};
+pub use in_the_way::{InTheWay, blocker_of};
+pub use names::{beside_in_page, names_line, names_object};
+pub use open_calls::open_at_end;
 pub use pages::{PAGE_LINES, append_page, first_shown};
-pub use places::{line_at, number_at, unfound_of};
+pub use places::{line_at, number_at};
 pub use runs::run_text;
 pub use sets::{added, sets_of_size};
-pub use telling::{began_before, tell_unfound, tell_why};
+pub use telling::{began_before, began_of, tell_undecided, tell_why};
 pub use texts::{
     calls_in, push_but_for, push_legal_with, push_needed, push_undecided_with, rule_names,
     tell_legal,

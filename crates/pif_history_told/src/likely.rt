@@ -2,7 +2,7 @@
 //! rests on it: a run that is found is one, and if none is found so, all positions are followed.
 
 use pif_history_machine::Position;
-use pif_history_model::{Label, Line};
+use pif_history_model::{Fact, Label, Line};
 use pif_search::{Stop, push};
 use pif_types::{Answer, Errno, Request, Tid};
 use std::alloc::Global;
@@ -29,8 +29,9 @@ impl Actor {
 
 /// The thread by whose open call there is a step of this label, if there is one, and what the call is answered.
 fn actor_of(label: &Label) -> Option<Actor> {
-    // The check has to be told of the type of requests, which lines hold.
+    // The check has to be told of the types of requests and facts, which lines hold.
     let _no_request: Option<Request> = None;
+    let _no_fact: Option<Fact> = None;
     match *label {
         Label::Moves(thread) => Some(Actor {
             thread,

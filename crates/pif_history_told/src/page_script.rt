@@ -2,9 +2,13 @@
 pub const SCRIPT: &str = r#"</script>
 <script>
 'use strict';
-const LANE = 46, TOP = 34;
+const LANE = 56, TOP = 34;
 const at = id => document.getElementById(id);
-const objects = at('lines').textContent.split('\n').filter(Boolean).map(line => JSON.parse(line));
+const every = at('lines').textContent.split('\n').filter(Boolean).map(line => JSON.parse(line));
+// The names that comments give, and the name of the file; all else is verdicts and runs.
+const names = (every.find(one => 'names' in one) || {names: {}}).names, {file} = every.find(one => 'file' in one && one.file !== '-') || {};
+const objects = every.filter(one => !('names' in one || 'file' in one));
+const full = name => names[name] ? name + ' ' + names[name] : name;
 // What POSIX says of a history that isn't legal, if it was asked; behind it come a verdict and a run with its rules.
 const asked = objects.findIndex(one => 'posix' in one), posix = objects[asked];
 const first = objects[0], [verdict, ...lines] = objects.slice(asked + 1);
@@ -47,6 +51,11 @@ function waitsFor(thread) {
   if (how.startsWith('waiting')) return lastNamed(words, 'm');
   return how.startsWith('blocked') || how === 'enlisted' ? lastNamed(words, 'c') : null;
 }
+// Who waits for it, in the order in which they get it: by priority, and of equals by how long they have waited.
+const arrivals = new Map();
+const arrival = (thread, place) => (arrivals.get(thread) || []).filter(at => at <= place).pop() ?? -1;
+const waitersOf = (state, name, place) => [...state.threads.values()].filter(thread => waitsFor(thread) === name)
+  .sort((a, b) => b.priority - a.priority || arrival(a.name, place) - arrival(b.name, place));
 
 // What a step changes, in words.
 function mutexWords(old, now) {
@@ -87,7 +96,8 @@ const ERRORS = {1: 'EPERM', 3: 'ESRCH', 11: 'EAGAIN', 14: 'EFAULT', 16: 'EBUSY',
   110: 'ETIMEDOUT', 130: 'EOWNERDEAD', 131: 'ENOTRECOVERABLE'};
 const named = answer => answer in ERRORS ? answer + ' ' + ERRORS[answer] : answer;
 
-// One way through all steps: the call of each, the calls that are open behind it, and the mutexes that are owned.
+// One way through all steps: the call of each, the calls that are open behind it, and the mutexes that are owned, or that an
+// owner who ended left behind.
 const bars = [], binding = new Map();
 function barsOf() {
   const open = new Map(), latest = new Map(), now = empty();
@@ -96,8 +106,8 @@ function barsOf() {
     if (bar) { bar.end = end; bar.answer = answer; open.delete(thread); }
   };
   const begin = (thread, words, from) => {
-    const bar = {thread, words, from, end: steps.length, next: steps.length, answer: null};
-    if (latest.has(thread)) latest.get(thread).next = from;
+    const bar = {thread, words, from, end: steps.length, next: null, answer: null};
+    if (latest.has(thread)) latest.get(thread).next = bar;
     open.set(thread, bar);
     latest.set(thread, bar);
     bars.push(bar);
@@ -105,7 +115,12 @@ function barsOf() {
   const whole = steps.findIndex(step => step.by.whole);
   steps.forEach((step, place) => {
     if (step.kind === 'begin') begin(step.thread, step.text.split(' ').slice(2), place);
+    const waited = step.by.threads.map(thread => waitsFor(now.threads.get(thread.name) || {}));
     change(now, step.by);
+    step.by.threads.forEach((thread, k) => {
+      if (waitsFor(thread) && waitsFor(thread) !== waited[k])
+        arrivals.set(thread.name, [...(arrivals.get(thread.name) || []), place]);
+    });
     if (place === whole)
       for (const thread of now.threads.values())
         if (thread.call && !open.has(thread.name)) begin(thread.name, callOf(thread), -1);
@@ -114,7 +129,7 @@ function barsOf() {
     if (step.kind === 'answer') close(step.thread, place, named(step.text.split(' ')[2]));
     if (step.kind === 'end' || step.kind === 'ends') close(step.thread, place, null);
     step.open = [...open.values()].map(one => one.words);
-    step.owned = [...now.mutexes.values()].filter(mutex => mutex.owner !== null).map(mutex => mutex.name);
+    step.owned = [...now.mutexes.values()].filter(mutex => mutex.owner !== null || mutex.health !== 'fine').map(mutex => mutex.name);
   });
   for (const cond of now.conds.values()) binding.set(cond.name, cond.mutex);
   return now;
@@ -123,6 +138,8 @@ const last = barsOf();
 
 // WHAT IS CONCERNED, of an illegal history
 
+// Lines that say what was seen of a thread, and no call of it.
+const SEEN = ['rests', 'prio'];
 function mutexesOf(words) {
   return words.map(word => binding.get(word) || word).filter(word => /^m\d+$/.test(word));
 }
@@ -136,20 +153,23 @@ function concerned() {
   for (const mutex of found)
     for (const other of last.threads.values()) if (waitsFor(other) === mutex) owned(other.name);
   for (const [cond, mutex] of binding) if (found.has(mutex)) found.add(cond);
+  for (const {words: [call, ...on]} of bars)
+    if (['wait', 'timedwait'].includes(call) && found.has(lastNamed(on, 'm'))) found.add(lastNamed(on, 'c'));
   return found;
 }
 function chosenSteps() {
-  const every = steps.map((step, place) => place);
-  if (!isWrong || at('all').checked) return every;
-  const names = concerned(), touches = words => words.some(word => names.has(word));
-  if (!names.size) return every;
-  const isFree = step => !step.open.some(touches) && !step.owned.some(name => names.has(name));
-  const from = steps.map(isFree).lastIndexOf(true);
-  const kept = every.filter(place => place > from);
+  const whole = steps.map((step, place) => place);
+  if (!isWrong || at('all').checked) return whole;
+  const about = concerned(), touches = words => words.some(word => about.has(word));
+  if (!about.size) return whole;
+  const isFree = step => !step.open.some(touches) && !step.owned.some(name => about.has(name));
+  const failing = bars.find(fails), isOwn = place => failing && place >= failing.from && steps[place].thread === failing.thread;
+  const from = Math.min(steps.map(isFree).lastIndexOf(true), failing ? failing.from - 1 : steps.length);
+  const kept = whole.filter(place => place > from);
   const threads = new Set(kept.filter(place => touches(steps[place].words)).map(place => steps[place].thread));
   threads.add(verdict.text.split(' ')[1]);
-  const ofThread = ['dying', 'end', 'ends', 'rests', 'prio', 'process'], ofAll = ['tick', 'halted', 'resumed'];
-  return kept.filter(place => touches(steps[place].words) || ofAll.includes(steps[place].kind)
+  const ofThread = ['dying', 'end', 'ends', ...SEEN, 'process'], ofAll = ['tick', 'halted', 'resumed'];
+  return kept.filter(place => isOwn(place) || touches(steps[place].words) || ofAll.includes(steps[place].kind)
     || (ofThread.includes(steps[place].kind) && threads.has(steps[place].thread)));
 }
 
@@ -160,14 +180,15 @@ function layOut() {
   shown = chosenSteps();
   column = new Map(shown.map((place, k) => [place, k]));
   const isAll = shown.length === steps.length;
-  const names = isAll ? [...last.threads.keys()] : [...new Set(shown.map(place => steps[place].thread).filter(Boolean))];
+  const threads = isAll ? [...last.threads.keys()] : [...new Set(shown.map(place => steps[place].thread).filter(Boolean))];
   const wrong = isWrong ? verdict.text.split(' ')[1] : null;
-  if (wrong && /^t\d+$/.test(wrong) && !names.includes(wrong)) names.push(wrong);
-  lanes = names.sort((a, b) => Number(a.slice(1)) - Number(b.slice(1)));
+  if (wrong && /^t\d+$/.test(wrong) && !threads.includes(wrong)) threads.push(wrong);
+  lanes = threads.sort((a, b) => Number(a.slice(1)) - Number(b.slice(1)));
   at('names').style.paddingTop = TOP + 'px';
   at('names').replaceChildren(...lanes.map(name => {
     const lane = document.createElement('div');
-    lane.textContent = name;
+    lane.append(name, ...(names[name] ? [Object.assign(document.createElement('small'), {textContent: names[name]})] : []));
+    lane.title = full(name);
     lane.style.height = LANE + 'px';
     return lane;
   }));
@@ -188,28 +209,68 @@ function add(name, values, text) {
   svg.append(made);
   return made;
 }
-const cut = (text, room) => text.length * 6.6 > room ? text.slice(0, Math.max(Math.floor(room / 6.6) - 1, 1)) + '\u2026' : text;
+const wide = text => text.length * 6.8;
+const cut = (text, room) => wide(text) > room ? text.slice(0, Math.max(Math.floor(room / 6.8) - 1, 1)) + '\u2026' : text;
+// The column of the next call of a bar's thread that is shown.
+function columnBehindBar(bar) {
+  let next = bar.next;
+  while (next && !column.has(next.from)) next = next.next;
+  return next ? column.get(next.from) : shown.length;
+}
+// Whether a bar is the call of the line that no run has.
+const fails = bar => isWrong && bar.end === steps.length && bar.thread === verdict.text.split(' ')[1];
 function drawBar(bar, first, end) {
   if (!lanes.includes(bar.thread) || (bar.from >= 0 && !column.has(bar.from))) return;
   const from = bar.from < 0 ? -1 : column.get(bar.from), to = columnBehind(bar.end);
   if (to < first || from > end) return;
   const x = Math.max(middle(from), -40), right = middle(to), y = laneOf(bar.thread) - 13, isOpen = bar.answer === null;
-  add('rect', {class: isOpen ? 'bar open' : 'bar', x, y, width: Math.max(right - x, 4), height: 26, rx: 4});
-  const start = Math.max(x, view.scrollLeft), room = middle(columnBehind(bar.next)) - start - 8;
-  if (right > start + 8 && room > 24) add('text', {x: start + 7, y: y - 2}, cut(bar.words.join(' ') + (isOpen ? '' : ' = ' + bar.answer), room));
+  const text = bar.words.join(' ') + (isOpen ? '' : ' = ' + bar.answer), start = Math.max(x, view.scrollLeft);
+  const made = add('rect', {class: 'bar' + (isOpen ? ' open' : '') + (fails(bar) ? ' wrong' : ''), x, y, width: Math.max(right - x, 4), height: 26, rx: 4});
+  made.append(titled(bar.words.map(full).join(' ') + (isOpen ? '' : ' = ' + bar.answer)));
+  const room = middle(columnBehindBar(bar)) - start - 10;
+  if (fails(bar)) add('text', {class: 'wrong', x: Math.max(Math.min(start, right - 7 - wide(text)), view.scrollLeft) + 7, y: y - 4}, text);
+  else if (right > start + 8 && room > 24) add('text', {x: start + 7, y: y - 4}, cut(text, room));
 }
-function drawMark(place, x) {
+const titled = text => Object.assign(document.createElementNS('http://www.w3.org/2000/svg', 'title'), {textContent: text});
+// The room from a column to the next one that is labelled at the same place: all lines, ticks, or what is seen of a thread.
+function roomBehind(k, isAlike, most) {
+  let next = k + 1;
+  while (next < shown.length && (next - k) * width < most && !isAlike(steps[shown[next]])) next += 1;
+  return next < shown.length ? (next - k) * width : most;
+}
+function drawLabels(place, x, k) {
   const step = steps[place], y = step.thread ? laneOf(step.thread) : TOP - 8;
-  const mark = {'data-step': place, class: 'step ' + (isHidden(step) ? step.kind : 'line')};
-  if (step.kind === 'tick') add('line', {class: 'tick', x1: x, x2: x, y1: TOP - 12, y2: TOP + lanes.length * LANE});
-  if (step.kind === 'tick') add('text', {class: 'faint', x: x + 3, y: TOP - 12}, step.text);
+  if (step.kind === 'tick') {
+    add('line', {class: 'tick', x1: x, x2: x, y1: TOP - 12, y2: TOP + lanes.length * LANE});
+    add('text', {class: 'faint', x: x + 3, y: TOP - 12}, cut(step.text, roomBehind(k, other => other.kind === 'tick', 90) + 12));
+  }
+  const isOf = other => other.thread === step.thread && [...SEEN, 'dying'].includes(other.kind);
+  if (isOf(step)) {
+    const [kind, , number = ''] = step.text.split(' '), room = roomBehind(k, isOf, 90) - 4;
+    const text = [(kind + ' ' + number).trim(), number].find(text => wide(text) <= room) || '';
+    add('text', {class: SEEN.includes(kind) ? 'seen' : 'faint', x: x - 6, y: y + 25}, text);
+  }
+}
+function drawMark(place, x, k) {
+  const step = steps[place], y = step.thread ? laneOf(step.thread) : TOP - 8;
+  const kind = SEEN.includes(step.kind) ? 'seen' : isHidden(step) || step.kind === 'end' ? step.kind : 'line';
+  const mark = {'data-step': place, class: 'step ' + kind};
+  drawLabels(place, x, k);
   let made;
-  if (step.kind === 'ends' || step.kind === 'end') {
-    made = add('path', {...mark, d: 'M' + (x - 5) + ' ' + (y - 5) + 'l10 10m0 -10l-10 10'});
-  } else made = add('circle', {...mark, cx: x, cy: y, r: step.kind === 'move' ? 4.5 : 5});
-  if (['dying', 'rests', 'prio'].includes(step.kind)) add('text', {class: 'faint', x: x - 8, y: y + 20}, step.text.split(' ').filter((w, k) => k !== 1).join(' '));
-  if (!isHidden(step) && width > 18) add('text', {class: 'faint', x: x - 8, y: 12}, step.line);
-  made.append(Object.assign(document.createElementNS('http://www.w3.org/2000/svg', 'title'), {textContent: titleOf(place)}));
+  if (step.kind === 'ends' || step.kind === 'end') made = add('path', {...mark, d: 'M' + (x - 5) + ' ' + (y - 5) + 'l10 10m0 -10l-10 10'});
+  else if (kind === 'seen') made = add('path', {...mark, d: 'M' + x + ' ' + (y - 7) + 'l7 7l-7 7l-7 -7z'});
+  else made = add('circle', {...mark, cx: x, cy: y, r: kind === 'move' ? 4.5 : 5});
+  made.append(titled(titleOf(place)));
+}
+// The numbers of the lines, as far as there is room for them.
+function drawNumbers(first, end) {
+  let free = -Infinity;
+  for (let k = first; k < end; k += 1) {
+    const step = steps[shown[k]], x = middle(k) - String(step.line).length * 3;
+    if (isHidden(step) || x < free) continue;
+    add('text', {class: 'faint', x, y: 12}, step.line);
+    free = x + String(step.line).length * 6 + 6;
+  }
 }
 const titleOf = place => steps[place].text ? 'line ' + steps[place].line + ': ' + steps[place].text
   : steps[place].thread + (steps[place].kind === 'ends' ? ' ends' : ' goes on') + ', before line ' + steps[place].line;
@@ -217,10 +278,14 @@ function drawWrong() {
   const x = middle(shown.length), thread = verdict.text.split(' ')[1], y = lanes.includes(thread) ? laneOf(thread) : TOP;
   add('line', {class: 'wrong', id: 'wrong', x1: x, x2: x, y1: 16, y2: TOP + lanes.length * LANE});
   add('path', {class: 'wrong', d: 'M' + (x - 6) + ' ' + (y - 6) + 'l12 12m0 -12l-12 12'});
-  add('text', {class: 'wrong', x: x - 6, y: 12}, verdict.line + ': ' + verdict.text);
+  add('text', {class: 'wrong', x: x - 6, y: 12}, wrongText());
+}
+function wrongText() {
+  const words = verdict.text.split(' ');
+  return verdict.line + ': ' + (words[0] === 'answer' ? words.slice(0, 2).join(' ') + ' ' + named(words[2]) : verdict.text);
 }
 function draw() {
-  const total = middle(shown.length) + 220, height = TOP + lanes.length * LANE + 6, sight = view.clientWidth || 1000;
+  const total = middle(shown.length) + (isWrong ? Math.max(wrongText().length * 7.6 + 16, 160) : 160), height = TOP + lanes.length * LANE + 6, sight = view.clientWidth || 1000;
   track.style.width = total + 'px';
   track.style.height = height + 'px';
   const left = Math.max(view.scrollLeft - 60, 0), right = Math.min(view.scrollLeft + sight + 60, total);
@@ -237,12 +302,82 @@ function draw() {
   for (let k = Math.max(first - 200, 0); k < Math.min(end + 200, shown.length); k += 1)
     if (isHidden(steps[shown[k]])) moves.push(middle(k) + ',' + laneOf(steps[shown[k]].thread));
   add('polyline', {class: 'run', points: moves.join(' ')});
-  for (let k = first; k < end; k += 1) drawMark(shown[k], middle(k));
+  drawNumbers(first, end);
+  for (let k = first; k < end; k += 1) drawMark(shown[k], middle(k), k);
   if (isWrong) drawWrong();
+}
+
+// WHO WAITS FOR WHOM
+
+// What waits, as rows: each below what it waits for, one step in, and of several the one that gets it first before the
+// others. A cycle begins with the first of its threads that is listed.
+function rowsOf(state, place) {
+  const rows = [], seen = new Set();
+  const below = (thing, depth, up) => waitersOf(state, thing, place).forEach(thread => visit(thread, depth, up, thing));
+  function visit(thread, depth, up, thing) {
+    const at = rows.push({name: thread.name, text: thread.name + ' (' + thread.priority + ')', depth, up, thing, isThread: true}) - 1;
+    if (seen.has(thread.name)) return;
+    seen.add(thread.name);
+    for (const mutex of state.mutexes.values()) if (mutex.owner === thread.name) below(mutex.name, depth + 1, at);
+  }
+  const owns = thread => [...state.mutexes.values()].some(mutex => mutex.owner === thread.name && waitersOf(state, mutex.name, place).length);
+  for (const thread of state.threads.values()) if (!waitsFor(thread) && owns(thread)) visit(thread, 0, -1, null);
+  const free = [...state.mutexes.values()].filter(mutex => mutex.owner === null);
+  for (const thing of [...free, ...state.conds.values()])
+    if (waitersOf(state, thing.name, place).length) below(thing.name, 1, rows.push({name: thing.name, text: thing.name, depth: 0, up: -1}) - 1);
+  for (const thread of state.threads.values()) if (waitsFor(thread) && !seen.has(thread.name)) visit(thread, 0, -1, null);
+  return rows;
+}
+function graphOf(state, place) {
+  const rows = rowsOf(state, place), figure = document.createElement('figure'), ROW = 34, STEP = 58;
+  if (!rows.length) return [];
+  figure.id = 'graph';
+  figure.append(Object.assign(document.createElement('figcaption'), {textContent: 'who waits for whom, in the order in which they get it'}));
+  const picture = figure.appendChild(document.createElementNS('http://www.w3.org/2000/svg', 'svg'));
+  const put = (name, values, text) => {
+    const made = document.createElementNS('http://www.w3.org/2000/svg', name);
+    for (const key of Object.keys(values)) made.setAttribute(key, values[key]);
+    if (text !== undefined) made.textContent = text;
+    return picture.appendChild(made);
+  };
+  const wrong = isWrong ? verdict.text.split(' ')[1] : null;
+  let right = 0;
+  rows.forEach((row, k) => {
+    const x = row.depth * STEP + 1, y = k * ROW + 4, text = row.text + (names[row.name] ? ' ' + names[row.name] : '');
+    if (row.up >= 0) {
+      const from = (row.depth - 1) * STEP + 15, top = row.up * ROW + 30;
+      put('path', {class: 'wait', d: 'M' + from + ' ' + (top + 4) + 'V' + (y + 13) + 'H' + x});
+      put('path', {class: 'head', d: 'M' + (from - 4) + ' ' + (top + 7) + 'h8l-4 -7z'});
+      if (row.thing && rows[row.up].isThread) put('text', {class: 'faint', x: from + 5, y: y + 10}, row.thing);
+    }
+    const room = Math.min(wide(text) + 14, 230);
+    put('rect', {class: 'node' + (row.isThread ? ' held' : '') + (row.name === wrong ? ' wrong' : ''), x, y, width: room, height: 26, rx: row.isThread ? 4 : 13});
+    put('text', {x: x + 7, y: y + 17}, cut(text, room - 10)).append(titled(full(row.name)));
+    right = Math.max(right, x + room + 2);
+  });
+  picture.setAttribute('width', right);
+  picture.setAttribute('height', rows.length * ROW + 2);
+  return [figure];
 }
 
 // THE STATE BEHIND A STEP
 
+// What the words for how far a call has come mean.
+const EXPLAINED = {'fresh': 'nothing of it has happened', 'waiting': 'it waits for M', 'waiting for good': 'M is never free for it',
+  'leaving': 'it owns M, which is unusable, and gives it up', 'checked': 'a wait that owns M, and may wait on C',
+  'enlisted': 'it is among those blocked on C, and owns M yet', 'enlisted and unblocked': 'it was woken while it owned M yet',
+  'blocked': 'it gave M up, and is blocked on C', 'blocked and told': 'it is blocked on C, and its thread was told to wait: its deadline counts',
+  'reacquiring': 'it was woken or ran out of time, and has to lock M again', 'used': 'it has used C, and chooses whom it wakes'};
+function explained(thread) {
+  const words = callOf(thread), known = EXPLAINED[thread.progress];
+  if (thread.progress && thread.progress.startsWith('answer ')) return 'it has this result, and has to return';
+  return known ? known.replace('C', lastNamed(words, 'c')).replace('M', lastNamed(words, 'm') || binding.get(lastNamed(words, 'c'))) : '';
+}
+// A cell of a text, and of others that stand small below it.
+function cellOf(cell, texts) {
+  const [first, ...more] = [texts].flat();
+  cell.append(first, ...more.filter(Boolean).map(text => Object.assign(document.createElement('small'), {textContent: text})));
+}
 function table(id, heads, rows, lit) {
   const made = document.createElement('table');
   made.id = id;
@@ -251,8 +386,8 @@ function table(id, heads, rows, lit) {
   const body = made.createTBody();
   for (const cells of rows) {
     const row = body.insertRow();
-    if (lit.has(cells[0])) row.className = 'lit';
-    for (const cell of cells) row.insertCell().textContent = cell;
+    if (lit.has([cells[0]].flat()[0])) row.className = 'lit';
+    for (const cell of cells) cellOf(row.insertCell(), cell);
   }
   return made;
 }
@@ -267,16 +402,17 @@ function choose(place) {
   at('where').textContent = 'After ' + titleOf(place);
   at('words').textContent = said.length ? said.join('; ') : place && !step.by.whole ? 'nothing changes' : 'the whole state';
   const owns = name => [...state.mutexes.values()].filter(mutex => mutex.owner === name).map(mutex => mutex.name).join(' ');
-  const threads = [...state.threads.values()].map(t => [t.name, t.living ? 'lives' : 'ended', String(t.priority), owns(t.name),
-    waitsFor(t) || '', t.rests ? 'rests' : '', (callOf(t) || []).join(' '), t.progress || '']);
-  const mutexes = [...state.mutexes.values()].map(m => [m.name, m.owner || '', m.owner ? String(m.count) : '', m.health,
-    [...state.threads.values()].filter(t => waitsFor(t) === m.name).map(t => t.name).join(' ')]);
-  const conds = [...state.conds.values()].map(c => [c.name, c.mutex,
-    [...state.threads.values()].filter(t => waitsFor(t) === c.name).map(t => t.name).join(' ')]);
-  at('state').replaceChildren(
-    table('threads', ['thread', '', 'priority', 'owns', 'waits for', 'rests', 'call', 'how far'], threads, lit),
-    table('mutexes', ['mutex', 'owner', 'times', 'health', 'waiters'], mutexes, lit),
-    table('conds', ['variable', 'mutex', 'blocked'], conds, lit));
+  const who = name => waitersOf(state, name, place).map(thread => thread.name).join(' ');
+  const callWords = t => [(callOf(t) || [t.living ? '' : 'ended']).join(' '), t.progress ? t.progress + ': ' + explained(t) : ''];
+  const threads = [...state.threads.values()].map(t => [[t.name, names[t.name]], String(t.priority), owns(t.name),
+    [waitsFor(t) || '', t.rests ? 'rests' : ''], callWords(t)]);
+  const mutexes = [...state.mutexes.values()].map(m => [[m.name, names[m.name]],
+    (m.owner || '') + (m.count > 1 ? ', ' + m.count + ' times' : ''), m.health, who(m.name)]);
+  const conds = [...state.conds.values()].map(c => [[c.name, names[c.name]], c.mutex, who(c.name)]);
+  at('state').replaceChildren(...graphOf(state, place),
+    table('threads', ['thread', 'priority', 'owns', 'waits for', 'call'], threads, lit),
+    table('mutexes', ['mutex', 'owner', 'health', 'waiters, in order'], mutexes, lit),
+    table('conds', ['variable', 'mutex', 'blocked, in order'], conds, lit));
   draw();
 }
 function reveal(place) {
@@ -299,7 +435,10 @@ function whyOf(verdict) {
   if (verdict.possible) why.push('possible there: ' + (verdict.possible.join(' ') || 'none'));
   if (verdict.possible === null) why.push('possible there: undecided');
   if (verdict.began) why.push('its call began at ' + verdict.began.line + ': ' + verdict.began.text);
-  if (verdict.no_witness_from) why.push('no witness found from ' + verdict.no_witness_from + ' on');
+  if (verdict.in_the_way) why.push('in the way: ' + verdict.in_the_way);
+  if (verdict.legal_if) why.push('legal if line ' + verdict.legal_if.line + ' had ' + verdict.legal_if.answer);
+  if (verdict.open) why.push('open at the end: ' + verdict.open.map(call => call.text.slice(6)).join(', '));
+  if (verdict.deadlock) why.push('a deadlock: none of them can be answered');
   if (verdict.found) why.push('found there: ' + (verdict.found.join(' ') || 'none'));
   return why;
 }
@@ -314,11 +453,17 @@ function tell() {
   const calls = {0: 'with no call', 1: '1 call'}[first.calls] || first.calls + ' calls';
   const says = {legal: () => 'legal, ' + calls + ': a run shows all lines', illegal: () => 'illegal at ' + first.line + ': ' + first.text,
     log: () => 'a mistake of the log at ' + first.line + ': ' + first.text,
-    undecided: () => 'undecided at ' + first.line + ': too many states, or the time was over'};
+    undecided: () => (first.legal_up_to ? 'legal up to ' + first.legal_up_to + '; ' : '') + 'undecided from ' + first.line + ': ' + first.text};
   at('verdict').textContent = says[first.verdict]();
+  at('file').textContent = file || '';
+  document.title = (file ? file + ': ' : '') + says[first.verdict]();
+  at('red').hidden = !isWrong;
+  at('red').append(verdict.verdict === 'undecided' ? 'the line from which on it is undecided' : 'the line that no run has there');
   at('verdict').className = first.verdict;
   const isForbidden = posix && posix.posix === 'forbids';
   const why = posix ? [...(isForbidden ? [] : whyOf(first)), posixWords(), ...whyOf(verdict)] : whyOf(verdict);
+  const things = [...last.mutexes.keys(), ...last.conds.keys()].filter(name => names[name]);
+  if (things.length) why.push('names: ' + things.map(name => name + ' is ' + names[name]).join(', '));
   if (verdict.verdict !== 'legal') why.push('The run shows the lines before ' + verdict.line + '.');
   else if (posix) why.push('The run shows all lines, by these rules.');
   if (verdict.left_out) why.push('The first ' + verdict.left_out + ' lines of the history are left out.');
@@ -329,8 +474,10 @@ svg.addEventListener('click', event => {
   const mark = event.target.closest('[data-step]');
   if (mark) choose(Number(mark.dataset.step));
 });
-view.addEventListener('scroll', () => draw());
-window.addEventListener('resize', () => draw());
+// What is at the end of the run stays in sight if there is less room.
+let isAtEnd = false;
+view.addEventListener('scroll', () => { isAtEnd = view.scrollLeft + view.clientWidth >= view.scrollWidth - 2; draw(); });
+window.addEventListener('resize', () => { if (isAtEnd) view.scrollLeft = view.scrollWidth; draw(); });
 at('all').addEventListener('change', () => { layOut(); if (chosen >= 0) reveal(chosen); });
 at('width').addEventListener('input', () => { width = Number(at('width').value); draw(); });
 document.addEventListener('keydown', event => {
@@ -343,9 +490,11 @@ width = Math.min(64, Math.max(30, Math.floor(view.clientWidth / (shown.length + 
 at('width').value = width;
 draw();
 if (steps.length) {
-  const place = isWrong ? shown[shown.length - 1] : shown[0];
+  const waiting = steps.findIndex(step => step.by.threads.some(thread => waitsFor(thread)));
+  const place = isWrong ? shown[shown.length - 1] : waiting < 0 ? shown[0] : waiting;
   if (verdict.verdict !== 'legal') view.scrollLeft = middle(shown.length);
   choose(place === undefined ? steps.length - 1 : place);
+  if (!isWrong) reveal(chosen);
 }
 </script></body></html>
 "#;

@@ -1,19 +1,28 @@
-/// A page before its lines of JSON: its looks, and its parts.
-pub const STYLE: &str = r#"<!DOCTYPE html>
+/// A page before its lines of JSON: its looks, its legend, and its parts.
+pub const STYLE: &str = r##"<!DOCTYPE html>
 <html lang="en"><head><meta charset="utf-8"><title>pif judge</title>
 <meta name="viewport" content="width=device-width, initial-scale=1">
 <style>
-:root{--back:#fff;--text:#1f2328;--faint:#6e7781;--line:#d0d7de;--bar:#ddf4ff;--edge:#54aeff;--run:#8250df;--red:#cf222e;--lit:#fff8c5}
-@media(prefers-color-scheme:dark){:root{--back:#0d1117;--text:#e6edf3;--faint:#8b949e;--line:#30363d;--bar:#0c2d6b;--edge:#388bfd;--run:#d2a8ff;--red:#ff7b72;--lit:#4d3800}}
+:root{--back:#fff;--text:#1f2328;--faint:#59636e;--line:#d0d7de;--bar:#ddf4ff;--edge:#54aeff;--run:#8250df;--red:#cf222e;--seen:#bf5b04;--lit:#fff8c5}
+@media(prefers-color-scheme:dark){:root{--back:#0d1117;--text:#e6edf3;--faint:#9198a1;--line:#30363d;--bar:#0c2d6b;--edge:#388bfd;--run:#d2a8ff;--red:#ff7b72;--seen:#f0a04b;--lit:#4d3800;color-scheme:dark}}
 body{font:14px/1.45 system-ui,sans-serif;margin:0 16px 16px;background:var(--back);color:var(--text)}
-h1{font-size:20px;margin:14px 0 2px}
+[hidden]{display:none!important}
+h1{font-size:20px;margin:2px 0;overflow-wrap:anywhere}
 h1.illegal,h1.log{color:var(--red)}
-p{margin:2px 0}
-.faint{color:var(--faint)}
-#bar{margin:8px 0;display:flex;gap:20px;flex-wrap:wrap;align-items:center}
+h2{font-size:15px;margin:12px 0 0;overflow-wrap:anywhere}
+p{margin:2px 0;overflow-wrap:anywhere}
+.faint,small{color:var(--faint)}
+small{display:block;font-size:12px;line-height:1.3;overflow-wrap:anywhere}
+#file{margin-top:12px}
+#bar{margin:8px 0;display:flex;gap:4px 20px;flex-wrap:wrap;align-items:center}
+#bar label{display:flex;gap:6px;align-items:center}
+#legend{display:flex;gap:2px 16px;flex-wrap:wrap;font-size:12px;color:var(--faint);margin:6px 0}
+#legend span{display:flex;gap:5px;align-items:center}
 #view{display:flex;border:1px solid var(--line);border-radius:6px;overflow:auto;max-height:64vh}
 #names{flex:none;position:sticky;left:0;z-index:1;background:var(--back);border-right:1px solid var(--line)}
-#names div{box-sizing:border-box;padding:0 10px;font-weight:600;display:flex;align-items:center}
+#names div{box-sizing:border-box;padding:0 10px;font-weight:600;display:flex;flex-direction:column;justify-content:center;max-width:160px}
+#names small{font-weight:400;font-size:11px;white-space:nowrap;overflow:hidden;text-overflow:ellipsis}
+@media(max-width:600px){#names div{max-width:76px;padding:0 6px}}
 #track{position:relative;flex:none}
 #track svg{position:absolute;top:0;display:block}
 svg text{font:12px system-ui,sans-serif;fill:var(--text)}
@@ -21,30 +30,50 @@ svg .faint{fill:var(--faint);font-size:10px}
 svg .lane{stroke:var(--line)}
 svg .bar{fill:var(--bar);stroke:var(--edge)}
 svg .open{stroke-dasharray:4 3}
+svg .bar.wrong{stroke:var(--red)}
 svg .run{fill:none;stroke:var(--run);stroke-width:1.5;opacity:.55}
 svg .step{cursor:pointer}
 svg .move{fill:var(--run)}
-svg .ends{stroke:var(--red);stroke-width:2;fill:none}
+svg .ends{stroke:var(--run);stroke-width:2;fill:none}
+svg .end{stroke:var(--text);stroke-width:2;fill:none}
 svg .line{fill:var(--back);stroke:var(--edge);stroke-width:1.5}
+svg .seen{fill:var(--seen);stroke:var(--back)}
+svg text.seen{stroke:none;font-weight:600}
 svg .tick{stroke:var(--faint);stroke-dasharray:2 3}
 svg .wrong{stroke:var(--red);stroke-width:2}
 svg text.wrong{fill:var(--red);stroke:none;font-weight:600}
 svg .chosen{fill:var(--lit);opacity:.7}
-#state{display:flex;gap:24px;flex-wrap:wrap;align-items:flex-start}
-table{border-collapse:collapse;margin-top:6px}
-th,td{border:1px solid var(--line);padding:2px 9px;text-align:left}
+svg .wait{fill:none;stroke:var(--faint);stroke-width:1.5}
+svg .head{fill:var(--faint)}
+svg .node{fill:var(--back);stroke:var(--faint)}
+svg .node.held{fill:var(--bar);stroke:var(--edge)}
+svg .node.wrong{stroke:var(--red);stroke-width:2}
+#state{display:flex;gap:10px 24px;flex-wrap:wrap;align-items:flex-start}
+#state>*{max-width:min(420px,100%);margin:6px 0 0}
+figure{overflow-x:auto}
+table{border-collapse:collapse}
+th,td{border:1px solid var(--line);padding:2px 7px;text-align:left;vertical-align:top;overflow-wrap:break-word}
 th{font-weight:600}
 tr.lit td{background:var(--lit)}
-h2{font-size:15px;margin:12px 0 0}
 </style></head><body>
+<p id="file" class="faint"></p>
 <h1 id="verdict"></h1>
 <div id="why"></div>
 <div id="bar"><label id="switch" hidden><input type="checkbox" id="all"> show all</label>
 <label>width <input type="range" id="width" min="6" max="80" value="30"></label>
-<span class="faint">circle: a line; dot: an effect of the run; click one, or use the arrow keys</span></div>
+<span class="faint">click a mark, or use the arrow keys</span></div>
+<div id="legend">
+<span><svg width="30" height="14"><rect class="bar" x="1" y="1" width="28" height="12" rx="3"/></svg>a call</span>
+<span><svg width="30" height="14"><rect class="bar open" x="1" y="1" width="28" height="12" rx="3"/></svg>one without an answer</span>
+<span><svg width="12" height="14"><circle class="line" cx="6" cy="7" r="5"/></svg>a line: its begin or answer</span>
+<span><svg width="12" height="14"><circle class="move" cx="6" cy="7" r="4.5"/></svg>an effect, where the run has it</span>
+<span><svg width="12" height="14"><path class="seen" d="M6 1l6 6-6 6-6-6z"/></svg>what was seen of a thread</span>
+<span><svg width="12" height="14"><path class="end" d="M1 2l10 10m0-10l-10 10"/></svg>the end of a thread</span>
+<span id="red" hidden><svg width="12" height="14"><path class="wrong" d="M1 2l10 10m0-10l-10 10"/></svg></span>
+</div>
 <div id="view"><div id="names"></div><div id="track"><svg></svg></div></div>
 <h2 id="where"></h2>
 <p id="words"></p>
 <div id="state"></div>
 <script type="application/json" id="lines">
-"#;
+"##;

@@ -17,7 +17,7 @@ pub fn first_shown(lines: usize) -> usize
 }
 
 /// Appends these parts, one behind the other.
-fn append_parts(
+pub fn append_parts(
     before: &[u8],
     lines: &[u8],
     behind: &[u8],
@@ -30,14 +30,16 @@ fn append_parts(
     out.extend_from_slice(behind)
 }
 
-/// Appends a page that shows these lines of JSON: a verdict, and a run behind it. It needs nothing from elsewhere.
+/// Appends a page that shows these lines of JSON: a verdict, and a run behind it; and `beside` them lines that have names.
+/// It needs nothing from elsewhere.
 ///
 /// # Errors
 ///
 /// Out of memory.
-pub fn append_page(lines: &[u8], out: &mut Vec<u8>) -> Result<(), AllocError>
+pub fn append_page(lines: &[u8], beside: &[u8], out: &mut Vec<u8>) -> Result<(), AllocError>
     ensures { OnOk result (IsPageOf lines.now out.old.items out.new.items) }
 {
-    append_parts(STYLE.as_bytes(), lines, SCRIPT.as_bytes(), out)?;
+    append_parts(STYLE.as_bytes(), lines, beside, out)?;
+    out.extend_from_slice(SCRIPT.as_bytes())?;
     Ok(())
 }

@@ -20,14 +20,3 @@ pub fn line_at(history: &History, count: usize) -> Line
 {
     history.shown[count - 1]
 }
-
-/// The first line for which no search found a witness, the nth: the one at which the exact search was given up, or one
-/// behind it, if a search found runs for the first `shown` lines.
-pub fn unfound_of(history: &History, count: usize, shown: usize) -> usize
-    requires within { (1 ≤ count) × (count ≤ vec_len history.now.numbers) }
-    ensures behind { count ≤ result }
-    ensures within { result ≤ vec_len history.now.numbers }
-{
-    let next = usize::min(shown, history.numbers.len() - 1) + 1;
-    usize::max(count, next)
-}

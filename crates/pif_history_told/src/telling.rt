@@ -1,17 +1,20 @@
 //! What is told of a verdict.
 ghost use Rattle.std.specs.Prelude.{◌≡◌, ◌≤◌, ◌++◌, OnOk, Some, vec_len};
 ghost use Rattle.pif_history_model.specs.Lines.{thread_of};
+ghost use Rattle.pif_history_text.specs.Texts.{line_text};
 ghost use Rattle.pif_history_text.specs.Reading.{IsPaired, heard_of};
 ghost use Rattle.pif_history_told.specs.Why.{open_of, said_of};
-ghost use Rattle.pif_history_told.specs.WhyTexts.{began_text, known_text, unfound_line, unfound_text, why_text};
+ghost use Rattle.pif_history_told.specs.WhyTexts.{began_text, found_text, known_text, legal_up_to_text, undecided_from_text, up_to_text, why_text};
 
+use crate::ends::push_numbered;
 use crate::verdicts::{Began, Known, Unfound};
 use pif_history_machine::thread_of;
 use pif_history_model::Line;
 use pif_history_text::{
-    History, push_began, push_found, push_possible, push_possible_undecided, push_refused,
+    History, line_text, push_began, push_found, push_possible, push_possible_undecided,
+    push_refused,
 };
-use pif_text::{Text, append_number};
+use pif_text::Text;
 use pif_types::{Request, Tid};
 use std::alloc::AllocError;
 
@@ -60,6 +63,15 @@ fn open_call(history: &History, thread: Tid, before: usize) -> Option<Began>
     None
 }
 
+/// The call that a thread, if it is one, has open behind the first `before` lines of a history.
+pub fn began_of(history: &History, thread: Option<Tid>, before: usize) -> Option<Began>
+    requires paired { IsPaired history.now }
+    requires within { before ≤ vec_len history.now.shown }
+    ensures { result ≡ open_of thread (heard_of history.now) before }
+{
+    open_call(history, thread?, before)
+}
+
 /// The call that the thread of a line behind the first `before` lines has open there; none if it is no line of a
 /// thread.
 pub fn began_before(history: &History, before: usize, line: &Line) -> Option<Began>
@@ -67,7 +79,7 @@ pub fn began_before(history: &History, before: usize, line: &Line) -> Option<Beg
     requires within { before ≤ vec_len history.now.shown }
     ensures { result ≡ open_of (thread_of line.now) (heard_of history.now) before }
 {
-    open_call(history, thread_of(line)?, before)
+    began_of(history, thread_of(line), before)
 }
 
 /// Appends the line that says where an open call began, if there is one.
@@ -111,28 +123,59 @@ pub fn tell_why(known: &Known, began: Option<Began>, out: &mut Vec<u8>) -> Resul
     }
 }
 
-/// Appends the line that says from the line of which number on no run was found.
-fn tell_unfound_line(number: u32, out: &mut Vec<u8>) -> Result<(), AllocError>
-    ensures { OnOk result (out.new.items ≡ out.old.items ++ unfound_line number) }
+/// Appends up to which line a history is legal, if one is known.
+fn tell_up_to(number: Option<u32>, out: &mut Vec<u8>) -> Result<(), AllocError>
+    ensures { OnOk result (out.new.items ≡ out.old.items ++ up_to_text number) }
 {
-    let mut text = Text::new();
-    append_number(&mut text, number);
-    out.extend_from_slice(b"no witness found from ")?;
-    out.extend_from_slice(text.as_slice())?;
-    out.extend_from_slice(b" on\n")
+    match number {
+        Some(known) => {
+            push_numbered(b"legal up to ", known, out)?;
+            out.extend_from_slice(b"; ")
+        }
+        None => Ok(()),
+    }
 }
 
-/// Appends what is told of the first line for which no run was found.
+/// Appends the text of a line.
+fn tell_line(line: Line, out: &mut Vec<u8>) -> Result<(), AllocError>
+    ensures { OnOk result (out.new.items ≡ out.old.items ++ line_text line) }
+{
+    let mut text = Text::new();
+    line_text(line, &mut text);
+    out.extend_from_slice(text.as_slice())
+}
+
+/// Appends a line behind its number, of which it isn't known whether the history is legal up to it.
+fn tell_undecided_from(number: u32, line: Line, out: &mut Vec<u8>) -> Result<(), AllocError>
+    ensures { OnOk result (out.new.items ≡ out.old.items ++ undecided_from_text number line) }
+{
+    push_numbered(b"undecided from ", number, out)?;
+    out.extend_from_slice(b": ")?;
+    tell_line(line, out)
+}
+
+/// Appends with which numbers a search found a run, if it looked, and the end of the line.
+fn tell_found(found: &Option<Vec<u32>>, out: &mut Vec<u8>) -> Result<(), AllocError>
+    ensures { OnOk result (out.new.items ≡ out.old.items ++ found_text found.now) }
+{
+    match found {
+        Some(numbers) => {
+            out.extend_from_slice(b"; ")?;
+            push_found(out, numbers.as_slice())
+        }
+        None => out.extend_from_slice(b"\n"),
+    }
+}
+
+/// Appends up to which line a history is legal, and the next one, of which that isn't known.
 ///
 /// # Errors
 ///
 /// Out of memory.
-pub fn tell_unfound(unfound: &Unfound, out: &mut Vec<u8>) -> Result<(), AllocError>
-    ensures { OnOk result (out.new.items ≡ out.old.items ++ unfound_text unfound.now) }
+pub fn tell_undecided(unfound: &Unfound, out: &mut Vec<u8>) -> Result<(), AllocError>
+    ensures { OnOk result (out.new.items ≡ out.old.items ++ legal_up_to_text unfound.now) }
 {
-    tell_unfound_line(unfound.number, out)?;
-    match &unfound.found {
-        Some(numbers) => push_found(out, numbers.as_slice()),
-        None => Ok(()),
-    }
+    tell_up_to(unfound.up_to, out)?;
+    tell_undecided_from(unfound.number, unfound.line, out)?;
+    tell_found(&unfound.found, out)
 }

@@ -2,9 +2,11 @@ ghost use Rattle.std.specs.Prelude.{◌≡◌, ◌++◌, IfOk, OnOk};
 ghost use Rattle.std.specs.List.{flat_map};
 ghost use Rattle.pif_text_model.specs.Errors.{error_of};
 ghost use Rattle.pif_history_text.specs.Reading.{heard_of};
+ghost use Rattle.pif_history_told.specs.Ends.{at_end_text};
 ghost use Rattle.pif_history_told.specs.Sets.{added};
 ghost use Rattle.pif_history_told.specs.Texts.{bounds_text, but_for_text, call_word, calls_in, calls_text, calls_word, colon_names, error_word, least_text, legal_front, legal_text, legal_with, names_of, needs_text, rule_names, rule_text, some_calls, undecided_with, with_names};
 
+use crate::ends::{AtEnd, tell_at_end};
 use crate::sets::added;
 use crate::unlisted::Unlisted;
 use pif_history_model::Line;
@@ -168,7 +170,7 @@ fn push_legal(lines: u32, calls: usize, out: &mut Vec<u8>) -> Result<(), AllocEr
 }
 
 /// Appends the line of a legal history of so many lines and calls, with the answer that no page has, if its run has one,
-/// and what stands behind the line. The lines have these numbers in the text.
+/// what is told of its end, and what stands behind that. The lines have these numbers in the text.
 ///
 /// # Errors
 ///
@@ -178,14 +180,16 @@ pub fn tell_legal(
     calls: usize,
     numbers: &[u32],
     found: Option<Unlisted>,
+    at_end: &AtEnd,
     witness: &[u8],
     out: &mut Vec<u8>,
 ) -> Result<(), AllocError>
-    ensures { OnOk result (out.new.items ≡ out.old.items ++ (legal_text lines calls numbers.now found ++ witness.now)) }
+    ensures { OnOk result (out.new.items ≡ out.old.items ++ (legal_text lines calls numbers.now found ++ at_end_text at_end.now ++ witness.now)) }
 {
     push_legal(lines, calls, out)?;
     push_but_for(numbers, found, out)?;
     out.extend_from_slice(b"\n")?;
+    tell_at_end(at_end, out)?;
     out.extend_from_slice(witness)
 }
 

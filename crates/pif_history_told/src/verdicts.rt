@@ -2,6 +2,8 @@
 ghost use Rattle.std.specs.Prelude.{◌≡◌, ◌++◌, OnOk, codes, decimal, flat_map};
 ghost use Rattle.pif_history_told.specs.Verdicts.{began_member, but_for_member, found_member, illegal_object, known_member, legal_object, numbers_text, undecided_object};
 
+use crate::clues::{Clues, append_clues};
+use crate::ends::{AtEnd, append_at_end};
 use crate::texts::{call_word, error_word};
 use crate::unlisted::Unlisted;
 use pif_history_model::{Line, LineRefusal};
@@ -22,11 +24,15 @@ pub enum Known {
     Nothing,
 }
 
-/// The first line for which no search found a run that shows the lines up to it. It claims nothing: there may be one.
+/// The first line of which it isn't known whether some run shows the lines up to it: no search found one.
 #[derive(Drop)]
 pub struct Unfound {
+    /// The number of the line before it, from 1: some run shows the lines up to that. None: no run of any was found.
+    pub up_to: Option<u32>,
     /// The number of the line, from 1.
     pub number: u32,
+    /// The line.
+    pub line: Line,
     /// With these numbers, in place of its answer or its priority, a search found a run; none if none was looked for.
     pub found: Option<Vec<u32>>,
 }
@@ -115,7 +121,7 @@ fn append_began(began: Option<Began>, out: &mut Vec<u8>) -> Result<(), AllocErro
 }
 
 /// Appends the verdict on a history whose line of this number is the first up to which there is no run, with what is
-/// known of the line, and where the open call of its thread began.
+/// known of the line, where the open call of its thread began, and clues to what is wrong.
 ///
 /// # Errors
 ///
@@ -126,10 +132,11 @@ pub fn append_illegal(
     line: &Line,
     known: &Known,
     began: Option<Began>,
+    clues: &Clues,
     left_out: u32,
     out: &mut Vec<u8>,
 ) -> Result<(), AllocError>
-    ensures { OnOk result (out.new.items ≡ out.old.items ++ illegal_object number line.now known.now began left_out) }
+    ensures { OnOk result (out.new.items ≡ out.old.items ++ illegal_object number line.now known.now began clues.now left_out) }
 {
     let mut text = Text::new();
     line_text(*line, &mut text);
@@ -145,6 +152,7 @@ pub fn append_illegal(
     )?;
     append_known(known, out)?;
     append_began(began, out)?;
+    append_clues(clues, out)?;
     out.extend_from_slice(b"}\n")
 }
 
@@ -172,7 +180,7 @@ fn append_but_for(
 }
 
 /// Appends the verdict on a legal history of so many lines and calls, with the answer that no page has, if its run has
-/// one. So many lines are left out behind it. The lines have these numbers in the text.
+/// one, and what is told of its end. So many lines are left out behind it. The lines have these numbers in the text.
 ///
 /// # Errors
 ///
@@ -183,9 +191,10 @@ pub fn append_legal(
     left_out: u32,
     numbers: &[u32],
     found: Option<Unlisted>,
+    at_end: &AtEnd,
     out: &mut Vec<u8>,
 ) -> Result<(), AllocError>
-    ensures { OnOk result (out.new.items ≡ out.old.items ++ legal_object lines calls left_out numbers.now found) }
+    ensures { OnOk result (out.new.items ≡ out.old.items ++ legal_object lines calls left_out numbers.now found at_end.now) }
 {
     append_members(
         out,
@@ -198,6 +207,7 @@ pub fn append_legal(
         ],
     )?;
     append_but_for(numbers, found, out)?;
+    append_at_end(at_end, out)?;
     out.extend_from_slice(b"}\n")
 }
 
@@ -212,28 +222,31 @@ fn append_found(found: &Option<Vec<u32>>, out: &mut Vec<u8>) -> Result<(), Alloc
     }
 }
 
-/// Appends the verdict on a history that was given up at the line of this number, and the first line for which no run was
-/// found, which claims nothing.
+/// Appends the verdict on a history that was given up: the first line of which it isn't known whether some run shows the
+/// lines up to it, and the one before it.
 ///
 /// # Errors
 ///
 /// Out of memory.
+#[tactic(auto, unfolding(crate::specs::Verdicts::undecided_front))]
 pub fn append_undecided(
-    number: u32,
     unfound: &Unfound,
     left_out: u32,
     out: &mut Vec<u8>,
 ) -> Result<(), AllocError>
-    ensures { OnOk result (out.new.items ≡ out.old.items ++ undecided_object number unfound.now left_out) }
+    ensures { OnOk result (out.new.items ≡ out.old.items ++ undecided_object unfound.now left_out) }
 {
+    let mut text = Text::new();
+    line_text(unfound.line, &mut text);
     append_members(
         out,
         b'{',
         &[
             Member::Quoted("verdict", b"undecided"),
-            Member::Number("line", number),
+            Member::Number("line", unfound.number),
+            Member::Quoted("text", text.as_slice()),
             Member::Number("left_out", left_out),
-            Member::Number("no_witness_from", unfound.number),
+            Member::NumberOrNull("legal_up_to", unfound.up_to),
         ],
     )?;
     append_found(&unfound.found, out)?;

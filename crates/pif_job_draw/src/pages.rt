@@ -5,17 +5,20 @@ use std::alloc::{AllocError, Global};
 
 /// The page before its drawing: the title and the looks.
 const PAGE_HEAD: &str = "<!DOCTYPE html>\n\
-    <html lang=\"en\"><head><meta charset=\"utf-8\"><title>pif draw</title><style>\n\
+    <html lang=\"en\"><head><meta charset=\"utf-8\"><title>pif draw</title>\n\
+    <meta name=\"viewport\" content=\"width=device-width, initial-scale=1\"><style>\n\
     body{font:14px sans-serif;margin:12px;background:#fff;color:#1f2328}\n\
     #drawing{overflow-x:auto;position:relative}\n\
     #step{width:100%}\n\
+    #state{overflow-x:auto}\n\
     table{border-collapse:collapse;margin:8px 24px 8px 0;display:inline-table;vertical-align:top}\n\
     td,th{border:1px solid #d0d7de;padding:2px 8px;text-align:left}\n\
     .lit{background:#ffd8a8;color:#1f2328}\n\
     svg .lit{fill:#c93a00}\n\
     svg rect.lit{fill:#ffd8a8;opacity:.4}\n\
-    svg .now{fill:#ffa36e;opacity:.3}\n\
-    @media(prefers-color-scheme:dark){body{background:#0d1117;color:#e6edf3}td,th{border-color:#30363d}}\n\
+    svg .now{fill:#0969da;fill-opacity:.14;stroke:#0969da;stroke-width:1.5}\n\
+    @media(prefers-color-scheme:dark){body{background:#0d1117;color:#e6edf3;color-scheme:dark}td,th{border-color:#30363d}\n\
+    svg .now{fill:#58a6ff;fill-opacity:.2;stroke:#58a6ff}}\n\
     </style></head><body>\n\
     <div id=\"drawing\">\n";
 
@@ -79,7 +82,11 @@ const PAGE_END: &str = "</script>\n<script>\n\
     }\n\
     step.max = states.length - 1;\n\
     step.addEventListener('input', () => show(Number(step.value)));\n\
-    const first = Math.max(0, states.findIndex(state => '#' + state.line === location.hash));\n\
+    const waits = thread => thread.waits_for !== null || thread.parked_on !== null;\n\
+    const named = states.findIndex(state => '#' + state.line === location.hash);\n\
+    const waiting = states.findIndex(state => state.threads.some(waits));\n\
+    const calling = states.findIndex(state => state.threads.some(thread => thread.call !== null));\n\
+    const first = Math.max(0, [named, waiting, calling].find(place => place >= 0) ?? 0);\n\
     step.value = first;\n\
     show(first);\n\
     </script></body></html>\n";

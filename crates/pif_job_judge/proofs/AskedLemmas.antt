@@ -1,12 +1,11 @@
 -- A verdict with what POSIX says, put together.
-use Rattle.std.proofs.Common.{◌≡◌, ◌∙◌, ◌≤◌, ◌⊎◌, inl, inr, ℕ, Some, None, length, true, false, List, [], ◌++◌, Vec, Global, refl, sym, ap, subst}
+use Rattle.std.proofs.Common.{◌≡◌, ◌∙◌, ◌≤◌, ◌⊎◌, inl, inr, ℕ, Some, None, length, true, false, List, ◌++◌, Vec, Global, refl, sym, ap, subst}
 use Rattle.pif_history_model.specs.declared.labels.Label.{Label}
 use Rattle.pif_history_machine.specs.declared.verdicts.Verdict.{Verdict}
 use Rattle.pif_history_machine.specs.declared.verdicts.Verdict.TheVariants.{Legal}
 use Rattle.pif_history_machine.specs.Verdicts.{IsVerdictOf}
 use Rattle.pif_history_model.specs.Verdicts.{IsLegal}
 use Rattle.pif_history_text.specs.Histories.{Heard, limits_of}
-use Rattle.pif_history_told.specs.Pages.{IsPageOf}
 use Rattle.pif_history_told.specs.Unlisted.{IsFirstUnlisted}
 use Rattle.pif_rules_model.specs.declared.rules.Rules.{Rules}
 use Rattle.pif_job_judge.specs.declared.faults.Ended.{Ended}
@@ -18,7 +17,7 @@ use Rattle.pif_job_judge.specs.declared.search.Enough.{Enough}
 use Rattle.pif_job_judge.specs.declared.undefined.Begun.{Begun}
 use Rattle.pif_job_judge.specs.Lines.{AppendsLines, TellsRun}
 use Rattle.pif_job_judge.specs.Posix.{IsNumberedBy, IsSaid, forbidden_from, forbids_text, posix_end, posix_object, posix_text, under, undecided_text, undefined_text, verdict_said}
-use Rattle.pif_job_judge.specs.Asked.{AppendsAllowedBy, AppendsAsked, AppendsAskedLines, AppendsAskedObjects, AppendsBrief, AppendsFirst, AppendsForbidden, AppendsRest, AppendsWhy, AreAskedObjects, AreObjectsBehind, AreRestObjects, IsAsked, TellsAllowed}
+use Rattle.pif_job_judge.specs.Asked.{AppendsAllowedBy, AppendsAsked, AppendsAskedLines, AppendsAskedObjects, AppendsBrief, AppendsFirst, AppendsForbidden, AppendsRest, AppendsWhy, AreObjectsBehind, AreRestObjects, IsAsked, TellsAllowed}
 use Rattle.pif_job_judge.specs.Endings.{is_legal}
 use Rattle.pif_job_judge.proofs.ObjectLemmas.{both}
 
@@ -63,20 +62,12 @@ asked_lines form h old new (inl e) end told =
 asked_lines form h old new (inr e) end told =
     subst (λ (f : Form). AppendsAsked f h end old new) (sym e) (subst (λ (f : Form). AppendsAskedLines f h end old new) e told)
 
-pub asked_objects : (form : Form) (h : Heard) (old new : List ℕ) → form ≡ Json → (end : Ended)
+pub asked_objects : (form : Form) (h : Heard) (old new : List ℕ) → (form ≡ Json) ⊎ (form ≡ Page) → (end : Ended)
     → AppendsAskedObjects form h end old new → AppendsAsked form h end old new
-asked_objects form h old new e end told =
+asked_objects form h old new (inl e) end told =
     subst (λ (f : Form). AppendsAsked f h end old new) (sym e) (subst (λ (f : Form). AppendsAskedObjects f h end old new) e told)
-
-pub asked_page : (form : Form) (h : Heard) (end : Ended) (start lines slice old new : List ℕ) → form ≡ Page → start ≡ []
-    → slice ≡ lines → AppendsAskedObjects form h end start lines → IsPageOf slice old new → AppendsAsked form h end old new
-asked_page form h end start lines slice old new page empty same told framed =
-    let text = told.0 in
-    let objects = subst (λ (f : Form). AreAskedObjects f h text end) page told.1 in
-    let all : slice ≡ text = same ∙ (told.2 ∙ ap (λ (l : List ℕ). l ++ text) empty) in
-    let parts = subst (λ (l : List ℕ). IsPageOf l old new) all framed in
-    subst (λ (f : Form). AppendsAsked f h end old new) (sym page)
-    (parts.0 ++ text ++ parts.1, (text, objects, (parts.0, parts.1, refl)), parts.2)
+asked_objects form h old new (inr e) end told =
+    subst (λ (f : Form). AppendsAsked f h end old new) (sym e) (subst (λ (f : Form). AppendsAskedObjects f h end old new) e told)
 
 -- WHAT POSIX SAYS, AND WHAT STANDS BEHIND IT
 

@@ -10,45 +10,51 @@ use Rattle.pif_history_model.specs.declared.refusals.LineRefusal.{LineRefusal}
 use Rattle.pif_history_model.specs.Lines.{thread_of}
 use Rattle.pif_history_model.specs.Verdicts.{ArePossibleAnswers, ArePossiblePriorities}
 use Rattle.pif_history_machine.specs.declared.verdicts.Verdict.{Verdict}
-use Rattle.pif_history_machine.specs.declared.verdicts.Verdict.TheVariants.{Illegal, Legal, Undecided}
+use Rattle.pif_history_machine.specs.declared.verdicts.Verdict.TheVariants.{Illegal, Legal}
 use Rattle.pif_history_machine.specs.Verdicts.{IsVerdictOf, IsRefusalThere}
 use Rattle.pif_history_text.specs.Histories.{Heard, limits_of}
-use Rattle.pif_history_text.specs.Verdicts.{illegal_line, undecided_line}
+use Rattle.pif_history_text.specs.Verdicts.{illegal_line}
 use Rattle.pif_history_told.specs.Unlisted.{IsFirstUnlisted}
 use Rattle.pif_history_told.specs.Pages.{IsPageOf}
 use Rattle.pif_history_told.specs.declared.verdicts.Began.{Began}
 use Rattle.pif_history_told.specs.declared.verdicts.Known.{Known}
 use Rattle.pif_history_told.specs.declared.verdicts.Known.TheVariants.{Numbers}
-use Rattle.pif_history_told.specs.declared.verdicts.Unfound.{Unfound}
 use Rattle.pif_search.specs.declared.machine.Stop.{Stop}
 use Rattle.pif_job_judge.specs.declared.faults.Ended.{Ended}
-use Rattle.pif_job_judge.specs.declared.faults.Ended.TheVariants as ended
 use Rattle.pif_job_judge.specs.declared.faults.JudgeFault.{JudgeFault}
 use Rattle.pif_job_judge.specs.Endings.{is_legal, result_of}
 use Rattle.pif_job_judge.specs.declared.forms.Form.{Form}
 use Rattle.pif_job_judge.specs.declared.forms.Form.TheVariants.{Text, Witness, Json, Page}
-use Rattle.pif_job_judge.specs.Judging.{AppendsAll, AppendsTold, Judges, WritesText, asks}
+use Rattle.pif_job_judge.specs.Judging.{AppendsAll, AppendsShown, AppendsTold, Judges, TellsAll, WritesText, asks, front_of}
 use Rattle.pif_job_judge.specs.Judging.TellsAll.{asked as posix_asked, log as log_alone, verdict as verdict_alone}
 use Rattle.pif_job_judge.specs.Asked.{AppendsAsked, AppendsBrief, AppendsWhy}
 use Rattle.pif_job_judge.specs.Asked.IsBrief.{illegal as illegal_alone, undecided as undecided_alone}
-use Rattle.pif_history_told.specs.WhyTexts.{unfound_text, why_text}
+use Rattle.pif_history_told.specs.declared.clues.Clues.{Clues}
+use Rattle.pif_history_told.specs.Clues.{clues_text}
+use Rattle.pif_job_judge.specs.Clues.{AreClues}
+use Rattle.pif_history_told.specs.WhyTexts.{why_text}
 use Rattle.pif_job_judge.specs.Lines.{AppendsLines, HasUnlisted, TellsIllegal, TellsIllegalLine, TellsLegal, TellsRun, TellsUndecided, TellsVerdict, TellsWhy}
 use Rattle.pif_job_judge.specs.Lines.IsTold.{legal, illegal, undecided}
 use Rattle.pif_job_judge.specs.Mistakes.{AppendsLog}
-use Rattle.pif_job_judge.specs.Objects.{AppendsObjects, AreObjects}
-use Rattle.pif_history_told.specs.Why.{ArePossible, IsKnown, IsNumbered, IsUnfound, has_number, open_of}
+use Rattle.pif_job_judge.specs.Objects.{AppendsObjects}
+use Rattle.pif_job_judge.specs.Shown.{IsShown}
+use Rattle.pif_history_told.specs.Why.{ArePossible, IsKnown, has_number, open_of}
 
 -- what follows of the result of a call that ended well
 pub if_ok : {T E : Type 0} (r : Result T E) (P Q : T → Type 0) → ((x : T) → P x → Q x) → IfOk r P → IfOk r Q
 if_ok (Ok x) P Q f holds = f x holds
 if_ok (Err e) P Q f holds = tt
 
--- what is known of an illegal line
-pub tells_why : (h : Heard) (n : ℕ) (old new : List ℕ) (line : Line) (known : Known) (began : Option Began)
+-- what is known of an illegal line, and clues to what is wrong
+pub tells_why : (h : Heard) (n : ℕ) (old mid new : List ℕ) (line : Line) (known : Known) (began : Option Began) (clues : Clues)
     → slice_get h.shown (n - 1) ≡ Some line → IsKnown h (n - 1) line known → began ≡ open_of (thread_of line) h (n - 1)
-    → new ≡ old ++ why_text known began → AppendsWhy h n old new
-tells_why h n old new line known began there is began_is grown =
-    (why_text known began, (line, there, (known, is, ap (λ (o : Option Began). why_text known o) began_is)), grown)
+    → AreClues h (n - 1) clues → mid ≡ old ++ why_text known began → new ≡ mid ++ clues_text clues → AppendsWhy h n old new
+tells_why h n old mid new line known began clues there is began_is are first second =
+    let whole = why_text known began ++ clues_text clues in (
+      whole,
+      (line, there, (known, clues, is, are, ap (λ (o : Option Began). why_text known o ++ clues_text clues) began_is)),
+      second ∙ ap (λ (l : List ℕ). l ++ clues_text clues) first ∙ append_assoc old (why_text known began) (clues_text clues),
+    )
 
 -- the lines of an illegal history
 pub tells_illegal : (h : Heard) (n : ℕ) (old mid new : List ℕ) (end : Ended) → TellsIllegalLine h n old mid end
@@ -70,34 +76,20 @@ pub brief_illegal : (h : Heard) (n : ℕ) (old new : List ℕ) (end : Ended) →
     → TellsIllegalLine h n old new end → AppendsBrief h end old new
 brief_illegal h n old new end is t = (_, illegal_alone n t.0 t.1 is t.2 t.3 refl t.5, t.4)
 
-pub brief_undecided : (h : Heard) (n : ℕ) (old new : List ℕ) (end : Ended) → IsVerdictOf h.allowed (limits_of h) h.shown (Undecided n)
-    → TellsUndecided h n old new end → AppendsBrief h end old new
-brief_undecided h n old new end is t = (_, undecided_alone n t.0 t.1 is t.2 t.3 refl t.5, t.4)
-
--- the lines of one that was given up
-pub tells_undecided : (h : Heard) (n : ℕ) (old mid new : List ℕ) (number : ℕ) (unfound : Unfound) → IsNumbered h n number
-    → IsUnfound h n unfound → mid ≡ old ++ undecided_line number → new ≡ mid ++ unfound_text unfound
-    → TellsUndecided h n old new (ended.Undecided number)
-tells_undecided h n old mid new number unfound numbered there first second = (
-  number,
-  unfound,
-  numbered,
-  there,
-  second ∙ ap (λ (l : List ℕ). l ++ unfound_text unfound) first ∙ append_assoc old (undecided_line number) (unfound_text unfound),
-  refl,
-)
+pub brief_undecided : (h : Heard) (old new : List ℕ) (end : Ended) → TellsUndecided h old new end → AppendsBrief h end old new
+brief_undecided h old new end t = (_, undecided_alone t.0 t.1 t.2 refl t.4, t.3)
 
 -- a history of each verdict
 pub told_legal : (form : Form) (h : Heard) (v : Verdict) (run : Vec Label Global) (given : List Label) (old new : List ℕ)
     → given ≡ run.items → v ≡ Legal run → IsVerdictOf h.allowed (limits_of h) h.shown v → (end : Ended)
     → TellsLegal form h given old new end → AppendsLines form h end old new
 told_legal form h v run given old new same is by end t =
-    let told = subst (λ (ls : List Label). TellsRun form h.allowed (limits_of h) ls t.0) same t.2 in
-    let first = subst (λ (ls : List Label). IsFirstUnlisted h.allowed (limits_of h) ls t.1) same t.3 in (
+    let told = subst (λ (ls : List Label). TellsRun form h.allowed (limits_of h) ls t.0) same t.3 in
+    let first = subst (λ (ls : List Label). IsFirstUnlisted h.allowed (limits_of h) ls t.1) same t.4 in (
       _,
-      legal v t.0 t.1 by (subst (λ (x : Verdict). TellsVerdict form h.allowed (limits_of h) x t.0) (sym is) told)
-          (subst (λ (x : Verdict). HasUnlisted h.allowed (limits_of h) x t.1) (sym is) first) refl t.5,
-      t.4,
+      legal v t.0 t.1 t.2 by (subst (λ (x : Verdict). TellsVerdict form h.allowed (limits_of h) x t.0) (sym is) told)
+          (subst (λ (x : Verdict). HasUnlisted h.allowed (limits_of h) x t.1) (sym is) first) t.5 refl t.7,
+      t.6,
     )
 
 pub told_illegal : (form : Form) (h : Heard) (n : ℕ) (old new : List ℕ)
@@ -106,11 +98,9 @@ pub told_illegal : (form : Form) (h : Heard) (n : ℕ) (old new : List ℕ)
 told_illegal form h n old new is end t =
     (_, illegal n t.0 t.1 t.2 is t.3 t.4 t.5 refl t.7, t.6)
 
-pub told_undecided : (form : Form) (h : Heard) (n : ℕ) (old new : List ℕ)
-    → IsVerdictOf h.allowed (limits_of h) h.shown (Undecided n) → (end : Ended) → TellsUndecided h n old new end
+pub told_undecided : (form : Form) (h : Heard) (old new : List ℕ) (end : Ended) → TellsUndecided h old new end
     → AppendsLines form h end old new
-told_undecided form h n old new is end t =
-    (_, undecided n t.0 t.1 is t.2 t.3 refl t.5, t.4)
+told_undecided form h old new end t = (_, undecided t.0 t.1 t.2 refl t.4, t.3)
 
 -- what is told in each form
 pub lines_told : (form : Form) (h : Heard) (r : Result Ended Stop) (old new : List ℕ)
@@ -124,33 +114,57 @@ lines_told form h r old new (inr e) told =
     (subst (λ (f : Form). IfOk r (λ end. AppendsLines f h end old new)) e told)
 
 pub objects_told : (form : Form) (h : Heard) (r : Result Ended Stop) (old new : List ℕ)
-    → form ≡ Json → IfOk r (λ end. AppendsObjects form h end old new) → IfOk r (λ end. AppendsTold form h end old new)
-objects_told form h r old new e told =
+    → (form ≡ Json) ⊎ (form ≡ Page) → IfOk r (λ end. AppendsObjects form h end old new)
+    → IfOk r (λ end. AppendsTold form h end old new)
+objects_told form h r old new (inl e) told =
+    subst (λ (f : Form). IfOk r (λ end. AppendsTold f h end old new)) (sym e)
+    (subst (λ (f : Form). IfOk r (λ end. AppendsObjects f h end old new)) e told)
+objects_told form h r old new (inr e) told =
     subst (λ (f : Form). IfOk r (λ end. AppendsTold f h end old new)) (sym e)
     (subst (λ (f : Form). IfOk r (λ end. AppendsObjects f h end old new)) e told)
 
-pub page_told : (form : Form) (h : Heard) (end : Ended) (start lines slice old new : List ℕ)
-    → form ≡ Page → start ≡ [] → slice ≡ lines → AppendsObjects form h end start lines → IsPageOf slice old new
-    → AppendsTold form h end old new
-page_told form h end start lines slice old new page empty same told framed =
-    let text = told.0 in
-    let objects = subst (λ (f : Form). AreObjects f h text end) page told.1 in
-    let all : slice ≡ text = same ∙ (told.2 ∙ ap (λ (l : List ℕ). l ++ text) empty) in
-    let parts = subst (λ (l : List ℕ). IsPageOf l old new) all framed in
-    subst (λ (f : Form). AppendsTold f h end old new) (sym page)
-    (parts.0 ++ text ++ parts.1, (text, objects, (parts.0, parts.1, refl)), parts.2)
+-- in a page nothing stands in front
+page_front : (name : Option (List ℕ)) → front_of name Page ≡ []
+page_front None = refl
+page_front (Some n) = refl
 
--- what is told of a history was written, behind its front
-pub judged : (plain : Bool) (form : Form) (h : Heard) (held holds : Option (List ℕ)) (front old new : List ℕ)
-    (end : Ended) (given result : Result (Unit {0}) JudgeFault) → old ≡ front → AppendsAll plain form h end old new
+-- what is told of a history, with names
+with_names : (plain : Bool) (form : Form) (h : Heard) (end : Ended) (front old text told names shown : List ℕ) → old ≡ front
+    → TellsAll plain form h text end → told ≡ old ++ text → ((text : List ℕ) → IsShown form text (text ++ names))
+    → shown ≡ told ++ names → AppendsShown plain form h end front shown
+with_names plain form h end front old text told names shown e all grown are is = (
+  text ++ names,
+  (text, all, are text),
+  is ∙ ap (λ (l : List ℕ). l ++ names) (grown ∙ ap (λ (l : List ℕ). l ++ text) e) ∙ append_assoc front text names,
+)
+
+pub shown_told : (plain : Bool) (form : Form) (name : Option (List ℕ)) (h : Heard) (end : Ended) (old told shown : List ℕ)
+    → old ≡ front_of name form → AppendsAll plain form h end old told → IsShown form told shown
+    → AppendsShown plain form h end (front_of name form) shown
+shown_told plain Text name h end old told shown e t s =
+    with_names plain Text h end (front_of name Text) old t.0 told s.0 shown e t.1 t.2 (λ l. (s.0, s.1, refl)) s.2
+shown_told plain Witness name h end old told shown e t s =
+    with_names plain Witness h end (front_of name Witness) old t.0 told s.0 shown e t.1 t.2 (λ l. (s.0, s.1, refl)) s.2
+shown_told plain Json name h end old told shown e t s =
+    with_names plain Json h end (front_of name Json) old t.0 told s.0 shown e t.1 t.2 (λ l. (s.0, s.1, refl)) s.2
+shown_told plain Page name h end old told shown e t s =
+    let empty = page_front name in
+    let same : told ≡ t.0 = t.2 ∙ ap (λ (l : List ℕ). l ++ t.0) (e ∙ empty) in (
+      shown,
+      (t.0, t.1, subst (λ (l : List ℕ). IsPageOf l [] shown) same s),
+      ap (λ (l : List ℕ). l ++ shown) (sym empty),
+    )
+
+-- what is shown of a history was written, behind its front
+pub judged : (plain : Bool) (form : Form) (h : Heard) (held holds : Option (List ℕ)) (front new : List ℕ)
+    (end : Ended) (given result : Result (Unit {0}) JudgeFault) → AppendsShown plain form h end front new
     → given ≡ result_of end → WritesText held holds new given result → Judges plain form (Ok h) held holds front result
-judged plain form h held holds front old new end given result e told is w =
+judged plain form h held holds front new end given result told is w =
     inr (
       told.0,
       end,
       told.1,
-      subst (λ (l : List ℕ). WritesText held holds l (result_of end) result)
-          (told.2 ∙ ap (λ (l : List ℕ). l ++ told.0) e)
+      subst (λ (l : List ℕ). WritesText held holds l (result_of end) result) told.2
           (subst (λ (x : Result (Unit {0}) JudgeFault). WritesText held holds new x result) is w),
     )
 

@@ -1,5 +1,5 @@
 -- Judging a history with sets of rules, put together.
-use Rattle.std.proofs.Common.{◌≡◌, ◌∙◌, ℕ, Bool, false, inl, inr, List, ◌++◌, Option, Result, Ok, Err, ap, subst}
+use Rattle.std.proofs.Common.{◌≡◌, ◌∙◌, ℕ, Bool, false, inl, inr, List, ◌++◌, Option, Result, Ok, Err, ap, append_assoc, refl, subst}
 use Rattle.pif_script_model.specs.declared.faults.CliFault.{CliFault}
 use Rattle.pif_rules_model.specs.declared.rules.Rules.{Rules}
 use Rattle.pif_history_text.specs.Histories.{Heard}
@@ -13,6 +13,7 @@ use Rattle.pif_job_judge.specs.Mistakes.{IsJudged}
 use Rattle.pif_job_judge.specs.Least.{JudgesLeast}
 use Rattle.pif_job_judge.specs.Least.IsTold.{judged, needed}
 use Rattle.pif_job_judge.specs.Needed.{AppendsNeeded}
+use Rattle.pif_job_judge.specs.Shown.{IsShown}
 
 abbrev Done : Type 0
 Done = Result (Unit {0}) JudgeFault
@@ -36,16 +37,18 @@ fault_in_lines given plain form was name f held holds result p e same j =
 
 -- WRITING
 
-pub needed_written : (plain : Bool) (a : Rules) (h : Heard) (held holds : Option (List ℕ)) (front old new given : List ℕ) (end : Ended)
-    (done result : Done) → old ≡ front → AppendsNeeded a h end old new → given ≡ new → done ≡ result_of end
-    → WritesText held holds given done result
-    → JudgesLeast plain a (Ok h) held holds front result
-needed_written plain a h held holds front old new given end done result e t same is w =
+pub needed_written : (plain : Bool) (a : Rules) (h : Heard) (held holds : Option (List ℕ)) (front old new shown given : List ℕ)
+    (end : Ended) (done result : Done) → old ≡ front → AppendsNeeded a h end old new → IsShown Text new shown → given ≡ shown
+    → done ≡ result_of end → WritesText held holds given done result → JudgesLeast plain a (Ok h) held holds front result
+needed_written plain a h held holds front old new shown given end done result e t s same is w =
+    let grown : new ≡ front ++ t.0 = t.2 ∙ ap (λ (l : List ℕ). l ++ t.0) e in
+    let all : given ≡ front ++ (t.0 ++ s.0) = same
+    ∙ (s.2 ∙ (ap (λ (l : List ℕ). l ++ s.0) grown ∙ append_assoc front t.0 s.0)) in
     inr (
-      t.0,
+      t.0 ++ s.0,
       end,
-      needed t.1,
-      subst (λ (l : List ℕ). WritesText held holds l (result_of end) result) (same ∙ (t.2 ∙ ap (λ (l : List ℕ). l ++ t.0) e))
+      (t.0, needed t.1, (s.0, s.1, refl)),
+      subst (λ (l : List ℕ). WritesText held holds l (result_of end) result) all
           (subst (λ (x : Done). WritesText held holds given x result) is w),
     )
 
@@ -57,6 +60,10 @@ judged_written plain a h all held holds front result of wrong (inr t) =
     inr (
       t.0,
       t.1,
-      judged (subst (λ (x : Heard). TellsAll plain Text x t.0 t.1) of t.2) (subst (λ (x : Heard). IsJudged x false) of wrong),
+      (
+        t.2.0,
+        judged (subst (λ (x : Heard). TellsAll plain Text x t.2.0 t.1) of t.2.1) (subst (λ (x : Heard). IsJudged x false) of wrong),
+        t.2.2,
+      ),
       t.3,
     )

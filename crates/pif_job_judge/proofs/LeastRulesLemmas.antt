@@ -12,14 +12,22 @@ use Rattle.pif_history_told.specs.Sets.{added, sets_below, sets_in_order, sets_o
 use Rattle.pif_job_judge.specs.declared.search.Needed.{Needed}
 use Rattle.pif_job_judge.specs.declared.search.Needed.TheVariants.{Legal, Undecided}
 
+-- what holds of the first elements of a list, and of the next one
+pub all_more : {X : Type 0} (P : X → Type 0) (xs : List X) (i : ℕ) (x : X) → i < length xs → x ≡ get_or xs i x → P x
+    → All P (take i xs) → All P (take (i + 1) xs)
+all_more {X} P xs i x within at here before =
+    All-same P (take (i + 1) xs) (take i xs ++ x ∷ [])
+    (take_more xs i x within ∙ ap (λ (y : X). take i xs ++ y ∷ []) (sym at)) (All-push P (take i xs) x before here)
+
+pub all_read : {X : Type 0} (P : X → Type 0) (xs : List X) (i : ℕ) → length xs ≤ i → All P (take i xs) → All P xs
+all_read P xs i past before = All-same P xs (take i xs) (sym (take_all i xs past)) before
+
 -- one set more is illegal
 pub illegal_more : (l : Bounds) (lines : List Line) (sets : List Rules) (i : ℕ) (r : Rules) → i < length sets
     → r ≡ get_or sets i r → IsIllegalSomewhere l lines r → All (IsIllegalSomewhere l lines) (take i sets)
     → All (IsIllegalSomewhere l lines) (take (i + 1) sets)
 illegal_more l lines sets i r within at illegal before =
-    let P : Rules → Type 0 = λ q. IsIllegalSomewhere l lines q in
-    All-same P (take (i + 1) sets) (take i sets ++ r ∷ [])
-    (take_more sets i r within ∙ ap (λ (q : Rules). take i sets ++ q ∷ []) (sym at)) (All-push P (take i sets) r before illegal)
+    all_more (λ (q : Rules). IsIllegalSomewhere l lines q) sets i r within at illegal before
 
 -- a set among these
 pub behind_illegal : (l : Bounds) (lines : List Line) (sets : List Rules) (i : ℕ) (r : Rules) → i < length sets
@@ -35,8 +43,7 @@ behind_illegal l lines sets i r within at before = (
 -- all of them
 pub all_illegal : (l : Bounds) (lines : List Line) (sets : List Rules) (i : ℕ) → length sets ≤ i
     → All (IsIllegalSomewhere l lines) (take i sets) → All (IsIllegalSomewhere l lines) sets
-all_illegal l lines sets i past before =
-    All-same (IsIllegalSomewhere l lines) sets (take i sets) (sym (take_all i sets past)) before
+all_illegal l lines sets i past before = all_read (IsIllegalSomewhere l lines) sets i past before
 
 -- ALL SIZES
 

@@ -1,6 +1,9 @@
 mod AskedLemmas
+mod InTheWayLemmas
 mod JudgingLemmas
 mod LeastLemmas
 mod ObjectLemmas
 mod LeastRulesLemmas
 mod MistakeLemmas
+mod FrontLemmas
+mod OpenCallLemmas

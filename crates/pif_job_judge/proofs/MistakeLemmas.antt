@@ -1,5 +1,5 @@
 -- Mistakes of a log, put together.
-use Rattle.std.proofs.Common.{◌≡◌, ◌∙◌, ◌≤◌, ◌-◌, ◌⊎◌, arith, inl, inr, ℕ, Some, length, List, [], ◌∷◌, ◌++◌, take, refl, sym, ap, subst, append_assoc}
+use Rattle.std.proofs.Common.{◌≡◌, ◌∙◌, ◌≤◌, ◌-◌, ◌⊎◌, arith, inl, inr, ℕ, Some, length, List, ◌∷◌, ◌++◌, take, refl, sym, ap, subst, append_assoc}
 use Rattle.std.specs.Prelude.{codes, decimal, reverse, slice_get}
 use Rattle.std.proofs.lemmas.List.{length-take-le, take-take}
 use Rattle.pif_types.specs.Bounds.{Bounds}
@@ -12,7 +12,6 @@ use Rattle.pif_history_machine.specs.declared.verdicts.Verdict.TheVariants.{Ille
 use Rattle.pif_history_text.specs.Histories.{Heard}
 use Rattle.pif_history_text.specs.Texts.{line_text}
 use Rattle.pif_history_text.specs.Verdicts.{line_refusal_word}
-use Rattle.pif_history_told.specs.Pages.{IsPageOf}
 use Rattle.pif_history_told.specs.Why.{IsNumbered}
 use Rattle.pif_rules_model.specs.declared.rules.Rules.{Rules}
 use Rattle.pif_text.specs.Json.{quoted}
@@ -99,14 +98,9 @@ pub log_in_lines : (form : Form) (h : Heard) (old new : List ℕ) → (form ≡ 
 log_in_lines form h old new (inl e) end told = subst (λ (f : Form). AppendsLog f h end old new) (sym e) told
 log_in_lines form h old new (inr e) end told = subst (λ (f : Form). AppendsLog f h end old new) (sym e) told
 
-pub log_in_objects : (form : Form) (h : Heard) (old new : List ℕ) → form ≡ Json → (end : Ended)
-    → AppendsLogObjects Json h end old new → AppendsLog form h end old new
-log_in_objects form h old new e end told = subst (λ (f : Form). AppendsLog f h end old new) (sym e) told
-
-pub log_in_page : (h : Heard) (end : Ended) (start lines slice old new : List ℕ) → start ≡ [] → slice ≡ lines
-    → AppendsLogObjects Page h end start lines → IsPageOf slice old new → AppendsLog Page h end old new
-log_in_page h end start lines slice old new empty same told framed =
-    let text = told.0 in
-    let all : slice ≡ text = same ∙ (told.2 ∙ ap (λ (l : List ℕ). l ++ text) empty) in
-    let parts = subst (λ (l : List ℕ). IsPageOf l old new) all framed in
-    (parts.0 ++ text ++ parts.1, (text, told.1, (parts.0, parts.1, refl)), parts.2)
+pub log_in_objects : (form : Form) (h : Heard) (old new : List ℕ) → (form ≡ Json) ⊎ (form ≡ Page) → (end : Ended)
+    → AppendsLogObjects form h end old new → AppendsLog form h end old new
+log_in_objects form h old new (inl e) end told =
+    subst (λ (f : Form). AppendsLog f h end old new) (sym e) (subst (λ (f : Form). AppendsLogObjects f h end old new) e told)
+log_in_objects form h old new (inr e) end told =
+    subst (λ (f : Form). AppendsLog f h end old new) (sym e) (subst (λ (f : Form). AppendsLogObjects f h end old new) e told)

@@ -8,19 +8,20 @@ use Rattle.pif_history_model.specs.Verdicts.{IsLegal}
 use Rattle.pif_history_machine.specs.declared.verdicts.Verdict.TheVariants as verdict
 use Rattle.pif_history_machine.specs.Verdicts.{IsVerdictOf}
 use Rattle.pif_history_text.specs.Histories.{Heard, limits_of}
-use Rattle.pif_history_text.specs.Verdicts.{illegal_line, undecided_line}
+use Rattle.pif_history_text.specs.Verdicts.{illegal_line}
 use Rattle.pif_history_told.specs.declared.unlisted.Unlisted.{Unlisted}
 use Rattle.pif_history_told.specs.declared.verdicts.Unfound.{Unfound}
 use Rattle.pif_history_told.specs.Unlisted.{IsFirstUnlisted}
-use Rattle.pif_history_told.specs.Pages.{IsPageOf}
-use Rattle.pif_history_told.specs.Why.{IsNumbered, IsUnfound}
-use Rattle.pif_history_told.specs.WhyTexts.{unfound_text}
+use Rattle.pif_history_told.specs.Why.{IsNumbered}
+use Rattle.pif_history_told.specs.WhyTexts.{legal_up_to_text}
 use Rattle.pif_job_judge.specs.declared.forms.Form.{Form}
 use Rattle.pif_job_judge.specs.declared.forms.Form.TheVariants.{Text, Witness, Json, Page}
 use Rattle.pif_job_judge.specs.declared.faults.Ended.{Ended}
 use Rattle.pif_job_judge.specs.declared.faults.Ended.TheVariants as ended
 use Rattle.pif_job_judge.specs.declared.posix.Says.{Says}
 use Rattle.pif_job_judge.specs.declared.posix.Says.TheVariants.{Least, Found, Forbids, Undefined, Undecided}
+use Rattle.pif_job_judge.specs.declared.fronts.Front.{Front}
+use Rattle.pif_job_judge.specs.Fronts.{IsUndecided}
 use Rattle.pif_job_judge.specs.Lines.{IsTold, TellsRun, TellsWhy}
 use Rattle.pif_job_judge.specs.Objects.{AreObjects}
 use Rattle.pif_job_judge.specs.Posix.{IsNumberedBy, IsSaid, forbids_text, posix_end, posix_object, posix_text, under, undecided_text, undefined_text}
@@ -32,9 +33,8 @@ pub data IsBrief (h : Heard) (text : List ℕ) (end : Ended) : Type 0 where
   illegal : (n number : ℕ) (line : Line) → IsVerdictOf h.allowed (limits_of h) h.shown (verdict.Illegal n)
       → slice_get h.shown (n - 1) ≡ Some line → IsNumbered h n number → text ≡ illegal_line number line
       → end ≡ ended.Illegal number → IsBrief h text end
-  undecided : (n number : ℕ) (unfound : Unfound) → IsVerdictOf h.allowed (limits_of h) h.shown (verdict.Undecided n)
-      → IsNumbered h n number → IsUnfound h n unfound → text ≡ undecided_line number ++ unfound_text unfound
-      → end ≡ ended.Undecided number → IsBrief h text end
+  undecided : (front : Option Front) (u : Unfound) → IsUndecided h front u → text ≡ legal_up_to_text u
+      → end ≡ ended.Undecided u.number → IsBrief h text end
 
 -- What is told before what POSIX says. If that forbids the history, what is possible is told behind it.
 abbrev pub IsFirst : Form → Heard → Says → (text : List ℕ) → Ended → Type 0
@@ -100,7 +100,7 @@ abbrev pub TellsAsked : Form → Heard → (text : List ℕ) → Ended → Type 
 TellsAsked Text h text end = AreAskedLines Text h text end
 TellsAsked Witness h text end = AreAskedLines Witness h text end
 TellsAsked Json h text end = AreAskedObjects Json h text end
-TellsAsked Page h text end = (lines : List ℕ) × AreAskedObjects Page h lines end × IsPageOf lines [] text
+TellsAsked Page h text end = AreAskedObjects Page h text end
 
 -- Bytes grew by that.
 abbrev pub AppendsAsked : Form → Heard → Ended → (old new : List ℕ) → Type 0

@@ -12,7 +12,6 @@ use Rattle.pif_history_machine.specs.Verdicts.{IsVerdictOf}
 use Rattle.pif_history_text.specs.Histories.{Heard, limits_of}
 use Rattle.pif_history_text.specs.Reading.{ReadsHistory}
 use Rattle.pif_history_text.specs.Verdicts.{fault_line}
-use Rattle.pif_history_told.specs.Pages.{IsPageOf}
 use Rattle.pif_job_judge.specs.declared.forms.Form.{Form}
 use Rattle.pif_job_judge.specs.declared.forms.Form.TheVariants.{Text, Witness, Json, Page}
 use Rattle.pif_job_judge.specs.declared.faults.Ended.{Ended}
@@ -23,6 +22,7 @@ use Rattle.pif_job_judge.specs.Lines.{IsTold}
 use Rattle.pif_job_judge.specs.Mistakes.{TellsLog}
 use Rattle.pif_job_judge.specs.Objects.{AreObjects}
 use Rattle.pif_job_judge.specs.Asked.{TellsAsked}
+use Rattle.pif_job_judge.specs.Shown.{IsShown}
 
 -- What stands in front of what is told: the name, if it is to be told, and if that is told in lines.
 abbrev pub front_of : (name : Option (List ℕ)) → Form → List ℕ
@@ -36,7 +36,7 @@ abbrev pub Tells : Form → Heard → (text : List ℕ) → (end : Ended) → Ty
 Tells Text h text end = IsTold Text h text end
 Tells Witness h text end = IsTold Witness h text end
 Tells Json h text end = AreObjects Json h text end
-Tells Page h text end = (lines : List ℕ) × AreObjects Page h lines end × IsPageOf lines [] text
+Tells Page h text end = AreObjects Page h text end
 
 -- Bytes grew by what is told of a history that ends so.
 abbrev pub AppendsTold : Form → Heard → (end : Ended) → (old new : List ℕ) → Type 0
@@ -62,6 +62,14 @@ pub data TellsAll (plain : Bool) (form : Form) (h : Heard) (text : List ℕ) (en
 abbrev pub AppendsAll : (plain : Bool) → Form → Heard → (end : Ended) → (old new : List ℕ) → Type 0
 AppendsAll plain form h end old new = (text : List ℕ) × TellsAll plain form h text end × (new ≡ old ++ text)
 
+-- A text shows all that is told of a history that ends so.
+abbrev pub TellsShown : (plain : Bool) → Form → Heard → (shown : List ℕ) → (end : Ended) → Type 0
+TellsShown plain form h shown end = (text : List ℕ) × TellsAll plain form h text end × IsShown form text shown
+
+-- Bytes grew by that.
+abbrev pub AppendsShown : (plain : Bool) → Form → Heard → (end : Ended) → (old new : List ℕ) → Type 0
+AppendsShown plain form h end old new = (shown : List ℕ) × TellsShown plain form h shown end × (new ≡ old ++ shown)
+
 -- What is told of a fault: its line, but nothing in lines of JSON and in a page.
 abbrev pub fault_told : Form → (line : ℕ) → Cause → List ℕ
 fault_told Text line cause = fault_line line cause
@@ -78,14 +86,14 @@ WritesText held holds text end result =
 abbrev pub HadNoMemory : (held holds : Option (List ℕ)) → (result : Result (Unit {0}) JudgeFault) → Type 0
 HadNoMemory held holds result = (result ≡ Err (fault.Cli NoMemory)) × Keeps held holds
 
--- Judging a history, or the bytes that have a fault: what is told of it in this form was written, behind these bytes.
+-- Judging a history, or the bytes that have a fault: what is shown of it in this form was written, behind these bytes.
 -- If a read failed or memory ran out, nothing was.
 abbrev pub Judges : (plain : Bool) → Form → (history : Result Heard CliFault) → (held holds : Option (List ℕ)) → (front : List ℕ)
     → Result (Unit {0}) JudgeFault → Type 0
 Judges plain form (Ok h) held holds front result =
     HadNoMemory held holds result
-    ⊎ ((text : List ℕ) × (end : Ended) × TellsAll plain form h text end
-    × WritesText held holds (front ++ text) (result_of end) result)
+    ⊎ ((shown : List ℕ) × (end : Ended) × TellsShown plain form h shown end
+    × WritesText held holds (front ++ shown) (result_of end) result)
 Judges plain form (Err (Script line cause)) held holds front result =
     HadNoMemory held holds result
     ⊎ WritesText held holds (front ++ fault_told form line cause) (Err (fault.Cli (Script line cause))) result

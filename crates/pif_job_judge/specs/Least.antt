@@ -11,6 +11,7 @@ use Rattle.pif_job_judge.specs.Endings.{result_of}
 use Rattle.pif_job_judge.specs.Judging.{HadNoMemory, Judges, TellsAll, WritesText, allowing}
 use Rattle.pif_job_judge.specs.Mistakes.{IsJudged}
 use Rattle.pif_job_judge.specs.Needed.{TellsNeeded}
+use Rattle.pif_job_judge.specs.Shown.{IsShown}
 
 -- What is told of a history, which may allow rules itself, and how that ends:
 --   not legal with all rules, its own and those of a: what judging tells of it with all
@@ -19,14 +20,18 @@ pub data IsTold (plain : Bool) (a : Rules) (h : Heard) (text : List ℕ) (end : 
   judged : TellsAll plain Text (allowing a h) text end → IsJudged (allowing a h) false → IsTold plain a h text end
   needed : TellsNeeded a h text end → IsTold plain a h text end
 
+-- A text shows what is told of a history that ends so.
+abbrev pub IsShownOf : (plain : Bool) → (a : Rules) → Heard → (shown : List ℕ) → (end : Ended) → Type 0
+IsShownOf plain a h shown end = (text : List ℕ) × IsTold plain a h text end × IsShown Text text shown
+
 -- Judging a history, or the bytes that have a fault: what is told of it was written, behind these bytes. If a read
 -- failed or memory ran out, nothing was.
 abbrev pub JudgesLeast : (plain : Bool) → (a : Rules) → (history : Result Heard CliFault) → (held holds : Option (List ℕ)) → (front : List ℕ)
     → Result (Unit {0}) JudgeFault → Type 0
 JudgesLeast plain a (Ok h) held holds front result =
     HadNoMemory held holds result
-    ⊎ ((text : List ℕ) × (end : Ended) × IsTold plain a h text end
-    × WritesText held holds (front ++ text) (result_of end) result)
+    ⊎ ((shown : List ℕ) × (end : Ended) × IsShownOf plain a h shown end
+    × WritesText held holds (front ++ shown) (result_of end) result)
 JudgesLeast plain a (Err fault) held holds front result = Judges plain Text (Err fault) held holds front result
 
 -- Judging by what the reader had and has left, and what the writer held and holds.

@@ -1,7 +1,13 @@
 pub mod Asked
 pub mod Endings
+pub mod Shown
 pub mod Judging
 pub mod Least
+pub mod Fronts
+pub mod OpenCalls
+pub mod LegalIf
+pub mod InTheWay
+pub mod Clues
 pub mod Lines
 pub mod Mistakes
 pub mod Needed

@@ -1,6 +1,6 @@
 -- Mistakes of a log: a line that the lines before it refuse by themselves, whatever was answered. It says nothing of what
 -- was recorded.
-use Rattle.std.specs.Prelude.{ℕ, ◌≡◌, ◌≤◌, ◌-◌, Bool, false, List, [], ◌++◌, length, take, slice_get, Some, codes, decimal}
+use Rattle.std.specs.Prelude.{ℕ, ◌≡◌, ◌≤◌, ◌-◌, Bool, false, List, [], ◌++◌, length, take, slice_get, IfSome, Some, codes, decimal}
 use Rattle.pif_history_model.specs.declared.labels.Label.{Label}
 use Rattle.pif_history_model.specs.declared.lines.Line.{Line}
 use Rattle.pif_history_model.specs.declared.refusals.LineRefusal.{LineRefusal}
@@ -8,7 +8,6 @@ use Rattle.pif_history_model.specs.Verdicts.{IsLegal}
 use Rattle.pif_history_machine.specs.Verdicts.{IsRefusalThere, IsVerdictOf}
 use Rattle.pif_history_text.specs.Histories.{Heard, limits_of}
 use Rattle.pif_history_text.specs.Verdicts.{line_refusal_word, refused_line}
-use Rattle.pif_history_told.specs.Pages.{IsPageOf}
 use Rattle.pif_history_told.specs.Verdicts.{at_line, left_out_member}
 use Rattle.pif_history_told.specs.Why.{IsNumbered}
 use Rattle.pif_text.specs.Json.{quoted}
@@ -19,6 +18,7 @@ use Rattle.pif_job_judge.specs.declared.faults.Ended.TheVariants as ended
 use Rattle.pif_job_judge.specs.declared.mistakes.Outcome.{Outcome}
 use Rattle.pif_job_judge.specs.declared.mistakes.Outcome.TheVariants.{Log, Verdict}
 use Rattle.pif_job_judge.specs.Endings.{is_legal}
+use Rattle.pif_job_judge.specs.Fronts.{IsFront}
 use Rattle.pif_job_judge.specs.Objects.{TellsSteps, left_out_of}
 
 -- The nth line of a history is refused for this reason.
@@ -31,15 +31,15 @@ IsRefused h n why =
 abbrev pub IsMistake : Heard → (n : ℕ) → LineRefusal → List Label → Type 0
 IsMistake h n why labels = IsRefused h n why × IsLegal h.allowed (limits_of h) (take (n - 1) h.shown) labels
 
--- What was found of a history is so: a mistake of the log, or a verdict.
+-- What was found of a history is so: a mistake of the log; or a verdict, and a front of which a run is known.
 abbrev pub IsFound : Heard → Outcome → Type 0
 IsFound h (Log m) = IsMistake h m.count m.why m.labels.items
-IsFound h (Verdict v shown) = IsVerdictOf h.allowed (limits_of h) h.shown v
+IsFound h (Verdict v front) = IsVerdictOf h.allowed (limits_of h) h.shown v × IfSome front (IsFront h)
 
 -- Whether it is that the history is legal.
 abbrev pub is_found_legal : Outcome → Bool
 is_found_legal (Log m) = false
-is_found_legal (Verdict v shown) = is_legal v
+is_found_legal (Verdict v front) = is_legal v
 
 -- Of a history is found that it is legal; or it isn't.
 abbrev pub IsJudged : Heard → (legal : Bool) → Type 0
@@ -75,7 +75,7 @@ abbrev pub TellsLog : Form → Heard → (text : List ℕ) → Ended → Type 0
 TellsLog Text h text end = AreLogLines h text end
 TellsLog Witness h text end = AreLogLines h text end
 TellsLog Json h text end = AreLogObjects Json h text end
-TellsLog Page h text end = (lines : List ℕ) × AreLogObjects Page h lines end × IsPageOf lines [] text
+TellsLog Page h text end = AreLogObjects Page h text end
 
 -- Bytes grew by that.
 abbrev pub AppendsLog : Form → Heard → Ended → (old new : List ℕ) → Type 0

@@ -24,7 +24,13 @@ use Rattle.pif_job_judge.specs.declared.forms.Form.TheVariants.{Page}
 use Rattle.pif_job_judge.specs.declared.faults.Ended.{Ended}
 use Rattle.pif_job_judge.specs.declared.faults.Ended.TheVariants as ended
 use Rattle.pif_job_judge.specs.Endings.{legal_end}
-use Rattle.pif_history_told.specs.Why.{IsKnown, IsNumbered, IsUnfound, open_of}
+use Rattle.pif_history_told.specs.declared.clues.Clues.{Clues}
+use Rattle.pif_history_told.specs.declared.ends.AtEnd.{AtEnd}
+use Rattle.pif_job_judge.specs.declared.fronts.Front.{Front}
+use Rattle.pif_job_judge.specs.Clues.{AreClues}
+use Rattle.pif_job_judge.specs.Fronts.{IsUndecided, count_of}
+use Rattle.pif_job_judge.specs.OpenCalls.{IsAtEnd}
+use Rattle.pif_history_told.specs.Why.{IsKnown, IsNumbered, open_of}
 
 -- How many lines of a history a page shows at most.
 abbrev pub page_lines : ℕ
@@ -60,25 +66,29 @@ began_with (Refused why) began = None
 began_with (Numbers numbers) began = began
 began_with Nothing began = began
 
+-- A text tells the run of a front; or nothing, if there is none.
+abbrev pub TellsFront : Heard → (left_out : ℕ) → Option Front → (text : List ℕ) → Type 0
+TellsFront h left_out None text = text ≡ []
+TellsFront h left_out (Some f) text = TellsSteps h left_out f.labels.items text
+
 -- What is told of a history in lines of JSON, and how that ends: the verdict, and behind it a run that shows all lines,
--- or those before the line of the verdict, if it was found. If the search was given up, its line or one behind it is
--- named as the first for which no witness was found.
+-- or those before the line of the verdict, if it was found.
 pub data AreObjects (form : Form) (h : Heard) (text : List ℕ) (end : Ended) : Type 0 where
-  legal : (labels : List Label) (run : List ℕ) (found : Option Unlisted) → IsLegal h.allowed (limits_of h) h.shown labels
+  legal : (labels : List Label) (run : List ℕ) (found : Option Unlisted) (at_end : AtEnd) → IsLegal h.allowed (limits_of h) h.shown labels
       → TellsSteps h (left_out_of form (length h.shown)) labels run → IsFirstUnlisted h.allowed (limits_of h) labels found
-      → text ≡ legal_object h.count (calls_in h) (left_out_of form (length h.shown)) h.numbers found ++ run
+      → IsAtEnd h at_end → text ≡ legal_object h.count (calls_in h) (left_out_of form (length h.shown)) h.numbers found at_end ++ run
       → end ≡ legal_end (calls_in h)
       → AreObjects form h text end
-  illegal : (n number : ℕ) (line : Line) (known : Known) (run : List ℕ) → IsVerdictOf h.allowed (limits_of h) h.shown (Illegal n)
+  illegal : (n number : ℕ) (line : Line) (known : Known) (clues : Clues) (run : List ℕ) → IsVerdictOf h.allowed (limits_of h) h.shown (Illegal n)
       → slice_get h.shown (n - 1) ≡ Some line → IsNumbered h n number → IsKnown h (n - 1) line known
-      → TellsBefore h (n - 1) (left_out_of form (n - 1)) run
+      → AreClues h (n - 1) clues → TellsBefore h (n - 1) (left_out_of form (n - 1)) run
       → text
-      ≡ illegal_object number line known (began_with known (open_of (thread_of line) h (n - 1))) (left_out_of form (n - 1))
-      ++ run
+      ≡ illegal_object number line known (began_with known (open_of (thread_of line) h (n - 1))) clues
+      (left_out_of form (n - 1)) ++ run
       → end ≡ ended.Illegal number → AreObjects form h text end
-  undecided : (n number : ℕ) (unfound : Unfound) (run : List ℕ) → IsVerdictOf h.allowed (limits_of h) h.shown (Undecided n)
-      → IsNumbered h n number → IsUnfound h n unfound → TellsBefore h (n - 1) (left_out_of form (n - 1)) run
-      → text ≡ undecided_object number unfound (left_out_of form (n - 1)) ++ run → end ≡ ended.Undecided number
+  undecided : (front : Option Front) (u : Unfound) (run : List ℕ) → IsUndecided h front u
+      → TellsFront h (left_out_of form (count_of front)) front run
+      → text ≡ undecided_object u (left_out_of form (count_of front)) ++ run → end ≡ ended.Undecided u.number
       → AreObjects form h text end
 
 -- Bytes grew by what is told in lines of JSON of a history that ends so.
@@ -94,3 +104,7 @@ AppendsSteps h left_out labels old new =
 abbrev pub AppendsBefore : Heard → (before left_out : ℕ) → (old new : List ℕ) → Type 0
 AppendsBefore h before left_out old new =
     (text : List ℕ) × TellsBefore h before left_out text × (new ≡ old ++ text)
+
+-- Bytes grew by the run of a front, or by nothing if there is none.
+abbrev pub AppendsFront : Heard → (left_out : ℕ) → Option Front → (old new : List ℕ) → Type 0
+AppendsFront h left_out front old new = (text : List ℕ) × TellsFront h left_out front text × (new ≡ old ++ text)

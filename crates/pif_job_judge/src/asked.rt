@@ -1,4 +1,4 @@
-ghost use Rattle.std.specs.Prelude.{◌≡◌, ◌≤◌, false, length, IfOk, OnOk, vec_len};
+ghost use Rattle.std.specs.Prelude.{◌≡◌, ◌≤◌, false, length, IfOk, IfSome, OnOk, vec_len};
 ghost use Rattle.pif_history_machine.specs.Verdicts.{IsVerdictOf};
 ghost use Rattle.pif_history_text.specs.Histories.{limits_of};
 ghost use Rattle.pif_history_text.specs.Reading.{IsPaired, heard_of};
@@ -6,10 +6,12 @@ ghost use Rattle.pif_history_told.specs.Ways.{IsRun};
 ghost use Rattle.pif_job_judge.specs.Posix.{IsSaid};
 ghost use Rattle.pif_job_judge.specs.Objects.{AppendsObjects};
 ghost use Rattle.pif_job_judge.specs.Endings.{is_legal};
+ghost use Rattle.pif_job_judge.specs.Fronts.{IsFront};
 ghost use Rattle.pif_job_judge.specs.Asked.{AppendsAllowedBy, AppendsAsked, AppendsAskedLines, AppendsAskedObjects, AppendsFirst, AppendsForbidden, AppendsRest};
 
 use crate::faults::Ended;
 use crate::forms::{Form, Judging};
+use crate::fronts::{Front, front_with};
 use crate::judging::Numbered;
 use crate::lines::{tell_briefly, tell_lines, tell_why_at, told_run};
 use crate::objects::tell_objects;
@@ -19,7 +21,7 @@ use crate::posix::{
 use pif_history_machine::Verdict;
 use pif_history_model::Label;
 use pif_history_text::History;
-use pif_history_told::{append_page, first_unlisted};
+use pif_history_told::first_unlisted;
 use pif_rules_model::Rules;
 use pif_search::{Stop, WatchLines};
 use std::alloc::Global;
@@ -30,20 +32,21 @@ fn tell_first<V: WatchLines>(
     asked: &Judging<'_>,
     history: &History,
     verdict: Verdict,
-    shown: usize,
+    front: &Option<Front>,
     says: &Says,
     out: &mut Vec<u8>,
     watch: &mut V,
 ) -> Result<Ended, Stop>
     requires paired { IsPaired history.now }
     requires verdict { IsVerdictOf history.now.allowed (limits_of (heard_of history.now)) history.now.shown.items verdict }
+    requires front { IfSome front.now (IsFront (heard_of history.now)) }
     requires wrong { is_legal verdict ≡ false }
     ensures { IfOk result (λ end. AppendsFirst asked.now.form (heard_of history.now) says.now end out.old.items out.new.items) }
 {
     let mut numbered = Numbered::of(history, watch);
     match forbidden_from(says) {
-        Some(_) => tell_briefly(alloc, asked, history, verdict, shown, out, &mut numbered),
-        None => tell_lines(alloc, asked, history, verdict, shown, out, &mut numbered),
+        Some(_) => tell_briefly(alloc, asked, history, verdict, front, out, &mut numbered),
+        None => tell_lines(alloc, asked, history, verdict, front, out, &mut numbered),
     }
 }
 
@@ -143,19 +146,20 @@ fn tell_asked_lines<V: WatchLines>(
     asked: &Judging<'_>,
     history: History,
     verdict: Verdict,
-    shown: usize,
+    front: &Option<Front>,
     says: &Says,
     out: &mut Vec<u8>,
     watch: &mut V,
 ) -> Result<Ended, Stop>
     requires paired { IsPaired history }
     requires verdict { IsVerdictOf history.allowed (limits_of (heard_of history)) history.shown.items verdict }
+    requires front { IfSome front.now (IsFront (heard_of history)) }
     requires wrong { is_legal verdict ≡ false }
     requires said { IsSaid history.allowed (limits_of (heard_of history)) history.shown.items says.now }
     ensures { IfOk result (λ end. AppendsAskedLines asked.now.form (heard_of history) end out.old.items out.new.items) }
 {
     let number = number_of(&history, says);
-    let told = tell_first(alloc, asked, &history, verdict, shown, says, out, watch)?;
+    let told = tell_first(alloc, asked, &history, verdict, front, says, out, watch)?;
     tell_said(alloc, asked, history, says, number, out, watch)?;
     Ok(end_of(told, says, number))
 }
@@ -174,7 +178,9 @@ fn append_behind<V: WatchLines>(
     ensures { IfOk result (λ end. AppendsObjects asked.now.form (heard_of history.now) end out.old.items out.new.items) }
 {
     let mut numbered = Numbered::of(history, watch);
-    tell_objects(alloc, asked, history, verdict, 0, out, &mut numbered)
+    let states = asked.states as usize;
+    let front = front_with(alloc, states, history, &verdict, &mut numbered)?;
+    tell_objects(alloc, asked, history, verdict, &front, out, &mut numbered)
 }
 
 /// Appends what is told in lines of JSON of a history with this verdict, by which it isn't legal, and of what POSIX says.
@@ -184,19 +190,20 @@ fn tell_asked_objects<V: WatchLines>(
     asked: &Judging<'_>,
     history: History,
     verdict: Verdict,
-    shown: usize,
+    front: &Option<Front>,
     says: Says,
     out: &mut Vec<u8>,
     watch: &mut V,
 ) -> Result<Ended, Stop>
     requires paired { IsPaired history }
     requires verdict { IsVerdictOf history.allowed (limits_of (heard_of history)) history.shown.items verdict }
+    requires front { IfSome front.now (IsFront (heard_of history)) }
     requires said { IsSaid history.allowed (limits_of (heard_of history)) history.shown.items says }
     ensures { IfOk result (λ end. AppendsAskedObjects asked.now.form (heard_of history) end out.old.items out.new.items) }
 {
     let number = number_of(&history, &says);
     let mut numbered = Numbered::of(&history, watch);
-    let told = tell_objects(alloc, asked, &history, verdict, shown, out, &mut numbered)?;
+    let told = tell_objects(alloc, asked, &history, verdict, front, out, &mut numbered)?;
     append_says(alloc, &history.allowed, &says, number, out)?;
     let history = under(&says, history);
     let end = end_of(told, &says, number);
@@ -204,32 +211,7 @@ fn tell_asked_objects<V: WatchLines>(
     Ok(end)
 }
 
-/// Appends a page with that. Answers what that is.
-fn tell_asked_page<V: WatchLines>(
-    alloc: Global,
-    asked: &Judging<'_>,
-    history: History,
-    verdict: Verdict,
-    shown: usize,
-    says: Says,
-    out: &mut Vec<u8>,
-    watch: &mut V,
-) -> Result<Ended, Stop>
-    requires page { asked.now.form ≡ Form.Page }
-    requires paired { IsPaired history }
-    requires verdict { IsVerdictOf history.allowed (limits_of (heard_of history)) history.shown.items verdict }
-    requires said { IsSaid history.allowed (limits_of (heard_of history)) history.shown.items says }
-    ensures { IfOk result (λ end. AppendsAsked asked.now.form (heard_of history) end out.old.items out.new.items) }
-{
-    let mut lines = Vec::new(alloc);
-    let told = tell_asked_objects(
-        alloc, asked, history, verdict, shown, says, &mut lines, watch,
-    )?;
-    append_page(lines.as_slice(), out)?;
-    Ok(told)
-}
-
-/// Appends what is told of a history with this verdict, by which it isn't legal, if searches found runs for so many lines;
+/// Appends what is told of a history with this verdict, by which it isn't legal, and this front;
 /// what POSIX says of it; and what is told with the rules with which it says so. Answers what that is.
 ///
 /// # Errors
@@ -240,21 +222,23 @@ pub fn tell_asked<V: WatchLines>(
     asked: &Judging<'_>,
     history: History,
     verdict: Verdict,
-    shown: usize,
+    front: &Option<Front>,
     out: &mut Vec<u8>,
     watch: &mut V,
 ) -> Result<Ended, Stop>
     requires paired { IsPaired history }
     requires verdict { IsVerdictOf history.allowed (limits_of (heard_of history)) history.shown.items verdict }
+    requires front { IfSome front.now (IsFront (heard_of history)) }
     requires wrong { is_legal verdict ≡ false }
     ensures { IfOk result (λ end. AppendsAsked asked.now.form (heard_of history) end out.old.items out.new.items) }
 {
     let says = said_of(alloc, asked.states, &history, watch)?;
     match asked.form {
         Form::Text | Form::Witness => {
-            tell_asked_lines(alloc, asked, history, verdict, shown, &says, out, watch)
+            tell_asked_lines(alloc, asked, history, verdict, front, &says, out, watch)
         }
-        Form::Json => tell_asked_objects(alloc, asked, history, verdict, shown, says, out, watch),
-        Form::Page => tell_asked_page(alloc, asked, history, verdict, shown, says, out, watch),
+        Form::Json | Form::Page => {
+            tell_asked_objects(alloc, asked, history, verdict, front, says, out, watch)
+        }
     }
 }

@@ -17,7 +17,8 @@ pub enum Form {
 /// How a history is judged.
 #[derive(Clone, Copy)]
 pub struct Judging<'a> {
-    /// The name that stands in front of what is told in lines for a person, if there are several histories.
+    /// The name that stands in front of what is told in lines for a person, if there are several histories; and in the
+    /// title of a page.
     pub name: Option<&'a [u8]>,
     /// The form in which the verdict is told.
     pub form: Form,

@@ -14,8 +14,9 @@ use crate::judging::{Numbered, allowing, front, judge_fault, judged, write_all, 
 use crate::mistakes::run_of;
 use crate::needed::tell_needed;
 use crate::search::{Needed, least};
+use crate::shown::shown_lines;
 use pif_history_model::Label;
-use pif_history_text::{History, read_history};
+use pif_history_text::{History, NamedHistory, Names, read_history};
 use pif_rules_model::Rules;
 use pif_script_model::CliFault;
 use pif_search::{Stop, WatchLines};
@@ -82,11 +83,13 @@ fn tell_least<V: WatchLines>(
     tell_needed(alloc, &asked.allowed, history, found, out)
 }
 
-/// Writes what is told of the rules that a history needs, which is legal with all by a run of these labels.
+/// Writes what is told of the rules that a history needs, which is legal with all by a run of these labels, with the names
+/// that its comments give.
 fn write_least<W: Write, V: WatchLines>(
     alloc: Global,
     asked: &Judging<'_>,
     history: &History,
+    names: &Names,
     labels: &[Label],
     writer: &mut W,
     watch: &mut V,
@@ -98,9 +101,14 @@ fn write_least<W: Write, V: WatchLines>(
     let Ok(mut out) = front(alloc, asked.name, Form::Text) else {
         return Err(JudgeFault::Cli(CliFault::NoMemory));
     };
-    match tell_least(alloc, asked, history, labels, &mut out, watch) {
-        Ok(told) => write_told(out.as_slice(), told.as_result(), writer),
-        Err(stop) => Err(fault_of(stop)),
+    let from = out.len();
+    let told = match tell_least(alloc, asked, history, labels, &mut out, watch) {
+        Ok(told) => told,
+        Err(stop) => return Err(fault_of(stop)),
+    };
+    match shown_lines(alloc, names, from, out) {
+        Ok(text) => write_told(text.as_slice(), told.as_result(), writer),
+        Err(_) => Err(JudgeFault::Cli(CliFault::NoMemory)),
     }
 }
 
@@ -109,6 +117,7 @@ fn judge_history<W: Write, V: WatchLines>(
     alloc: Global,
     asked: &Judging<'_>,
     history: History,
+    names: &Names,
     writer: &mut W,
     watch: &mut V,
 ) -> Result<(), JudgeFault>
@@ -124,11 +133,19 @@ fn judge_history<W: Write, V: WatchLines>(
     match run_of(found) {
         Ok(labels) => {
             history.allowed = own;
-            write_least(alloc, asked, &history, labels.as_slice(), writer, watch)
+            write_least(
+                alloc,
+                asked,
+                &history,
+                names,
+                labels.as_slice(),
+                writer,
+                watch,
+            )
         }
         Err(wrong) => {
             let asked = in_lines(asked);
-            write_all(alloc, &asked, history, wrong, writer, watch)
+            write_all(alloc, &asked, history, names, wrong, writer, watch)
         }
     }
 }
@@ -154,7 +171,9 @@ pub fn judge_least<R: Read, W: Write, V: WatchLines>(
     ensures { JudgesLeastTo asked.now.plain asked.now.allowed (R.remaining reader.old) (R.remaining reader.new) (W.contents writer.old) (W.contents writer.new) (front_of (option_copied asked.now.name) Form.Text) result }
 {
     match read_history(alloc, reader) {
-        Ok(history) => judge_history(alloc, asked, history, writer, watch),
+        Ok(NamedHistory { history, names }) => {
+            judge_history(alloc, asked, history, &names, writer, watch)
+        }
         Err(fault) => judge_fault(alloc, &in_lines(asked), fault, writer),
     }
 }

@@ -7,13 +7,20 @@
 //! | `forms` | how a history is judged, and in which form that is told |
 //! | `holds` | what threads hold by the answers in lines |
 //! | `known` | what is known of an illegal line |
+//! | `signs` | which facts may be in the way of a line, by the lines before |
+//! | `in_the_way` | what is in the way of an illegal line |
+//! | `clues` | what is told behind that: clues to what is wrong |
+//! | `legal_if` | another answer, with which the lines would be legal |
+//! | `fronts` | how far the lines are legal for certain |
 //! | `unfound` | what is found of the first line for which no run was |
+//! | `open_calls` | the calls that are open at the end, and whether any can be answered |
 //! | `lines` | verdicts in lines for a person |
 //! | `objects` | a history as lines of JSON: its verdict, and its run |
 //! | `mistakes` | mistakes of the log |
 //! | `posix` | what POSIX says of a history that isn't legal |
 //! | `undefined` | calls whose behaviour POSIX leaves undefined |
 //! | `asked` | a verdict with what POSIX says, in each form |
+//! | `shown` | names beside the numbers of what is told, and pages |
 //! | `judging` | a history, read and judged |
 //!
 //! | Module | What it has of the rules that a history needs |
@@ -24,18 +31,25 @@
 #![tactic(auto)]
 
 mod asked;
+mod clues;
 mod faults;
 mod forms;
+mod fronts;
 mod holds;
+mod in_the_way;
 mod judging;
 mod known;
 mod least;
+mod legal_if;
 mod lines;
 mod mistakes;
 mod needed;
 mod objects;
+mod open_calls;
 mod posix;
 mod search;
+mod shown;
+mod signs;
 mod undefined;
 mod unfound;
 

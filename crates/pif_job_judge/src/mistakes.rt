@@ -8,14 +8,14 @@ ghost use Rattle.pif_job_judge.specs.Mistakes.{AppendsLog, AppendsLogLines, Appe
 
 use crate::faults::Ended;
 use crate::forms::{Form, Judging};
+use crate::fronts::{Front, greatest_front};
 use crate::judging::Numbered;
 use crate::objects::{append_steps, left_out, written};
-use crate::unfound::find_further;
 use pif_history::judge_lines;
 use pif_history_machine::{Verdict, comes_while, halted_after, refusal};
 use pif_history_model::{HistoryLimits, Label, Line, LineRefusal};
 use pif_history_text::{History, line_text, push_refused, refusal_word};
-use pif_history_told::{append_page, line_at, number_at};
+use pif_history_told::{line_at, number_at};
 use pif_search::{Stop, WatchLines, push};
 use pif_text::{Member, Text, append_decimal, append_members};
 use pif_types::{Prio, Request, Tid};
@@ -37,8 +37,8 @@ pub struct Mistake {
 pub enum Outcome {
     /// A line is a mistake of the log.
     Log(Mistake),
-    /// The verdict on it, and for how many of its first lines searches found runs.
-    Verdict(Verdict, usize),
+    /// The verdict on it, and the greatest front of which a run is known, if it isn't legal.
+    Verdict(Verdict, Option<Front>),
 }
 
 /// The labels of the run that was found, newest first, if a history is legal; else what was found of it.
@@ -48,10 +48,10 @@ pub fn run_of(found: Outcome) -> Result<Vec<Label>, Outcome>
 {
     match found {
         Outcome::Log(mistake) => Err(Outcome::Log(mistake)),
-        Outcome::Verdict(verdict, shown) => match verdict {
+        Outcome::Verdict(verdict, front) => match verdict {
             Verdict::Legal(labels) => Ok(labels),
-            Verdict::Illegal(line) => Err(Outcome::Verdict(Verdict::Illegal(line), shown)),
-            Verdict::Undecided(line) => Err(Outcome::Verdict(Verdict::Undecided(line), shown)),
+            Verdict::Illegal(line) => Err(Outcome::Verdict(Verdict::Illegal(line), front)),
+            Verdict::Undecided(line) => Err(Outcome::Verdict(Verdict::Undecided(line), front)),
         },
     }
 }
@@ -80,7 +80,7 @@ enum Come {
 
 /// What lines tell of whether the next one is refused.
 #[derive(Drop)]
-struct Front {
+struct LinesBefore {
     halted: bool,
     threads: Vec<Come>,
     mutexes: u32,
@@ -88,10 +88,10 @@ struct Front {
     time: u32,
 }
 
-impl Front {
+impl LinesBefore {
     /// Before any line.
-    fn new(alloc: Global) -> Front {
-        Front {
+    fn new(alloc: Global) -> LinesBefore {
+        LinesBefore {
             halted: false,
             threads: Vec::new(alloc),
             mutexes: 0,
@@ -146,7 +146,7 @@ impl Front {
                 self.lives(thread)
             }
             Line::Halted | Line::Resumed => true,
-            Line::Undefined(_) => false,
+            Line::Asks(_, _) => false,
         }
     }
 
@@ -199,7 +199,7 @@ impl Front {
 pub fn refused_in(alloc: Global, history: &History) -> Result<Option<Refused>, Stop>
     ensures { IfOk result (λ o. IfSome o (λ x. IsRefused (heard_of history.now) x.count x.why)) }
 {
-    let mut front = Front::new(alloc);
+    let mut front = LinesBefore::new(alloc);
     let limits = history.limits();
     for place in 0..history.shown.len() {
         let count = place + 1;
@@ -214,7 +214,11 @@ pub fn refused_in(alloc: Global, history: &History) -> Result<Option<Refused>, S
 }
 
 /// The verdict on the first lines of a history with the rules that it allows.
-fn verdict_before<V: WatchLines>(
+///
+/// # Errors
+///
+/// That of a search.
+pub fn verdict_before<V: WatchLines>(
     alloc: Global,
     states: usize,
     history: &History,
@@ -248,10 +252,10 @@ pub fn judged_before<V: WatchLines>(
     let states = asked.states as usize;
     match verdict_before(alloc, states, history, count - 1, watch)? {
         Verdict::Legal(labels) => Ok(Outcome::Log(Mistake { count, why, labels })),
-        Verdict::Illegal(line) => Ok(Outcome::Verdict(Verdict::Illegal(line), watch.shown)),
+        Verdict::Illegal(line) => Ok(Outcome::Verdict(Verdict::Illegal(line), None)),
         Verdict::Undecided(line) => {
-            find_further(alloc, states, history, watch)?;
-            Ok(Outcome::Verdict(Verdict::Undecided(line), watch.shown))
+            let front = greatest_front(alloc, states, history, watch)?;
+            Ok(Outcome::Verdict(Verdict::Undecided(line), front))
         }
     }
 }
@@ -326,23 +330,6 @@ fn append_log_history(
     Ok(Ended::Log(u64::from(number)))
 }
 
-/// Appends a page with that. Answers what that is.
-fn tell_log_page(
-    alloc: Global,
-    history: &History,
-    mistake: &Mistake,
-    out: &mut Vec<u8>,
-) -> Result<Ended, Stop>
-    requires paired { IsPaired history.now }
-    requires mistake { IsMistake (heard_of history.now) mistake.now.count mistake.now.why mistake.now.labels.items }
-    ensures { IfOk result (λ end. AppendsLog Form.Page (heard_of history.now) end out.old.items out.new.items) }
-{
-    let mut lines = Vec::new(alloc);
-    let end = append_log_history(alloc, Form::Page, history, mistake, &mut lines)?;
-    append_page(lines.as_slice(), out)?;
-    Ok(end)
-}
-
 /// Appends what is told of a mistake of the log. Answers what that is.
 ///
 /// # Errors
@@ -361,7 +348,6 @@ pub fn tell_log(
 {
     match form {
         Form::Text | Form::Witness => tell_log_line(history, mistake, out),
-        Form::Json => append_log_history(alloc, Form::Json, history, mistake, out),
-        Form::Page => tell_log_page(alloc, history, mistake, out),
+        Form::Json | Form::Page => append_log_history(alloc, form, history, mistake, out),
     }
 }

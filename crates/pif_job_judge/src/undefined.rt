@@ -1,14 +1,14 @@
 //! Calls whose behaviour POSIX leaves undefined, and which threads may have made before the line from which on it forbids
 //! a history.
 ghost use Rattle.std.specs.Prelude.{◌∷◌, true, reverse, IfOk, IfSome, IsTrue};
-ghost use Rattle.pif_history_model.specs.declared.lines.Line.TheVariants.{Undefined};
+ghost use Rattle.pif_history_model.specs.declared.lines.Line.TheVariants.{Asks};
 ghost use Rattle.pif_history_model.specs.Verdicts.{IsShownBy};
 ghost use Rattle.pif_job_judge.specs.Undefined.{IsUndefinedBefore};
 
 use crate::holds::Holds;
 use pif_history::judge_lines;
 use pif_history_machine::Verdict;
-use pif_history_model::{HistoryLimits, Line};
+use pif_history_model::{Fact, HistoryLimits, Line};
 use pif_rules_model::Rules;
 use pif_search::{Stop, WatchLines, push};
 use pif_types::{CondId, MutexId, Request, Tid};
@@ -136,25 +136,24 @@ fn suspects_among(alloc: Global, lines: &[Line]) -> Result<Vec<Begun>, Stop> {
     Ok(found)
 }
 
-/// Whether a search finds a run that shows the first lines and has then an open call of this thread whose behaviour POSIX
-/// leaves undefined.
-fn is_undefined<V: WatchLines>(
+/// Whether a search finds a run that shows the first lines and ends in a state in which this fact is so.
+pub(crate) fn is_found<V: WatchLines>(
     alloc: Global,
     rules: &Rules,
     limits: HistoryLimits,
     before: &[Line],
-    thread: Tid,
+    fact: &Fact,
     states: usize,
     watch: &mut V,
 ) -> Result<bool, Stop>
-    ensures { IfOk result (λ b. IsTrue b → IsShownBy (record rules.now { extra_lines = true }) limits (Undefined thread ∷ reverse before.now)) }
+    ensures { IfOk result (λ b. IsTrue b → IsShownBy (record rules.now { extra_lines = true }) limits (Asks fact.now true ∷ reverse before.now)) }
 {
     let rules = Rules {
         extra_lines: true,
         ..*rules
     };
     let mut lines = Vec::from_slice(alloc, before)?;
-    push(&mut lines, Line::Undefined(thread))?;
+    push(&mut lines, Line::Asks(*fact, true))?;
     match judge_lines(alloc, &rules, limits, lines.as_slice(), states, watch)? {
         Verdict::Legal(_) => Ok(true),
         Verdict::Illegal(_) => Ok(false),
@@ -181,7 +180,8 @@ fn undefined_at<V: WatchLines>(
         return Ok(None);
     };
     let count = place + 1;
-    if !is_undefined(alloc, rules, limits, &lines[..count], thread, states, watch)? {
+    let fact = Fact::LeftUndefined(thread);
+    if !is_found(alloc, rules, limits, &lines[..count], &fact, states, watch)? {
         return Ok(None);
     }
     Ok(Some(Begun {

@@ -1,48 +1,15 @@
-ghost use Rattle.std.specs.Prelude.{◌≤◌, IfOk, vec_len};
-ghost use Rattle.pif_history_text.specs.Reading.{heard_of};
-ghost use Rattle.pif_history_told.specs.Why.{IsUnfound};
+ghost use Rattle.std.specs.Prelude.{◌≤◌, IfOk, IfSome, vec_len};
+ghost use Rattle.pif_history_text.specs.Reading.{IsPaired, heard_of};
+ghost use Rattle.pif_job_judge.specs.Fronts.{IsFront, IsUndecided};
 
-use crate::judging::Numbered;
+use crate::fronts::{Front, count_of, up_to};
 use pif_history::find_run;
 use pif_history_machine::{answers_of, numbers_of, priorities_of};
 use pif_history_model::{Label, Line};
 use pif_history_text::History;
-use pif_history_told::{Unfound, number_at, unfound_of};
+use pif_history_told::{Unfound, line_at, number_at};
 use pif_search::{Stop, WatchLines, push};
 use std::alloc::Global;
-
-/// Looks for the first line up to which a guided search finds no run, by halving: `watch` has for how many lines searches
-/// found one, and none was found for all. It ends as soon as the time is over.
-pub fn find_further<V: WatchLines>(
-    alloc: Global,
-    states: usize,
-    history: &History,
-    watch: &mut Numbered<'_, '_, V>,
-) -> Result<(), Stop> {
-    let mut unfound = history.shown.len();
-    for _ in 0..usize::BITS {
-        let gap = unfound.saturating_sub(watch.shown);
-        if gap <= 1 || !watch.goes_on() {
-            return Ok(());
-        }
-        let middle = usize::min(watch.shown.saturating_add(gap / 2), history.shown.len());
-        let lines = &history.shown.as_slice()[..middle];
-        let run = find_run(
-            alloc,
-            &history.allowed,
-            history.limits(),
-            lines,
-            states,
-            watch,
-        )?;
-        if run.is_some() {
-            watch.shown = usize::max(watch.shown, middle);
-        } else {
-            unfound = middle;
-        }
-    }
-    Ok(())
-}
 
 /// Adds a candidate, if a search finds a run that shows these lines and then it. `watch` may end the search.
 fn add_if_found<V: WatchLines>(
@@ -128,25 +95,33 @@ fn found_at<V: WatchLines>(
     }
 }
 
-/// The first line for which no search found a run, the nth or one behind it, and with which answers or priorities in it a
-/// search finds one, if there is time to look.
+/// What is told of an undecided history: how far it is legal by this front, and with which answers or priorities in the
+/// next line a search finds a run, if there is time to look.
 ///
 /// # Errors
 ///
 /// That of a search.
-pub fn unfound_at<V: WatchLines>(
+pub fn unfound_behind<V: WatchLines>(
     alloc: Global,
     states: usize,
     history: &History,
-    count: usize,
-    shown: usize,
+    front: &Option<Front>,
     watch: &mut V,
 ) -> Result<Unfound, Stop>
-    requires { (1 ≤ count) × (count ≤ vec_len history.now.numbers) }
-    ensures { IfOk result (IsUnfound (heard_of history.now) count) }
+    requires paired { IsPaired history.now }
+    requires some { 1 ≤ vec_len history.now.shown }
+    requires front { IfSome front.now (IsFront (heard_of history.now)) }
+    ensures { IfOk result (IsUndecided (heard_of history.now) front.now) }
 {
-    let place = unfound_of(history, count, shown);
+    let place = count_of(front) + 1;
     let number = number_at(history, place);
+    let line = line_at(history, place);
+    let up_to = up_to(history, front);
     let found = found_at(alloc, states, history, place, watch)?;
-    Ok(Unfound { number, found })
+    Ok(Unfound {
+        up_to,
+        number,
+        line,
+        found,
+    })
 }

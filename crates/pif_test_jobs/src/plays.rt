@@ -4,7 +4,7 @@ use crate::numbers::{cond, thread};
 use crate::told::Told;
 use pif_history::{find_run, judge_lines};
 use pif_history_machine::Verdict;
-use pif_history_model::{HistoryLimits, Line, Protocol};
+use pif_history_model::{Fact, HistoryLimits, Line, Protocol};
 use pif_rules_model::no_rules;
 use pif_search::{Stop, push};
 use pif_types::{Answer, Kind, MutexId, Request};
@@ -187,8 +187,9 @@ fn line_of(number: u32, seen: Seen) -> Line {
 
 /// Lines that add the threads, a mutex, and a variable that is bound to it, and then tell these parts.
 fn lines_of(alloc: Global, parts: &[&[Sight]]) -> Result<Vec<Line>, Stop> {
-    // The check has to be told of the type of requests, which lines hold.
+    // The check has to be told of the types of requests and facts, which lines hold.
     let _no_request: Option<Request> = None;
+    let _no_fact: Option<Fact> = None;
     let mut lines = Vec::new(alloc);
     for _ in 0..THREADS {
         push(&mut lines, Line::Thread(10))?;

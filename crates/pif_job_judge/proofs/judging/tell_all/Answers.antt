@@ -17,4 +17,8 @@ tell_log-requires-clause-mistake g c =
 
 pub tell_verdict-requires-clause-verdict : goal.tell_verdict-requires-clause-verdict
 tell_verdict-requires-clause-verdict g c =
-    subst (λ (x : Outcome). IsFound (heard_of c.args.history) x) c.in-Verdict.is c.requires.found
+    (subst (λ (x : Outcome). IsFound (heard_of c.args.history) x) c.in-Verdict.is c.requires.found).0
+
+pub tell_verdict-requires-clause-front : goal.tell_verdict-requires-clause-front
+tell_verdict-requires-clause-front g c =
+    (subst (λ (x : Outcome). IsFound (heard_of c.args.history) x) c.in-Verdict.is c.requires.found).1

@@ -1,4 +1,4 @@
-use Rattle.std.proofs.Common.{List, ℕ, refl, subst}
+use Rattle.std.proofs.Common.{List, ℕ, subst}
 use Rattle.std.specs.Prelude.{option_copied}
 use Rattle.pif_history_text.specs.Reading.{heard_of}
 use Rattle.pif_job_judge.specs.Judging.{WritesText, front_of}
@@ -12,4 +12,4 @@ returns-in-Ok g c =
     let written = subst (λ (l : List ℕ). WritesText held holds l c.as_result.result c.write_told.result)
     c.as_slice.ensures.value c.write_told.ensures in
     judged c.args.asked.now.plain c.args.asked.now.form (heard_of c.args.history) held holds (front_of (option_copied c.args.asked.now.name) c.args.asked.now.form)
-    _ _ _ c.as_result.result c.write_told.result refl c.in-Ok.ensures c.as_result.ensures written
+    _ _ c.as_result.result c.write_told.result c.in-Ok.ensures c.as_result.ensures written

@@ -5,7 +5,7 @@ use Rattle.pif_job_judge.proofs.LeastLemmas.{fault_in_lines}
 use Rattle.pif_job_judge.proofs.least.judge_least.Goals as goal
 
 pub returns-in-Ok : goal.returns-in-Ok
-returns-in-Ok g c = (Ok (heard_of c.in-Ok.history), c.in-Ok.ensures.read, c.judge_history.ensures)
+returns-in-Ok g c = (Ok (heard_of c.in-Ok.field-0.history), c.in-Ok.ensures.read, c.judge_history.ensures)
 
 pub returns-in-Err : goal.returns-in-Err
 returns-in-Err g c = (

@@ -20,11 +20,9 @@ returns-in-Illegal g c =
 
 pub returns-in-Undecided : goal.returns-in-Undecided
 returns-in-Undecided g c =
-    let h = heard_of c.args.history.now in
-    if_ok c.tell_undecided.result _ _
-    (λ end. brief_undecided h c.in-Undecided.count c.args.out.now.items c.tell_undecided.new.out.items end
-    (subst (λ (v : Verdict). IsVerdictOf h.allowed (limits_of h) h.shown v) c.in-Undecided.is c.requires.verdict))
-    c.tell_undecided.ensures
+    if_ok c.tell_verdict_undecided.result _ _
+    (λ end. brief_undecided (heard_of c.args.history.now) c.args.out.now.items c.tell_verdict_undecided.new.out.items end)
+    c.tell_verdict_undecided.ensures
 
 pub tell_illegal_line-requires-clause-within : goal.tell_illegal_line-requires-clause-within
 tell_illegal_line-requires-clause-within g c =
@@ -32,8 +30,8 @@ tell_illegal_line-requires-clause-within g c =
     let v = subst (λ (v : Verdict). IsVerdictOf h.allowed (limits_of h) h.shown v) c.in-Illegal.is c.requires.verdict in
     (v.0, omega (arith, v.1, c.args.history.now.shown.ok.0))
 
-pub tell_undecided-requires : goal.tell_undecided-requires
-tell_undecided-requires g c =
+pub tell_verdict_undecided-requires-clause-some : goal.tell_verdict_undecided-requires-clause-some
+tell_verdict_undecided-requires-clause-some g c =
     let h = heard_of c.args.history.now in
     let v = subst (λ (v : Verdict). IsVerdictOf h.allowed (limits_of h) h.shown v) c.in-Undecided.is c.requires.verdict in
-    record { within = (v.0, omega (arith, v.1, c.args.history.now.shown.ok.0, c.args.history.now.numbers.ok.0, c.requires.paired)) }
+    omega (arith, v.0, v.1, c.args.history.now.shown.ok.0)

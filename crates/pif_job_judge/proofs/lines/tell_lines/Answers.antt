@@ -25,11 +25,10 @@ returns-in-Illegal g c =
 
 pub returns-in-Undecided : goal.returns-in-Undecided
 returns-in-Undecided g c =
-    let h = heard_of c.args.history.now in
-    if_ok c.tell_undecided.result _ _
-    (told_undecided c.args.asked.now.form h c.in-Undecided.count c.args.out.now.items c.tell_undecided.new.out.items
-    (subst (λ (v : Verdict). IsVerdictOf h.allowed (limits_of h) h.shown v) c.in-Undecided.is c.requires.verdict))
-    c.tell_undecided.ensures
+    if_ok c.tell_verdict_undecided.result _ _
+    (λ end. told_undecided c.args.asked.now.form (heard_of c.args.history.now) c.args.out.now.items
+    c.tell_verdict_undecided.new.out.items end)
+    c.tell_verdict_undecided.ensures
 
 pub tell_illegal-requires-clause-within : goal.tell_illegal-requires-clause-within
 tell_illegal-requires-clause-within g c =
@@ -37,14 +36,14 @@ tell_illegal-requires-clause-within g c =
     let v = subst (λ (v : Verdict). IsVerdictOf h.allowed (limits_of h) h.shown v) c.in-Illegal.is c.requires.verdict in
     (v.0, omega (arith, v.1, c.args.history.now.shown.ok.0))
 
-pub tell_undecided-requires : goal.tell_undecided-requires
-tell_undecided-requires g c =
+pub tell_verdict_undecided-requires-clause-some : goal.tell_verdict_undecided-requires-clause-some
+tell_verdict_undecided-requires-clause-some g c =
     let h = heard_of c.args.history.now in
     let v = subst (λ (v : Verdict). IsVerdictOf h.allowed (limits_of h) h.shown v) c.in-Undecided.is c.requires.verdict in
-    record { within = (v.0, omega (arith, v.1, c.args.history.now.shown.ok.0, c.args.history.now.numbers.ok.0, c.requires.paired)) }
+    omega (arith, v.0, v.1, c.args.history.now.shown.ok.0)
 
-pub tell_verdict_legal-requires : goal.tell_verdict_legal-requires
-tell_verdict_legal-requires g c =
+pub tell_verdict_legal-requires-clause-run : goal.tell_verdict_legal-requires-clause-run
+tell_verdict_legal-requires-clause-run g c =
     let h = heard_of c.args.history.now in
     let v = subst (λ (v : Verdict). IsVerdictOf h.allowed (limits_of h) h.shown v) c.in-Legal.is c.requires.verdict in
     subst (λ (ls : List Label). IsRun h.allowed (limits_of h) ls) (sym c.as_slice.ensures.value) (v.last, v.run)

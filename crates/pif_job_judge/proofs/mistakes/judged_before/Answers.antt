@@ -16,14 +16,18 @@ returns-in-Legal g c =
 
 pub returns-in-Illegal : goal.returns-in-Illegal
 returns-in-Illegal g c =
-    let h = heard_of c.args.history.now in
-    illegal_of_all h.allowed (limits_of h) (c.args.refused.count - 1) c.in-Illegal.line h.shown (omega (arith, c.requires.1))
-    (subst (λ (v : Verdict). IsVerdictOf h.allowed (limits_of h) (take (c.args.refused.count - 1) h.shown) v) c.in-Illegal.is
-    c.in_ok-labels.ensures)
+    let h = heard_of c.args.history.now in (
+      illegal_of_all h.allowed (limits_of h) (c.args.refused.count - 1) c.in-Illegal.line h.shown (omega (arith, c.requires.1))
+          (subst (λ (v : Verdict). IsVerdictOf h.allowed (limits_of h) (take (c.args.refused.count - 1) h.shown) v) c.in-Illegal.is
+          c.in_ok-labels.ensures),
+      tt,
+    )
 
-pub returns-in_ok-find_further-in-Undecided : goal.returns-in_ok-find_further-in-Undecided
-returns-in_ok-find_further-in-Undecided g c =
-    let h = heard_of c.args.history.now in
-    undecided_of_all h.allowed (limits_of h) (c.args.refused.count - 1) c.in-Undecided.line h.shown (omega (arith, c.requires.1))
-    (subst (λ (v : Verdict). IsVerdictOf h.allowed (limits_of h) (take (c.args.refused.count - 1) h.shown) v) c.in-Undecided.is
-    c.in_ok-labels.ensures)
+pub returns-in_ok-front-in-Undecided : goal.returns-in_ok-front-in-Undecided
+returns-in_ok-front-in-Undecided g c =
+    let h = heard_of c.args.history.now in (
+      undecided_of_all h.allowed (limits_of h) (c.args.refused.count - 1) c.in-Undecided.line h.shown (omega (arith, c.requires.1))
+          (subst (λ (v : Verdict). IsVerdictOf h.allowed (limits_of h) (take (c.args.refused.count - 1) h.shown) v) c.in-Undecided.is
+          c.in_ok-labels.ensures),
+      c.in_ok-front-in-Undecided.ensures,
+    )

@@ -9,4 +9,4 @@ use Rattle.pif_job_judge.proofs.mistakes.run_of.Goals as goal
 pub returns-in-Legal-clause-legal : goal.returns-in-Legal-clause-legal
 returns-in-Legal-clause-legal c = λ h is.
     subst (λ (v : Verdict). IsVerdictOf h.allowed (limits_of h) h.shown v) c.in-Legal.is
-    (subst (λ (x : Outcome). IsFound h x) c.in-Verdict.is is)
+    (subst (λ (x : Outcome). IsFound h x) c.in-Verdict.is is).0

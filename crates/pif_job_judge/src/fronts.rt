@@ -1,0 +1,253 @@
+//! How far the lines of a history are legal for certain: the greatest front of which a run is found.
+ghost use Rattle.std.specs.Prelude.{◌≡◌, IfOk, IfSome};
+ghost use Rattle.pif_history_machine.specs.Verdicts.{IsVerdictOf};
+ghost use Rattle.pif_history_text.specs.Histories.{limits_of};
+ghost use Rattle.pif_history_text.specs.Reading.{IsPaired, heard_of};
+ghost use Rattle.pif_history_model.specs.Verdicts.{IsLegal};
+ghost use Rattle.pif_job_judge.specs.Fronts.{IsFront, IsJudgedSo, IsUpTo, count_of};
+
+use crate::forms::Judging;
+use crate::judging::{Numbered, verdict_on};
+use crate::mistakes::verdict_before;
+use pif_history::find_run;
+use pif_history_machine::{Verdict, first_unwoken};
+use pif_history_model::Label;
+use pif_history_text::History;
+use pif_history_told::number_at;
+use pif_search::{Stop, WatchLines};
+use std::alloc::Global;
+
+/// So many states are looked at for a line at most as a front is looked for.
+const MOST_STATES: usize = 10_000;
+
+/// The first lines of a history, of which a run was found.
+#[derive(Drop)]
+pub struct Front {
+    /// How many lines they are: at least one, and not all.
+    pub count: usize,
+    /// The labels of the steps of the run, newest first.
+    pub labels: Vec<Label>,
+}
+
+/// How many lines a front has; none, if there is none.
+pub fn count_of(front: &Option<Front>) -> usize
+    ensures { result ≡ count_of front.now }
+{
+    match front {
+        Some(front) => front.count,
+        None => 0,
+    }
+}
+
+/// The number of the last line of a front, if there is one.
+pub fn up_to(history: &History, front: &Option<Front>) -> Option<u32>
+    requires paired { IsPaired history.now }
+    requires front { IfSome front.now (IsFront (heard_of history.now)) }
+    ensures { IsUpTo (heard_of history.now) front.now result }
+{
+    match front {
+        Some(front) => Some(number_at(history, front.count)),
+        None => None,
+    }
+}
+
+/// So many first lines as a front, if a search finds a run of them.
+fn front_of<V: WatchLines>(
+    alloc: Global,
+    states: usize,
+    history: &History,
+    count: usize,
+    watch: &mut V,
+) -> Result<Option<Front>, Stop>
+    ensures { IfOk result (λ o. IfSome o (IsFront (heard_of history.now))) }
+{
+    if count == 0 {
+        return Ok(None);
+    }
+    if count >= history.shown.len() {
+        return Ok(None);
+    }
+    let limits = history.limits();
+    let lines = &history.shown.as_slice()[..count];
+    let run = find_run(alloc, &history.allowed, limits, lines, states, watch)?;
+    match run {
+        Some(labels) => Ok(Some(Front { count, labels })),
+        None => Ok(None),
+    }
+}
+
+/// How many lines are tried next, if so many are shown and of so many no run was found: not far behind those that are
+/// shown, since what is wrong shows soon.
+fn next_count(shown: usize, unfound: usize, reach: usize) -> usize {
+    let gap = unfound.saturating_sub(shown);
+    let more = usize::max(1, usize::min(reach, gap / 2));
+    shown.saturating_add(more)
+}
+
+/// The greatest front of a history of which a guided search finds a run, by trying more and more lines, and then by
+/// halving. `watch` has for how many lines searches say that they found one, which are tried first. It ends as soon as the
+/// time is over.
+///
+/// # Errors
+///
+/// That of a search.
+pub fn greatest_front<V: WatchLines>(
+    alloc: Global,
+    states: usize,
+    history: &History,
+    watch: &mut Numbered<'_, '_, V>,
+) -> Result<Option<Front>, Stop>
+    ensures { IfOk result (λ o. IfSome o (IsFront (heard_of history.now))) }
+{
+    let states = usize::min(states, MOST_STATES);
+    let mut front = None;
+    let mut unfound = history.shown.len();
+    let mut count = usize::max(1, usize::min(watch.shown, unfound.saturating_sub(1)));
+    let mut reach = 0_usize;
+    for _ in 0..2 * usize::BITS {
+        if count >= unfound || !watch.goes_on() {
+            return Ok(front);
+        }
+        match front_of(alloc, states, history, count, watch)? {
+            Some(found) => {
+                front = Some(found);
+                reach = reach.saturating_mul(2).saturating_add(1);
+            }
+            None => unfound = count,
+        }
+        count = next_count(count_of(&front), unfound, reach);
+    }
+    Ok(front)
+}
+
+/// The front that is told with a verdict, if none is known yet: the greatest, if it is undecided.
+///
+/// # Errors
+///
+/// That of a search.
+pub fn front_with<V: WatchLines>(
+    alloc: Global,
+    states: usize,
+    history: &History,
+    verdict: &Verdict,
+    watch: &mut Numbered<'_, '_, V>,
+) -> Result<Option<Front>, Stop>
+    ensures { IfOk result (λ o. IfSome o (IsFront (heard_of history.now))) }
+{
+    match verdict {
+        Verdict::Undecided(_) => greatest_front(alloc, states, history, watch),
+        Verdict::Legal(_) => Ok(None),
+        Verdict::Illegal(_) => Ok(None),
+    }
+}
+
+/// The verdict that the line behind so many is the first up to which there is no run, if a search of the lines up to it
+/// says so. None, too, if it is the last line.
+fn illegal_behind<V: WatchLines>(
+    alloc: Global,
+    states: usize,
+    history: &History,
+    count: usize,
+    watch: &mut V,
+) -> Result<Option<Verdict>, Stop>
+    ensures { IfOk result (λ o. IfSome o (IsVerdictOf history.now.allowed (limits_of (heard_of history.now)) history.now.shown.items)) }
+{
+    let last = history.shown.len();
+    if count >= last {
+        return Ok(None);
+    }
+    if last - count == 1 {
+        return Ok(None);
+    }
+    match verdict_before(alloc, states, history, count + 1, watch)? {
+        Verdict::Illegal(line) => Ok(Some(Verdict::Illegal(line))),
+        Verdict::Legal(_) => Ok(None),
+        Verdict::Undecided(_) => Ok(None),
+    }
+}
+
+/// A verdict on a history, and how far it is legal for certain, if it isn't in all.
+#[derive(Drop)]
+pub struct Judged {
+    /// The verdict.
+    pub verdict: Verdict,
+    /// The greatest front of which a run is known, if one is.
+    pub front: Option<Front>,
+}
+
+/// The verdict on a history of which no guided search found a run, and the greatest front. Of the line behind that it is
+/// asked first whether it is illegal.
+fn by_fronts<V: WatchLines>(
+    alloc: Global,
+    asked: &Judging<'_>,
+    history: &History,
+    watch: &mut Numbered<'_, '_, V>,
+) -> Result<Judged, Stop>
+    ensures { IfOk result (IsJudgedSo (heard_of history.now)) }
+{
+    let states = asked.states as usize;
+    let front = greatest_front(alloc, states, history, watch)?;
+    let count = count_of(&front);
+    match illegal_behind(alloc, states, history, count, watch)? {
+        Some(verdict) => Ok(Judged { verdict, front }),
+        None => {
+            let verdict = verdict_on(alloc, asked, history, watch)?;
+            Ok(Judged { verdict, front })
+        }
+    }
+}
+
+/// The verdict on a history in which a wait returns that nothing can have woken, and the greatest front if it is undecided
+/// even so: the search of all lines looks for a run of those before it.
+fn with_unwoken<V: WatchLines>(
+    alloc: Global,
+    asked: &Judging<'_>,
+    history: &History,
+    watch: &mut Numbered<'_, '_, V>,
+) -> Result<Judged, Stop>
+    ensures { IfOk result (IsJudgedSo (heard_of history.now)) }
+{
+    let verdict = verdict_on(alloc, asked, history, watch)?;
+    let front = front_with(alloc, asked.states as usize, history, &verdict, watch)?;
+    Ok(Judged { verdict, front })
+}
+
+/// A run that shows all lines of a history, if guided searches find one.
+fn run_of_all<V: WatchLines>(
+    alloc: Global,
+    states: usize,
+    history: &History,
+    watch: &mut V,
+) -> Result<Option<Vec<Label>>, Stop>
+    ensures { IfOk result (λ o. IfSome o (λ v. IsLegal history.now.allowed (limits_of (heard_of history.now)) history.now.shown.items v.items)) }
+{
+    let lines = history.shown.as_slice();
+    let limits = history.limits();
+    find_run(alloc, &history.allowed, limits, lines, states, watch)
+}
+
+/// The verdict on a history with the rules that it allows, and the greatest front of which a run is known, if it isn't
+/// legal.
+///
+/// # Errors
+///
+/// That of a search.
+pub fn judged_by_fronts<V: WatchLines>(
+    alloc: Global,
+    asked: &Judging<'_>,
+    history: &History,
+    watch: &mut Numbered<'_, '_, V>,
+) -> Result<Judged, Stop>
+    ensures { IfOk result (IsJudgedSo (heard_of history.now)) }
+{
+    if first_unwoken(alloc, history.shown.as_slice())?.is_some() {
+        return with_unwoken(alloc, asked, history, watch);
+    }
+    match run_of_all(alloc, asked.states as usize, history, watch)? {
+        Some(labels) => Ok(Judged {
+            verdict: Verdict::Legal(labels),
+            front: None,
+        }),
+        None => by_fronts(alloc, asked, history, watch),
+    }
+}
