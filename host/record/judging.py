@@ -88,7 +88,7 @@ def judge(history, pif=None, states=None, seconds=None, rules=()):
         done = subprocess.run(words, stdin=subprocess.DEVNULL, capture_output=True, text=True, timeout=seconds)
     except subprocess.TimeoutExpired:
         return Verdict(UNDECIDED, "undecided: it takes more than %d seconds\n" % seconds, 0)
-    found = re.match(r"(?:illegal at|undecided at|log) (\d+)", done.stdout)
+    found = re.match(r"(?:illegal at|(?:legal up to \d+; )?undecided from|log) (\d+)", done.stdout)
     told = done.stdout if done.stdout else done.stderr
     return Verdict(done.returncode, told, int(found[1]) if found else 0)
 
