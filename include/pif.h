@@ -1,12 +1,13 @@
 /* The proved core of pif, for C99 and C++: an oracle of priority-inheriting futexes with robust POSIX mutexes and
    condition variables. Build and link it as docs/CALLING.md says: `make -C c`, then `pkg-config --cflags --libs pif`.
 
-   A core has threads, mutexes and condition variables, which you add, and answers what each call of pthread answers.
-   It starts no thread: its threads are numbers, and each takes a step when you say so.
+   A core has threads, mutexes and condition variables, which you add, and answers what each call of pthread answers. It
+   starts no thread: its threads are numbers, and each takes a step when you say so.
 
-   A handle holds a core, or none. C owns it: `pif_core core = {0};`, in C++ `pif_core core = {};`, holds none,
-   pif_core_new has it hold one, pif_core_free gives that up. Or pif_core_open makes a handle that holds one, and
-   pif_core_close gives both up: then nothing has to be zeros before. What you owe:
+   A handle holds a core, or none. Your program owns the handle: `pif_core core = {0};`, in C++ `pif_core core = {};`,
+   holds none, pif_core_new has it hold one, and pif_core_free gives that core up. In their place pif_core_open makes a
+   handle that holds a core, for which nothing has to be zeros before, and pif_core_close gives both up. What you have
+   to keep:
 
    - hand a handle back as the library wrote it: never read, write or copy its fields, and don't move it with memcpy;
    - give a handle to one call at a time. Between two calls it may pass to another thread, if you order the calls, as by
@@ -17,14 +18,14 @@
      pointer is allowed if its length is 0;
    - don't call from a signal handler, or in the child of a fork of a process with threads.
 
-   All else is answered. A handle with no core, numbers that name nothing, and limits out of range are told by the
-   result, and nothing has changed then. No call ends the process, blocks, or writes anywhere but into the handle and
-   into the room that you gave, or calls any function of yours but a sink and that of pif_options. Memory is taken by
-   malloc, realloc and free of your program, which align a block to 16 bytes: by pif_core_new and pif_core_open alone of
-   the calls on a handle, and by those over texts while they run.
+   Every other mistake is answered: for a handle with no core, numbers that name nothing, and limits out of range the
+   result says so, and nothing has changed. No call ends the process, blocks, or writes anywhere but into the handle and
+   into the room that you gave, or calls any function of yours but a sink and that of pif_options. Memory comes from
+   malloc, realloc and free of your program, which align a block to 16 bytes. Of the calls on a handle only pif_core_new
+   and pif_core_open take any; those over texts do while they run.
 
-   The contracts in crates/pif_c say of each call what it answers and what the core is then. They are proved. That this
-   header, your compiler and what you owe agree with them is not. */
+   The contracts in crates/pif_c say of each call what it answers and what the core is then. They are proved. It isn't
+   proved that this header, your compiler and what you do agree with them. */
 #ifndef PIF_H
 #define PIF_H
 
@@ -94,7 +95,7 @@ enum pif_state {
     PIF_READY = 0,   /* it may run */
     PIF_QUEUED = 1,  /* it waits for the mutex `waits_for` */
     PIF_PARKED = 2,  /* it waits for the condition variable `waits_for` */
-    PIF_STOPPED = 3, /* it waits for good */
+    PIF_STOPPED = 3, /* it waits forever */
     PIF_GONE = 4     /* it has ended */
 };
 
@@ -109,7 +110,7 @@ enum pif_what {
     PIF_NOTHING = 0,  /* the handle holds no core */
     PIF_BEGUN = 1,    /* the call is open */
     PIF_WENT = 2,     /* the step was taken; the call stays open and goes on */
-    PIF_WAITS = 3,    /* the thread waits: for a mutex, for a condition variable, or for good */
+    PIF_WAITS = 3,    /* the thread waits: for a mutex, for a condition variable, or forever */
     PIF_ANSWERED = 4, /* the call is closed; `detail` is its answer (enum pif_answer) */
     PIF_ENDED = 5,    /* the thread has ended, and its open call is gone */
     PIF_TICKED = 6,   /* the time is the one that was handed in */
@@ -144,7 +145,7 @@ enum pif_answer {
     PIF_EOVERFLOW = 75,        /* the variable has had all the signals that its limit allows */
     PIF_ETIMEDOUT = 110,       /* the deadline was reached */
     PIF_EOWNERDEAD = 130,      /* the owner ended; the caller owns the mutex now, in an inconsistent state */
-    PIF_ENOTRECOVERABLE = 131  /* the mutex was left inconsistent, and nobody can lock it again */
+    PIF_ENOTRECOVERABLE = 131  /* the mutex was left inconsistent, and can't be locked again */
 };
 
 /* The kind of a mutex, by the numbers of <pthread.h> of Linux. */
@@ -331,24 +332,24 @@ uint32_t pif_core_new(pif_core *core, uint32_t threads, uint32_t mutexes, uint32
 /* Gives up the core that a handle holds, if it holds one. The handle is empty then, and may be filled again. */
 void pif_core_free(pif_core *core);
 
-/* A handle of malloc that holds a new core, under limits as those of pif_core_new. Null if there is none: then
-   `*result` is PIF_INVALID or PIF_NO_MEMORY. Else it is PIF_OK. A null pointer for `result` leaves that out. */
+/* A handle of malloc that holds a new core, under limits as those of pif_core_new. Null if there is none. `*result` is
+   PIF_OK, or why there is none: PIF_INVALID or PIF_NO_MEMORY. `result` may be null. */
 PIF_NODISCARD
 pif_core *pif_core_open(uint32_t threads, uint32_t mutexes, uint32_t conds, uint32_t signals, uint32_t *result);
 
-/* Gives up a handle of pif_core_open with the core that it holds. A null pointer is passed over. */
+/* Gives up a handle of pif_core_open with the core that it holds. A null pointer is ignored. */
 void pif_core_close(pif_core *core);
 
-/* Adds a thread of this base priority, 1 to 99, with no call open: its number, the next one from 1. Else PIF_NO_CORE,
-   PIF_BAD_PRIO or PIF_TOO_MANY, and nothing has changed. */
+/* Adds a thread of this base priority, 1 to 99, with no call open, and answers its number, the next one from 1;
+   otherwise PIF_NO_CORE, PIF_BAD_PRIO or PIF_TOO_MANY, and nothing has changed. */
 pif_number pif_add_thread(pif_core *core, uint32_t prio);
 
-/* Adds a mutex of this kind (enum pif_kind), free and fine, robust or stalled: its number, the next one from 1. Else
-   PIF_NO_CORE, PIF_INVALID or PIF_TOO_MANY, and nothing has changed. */
+/* Adds a mutex of this kind (enum pif_kind), free and fine, robust or stalled, and answers its number, the next one
+   from 1; otherwise PIF_NO_CORE, PIF_INVALID or PIF_TOO_MANY, and nothing has changed. */
 pif_number pif_add_mutex(pif_core *core, uint32_t kind, bool robust);
 
-/* Adds a condition variable, and binds it to this mutex for good: its number, the next one from 1. Else PIF_NO_CORE,
-   PIF_NO_MUTEX or PIF_TOO_MANY, and nothing has changed. */
+/* Adds a condition variable that is bound to this mutex, and answers its number, the next one from 1; otherwise
+   PIF_NO_CORE, PIF_NO_MUTEX or PIF_TOO_MANY, and nothing has changed. */
 pif_number pif_add_cond(pif_core *core, uint32_t mutex);
 
 /* EVENTS */
@@ -374,7 +375,7 @@ pif_seen pif_end(pif_core *core, uint32_t thread);
 pif_seen pif_tick(pif_core *core, uint32_t time);
 
 /* READERS: the core is the same afterwards. Each answers PIF_NO_CORE on a handle with no core. A place is a number from
-   0, for which PIF_NONE says that so few are there. */
+   0; PIF_NONE says that there is nothing at that place. */
 
 /* The effective priority of a thread, 1 to 99: the greatest base priority of it and of all that wait for it through any
    chain. PIF_NONE if no living thread has that number. */
@@ -403,7 +404,7 @@ pif_number pif_cond_word(pif_core *core, uint32_t cond);
 PIF_NODISCARD
 pif_number pif_pick(pif_core *core);
 
-/* The owner of a mutex, also one that has ended, and how often it holds the mutex. PIF_NONE if nobody owns it, or it
+/* The owner of a mutex, also one that has ended, and how often it holds the mutex. PIF_NONE if the mutex is free, or
    was never added. */
 PIF_NODISCARD
 pif_owned pif_owner(pif_core *core, uint32_t mutex);
@@ -427,16 +428,16 @@ pif_number pif_robust(pif_core *core, uint32_t mutex);
 PIF_NODISCARD
 pif_number pif_bound(pif_core *core, uint32_t cond);
 
-/* The waiter of a mutex before which `place` others get it, as long as no priority changes and nobody comes or goes:
-   those of greatest effective priority come first, and of equals the first in arrival. */
+/* The waiter that gets a mutex after `place` others, as long as no priority changes and no waiter comes or goes: those
+   of greatest effective priority come first, and of equals the first in arrival. */
 PIF_NODISCARD
 pif_number pif_waiter(pif_core *core, uint32_t mutex, uint32_t place);
 
-/* The thread that is parked on a condition variable and before which `place` others are woken, in the same order. */
+/* The thread parked on a condition variable that is woken after `place` others, in the same order. */
 PIF_NODISCARD
 pif_number pif_parked(pif_core *core, uint32_t cond, uint32_t place);
 
-/* The ready thread before which `place` others run: that of place 0 is the one of pif_pick. */
+/* The ready thread that runs after `place` others: at place 0 that of pif_pick. */
 PIF_NODISCARD
 pif_number pif_ready(pif_core *core, uint32_t place);
 
@@ -444,15 +445,15 @@ pif_number pif_ready(pif_core *core, uint32_t place);
 PIF_NODISCARD
 pif_number pif_time(pif_core *core);
 
-/* The thread at a place of the path of waiting from a living thread: at place 0 that thread itself, and behind each one
-   the owner of the mutex for which it waits, also one that has ended, up to the one that waits for no mutex. PIF_NONE
-   if the path has no such place, or no living thread has that number. */
+/* The thread at a place of the path of waiting from a living thread: at place 0 that thread itself, and after each
+   thread the owner of the mutex for which it waits, also one that has ended, up to a thread that waits for no mutex.
+   PIF_NONE if the path has no such place, or no living thread has that number. */
 PIF_NODISCARD
 pif_number pif_path(pif_core *core, uint32_t thread, uint32_t place);
 
 /* TEXTS: bytes in, bytes out. No handle is used: any number of threads may call these at once, if your malloc allows
-   that. A text is written to the start of the room if all of it fits, and no other byte of the room changes. Else the
-   room stays as it is. */
+   that. A text is written to the start of the room if all of it fits, and no other byte of the room changes. Otherwise
+   the room stays as it is. */
 
 /* How a job ended. The text that is written says more. */
 enum pif_ended_by {
@@ -468,7 +469,7 @@ enum pif_ended_by {
                               found no claim that is broken */
     PIF_INTERRUPTED = 7,   /* its seconds were over, or `goes_on` said no (pif_options): there is no text, `wanted` is
                               0, and what the room has means nothing */
-    PIF_MISTAKE = 8        /* of a history: a line is a mistake of the log: the lines before it are legal, and refuse it */
+    PIF_MISTAKE = 8        /* of a history: a line is a mistake of the log: the lines before it, all legal, refuse it */
 };
 
 typedef struct pif_text {
@@ -515,8 +516,8 @@ pif_text pif_explore(const uint8_t *program, size_t program_length, uint32_t sta
 PIF_NODISCARD
 pif_text pif_show(const uint8_t *story, size_t story_length, bool all, uint8_t *room, size_t room_length);
 
-/* The same for programs, as docs/FORMATS.md has it: what `pif show --json` prints, the state behind each command as a
-   line of JSON, and what `pif show --dot` prints, who waits for whom at the end, for Graphviz. Of a story with a fault
+/* The same for programs, as docs/FORMATS.md has it: what `pif show --json` prints, the state after each command as a
+   line of JSON, and what `pif show --dot` prints, who waits for whom at the end, for Graphviz. For a story with a fault
    nothing is written. */
 PIF_NODISCARD
 pif_text pif_show_json(const uint8_t *story, size_t story_length, uint8_t *room, size_t room_length);
@@ -527,13 +528,13 @@ pif_text pif_show_dot(const uint8_t *story, size_t story_length, uint8_t *room, 
 /* What is shown of a story. */
 enum pif_shown {
     PIF_CHANGES = 0, /* as by pif_show: what each command changes */
-    PIF_ALL = 1,     /* and all of the core behind it */
+    PIF_ALL = 1,     /* and all of the core after it */
     PIF_JSON = 2,    /* as by pif_show_json */
     PIF_DOT = 3      /* as by pif_show_dot */
 };
 
 /* OPTIONS: `pif_options how = {sizeof how};` stands for what is usual, and so does a null pointer. A later version may
-   have more of them behind these; a program that was compiled with this header doesn't have them then. */
+   append more of them, which a program that was compiled with this header doesn't have. */
 typedef struct pif_options {
     uint32_t size;             /* sizeof(pif_options) */
     uint32_t states;           /* of pif_judge, pif_least and pif_explore; 0: as many as the program allows */
@@ -548,7 +549,7 @@ typedef struct pif_options {
 enum { PIF_JUDGE_STATES = 200000, PIF_EXPLORE_STATES = 1000000 };
 
 /* As pif_judge or pif_least, pif_explore and pif_show, by options. They are C over these, in libpif. Whether the job
-   goes on is asked as it asks for memory, at the first request and each 64th behind it: many times a second. `goes_on`
+   goes on is asked when it asks for memory, at the first request and each 64th after it: many times a second. `goes_on`
    is called in the thread of the job. It may call this library, and has to return. */
 PIF_NODISCARD
 pif_text pif_judge_with(const uint8_t *history, size_t history_length, const pif_options *how, uint8_t *room,

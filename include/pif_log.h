@@ -10,8 +10,8 @@
 extern "C" {
 #endif
 
-/* A log of a core: pif_core_log fills it. Ask the core what it shows by the readers of pif.h. What the functions of
-   pif.h change of it doesn't stand in the trace, which is wrong then. */
+/* A log of a core: pif_core_log fills it. The readers of pif.h may ask the core. What other functions of pif.h change
+   in it is missing from the trace, which is wrong then. */
 typedef struct pif_log {
     pif_core *core;
     pif_sink *sink;

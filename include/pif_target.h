@@ -1,6 +1,6 @@
 /* A driver for an implementation of your own, in one process: it is given random calls, and each answer is compared
-   with that of a core. Of the first that differs comes a short story, which `pif check` reads. It is C, in libpif, and
-   not proved; what it compares with is the core, which is. `tools/fuzz` does the same for a program. */
+   with that of a core. The first that differs gives a short story, which `pif check` reads. It is C, in libpif, and not
+   proved; what it compares with is the core, which is. `tools/fuzz` does the same for a program. */
 #ifndef PIF_TARGET_H
 #define PIF_TARGET_H
 
@@ -11,14 +11,14 @@ extern "C" {
 #endif
 
 /* An implementation. Each function gets the pointer `target` that stands here. No two of its threads run at once: they
-   are numbers, and each makes a call when it is said so. */
+   are numbers, and each makes a call when a function below says so. */
 typedef struct pif_target {
     size_t size; /* sizeof(pif_target) */
     void *target;
     /* Begins anew: no thread, no mutex and no variable is there, and the time is 0. */
     void (*reset)(void *target);
-    /* The thread, mutex or variable of this number is there from now on. They come in order, from 1. `kind` is one of
-       enum pif_kind. `add_cond` may be null if `conds` below is 0. */
+    /* Adds the thread, mutex or variable of this number. They come in order, from 1. `kind` is one of enum pif_kind.
+       `add_cond` may be null if `conds` below is 0. */
     void (*add_thread)(void *target, uint32_t thread, uint32_t prio);
     void (*add_mutex)(void *target, uint32_t mutex, uint32_t kind, bool robust);
     void (*add_cond)(void *target, uint32_t cond, uint32_t mutex);
@@ -30,8 +30,8 @@ typedef struct pif_target {
     void (*end)(void *target, uint32_t thread);
     /* The time is this. Null if the target has no times: then no call has a deadline. */
     void (*tick)(void *target, uint32_t time);
-    /* The effective priority of a living thread, and the owner of a mutex, 0 if nobody owns it. Asked after each call.
-       Null if the target doesn't show them. */
+    /* The effective priority of a living thread, and the owner of a mutex, 0 if it is free. Asked after each call. Null
+       if the target doesn't show them. */
     uint32_t (*priority)(void *target, uint32_t thread);
     uint32_t (*owner)(void *target, uint32_t mutex);
 } pif_target;
