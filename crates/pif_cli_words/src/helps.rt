@@ -382,11 +382,10 @@ in which it was seen. Its lines:
 Rules are what may happen beside. POSIX leaves open: any_waiter, spurious,
 recursion N or A..B (--allow recursion=N), held_wait, barge, cycle_waits,
 cycle_refused, timeout_consumes, ends_apart, stays_locked, rebinds, more_uses,
-refuses_setprio, consistent_by_any, cut_unlock, other_error; 'posix' names all
-of them.
+refuses_setprio, consistent_by_any, cut_unlock, other_error, wait_gives_all;
+'posix' names all of them.
 Implementations do against POSIX: steal, own_errorcheck, any_consistent,
-lost_signal, revives, wait_gives_all. Those of the history and of each --allow
-hold together.
+lost_signal, revives. Those of the history and of each --allow hold together.
 
 For each history it prints:
   legal N, C calls

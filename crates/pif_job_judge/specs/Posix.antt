@@ -53,7 +53,6 @@ against r = record no_rules {
   any_consistent = r.any_consistent;
   lost_signal = r.lost_signal;
   revives = r.revives;
-  wait_gives_all = r.wait_gives_all;
 }
 
 -- The rules that hold against POSIX, behind a word, if there are some.

@@ -155,7 +155,6 @@ fn against(rules: &Rules) -> Rules
         any_consistent: rules.any_consistent,
         lost_signal: rules.lost_signal,
         revives: rules.revives,
-        wait_gives_all: rules.wait_gives_all,
         ..no_rules()
     }
 }

@@ -43,8 +43,7 @@ pub fn is_of_posix(rule: Rule) -> bool
         | Rule::OwnErrorcheck
         | Rule::AnyConsistent
         | Rule::LostSignal
-        | Rule::Revives
-        | Rule::WaitGivesAll => false,
+        | Rule::Revives => false,
         _ => true,
     }
 }

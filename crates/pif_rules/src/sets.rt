@@ -36,7 +36,7 @@ pub fn posix_rules() -> Rules
         consistent_by_any: true,
         cut_unlock: true,
         other_error: true,
-        wait_gives_all: false,
+        wait_gives_all: true,
         prio_none: false,
         extra_lines: false,
     }

@@ -103,7 +103,7 @@ is_of_posix RefusesSetprio = true
 is_of_posix ConsistentByAny = true
 is_of_posix CutUnlock = true
 is_of_posix OtherError = true
-is_of_posix WaitGivesAll = false
+is_of_posix WaitGivesAll = true
 
 -- all that POSIX allows: it names no greatest number of holds
 abbrev pub posix_rules : Rules
@@ -129,7 +129,7 @@ posix_rules = record {
   consistent_by_any = true;
   cut_unlock = true;
   other_error = true;
-  wait_gives_all = false;
+  wait_gives_all = true;
   prio_none = false;
   extra_lines = false;
 }
