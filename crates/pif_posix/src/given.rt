@@ -64,22 +64,6 @@ impl Wide {
         }
     }
 
-    /// This state of the machine, with what is remembered here, and these threads for the holds that they gave up.
-    fn with_given(&self, alloc: Global, state: State, given: Vec<u32>) -> Result<Wide, Stop>
-        ensures { IfOk result (λ n. n ≡ record self.now { world = state; given = given.items }) }
-    {
-        let lost = Vec::from_slice(alloc, self.lost.as_slice())?;
-        let apart = Vec::from_slice(alloc, self.apart.as_slice())?;
-        let prio_none = Vec::from_slice(alloc, self.prio_none.as_slice())?;
-        Ok(Wide {
-            state,
-            lost,
-            apart,
-            prio_none,
-            given,
-        })
-    }
-
     /// The state once a wait of a thread has given up one of several holds of a mutex.
     fn with_hold_given(&self, alloc: Global, thread: u32, mutex: usize) -> Result<Wide, Stop>
         requires mutex { mutex < length self.now.world.mutexes }
@@ -89,7 +73,7 @@ impl Wide {
         let mut state = self.state.copied(alloc)?;
         state.set_count(mutex, self.state.count(mutex) - 1);
         let given = with_first(alloc, thread, self.given.as_slice())?;
-        self.with_given(alloc, state, given)
+        self.with(alloc, state, self.lost.as_slice(), given.as_slice())
     }
 
     /// The state once a wait of a thread, which is about to begin, has given up one of several holds; none if it can't.
@@ -123,7 +107,7 @@ impl Wide {
         let mut state = self.state.copied(alloc)?;
         state.hold_again(thread, mutex)?;
         let given = without_one(alloc, thread, self.given.as_slice())?;
-        self.with_given(alloc, state, given)
+        self.with(alloc, state, self.lost.as_slice(), given.as_slice())
     }
 
     /// The state once a wait of a thread, which is over, has taken one hold again, or has forgotten it; none if it has none

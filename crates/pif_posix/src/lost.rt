@@ -83,20 +83,8 @@ pub(crate) fn all_beside(
 {
     let mut all = Vec::new(alloc);
     for state in states {
-        let lost = Vec::from_slice(alloc, lost)?;
-        let apart = Vec::from_slice(alloc, apart)?;
-        let prio_none = Vec::from_slice(alloc, prio_none)?;
-        let given = Vec::from_slice(alloc, given)?;
-        push(
-            &mut all,
-            Wide {
-                state,
-                lost,
-                apart,
-                prio_none,
-                given,
-            },
-        )?;
+        let next = Wide::of(alloc, state, lost, apart, prio_none, given)?;
+        push(&mut all, next)?;
     }
     Ok(all)
 }

@@ -27,23 +27,18 @@ use std::alloc::Global;
 
 /// Where moves lead, by the plain machine and by rules.
 impl Wide {
-    /// This state of the machine, with what is remembered here, and these variables for the signals that may be lost.
-    fn with_lost(&self, alloc: Global, state: State, lost: Vec<u32>) -> Result<Wide, Stop>
-        ensures { IfOk result (λ n. n ≡ record self.now { world = state; lost = lost.items }) }
+    /// The state once a signal of a thread on a variable is lost.
+    fn with_signal_lost(&self, alloc: Global, thread: u32, variable: u32) -> Result<Wide, Stop>
+        requires { thread < length self.now.world.threads }
+        ensures { IfOk result (λ n. n ≡ record self.now { world = with_progress thread (Has 0) self.now.world; lost = without_one variable self.now.lost }) }
     {
-        let apart = Vec::from_slice(alloc, self.apart.as_slice())?;
-        let prio_none = Vec::from_slice(alloc, self.prio_none.as_slice())?;
-        let given = Vec::from_slice(alloc, self.given.as_slice())?;
-        Ok(Wide {
-            state,
-            lost,
-            apart,
-            prio_none,
-            given,
-        })
+        let mut state = self.state.copied(alloc)?;
+        state.set_progress(thread as usize, Progress::Has(0));
+        let lost = without_one(alloc, variable, self.lost.as_slice())?;
+        self.with(alloc, state, lost.as_slice(), self.given.as_slice())
     }
 
-    /// The state once a signal of a thread on a variable is lost; none if it can't be lost.
+    /// The same as a list; none if no signal on the variable can be lost.
     fn signal_lost_on(&self, alloc: Global, thread: u32, variable: u32) -> Result<Vec<Wide>, Stop>
         requires { thread < length self.now.world.threads }
         ensures { IfOk result (λ v. v.items ≡ one_if (list_any (λ x. x == variable) self.now.lost) (record self.now { world = with_progress thread (Has 0) self.now.world; lost = without_one variable self.now.lost })) }
@@ -51,10 +46,7 @@ impl Wide {
         if !is_there(self.lost.as_slice(), variable) {
             return Ok(Vec::new(alloc));
         }
-        let mut state = self.state.copied(alloc)?;
-        state.set_progress(thread as usize, Progress::Has(0));
-        let lost = without_one(alloc, variable, self.lost.as_slice())?;
-        let next = self.with_lost(alloc, state, lost)?;
+        let next = self.with_signal_lost(alloc, thread, variable)?;
         one(alloc, next)
     }
 
