@@ -4,3 +4,4 @@ pub mod Led
 pub mod Counting
 pub mod Spans
 pub mod Turns
+pub mod Certain

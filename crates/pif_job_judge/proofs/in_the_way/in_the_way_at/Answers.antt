@@ -12,7 +12,7 @@ pub returns-in-Some : goal.returns-in-Some
 returns-in-Some g c =
     let h = heard_of c.args.history.now in
     let P = IsSoBehind h c.args.before in
-    let certain = some_of _ _ c.in-Some.found c.in-Some.is c.in_ok-found.ensures in
+    let certain = some_of _ _ c.in-Some.found c.in-Some.is c.in_ok-found.ensures.so in
     c.told_of.ensures
     (subst (λ (fs : List Fact). All P fs) (sym c.as_slice-in-Some.ensures.value)
     (all_behind h c.args.before _ _ c.in-Some.found.items c.limits-limits.ensures
