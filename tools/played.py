@@ -1,9 +1,10 @@
 """Legal histories for `pif judge`, made by playing threads on mutexes, one effect at a time.
 
-A kind is `locks` (lock and unlock), `tries` (60 % of the locks are trylocks), `waits` (wait, signal and broadcast), `timed`
-(half of the waits have deadlines), `mixed` (all of these, and locks with deadlines), `dying` (the same with robust mutexes,
-whose owners may end), `held` (the same with recursive ones, which are held up to three times), or `program` (a third of the
-locks are trylocks; wait, signal and broadcast). Each mutex has one variable, and a thread holds one mutex at a time.
+A kind is `locks` (lock and unlock), `tries` (60 % of the locks are trylocks), `waits` (wait, signal and broadcast),
+`timed` (half of the waits have deadlines), `mixed` (all of these, and locks with deadlines), `dying` (the same with
+robust mutexes, whose owners may end), `held` (the same with recursive ones, which are held up to three times), or
+`program` (a third of the locks are trylocks; wait, signal and broadcast). Each mutex has one variable, and a thread
+holds one mutex at a time.
 """
 
 import random

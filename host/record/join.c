@@ -24,7 +24,7 @@ static const char help[] =
     "which that is sound, and says in its first comment where it is.\n"
     "\n"
     "  --run RUN     which run, if the directory has several; RUN.run is its file\n"
-    "  --first K     it begins in part K or behind it\n"
+    "  --first K     it begins in part K or after it\n"
     "  --last K      it ends with part K\n"
     "  --help        prints this\n"
     "\n"

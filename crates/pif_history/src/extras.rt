@@ -63,7 +63,7 @@ impl Allowed<'_> {
         }
     }
 
-    /// Whether the open call of a thread failed and will be answered an error that may hold of it, too.
+    /// Whether the open call of a thread failed, and another error that may hold of it will be the answer.
     fn may_fail_otherwise(&self, thread: usize) -> bool {
         if !self.rules.other_error {
             return false;
@@ -81,7 +81,7 @@ impl Allowed<'_> {
         takes || self.may_fail_otherwise(thread)
     }
 
-    /// Whether the open calls may all be answered yet as they will be.
+    /// Whether each open call can still be answered as the later lines say.
     pub(crate) fn is_hopeful(&self) -> bool {
         for thread in 0..self.thread_count() {
             let may_change = self.may_be_robbed(thread) || self.may_fail_otherwise(thread);

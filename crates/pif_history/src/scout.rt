@@ -259,7 +259,7 @@ impl Scout {
         Ok(false)
     }
 
-    /// These lines, one after the other, each behind at most so many steps; false if the scout gets stuck, or if `watch`
+    /// These lines, one by one, each after at most so many steps; false if the scout gets stuck, or if `watch`
     /// ends it.
     fn reach_all<W: WatchLines>(
         &mut self,

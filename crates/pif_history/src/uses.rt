@@ -91,7 +91,7 @@ impl Scene<'_> {
         false
     }
 
-    /// Whether a thread has used its variable, and chooses at once whom it wakes. A player behind the first lets a
+    /// Whether a thread has used its variable, and chooses at once whom it wakes. A player after the first lets a
     /// broadcast choose when a line needs that: who was blocked may run out of time before.
     pub(crate) fn chooses_at_once(&self, thread: usize) -> bool {
         match self.later.leaving.role() {

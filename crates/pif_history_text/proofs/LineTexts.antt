@@ -97,7 +97,7 @@ inheriting_back k robust =
     ap said_in (append-nil (mutex_text k robust))
     ∙ said_back (command.Add (addition.Mutex k robust)) (line.Mutex k robust PrioInherit) (addition-no_comment (addition.Mutex k robust)) tt refl
 
--- the words of a mutex with `none` behind, whose kind is this word, make no command, no line, and allow no rule
+-- the words of a mutex with `none` after, whose kind is this word, make no command, no line, and allow no rule
 abbrev SaysNothing : List (List ℕ) → Type 0
 SaysNothing ws = (command_of_words ws ≡ None) × (line_of_words ws ≡ None) × (allowed_in ws ≡ None)
 

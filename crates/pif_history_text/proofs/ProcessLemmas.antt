@@ -7,7 +7,7 @@ use Rattle.pif_history_model.specs.declared.lines.Line.TheVariants.{Process}
 use Rattle.pif_history_text.specs.Histories.{Heard, next_number}
 use Rattle.pif_history_text.specs.Lines.{threads_in}
 
--- these threads are named by the first of all words, and shown behind the lines of h
+-- these threads are named by the first of all words, and shown after the lines of h
 pub record AreShown (h m : Heard) (all left : List (List ℕ)) : Type 0 where
   pub done : List ℕ
   pub shown : m.shown ≡ h.shown ++ map Process done

@@ -41,7 +41,7 @@ unfolding line_of_words words
 too_many a b c rest =
     let ws = some_split (λ byte. byte == 32) rest in ap (λ l. line_of_words (a ∷ b ∷ c ∷ l)) ws.is
 
--- two words or more behind `process`
+-- two words or more after `process`
 pub several : (text name names first more : List ℕ) → words text ≡ name ∷ words names → words names ≡ first ∷ words more
     → bytes_eq name (codes "process") ≡ true → Some (words names) ≡ several_in (words text)
 unfolding several_in words
@@ -51,7 +51,7 @@ several text name names first more e f g =
     ap (λ (l : List (List ℕ)). Some l) all
     ∙ sym (ap several_in (e ∙ ap (λ (l : List (List ℕ)). name ∷ l) all) ∙ rw g refl)
 
--- two words or more behind another name
+-- two words or more after another name
 pub none_several : (text name names first more : List ℕ) → words text ≡ name ∷ words names → words names ≡ first ∷ words more
     → bytes_eq name (codes "process") ≡ false → several_in (words text) ≡ None
 unfolding several_in words
@@ -78,7 +78,7 @@ parts-ended (x ∷ xs) rest h =
     slice_split-cons_no _ x (xs ++ 10 ∷ rest) (HasNoFeed-first x xs h)
     ∙ ap (onto_first x) (parts-ended xs rest (HasNoFeed-rest x xs h))
 
--- bytes without LF, and an LF behind them, are a line
+-- bytes without LF, and an LF after them, are a line
 pub lines-ended : (xs rest : List ℕ) → HasNoFeed xs → lines (xs ++ 10 ∷ rest) ≡ xs ∷ lines rest
 unfolding lines parts
 lines-ended xs rest h = parts-ended xs rest h
@@ -145,6 +145,6 @@ text-length number bytes =
     (omega arith) (omega arith) in
     omega arith
 
--- more bytes than are kept of a line are too many, whatever stands behind them
+-- more bytes than are kept of a line are too many, whatever stands after them
 pub long_line : (number : ℕ) (bytes : List ℕ) → 124 < length bytes → is_long number bytes ≡ true
 long_line number bytes lt = let le = text-length number bytes in grind (arith, nat_tests)

@@ -1,5 +1,5 @@
--- Lines by which a history allows rules: `allow`, and behind it the names of rules, each once, or `posix` for all of POSIX.
--- Bounds stand behind `recursion`.
+-- Lines by which a history allows rules: `allow`, and after it the names of rules, each once, or `posix` for all of
+-- POSIX. Bounds stand after `recursion`.
 use Rattle.std.specs.Prelude.{ℕ, is_some, List, [], ◌∷◌, Option, Some, None, if◌then◌else◌, bytes_eq, codes}
 use Rattle.pif_rules_model.specs.declared.rules.HoldLimits.{HoldLimits}
 use Rattle.pif_rules_model.specs.declared.rules.Rules.{Rules}

@@ -89,6 +89,6 @@ abbrev pub rule_front : Option Rule → List ℕ
 rule_front None = []
 rule_front (Some rule) = name_of rule ++ codes ": "
 
--- The line of a deed, behind two blanks.
+-- The line of a deed, after two blanks.
 abbrev pub deed_line : Option Rule → (t : ℕ) → Request → Deed → List ℕ
 deed_line rule t q d = codes "  " ++ rule_front rule ++ thread_name t ++ deed_words q d ++ codes "\n"

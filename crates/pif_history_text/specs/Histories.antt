@@ -68,8 +68,8 @@ after_allow h r =
     else if are_beyond r.recursion then Err OutOfRange
     else Ok (record h { allowed = both h.allowed r; count = next_number h })
 
--- These rules, and whether mutexes of PTHREAD_PRIO_NONE may be added, and the lines `process`, `halted` and `resumed` may
--- stand: a line that does so allows it.
+-- These rules, and whether mutexes of PTHREAD_PRIO_NONE may be added, and the lines `process`, `halted` and `resumed`
+-- may stand: a line that does so allows it.
 abbrev pub allowed_by : Rules → Line → Rules
 allowed_by r l = record r {
   prio_none = r.prio_none || not (adds_no_none l);
@@ -127,22 +127,22 @@ abbrev pub numbered : Heard → Result Heard Cause → Result Heard Fault
 numbered h (Ok m) = Ok m
 numbered h (Err cause) = fault_at h cause
 
--- The end of the text, behind which there is nothing: what stands behind the last LF is a line, unless it is empty.
+-- The end of the text, after which there is nothing: what stands after the last LF is a line, unless it is empty.
 abbrev pub at_end : Heard → List ℕ → Result Heard Fault
 at_end h [] = Ok h
 at_end h (b ∷ bs) = numbered h (after_line h (b ∷ bs))
 
--- The end of the bytes that a history may have, with more behind it: the line that stands there is too long already, or
+-- The end of the bytes that a history may have, with more after it: the line that stands there is too long already, or
 -- the history is too large.
 abbrev pub cut_off : Heard → List ℕ → Result Heard Fault
 cut_off h bytes = if is_long (next_number h) bytes then fault_at h Long else fault_at h Size
 
--- What comes behind a line, if the line is no fault.
+-- What comes after a line, if the line is no fault.
 abbrev pub goes_behind : (Heard → Result Heard Fault) → Result Heard Fault → Result Heard Fault
 goes_behind more (Ok m) = more m
 goes_behind more (Err fault) = Err fault
 
--- These lines, up to the first fault. The last one has no LF, and behind it is nothing if all is read.
+-- These lines, up to the first fault. The last one has no LF, and after it is nothing if all is read.
 unfoldable pub heard_from : (is_all : Bool) → Heard → List (List ℕ) → Result Heard Fault
 heard_from is_all h [] = Ok h
 heard_from is_all h (bytes ∷ []) = if is_all then at_end h bytes else cut_off h bytes

@@ -56,8 +56,8 @@ lending_nothing _ = None
 abbrev pub none_before : List ℕ → Option Line
 none_before front = command_in front >>= lending_nothing
 
--- A mutex of PTHREAD_PRIO_NONE: `mutex K none` or `mutex K robust none`. In front of the last word stands the command that
--- adds it to a script.
+-- A mutex of PTHREAD_PRIO_NONE: `mutex K none` or `mutex K robust none`. In front of the last word stands the command
+-- that adds it to a script.
 unfoldable pub none_in : List ℕ → Option Line
 none_in text =
     if nat_lt (length text) 5 then None
@@ -115,7 +115,7 @@ said_in text =
 
 -- ---- the threads of a process
 
--- What words say behind `process`, if there are two or more: a line of one thread is a line of two words.
+-- What words say after `process`, if there are two or more: a line of one thread is a line of two words.
 unfoldable pub several_in : List (List ℕ) → Option (List (List ℕ))
 several_in (name ∷ first ∷ second ∷ more) = if bytes_eq name (codes "process") then Some (first ∷ second ∷ more) else None
 several_in fewer = None

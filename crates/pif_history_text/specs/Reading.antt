@@ -46,7 +46,7 @@ place_of s = record { heard = heard_of s.history; line = s.line.items }
 abbrev pub goes_on : (is_all : Bool) → Place → List ℕ → Result Heard Fault
 goes_on is_all p rest = heard_from is_all p.heard (lines (p.line ++ rest))
 
--- These bytes bring a text from one place to another, or to its first fault, whatever stands behind them.
+-- These bytes bring a text from one place to another, or to its first fault, whatever stands after them.
 abbrev pub Brings : Place → List ℕ → Place → Result (Unit {0}) CliFault → Type 0
 Brings p bytes q (Ok x) = (is_all : Bool) (rest : List ℕ) → goes_on is_all p (bytes ++ rest) ≡ goes_on is_all q rest
 Brings p bytes q (Err (Script line cause)) =
@@ -60,7 +60,7 @@ Brings p bytes q (Err Write) = ⊥
 abbrev pub HasNoFeed : List ℕ → Type 0
 HasNoFeed bytes = (k : ℕ) → k < length bytes → slice_index bytes k ≢ 10
 
--- The end of a text, behind which there is nothing.
+-- The end of a text, after which there is nothing.
 abbrev pub Closes : Place → Heard → Result (Unit {0}) CliFault → Type 0
 Closes p m (Ok x) = at_end p.heard p.line ≡ Ok m
 Closes p m (Err (Script line cause)) = at_end p.heard p.line ≡ Err (line, cause)
@@ -109,7 +109,7 @@ pub record HasRead (before after : Option (List ℕ)) (taken : ℕ) (p : Place) 
   pub fits : length read ≡ taken
   pub brings : Brings start read p (Ok tt)
 
--- The first fault of the bytes that a reader has: it stands among those that were read, whatever stands behind them, or
+-- The first fault of the bytes that a reader has: it stands among those that were read, whatever stands after them, or
 -- at the end of all.
 abbrev pub IsFirstFault : (read : List ℕ) → (after : Option (List ℕ)) → Fault → Type 0
 IsFirstFault read after fault =

@@ -55,8 +55,8 @@ rules_telling by = if is_any by then codes " " ++ names_of by ++ codes "\n" else
 abbrev pub rules_front : Rules → List ℕ
 rules_front by = if is_any by then names_of by ++ codes ":" else []
 
--- What a thread does at its end: all at one moment; or by `ends_apart` it leaves, and one of its mutexes passes on later. If
--- one had stayed with it, that passes on when its process has ended.
+-- What a thread does at its end: all at one moment; or by `ends_apart` it leaves, and one of its mutexes passes on
+-- later. If one had stayed with it, that passes on when its process has ended.
 abbrev pub end_words : Rules → (lived : Bool) → List ℕ
 end_words by true = if by.ends_apart then codes " leaves\n" else codes " ends\n"
 end_words by false =
@@ -66,8 +66,8 @@ end_words by false =
 abbrev pub end_telling : Rules → (t : ℕ) → (lived : Bool) → List ℕ
 end_telling by t lived = codes " " ++ rules_front by ++ codes " " ++ thread_name t ++ end_words by lived
 
--- How a step begins, by these rules: a line of the history, or what the thread does that moves or ends. A move is by one
--- rule at most.
+-- How a step begins, by these rules: a line of the history, or what the thread does that moves or ends. A move is by
+-- one rule at most.
 abbrev pub label_telling : Rules → Label → World → World → List ℕ
 label_telling by (Shown line) w v = line_text line ++ codes "\n" ++ rules_telling by
 label_telling by (Moves t) w v = own_telling (first_of by) t w v (thread_at w t).call (thread_at v t).call

@@ -11,7 +11,7 @@ use Rattle.pif_history_model.specs.declared.lines.Protocol.TheVariants.{PrioInhe
 use Rattle.pif_history_model.specs.declared.lines.Line.{Line}
 use Rattle.pif_history_model.specs.declared.lines.Line.TheVariants.{Thread, Mutex, Cond, Begin, Answer, Dying, End, Tick, Rests, Prio, Process, Halted, Resumed, Asks}
 
--- What stands behind the kind of a mutex, and whether it is robust, for its protocol.
+-- What stands after the kind of a mutex, and whether it is robust, for its protocol.
 abbrev pub protocol_text : Protocol → List ℕ
 protocol_text PrioInherit = []
 protocol_text PrioNone = codes " none"

@@ -32,7 +32,7 @@ fn with_recursion(rules: Rules, bounds: Option<HoldLimits>) -> Option<Rules>
     }
 }
 
-/// These rules and the first that a text names, and what stands behind that.
+/// These rules and the first that a text names, and what stands after that.
 #[tactic(auto, unfolding(crate::specs::Allowed::rules_in), using(crate::proofs::AllowedLemmas::rule_first, crate::proofs::AllowedLemmas::recursion_first))]
 fn next_rule(rules: Rules, text: &[u8]) -> Option<(Rules, Option<&[u8]>)>
     ensures found { IfSome result (λ x. rules_in rules (words text.now) ≡ rules_in x.0 (words_behind (option_copied x.1))) }

@@ -224,7 +224,7 @@ fn append_front(rule: Option<Rule>, out: &mut Text)
     }
 }
 
-/// The line of a deed of a thread with this open call, behind two blanks.
+/// The line of a deed of a thread with this open call, after two blanks.
 pub fn deed_line(rule: Option<Rule>, thread: u32, request: &Request, deed: Deed) -> Text
     ensures { result.items ≡ deed_line rule thread request.now deed }
 {

@@ -35,7 +35,7 @@ pub use said::Said;
 pub use tellings::push_step;
 pub use texts::text_of_line;
 pub use verdicts::{
-    push_began, push_fault, push_found, push_illegal, push_legal, push_possible,
+    push_answer, push_began, push_fault, push_found, push_illegal, push_legal, push_possible,
     push_possible_undecided, push_refused, refusal_word,
 };
 pub use writing::{line_reads_back, line_text, lines_of_texts_are_written};

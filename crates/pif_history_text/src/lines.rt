@@ -13,11 +13,11 @@ use pif_text::{
 };
 use pif_types::Answer;
 
-/// What stands behind a mutex of PTHREAD_PRIO_NONE, and how long it is.
+/// What stands after a mutex of PTHREAD_PRIO_NONE, and how long it is.
 const NONE: &[u8; 5] = b" none";
 
-/// What a call returned, as a word says it: the number that it writes, or that of the error which it names. `None` if the
-/// word is neither.
+/// What a call returned, as a word says it: the number that it writes, or that of the error which it names. `None` if
+/// the word is neither.
 #[tactic(auto, unfolding(crate::specs::Lines::answer_in))]
 pub fn answer_of(word: &[u8]) -> Option<Answer>
     ensures { result ≡ answer_in word.now }
@@ -177,7 +177,7 @@ fn of_words(text: &[u8]) -> Option<Line>
     }
 }
 
-/// What stands behind `process` in a text, if that is two words or more: a line of one thread is a line of two words.
+/// What stands after `process` in a text, if that is two words or more: a line of one thread is a line of two words.
 #[tactic(auto, unfolding(crate::specs::Lines::several_in), using(crate::proofs::SplitLemmas::several, crate::proofs::SplitLemmas::none_several))]
 pub fn several_of(text: &[u8]) -> Option<&[u8]>
     ensures { option_map words (option_copied result) ≡ several_in (words text.now) }

@@ -73,7 +73,10 @@ impl TextSoFar {
     {
         let number = self.history.count + 1;
         match self.history.hear(self.line.as_slice()) {
-            Ok(()) => self.names.hear(text_of_line(number, self.line.as_slice())),
+            Ok(()) => {
+                let text = text_of_line(number, self.line.as_slice());
+                self.names.hear(&self.history, number, text)
+            }
             Err(fault) => Err(fault),
         }
     }
@@ -141,7 +144,7 @@ impl TextSoFar {
         Ok(())
     }
 
-    /// Ends the text: behind the bytes so far there is nothing.
+    /// Ends the text: after the bytes so far there is nothing.
     fn close(&mut self) -> Result<(), CliFault>
         requires fits { self.old.history.count ≤ 268435456 }
         ensures closed { Closes (place_of self.old) (heard_of self.new.history) result }
@@ -237,7 +240,7 @@ fn read_text<R: Read>(reader: &mut R, text: &mut TextSoFar) -> Result<(), CliFau
 ///
 /// # Errors
 ///
-/// `Script` with the number and the cause of the first line that is a fault, whatever stands behind what was read then;
+/// `Script` with the number and the cause of the first line that is a fault, whatever stands after what was read then;
 /// `Read`, if the reader fails; and `NoMemory`.
 pub fn read_history<R: Read>(alloc: Global, reader: &mut R) -> Result<NamedHistory, CliFault>
     ensures read { IfOk result (λ x. ReadsHistory (R.remaining reader.old) (R.remaining reader.new) (Ok (heard_of x.history))) }

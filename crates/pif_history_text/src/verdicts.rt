@@ -1,15 +1,18 @@
 //! The lines of verdicts. Each is appended to `out`; if out of memory, a part of it may be.
-ghost use Rattle.std.specs.Prelude.{◌≡◌, ◌++◌, None, OnOk, Some, codes, flat_map};
-ghost use Rattle.pif_history_text.specs.Verdicts.{at_number, began_line, colon_line, fault_line, found_line, illegal_line, legal_line, line_refusal_word, possible_line, possible_text, refused_line};
+ghost use Rattle.std.specs.Prelude.{◌≡◌, ◌++◌, OnOk, codes, flat_map};
+ghost use Rattle.pif_text_model.specs.Replies.{error_text};
+ghost use Rattle.pif_history_text.specs.Verdicts.{answer_text, at_number, began_line, colon_line, fault_line, found_line, illegal_line, legal_line, line_refusal_word, number_text, numbers_text, possible_line, possible_undecided, refused_line};
 
 use crate::writing::line_text;
 use itoa::Buffer;
 use pif_history_model::{Line, LineRefusal};
-use pif_text::{Cause, Text, add_fault_word, append, fault_text};
-use pif_types::{Request, Tid};
+use pif_text::{
+    Cause, Text, add_fault_word, append, append_decimal, errno_name, errno_of, fault_text,
+};
+use pif_types::{Answer, Errno, Request, Tid};
 use std::alloc::AllocError;
 
-/// Appends these parts, one behind the other.
+/// Appends these parts, one after the other.
 fn push_parts(out: &mut Vec<u8>, parts: &[&[u8]]) -> Result<(), AllocError>
     ensures { OnOk result (out.new.items ≡ out.old.items ++ flat_map (λ part. part.now) parts.now) }
 {
@@ -19,7 +22,7 @@ fn push_parts(out: &mut Vec<u8>, parts: &[&[u8]]) -> Result<(), AllocError>
     Ok(())
 }
 
-/// Appends a number behind what it counts or numbers, and what stands behind it.
+/// Appends a number after what it counts or numbers, and what stands after it.
 fn push_at(out: &mut Vec<u8>, head: &[u8], number: u32, tail: &[u8]) -> Result<(), AllocError>
     ensures { OnOk result (out.new.items ≡ out.old.items ++ (at_number head.now number ++ tail.now)) }
 {
@@ -28,7 +31,7 @@ fn push_at(out: &mut Vec<u8>, head: &[u8], number: u32, tail: &[u8]) -> Result<(
     push_parts(out, &[head, digits, tail])
 }
 
-/// Appends a number behind what it numbers, and behind a colon a line of a history.
+/// Appends a number after what it numbers, and after a colon a line of a history.
 fn push_line_at(out: &mut Vec<u8>, head: &[u8], number: u32, line: Line) -> Result<(), AllocError>
     ensures { OnOk result (out.new.items ≡ out.old.items ++ (at_number head.now number ++ colon_line line)) }
 {
@@ -97,37 +100,85 @@ pub fn push_refused(out: &mut Vec<u8>, why: LineRefusal) -> Result<(), AllocErro
     push_parts(out, &[b"refused ", refusal_word(why), b"\n"])
 }
 
-/// Appends numbers with a blank in front of each, or `none`.
-fn push_numbers(out: &mut Vec<u8>, numbers: &[u32]) -> Result<(), AllocError>
-    ensures { OnOk result (out.new.items ≡ out.old.items ++ possible_text numbers.now) }
+/// Appends the name of an error after a space, if there is one.
+fn push_error(out: &mut Vec<u8>, error: Option<Errno>) -> Result<(), AllocError>
+    ensures { OnOk result (out.new.items ≡ out.old.items ++ error_text error) }
 {
-    if numbers.is_empty() {
-        return out.extend_from_slice(b" none");
+    match error {
+        Some(errno) => push_parts(out, &[b" ", errno_name(errno).as_bytes()]),
+        None => Ok(()),
     }
-    for number in numbers {
-        push_at(out, b" ", *number, b"")?;
-    }
-    Ok(())
 }
 
-/// Appends numbers behind what they are, and the end of the line.
-fn push_numbers_of(out: &mut Vec<u8>, head: &[u8], numbers: &[u32]) -> Result<(), AllocError>
-    ensures { OnOk result (out.new.items ≡ out.old.items ++ (head.now ++ possible_text numbers.now ++ codes "\n")) }
-{
-    out.extend_from_slice(head)?;
-    push_numbers(out, numbers)?;
-    out.extend_from_slice(b"\n")
-}
-
-/// Appends the line that says which numbers may stand in the place of an answer or a priority.
+/// Appends an answer, and after it the name of its error, if it is one: `16 EBUSY`.
 ///
 /// # Errors
 ///
 /// Out of memory.
-pub fn push_possible(out: &mut Vec<u8>, numbers: &[u32]) -> Result<(), AllocError>
-    ensures { OnOk result (out.new.items ≡ out.old.items ++ possible_line (Some numbers.now)) }
+pub fn push_answer(out: &mut Vec<u8>, answer: Answer) -> Result<(), AllocError>
+    ensures { OnOk result (out.new.items ≡ out.old.items ++ answer_text answer) }
 {
-    push_numbers_of(out, b"possible there:", numbers)
+    append_decimal(out, u64::from(answer))?;
+    push_error(out, errno_of(answer))
+}
+
+/// Appends a number that may stand in a line: of an answer with its name.
+fn push_number(out: &mut Vec<u8>, line: &Line, number: u32) -> Result<(), AllocError>
+    ensures { OnOk result (out.new.items ≡ out.old.items ++ number_text line.now number) }
+{
+    match *line {
+        Line::Answer(_, _) => push_answer(out, number),
+        _ => append_decimal(out, u64::from(number)),
+    }
+}
+
+/// Appends further numbers that may stand in a line, each after a comma.
+fn push_further(out: &mut Vec<u8>, line: &Line, numbers: &[u32]) -> Result<(), AllocError>
+    ensures { OnOk result (out.new.items ≡ out.old.items ++ flat_map (λ k. codes ", " ++ number_text line.now k) numbers.now) }
+{
+    for number in numbers {
+        out.extend_from_slice(b", ")?;
+        push_number(out, line, *number)?;
+    }
+    Ok(())
+}
+
+/// Appends numbers that may stand in a line, with a comma between them, or `none`.
+fn push_numbers(out: &mut Vec<u8>, line: &Line, numbers: &[u32]) -> Result<(), AllocError>
+    ensures { OnOk result (out.new.items ≡ out.old.items ++ numbers_text line.now numbers.now) }
+{
+    match numbers {
+        [] => out.extend_from_slice(b"none"),
+        [first, rest @ ..] => {
+            push_number(out, line, *first)?;
+            push_further(out, line, rest)
+        }
+    }
+}
+
+/// Appends numbers after what they are, and the end of the line.
+fn push_numbers_of(
+    out: &mut Vec<u8>,
+    head: &[u8],
+    line: &Line,
+    numbers: &[u32],
+) -> Result<(), AllocError>
+    ensures { OnOk result (out.new.items ≡ out.old.items ++ (head.now ++ numbers_text line.now numbers.now ++ codes "\n")) }
+{
+    out.extend_from_slice(head)?;
+    push_numbers(out, line, numbers)?;
+    out.extend_from_slice(b"\n")
+}
+
+/// Appends the line that says which numbers may stand in this line in the place of its answer or its priority.
+///
+/// # Errors
+///
+/// Out of memory.
+pub fn push_possible(out: &mut Vec<u8>, line: &Line, numbers: &[u32]) -> Result<(), AllocError>
+    ensures { OnOk result (out.new.items ≡ out.old.items ++ possible_line line.now numbers.now) }
+{
+    push_numbers_of(out, b"possible there: ", line, numbers)
 }
 
 /// Appends the line that says that the search for such numbers was given up.
@@ -136,20 +187,21 @@ pub fn push_possible(out: &mut Vec<u8>, numbers: &[u32]) -> Result<(), AllocErro
 ///
 /// Out of memory.
 pub fn push_possible_undecided(out: &mut Vec<u8>) -> Result<(), AllocError>
-    ensures { OnOk result (out.new.items ≡ out.old.items ++ possible_line None) }
+    ensures { OnOk result (out.new.items ≡ out.old.items ++ possible_undecided) }
 {
     out.extend_from_slice(b"possible there: undecided\n")
 }
 
-/// Appends the line that says with which numbers, in the place of an answer or a priority, a search found a run.
+/// Appends the line that says with which numbers, in the place of the answer or the priority of this line, a search
+/// found a run.
 ///
 /// # Errors
 ///
 /// Out of memory.
-pub fn push_found(out: &mut Vec<u8>, numbers: &[u32]) -> Result<(), AllocError>
-    ensures { OnOk result (out.new.items ≡ out.old.items ++ found_line numbers.now) }
+pub fn push_found(out: &mut Vec<u8>, line: &Line, numbers: &[u32]) -> Result<(), AllocError>
+    ensures { OnOk result (out.new.items ≡ out.old.items ++ found_line line.now numbers.now) }
 {
-    push_numbers_of(out, b"found there:", numbers)
+    push_numbers_of(out, b"found there: ", line, numbers)
 }
 
 /// Appends the line that says where the open call of a thread began.

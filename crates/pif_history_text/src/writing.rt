@@ -25,7 +25,7 @@ fn append_of_thread(out: &mut Text, name: &[u8], thread: Tid)
     append_thread(out, thread);
 }
 
-/// Appends a number behind a space.
+/// Appends a number after a space.
 fn append_last(out: &mut Text, number: u32)
     requires { array_vec_len out.old + 11 ≤ TEXT_ROOM }
     ensures items { out.new.items ≡ out.old.items ++ (codes " " ++ decimal number) }
@@ -48,8 +48,8 @@ fn append_mutex(out: &mut Text, kind: Kind, robust: bool, protocol: Protocol)
     }
 }
 
-/// Appends a line of a history, with no line feed, at most `COMMAND_ROOM` bytes. What stands in `out` stays. `Asks` is no
-/// line of a history: what is written for it can't be read.
+/// Appends a line of a history, with no line feed, at most `COMMAND_ROOM` bytes. What stands in `out` stays. `Asks` is
+/// no line of a history: what is written for it can't be read.
 #[tactic(auto, unfolding(crate::specs::Texts::line_text))]
 pub fn line_text(line: Line, out: &mut Text)
     requires { array_vec_len out.old + COMMAND_ROOM ≤ TEXT_ROOM }

@@ -1,4 +1,4 @@
--- Which call is open behind a line, one line back.
+-- Which call is open after a line, one line back.
 use Rattle.std.proofs.Common.{◌≡◌, ℕ, ◌-◌, ◌+◌, ◌<◌, ◌≤◌, arith, List, ◌∷◌, Some, [], length, get_or, reverse, take, sym, ap, ◌∙◌}
 use Rattle.std.proofs.lemmas.List.{reverse-append, take_more}
 use Rattle.pif_history_model.specs.declared.lines.Line.{Line}

@@ -1,5 +1,6 @@
--- What is told of an illegal line behind what is possible there: clues to what is wrong.
+-- Clues to what is wrong with an illegal line, which follow what is possible there.
 use Rattle.std.specs.Prelude.{ℕ, List, [], ◌++◌, Option, Some, None, codes, decimal}
+use Rattle.pif_history_text.specs.Verdicts.{answer_text}
 use Rattle.pif_history_told.specs.declared.clues.Clues.{Clues}
 use Rattle.pif_history_told.specs.declared.clues.LegalIf.{LegalIf}
 use Rattle.pif_history_told.specs.InTheWay.{in_the_way_member, in_the_way_text}
@@ -7,7 +8,7 @@ use Rattle.pif_history_told.specs.InTheWay.{in_the_way_member, in_the_way_text}
 -- The lines would be legal if the line of this number had this answer.
 abbrev pub legal_if_text : Option LegalIf → List ℕ
 legal_if_text None = []
-legal_if_text (Some x) = codes "legal if line " ++ decimal x.number ++ codes " had " ++ decimal x.answer ++ codes "\n"
+legal_if_text (Some x) = codes "legal if line " ++ decimal x.number ++ codes " had " ++ answer_text x.answer ++ codes "\n"
 
 -- All of them, line by line.
 abbrev pub clues_text : Clues → List ℕ

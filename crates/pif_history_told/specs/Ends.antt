@@ -16,7 +16,7 @@ object_name mutex (Some c) = codes " " ++ cond_name c
 object_name (Some m) None = codes " " ++ mutex_name m
 object_name None None = []
 
--- A part of what is told of an open call, behind its thread: the call as in its begin, or what it names.
+-- A part of what is told of an open call, after its thread: the call as in its begin, or what it names.
 abbrev pub part_text : Part → Began → List ℕ
 part_text Call b = codes " " ++ request_text b.request
 part_text Object b = object_name (names_of b.request).mutex (names_of b.request).cond
@@ -24,7 +24,7 @@ part_text Object b = object_name (names_of b.request).mutex (names_of b.request)
 abbrev pub call_text : Part → Began → List ℕ
 call_text part b = thread_name b.thread ++ part_text part b
 
--- Calls in a line behind these words, with a comma between them; nothing if there are none.
+-- Calls in a line after these words, with a comma between them; nothing if there are none.
 abbrev pub calls_line : (words : List ℕ) → Part → List Began → List ℕ
 calls_line words part [] = []
 calls_line words part (b ∷ bs) =

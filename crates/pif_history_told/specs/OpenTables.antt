@@ -6,13 +6,13 @@ use Rattle.pif_history_text.specs.Histories.{Heard}
 use Rattle.pif_history_told.specs.declared.verdicts.Began.{Began}
 use Rattle.pif_history_told.specs.Why.{open_of, threads_in}
 
--- A table behind one line more, of this number.
+-- A table after one line more, of this number.
 abbrev pub once_heard : Line → (number : ℕ) → List (Option Began) → List (Option Began)
 once_heard (Begin t q) number calls = slice_set calls t (Some (record { number = number; thread = t; request = q }))
 once_heard (Answer t a) number calls = slice_set calls t None
 once_heard line number calls = calls
 
--- A table has the open call of each thread of a history behind its first `before` lines.
+-- A table has the open call of each thread of a history after its first `before` lines.
 abbrev pub AreOpenBehind : Heard → (before : ℕ) → List (Option Began) → Type 0
 AreOpenBehind h before calls =
     (length calls ≡ threads_in h + 1)

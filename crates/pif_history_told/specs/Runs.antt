@@ -19,7 +19,7 @@ pub record Telling : Type 0 where
   pub place : ℕ
   -- the lines of JSON
   pub done : List ℕ
-  -- the moves behind the last line of the history
+  -- the moves after the last line of the history
   pub pending : List ℕ
 
 -- Before the first step.
@@ -35,8 +35,8 @@ abbrev pub rule_members : (names : List ℕ) → List ℕ
 rule_members [] = []
 rule_members (space ∷ names) = codes ",\"rule\":" ++ quoted names
 
--- A line of the history that has this text: its number in the file, the text, the moves before it, the rules that it needs
--- itself, and what it changes itself.
+-- A line of the history that has this text: its number in the file, the text, the moves before it, the rules that it
+-- needs itself, and what it changes itself.
 abbrev pub line_members : (whole : Bool) → (number : ℕ) → (text moves names : List ℕ) → Wide → Wide → List ℕ
 line_members whole number text moves names w v =
     codes "{\"line\":" ++ decimal number ++ codes ",\"text\":" ++ quoted text ++ codes ",\"moves\":[" ++ moves
@@ -52,7 +52,7 @@ move_object name t names w v =
     codes "{\"" ++ name ++ codes "\":" ++ name_text thread_letter t ++ rule_members names ++ change_members false w v
     ++ codes "}"
 
--- A comma behind moves.
+-- A comma after moves.
 abbrev pub comma_behind : List ℕ → List ℕ
 comma_behind [] = []
 comma_behind (x ∷ xs) = codes ","
@@ -83,8 +83,8 @@ with_step from numbers (Shown line) names w v t = with_line from numbers line na
 with_step from numbers (Moves u) names w v t = with_move from (codes "move") u names w v t
 with_step from numbers (Ends u) names w v t = with_move from (codes "end") u names w v t
 
--- A run of these labels, newest first, which leads from the start to s, is told so. It may use these rules. The lines of
--- the history have these numbers in the file, and the first `from` of them are left out.
+-- A run of these labels, newest first, which leads from the start to s, is told so. It may use these rules. The lines
+-- of the history have these numbers in the file, and the first `from` of them are left out.
 pub data IsTold (r : Rules) (l : Bounds) (numbers : List ℕ) (from : ℕ) : List Label → Configuration → Telling → Type 0 where
   start : IsTold r l numbers from [] (start_of l) untold
   then : {xs : List Label} {s : Configuration} {t : Telling} (x : Label) (by : Rules) (n : Configuration)

@@ -22,8 +22,8 @@ adds base a rule = has a rule && not (has base rule)
 abbrev pub added : (base a : Rules) → List Rule
 added base a = filter (adds base a) rules_in_order
 
--- The sets of so many of these rules, which are some of a, each with those that are held: first those that have the first
--- rule.
+-- The sets of so many of these rules, which are some of a, each with those that are held: first those that have the
+-- first rule.
 unfoldable pub sets_of_size : (a : Rules) → (size : ℕ) → (held : Rules) → List Rule → List Rules
 sets_of_size a zero held rules = held ∷ []
 sets_of_size a (suc k) held [] = []

@@ -114,8 +114,8 @@ told is_whole is_changed object most = map object (filter (λ n. is_whole || is_
 abbrev pub objects : (is_whole : Bool) → (ℕ → Bool) → (ℕ → List ℕ) → (most : ℕ) → List ℕ
 objects is_whole is_changed object most = separated (told is_whole is_changed object most)
 
--- What is there in v, up to these numbers, and is another than it was in w, as members; or all that is there. Of threads
--- it is told of other states, from a to b.
+-- What is there in v, up to these numbers, and is another than it was in w, as members; or all that is there. Of
+-- threads it is told of other states, from a to b.
 abbrev pub change_lists : (is_whole : Bool) → (a b w v : World) → (threads mutexes conds : ℕ) → List ℕ
 change_lists is_whole a b w v threads mutexes conds =
     codes ",\"threads\":[" ++ objects is_whole (is_thread_changed a b) (thread_object b) threads

@@ -14,7 +14,7 @@ use Rattle.pif_rules_model.specs.declared.rules.Rule.TheVariants.{Recursion}
 use Rattle.pif_rules.specs.Sets.{name_of}
 use Rattle.pif_history_told.specs.Sets.{added}
 
--- The bounds behind the name of `recursion`: those from 255 on by their greatest number alone.
+-- The bounds after the name of `recursion`: those from 255 on by their greatest number alone.
 abbrev pub least_text : (least : ℕ) → List ℕ
 least_text least = if least == 255 then [] else decimal least ++ codes ".."
 
@@ -26,7 +26,7 @@ abbrev pub bounds_text : Rules → Rule → List ℕ
 bounds_text r Recursion = limits_text r.recursion
 bounds_text r x = []
 
--- A rule of a set, behind a space.
+-- A rule of a set, after a space.
 abbrev pub rule_text : Rules → Rule → List ℕ
 rule_text r x = codes " " ++ name_of x ++ bounds_text r x
 
@@ -34,7 +34,7 @@ rule_text r x = codes " " ++ name_of x ++ bounds_text r x
 abbrev pub names_of : (base r : Rules) → List ℕ
 names_of base r = flat_map (rule_text r) (added base r)
 
--- Names behind a word, if there are any, and the end of the line.
+-- Names after a word, if there are any, and the end of the line.
 abbrev pub with_names : (word names : List ℕ) → List ℕ
 with_names word [] = codes "\n"
 with_names word (x ∷ names) = word ++ x ∷ names ++ codes "\n"
@@ -71,8 +71,8 @@ error_word (Some e) = errno_name e
 abbrev pub call_word : Request → List ℕ
 call_word q = (row_of (kind_of q)).name
 
--- The line of an answer that no page has, and the answer, and the word of its call, if there is one. The lines have these
--- numbers in the text.
+-- The line of an answer that no page has, and the answer, and the word of its call, if there is one. The lines have
+-- these numbers in the text.
 abbrev pub but_for_text : (numbers : List ℕ) → Option Unlisted → List ℕ
 but_for_text numbers None = []
 but_for_text numbers (Some x) =
@@ -87,7 +87,7 @@ legal_text lines calls numbers found = legal_front lines calls ++ but_for_text n
 abbrev pub undecided_with : (number : ℕ) → (base r : Rules) → List ℕ
 undecided_with number base r = codes "undecided at " ++ decimal number ++ with_names (codes " with") (names_of base r)
 
--- What stands behind the first one.
+-- What stands after the first one.
 abbrev pub behind_first : List ℕ → List ℕ
 behind_first [] = []
 behind_first (x ∷ names) = names
@@ -96,7 +96,7 @@ behind_first (x ∷ names) = names
 abbrev pub rule_names : (base r : Rules) → List ℕ
 rule_names base r = behind_first (names_of base r)
 
--- The rules of r that add to those of base, behind a colon, if there are some.
+-- The rules of r that add to those of base, after a colon, if there are some.
 abbrev pub colon_names : List ℕ → List ℕ
 colon_names [] = []
 colon_names (x ∷ names) = codes ":" ++ x ∷ names

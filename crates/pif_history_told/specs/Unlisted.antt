@@ -21,11 +21,10 @@ use Rattle.pif_history_told.specs.declared.unlisted.Unlisted.{Unlisted}
 abbrev pub is_torn : World → (c m : ℕ) → Bool
 is_torn w c m = if (variable_at w c).mutex == m then false else nat_lt 0 (length (all_blocked w c))
 
--- Whether no page has this answer of a call, in the state in which it is given:
---   EPERM of consistent (pthread_mutex_consistent has EINVAL alone)
---   EINVAL and EDEADLK of a wait, timed or not (pthread_cond_wait has ENOTRECOVERABLE, EOWNERDEAD and EPERM, and ETIMEDOUT
---   and EINVAL of a wrong time)
---   EOVERFLOW of a signal or a broadcast (pthread_cond_broadcast has none)
+-- Whether no page has this answer of a call, in the state in which it is given:   EPERM of consistent
+-- (pthread_mutex_consistent has EINVAL alone)   EINVAL and EDEADLK of a wait, timed or not (pthread_cond_wait has
+-- ENOTRECOVERABLE, EOWNERDEAD and EPERM, and ETIMEDOUT   and EINVAL of a wrong time)   EOVERFLOW of a signal or a
+-- broadcast (pthread_cond_broadcast has none)
 abbrev pub is_unlisted : World → Request → (a : ℕ) → Bool
 is_unlisted w (Consistent m) a = a == EPERM
 is_unlisted w (Wait c m) a = if a == EINVAL then not (is_torn w c m) else a == EDEADLK

@@ -21,19 +21,19 @@ use Rattle.pif_history_told.specs.declared.verdicts.Known.TheVariants.{Refused, 
 abbrev pub left_out_member : ℕ → List ℕ
 left_out_member lines = codes ",\"left_out\":" ++ decimal lines
 
--- A number behind what it counts or numbers, and how many lines are left out.
+-- A number after what it counts or numbers, and how many lines are left out.
 abbrev pub at_number : (head : List ℕ) → (number left_out : ℕ) → List ℕ
 at_number head number left_out = head ++ decimal number ++ left_out_member left_out
 
--- The line of an answer that no page has, and the answer and the word of its call, as a member, if there is one. The lines
--- have these numbers in the text.
+-- The line of an answer that no page has, and the answer and the word of its call, as a member, if there is one. The
+-- lines have these numbers in the text.
 unfoldable pub but_for_member : (numbers : List ℕ) → Option Unlisted → List ℕ
 but_for_member numbers None = []
 but_for_member numbers (Some x) =
     codes ",\"but_for\":{\"line\":" ++ decimal (get_or numbers (x.line - 1) 0) ++ codes ",\"answer\":"
     ++ quoted (error_word (error_of x.answer)) ++ codes ",\"call\":" ++ quoted (call_word x.request) ++ codes "}"
 
--- A line of the history, behind its number.
+-- A line of the history, after its number.
 abbrev pub at_line : (number : ℕ) → Line → List ℕ
 at_line number line = codes "\"line\":" ++ decimal number ++ codes ",\"text\":" ++ quoted (line_text line)
 
@@ -54,8 +54,8 @@ deadlock_member false = []
 abbrev pub at_end_members : AtEnd → List ℕ
 at_end_members x = open_member x.calls.items ++ deadlock_member x.deadlock
 
--- A history of so many lines, which begin so many calls, is legal, by a run with this answer that no page has, if it has
--- one; and what is told of its end.
+-- A history of so many lines, which begin so many calls, is legal, by a run with this answer that no page has, if it
+-- has one; and what is told of its end.
 abbrev pub legal_object : (lines calls left_out : ℕ) → (numbers : List ℕ) → Option Unlisted → AtEnd → List ℕ
 legal_object lines calls left_out numbers found x =
     (codes "{\"verdict\":\"legal\",\"lines\":" ++ decimal lines ++ at_number (codes ",\"calls\":") calls left_out)
@@ -79,7 +79,7 @@ unfoldable pub began_member : Option Began → List ℕ
 began_member None = []
 began_member (Some b) = codes ",\"began\":{" ++ at_line b.number (Begin b.thread b.request) ++ codes "}"
 
--- An illegal line, behind its verdict.
+-- An illegal line, after its verdict.
 unfoldable pub illegal_front : (number : ℕ) → Line → (left_out : ℕ) → List ℕ
 illegal_front number line left_out =
     codes "{\"verdict\":\"illegal\"," ++ at_line number line ++ left_out_member left_out
@@ -93,13 +93,14 @@ abbrev pub illegal_object : (number : ℕ) → Line → Known → Option Began �
 illegal_object number line known began clues left_out =
     illegal_front number line left_out ++ illegal_end known began clues
 
--- With these numbers, in place of an answer or a priority, a search found a run, if it looked. It claims nothing of others.
+-- With these numbers, in place of an answer or a priority, a search found a run, if it looked. It claims nothing of
+-- others.
 unfoldable pub found_member : Option (Vec ℕ) → List ℕ
 found_member None = []
 found_member (Some ns) = codes ",\"found\":[" ++ numbers_text ns.items ++ codes "]"
 
--- A line, behind its verdict, of which it isn't known whether the history is legal up to it; and the number of the last line
--- up to which it is, null if none is known.
+-- The first line up to which the history may be legal or not, after the verdict; and the number of the last line up to
+-- which it is legal, null if none is known.
 unfoldable pub undecided_front : Unfound → (left_out : ℕ) → List ℕ
 undecided_front u left_out =
     codes "{\"verdict\":\"undecided\"," ++ at_line u.number u.line ++ left_out_member left_out

@@ -17,7 +17,7 @@ use Rattle.pif_history_told.specs.declared.telling.Says.TheVariants as says
 abbrev pub IsNumbered : Heard → (n : ℕ) → (number : ℕ) → Type 0
 IsNumbered h n number = slice_get h.numbers (n - 1) ≡ Some number
 
--- Exactly these numbers may stand, by the rules that a history allows, in a line behind its first `before` lines: as its
+-- Exactly these numbers may stand, by the rules that a history allows, in a line after its first `before` lines: as its
 -- answer, or its priority.
 abbrev pub ArePossible : (h : Heard) → (before : ℕ) → Line → List ℕ → Type 0
 ArePossible h before (Answer t a) numbers = ArePossibleAnswers h.allowed (limits_of h) (take before h.shown) t numbers
@@ -30,7 +30,7 @@ has_number (Answer t a) = true
 has_number (Prio t p) = true
 has_number line = false
 
--- What is known of the line behind the first `before` lines of a history is so: why it is refused; else its numbers, if
+-- What is known of the line after the first `before` lines of a history is so: why it is refused; else its numbers, if
 -- it has any and they were found.
 abbrev pub IsKnown : (h : Heard) → (before : ℕ) → Line → Known → Type 0
 IsKnown h before line (Refused why) = IsRefusalThere (limits_of h) (take before h.shown) line (Some why)
@@ -47,20 +47,20 @@ said_of t (Begin u q) = if u == t then says.Begins q else says.Nothing
 said_of t (Answer u a) = if u == t then says.Answers else says.Nothing
 said_of t line = says.Nothing
 
--- The call that t has open behind the nth line, which says this, if it had this one open before.
+-- The call that t has open after the nth line, which says this, if it had this one open before.
 abbrev pub open_behind : (t n : ℕ) → Says → Option Began → Option Began
 open_behind t n (says.Begins q) before = Some (record { number = n; thread = t; request = q })
 open_behind t n says.Answers before = None
 open_behind t n says.Nothing before = before
 
--- The call that t has open behind these lines, newest first, with the numbers of the lines: its newest begin, if no
--- answer of t stands behind it.
+-- The call that t has open after these lines, newest first, with the numbers of the lines: its newest begin, if no
+-- answer of t stands after it.
 abbrev pub open_call : (t : ℕ) → List Line → (numbers : List ℕ) → Option Began
 open_call t [] numbers = None
 open_call t (line ∷ lines) [] = None
 open_call t (line ∷ lines) (n ∷ numbers) = open_behind t n (said_of t line) (open_call t lines numbers)
 
--- The call that the thread of a line has open behind the first `before` lines of a history; none if it is no line of a
+-- The call that the thread of a line has open after the first `before` lines of a history; none if it is no line of a
 -- thread.
 abbrev pub open_of : (thread : Option ℕ) → Heard → (before : ℕ) → Option Began
 open_of (Some t) h before = open_call t (reverse (take before h.shown)) (reverse (take before h.numbers))
@@ -77,10 +77,10 @@ is_thread line = false
 abbrev pub threads_in : Heard → ℕ
 threads_in h = count_by is_thread h.shown
 
--- The call that t has open behind all lines of a history, if it has one.
+-- The call that t has open after all lines of a history, if it has one.
 abbrev pub open_of_thread : Heard → (t : ℕ) → List Began
 open_of_thread h t = elim (open_of (Some t) h (length h.shown)) [ Some b ↦ b ∷ [] | None ↦ [] ]
 
--- The calls that are open behind all of them, in the order of the threads' numbers.
+-- The calls that are open after all of them, in the order of the threads' numbers.
 abbrev pub open_at_end : Heard → List Began
 open_at_end h = flat_map (open_of_thread h) (up_to (threads_in h))

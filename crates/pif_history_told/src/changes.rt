@@ -11,12 +11,12 @@ use pif_text::{Listed, append_array};
 use pif_types::Tid;
 use std::alloc::{AllocError, Global};
 
-/// A step from a state to a state, of which what it changes is told, or the whole state behind it.
+/// A step from a state to a state, of which what it changes is told, or the whole state after it.
 #[derive(Clone, Copy)]
 pub struct Change<'a> {
     /// The state before it.
     pub from: &'a Wide,
-    /// The state behind it.
+    /// The state after it.
     pub to: &'a Wide,
     /// Whether the whole state is told.
     pub is_whole: bool,
@@ -157,7 +157,7 @@ fn append_conds<'a>(
     append_array(out, "conds", &conds, most)
 }
 
-/// Appends what a step changes, or the whole state behind it, as members. Of threads the states as lending sees them are
+/// Appends what a step changes, or the whole state after it, as members. Of threads the states as lending sees them are
 /// told, in which they have their priorities.
 pub fn append_changes(alloc: Global, change: &Change<'_>, out: &mut Vec<u8>) -> Result<(), Stop>
     ensures { OnOk result (out.new.items ≡ out.old.items ++ change_members change.now.is_whole change.now.from.now change.now.to.now) }

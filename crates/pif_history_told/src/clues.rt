@@ -1,22 +1,24 @@
-//! What is told of an illegal line behind what is possible there: clues to what is wrong.
+//! Clues to what is wrong with an illegal line, which follow what is possible there.
 ghost use Rattle.std.specs.Prelude.{◌≡◌, ◌++◌, OnOk};
 ghost use Rattle.pif_history_told.specs.Clues.{clues_members, clues_text, legal_if_member, legal_if_text};
 
 use crate::in_the_way::{InTheWay, append_in_the_way, tell_in_the_way};
+use pif_history_text::push_answer;
 use pif_text::{Member, append_decimal, append_object};
 use pif_types::Answer;
 use std::alloc::AllocError;
 
-/// Another answer, with which lines would be legal.
+/// Another answer before an illegal line, with which the lines up to that would be legal.
 #[derive(Clone, Copy)]
 pub struct LegalIf {
-    /// The number of the line that would have it, from 1.
+    /// The number of the line that would have this answer, from 1.
     pub number: u32,
     /// The answer.
     pub answer: Answer,
 }
 
-/// What is told of an illegal line behind what is possible there, each if it was found. It is told in this order.
+/// Clues to what is wrong with an illegal line, each if it was found. They follow what is possible there, in this
+/// order.
 #[derive(Clone, Copy)]
 pub struct Clues {
     /// What is in the way of the line, in every state to which the lines before lead.
@@ -35,7 +37,7 @@ fn tell_legal_if(found: Option<LegalIf>, out: &mut Vec<u8>) -> Result<(), AllocE
     out.extend_from_slice(b"legal if line ")?;
     append_decimal(out, u64::from(it.number))?;
     out.extend_from_slice(b" had ")?;
-    append_decimal(out, u64::from(it.answer))?;
+    push_answer(out, it.answer)?;
     out.extend_from_slice(b"\n")
 }
 

@@ -24,7 +24,7 @@ pub struct AtEnd {
     pub deadlock: bool,
 }
 
-/// What is told of an open call behind its thread.
+/// What is told of an open call after its thread.
 #[derive(Clone, Copy)]
 enum Part {
     /// The call, as in its begin.
@@ -43,7 +43,7 @@ fn push_request(request: &Request, out: &mut Vec<u8>) -> Result<(), AllocError>
     out.extend_from_slice(text.as_slice())
 }
 
-/// Appends a number behind these bytes.
+/// Appends a number after these bytes.
 pub(crate) fn push_numbered(head: &[u8], number: u32, out: &mut Vec<u8>) -> Result<(), AllocError>
     ensures { OnOk result (out.new.items ≡ out.old.items ++ (head.now ++ decimal number)) }
 {
@@ -83,7 +83,7 @@ fn push_call(part: Part, call: &Began, out: &mut Vec<u8>) -> Result<(), AllocErr
     push_part(part, call, out)
 }
 
-/// Appends further calls, each behind a comma.
+/// Appends further calls, each after a comma.
 fn push_further(part: Part, calls: &[Began], out: &mut Vec<u8>) -> Result<(), AllocError>
     ensures { OnOk result (out.new.items ≡ out.old.items ++ flat_map (λ x. codes ", " ++ call_text part x) calls.now) }
 {
@@ -94,7 +94,7 @@ fn push_further(part: Part, calls: &[Began], out: &mut Vec<u8>) -> Result<(), Al
     Ok(())
 }
 
-/// Appends calls in a line behind these words, if there are some.
+/// Appends calls in a line after these words, if there are some.
 fn push_calls(
     words: &[u8],
     part: Part,
@@ -154,7 +154,7 @@ fn append_begin(call: &Began, out: &mut Vec<u8>) -> Result<(), AllocError>
     )
 }
 
-/// Appends further begins of calls, each behind a comma.
+/// Appends further begins of calls, each after a comma.
 fn append_further(calls: &[Began], out: &mut Vec<u8>) -> Result<(), AllocError>
     ensures { OnOk result (out.new.items ≡ out.old.items ++ flat_map (λ x. codes "," ++ begin_object x) calls.now) }
 {

@@ -20,7 +20,7 @@ pub struct InTheWay {
     pub began: Option<Began>,
 }
 
-/// The thread that stands in the way by a fact, if it is one that has, gets or waits for something.
+/// The thread that stands in the way by a fact, if the fact says that a thread holds, gets or waits for something.
 pub fn blocker_of(fact: &Fact) -> Option<Tid>
     ensures { result ≡ blocker_of fact.now }
 {
@@ -33,7 +33,7 @@ pub fn blocker_of(fact: &Fact) -> Option<Tid>
     }
 }
 
-/// Appends words, and a number behind them.
+/// Appends words, and a number after them.
 fn append_numbered(out: &mut Vec<u8>, words: &[u8], number: u32) -> Result<(), AllocError>
     ensures { OnOk result (out.new.items ≡ out.old.items ++ numbered words.now number) }
 {
@@ -90,7 +90,7 @@ fn append_both(
     append_numbered(out, more, other)
 }
 
-/// Appends words and a number, and words behind it.
+/// Appends words and a number, and words after it.
 fn append_between(
     out: &mut Vec<u8>,
     words: &[u8],

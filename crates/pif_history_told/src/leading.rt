@@ -91,8 +91,8 @@ fn sets_for(alloc: Global, rules: &Rules, label: &Label) -> Result<Vec<Rules>, S
 }
 
 /// The rules with which a step of a label is one by these alone. If `ends_apart` is allowed, the line of an end asks
-/// whether the thread has released its mutexes. A line adds a mutex of PTHREAD_PRIO_NONE if these rules let one be added,
-/// and may be `process`, `halted` or `resumed` if they let these stand.
+/// whether the thread has released its mutexes. A line adds a mutex of PTHREAD_PRIO_NONE if these rules let one be
+/// added, and may be `process`, `halted` or `resumed` if they let these stand.
 fn asked_with(rules: &Rules, label: &Label, by: &Rules) -> Rules
     ensures { result ≡ asked_with rules.now label.now by.now }
 {

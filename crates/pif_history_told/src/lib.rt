@@ -24,11 +24,11 @@
 //! | `in_the_way` | what is in the way of an illegal line |
 //! | `open_calls` | the calls that are open at the end |
 //! | `ends` | what is told of them |
-//! | `clues` | what is told behind that: clues to what is wrong |
+//! | `clues` | what is told after that: clues to what is wrong |
 //! | `sets` | the sets of rules, in the order in which they are tried |
 //! | `texts` | lines that name a set |
 //! | `verdicts` | a verdict, as a line of JSON |
-//! | `names` | the names that a history gives, beside numbers |
+//! | `names` | the names and places that a history gives, beside numbers |
 //! | `pages` | a page around such lines |
 //! | `page_style` | how the page looks |
 //! | `page_script` | what the page does |
@@ -62,7 +62,7 @@ pub use clues::{Clues, LegalIf, tell_clues};
 pub use ends::{AtEnd, tell_at_end};
 pub use following::{rules_of_run, witness_text};
 pub use in_the_way::{InTheWay, blocker_of};
-pub use names::{beside_in_page, names_line, names_object};
+pub use names::{beside_in_page, names_line, names_object, places_line, places_object};
 pub use open_calls::open_at_end;
 pub use pages::{PAGE_LINES, append_page, first_shown};
 pub use places::{line_at, number_at};

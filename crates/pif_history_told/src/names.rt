@@ -3,7 +3,7 @@ ghost use Rattle.pif_history_told.specs.Names.{AreNames};
 
 use crate::pages::append_parts;
 use pif_history_text::Names;
-use pif_text::{append_decimal, append_name, number_behind};
+use pif_text::{append_decimal, append_name, is_word, number_behind, number_of};
 use std::alloc::{AllocError, Global};
 use std::str::from_utf8;
 
@@ -82,7 +82,7 @@ fn push_string(alloc: Global, name: &[u8], out: &mut Vec<u8>) -> Result<(), Allo
     out.extend_from_slice(b"\"")
 }
 
-/// What a word is the number of, by its letter, if that has a name.
+/// The letter and the number of what a word stands for, as `m1`, if that has a name.
 fn named_by(names: &Names, word: &[u8]) -> Option<(u8, u32)> {
     let letter = *word.first()?;
     let number = number_behind(letter, word)?;
@@ -90,7 +90,7 @@ fn named_by(names: &Names, word: &[u8]) -> Option<(u8, u32)> {
     Some((letter, number))
 }
 
-/// What stands in a text by its number and has a name, each once and in the order in which it stands there first.
+/// What a text names by its number and has a name: each once, in the order in which it first stands there.
 fn named_in(alloc: Global, names: &Names, text: &[u8]) -> Result<Vec<(u8, u32)>, AllocError> {
     let mut found = Vec::new(alloc);
     for word in text.split(|byte| !byte.is_ascii_alphanumeric()) {
@@ -104,7 +104,7 @@ fn named_in(alloc: Global, names: &Names, text: &[u8]) -> Result<Vec<(u8, u32)>,
     Ok(found)
 }
 
-/// Appends that something has a name, behind a comma if something stands there: `t2 is io_thd_3`.
+/// Appends that something has a name, after a comma if something stands there: `t2 is io_thd_3`.
 fn push_name(names: &Names, letter: u8, number: u32, out: &mut Vec<u8>) -> Result<(), AllocError> {
     let Some(name) = names.name_of(letter, number) else {
         return Ok(());
@@ -152,7 +152,7 @@ pub fn names_line(alloc: Global, names: &Names, text: &[u8]) -> Result<Vec<u8>, 
     enclosed(alloc, b"names: ", list.as_slice(), b"\n")
 }
 
-/// Appends the member of a name, behind a comma if something stands there.
+/// Appends the member of a name, after a comma if something stands there.
 fn append_member(
     alloc: Global,
     names: &Names,
@@ -199,6 +199,118 @@ pub fn names_object(alloc: Global, names: &Names) -> Result<Vec<u8>, AllocError>
     enclosed(alloc, b"{\"names\":{", members.as_slice(), b"}}\n")
 }
 
+/// Adds a line, if there is one, unless it was added before.
+fn push_new(line: Option<u32>, lines: &mut Vec<u32>) -> Result<(), AllocError> {
+    let Some(line) = line else {
+        return Ok(());
+    };
+    if !lines.as_slice().contains(&line) {
+        lines.push(line)?;
+    }
+    Ok(())
+}
+
+/// Whether the number of a line of the history stands after this word in what is told.
+fn is_before_line(word: &[u8]) -> bool {
+    is_word(word, b"at") || is_word(word, b"log") || is_word(word, b"undefined")
+}
+
+/// The number that a word is, if a line of this number has a place.
+fn line_named(names: &Names, word: &[u8]) -> Option<u32> {
+    let line = number_of(word)?;
+    names.place_of(line)?;
+    Some(line)
+}
+
+/// The numbers of lines that stand in a text and have places, each once and in the order in which they stand there
+/// first.
+fn lines_in(alloc: Global, names: &Names, text: &[u8]) -> Result<Vec<u32>, AllocError> {
+    let mut found = Vec::new(alloc);
+    let mut is_next = false;
+    for word in text.split(|byte| !byte.is_ascii_alphanumeric()) {
+        if word.is_empty() {
+            continue;
+        }
+        if is_next {
+            push_new(line_named(names, word), &mut found)?;
+        }
+        is_next = is_before_line(word);
+    }
+    Ok(found)
+}
+
+/// Appends that a call began at a line with a place, after a comma if something stands there:
+/// `line 18 at networking.c:3921`.
+fn push_place(names: &Names, line: u32, out: &mut Vec<u8>) -> Result<(), AllocError> {
+    let Some(place) = names.place_of(line) else {
+        return Ok(());
+    };
+    if !out.is_empty() {
+        out.extend_from_slice(b", ")?;
+    }
+    out.extend_from_slice(b"line ")?;
+    append_decimal(out, u64::from(line))?;
+    out.extend_from_slice(b" at ")?;
+    push_shown(place, out)
+}
+
+/// The places of the calls whose lines stand in a text.
+fn places_in(alloc: Global, names: &Names, text: &[u8]) -> Result<Vec<u8>, AllocError> {
+    let lines = lines_in(alloc, names, text)?;
+    let mut list = Vec::new(alloc);
+    for line in lines.as_slice() {
+        push_place(names, *line, &mut list)?;
+    }
+    Ok(list)
+}
+
+/// The line that has the places of the calls whose lines stand in these lines by their numbers, or nothing if there are
+/// none.
+///
+/// # Errors
+///
+/// Out of memory.
+pub fn places_line(alloc: Global, names: &Names, text: &[u8]) -> Result<Vec<u8>, AllocError>
+    ensures { IfOk result (λ line. AreNames (codes "places: ") (10 ∷ []) line.items) }
+{
+    let list = places_in(alloc, names, text)?;
+    enclosed(alloc, b"places: ", list.as_slice(), b"\n")
+}
+
+/// Appends the member of the nth place, after a comma if something stands there.
+fn append_place(
+    alloc: Global,
+    names: &Names,
+    nth: usize,
+    out: &mut Vec<u8>,
+) -> Result<(), AllocError> {
+    let Some((line, place)) = names.nth_place(nth) else {
+        return Ok(());
+    };
+    if !out.is_empty() {
+        out.push(b',')?;
+    }
+    out.push(b'"')?;
+    append_decimal(out, u64::from(line))?;
+    out.extend_from_slice(b"\":")?;
+    push_string(alloc, place, out)
+}
+
+/// The line of JSON that has the places of all calls, or nothing if there are none.
+///
+/// # Errors
+///
+/// Out of memory.
+pub fn places_object(alloc: Global, names: &Names) -> Result<Vec<u8>, AllocError>
+    ensures { IfOk result (λ line. AreNames (codes "{\"places\":{") (codes "}}\n") line.items) }
+{
+    let mut members = Vec::new(alloc);
+    for nth in 0..names.places() {
+        append_place(alloc, names, nth, &mut members)?;
+    }
+    enclosed(alloc, b"{\"places\":{", members.as_slice(), b"}}\n")
+}
+
 /// Appends the line of JSON that has the name of a file, if there is one.
 fn append_file(alloc: Global, file: Option<&[u8]>, out: &mut Vec<u8>) -> Result<(), AllocError> {
     let Some(name) = file else {
@@ -209,7 +321,7 @@ fn append_file(alloc: Global, file: Option<&[u8]>, out: &mut Vec<u8>) -> Result<
     out.extend_from_slice(b"}\n")
 }
 
-/// The lines of JSON of a page that stand beside a verdict: the names, and the name of the file.
+/// The lines of JSON of a page that stand beside a verdict: the names, the places, and the name of the file.
 ///
 /// # Errors
 ///
@@ -220,6 +332,8 @@ pub fn beside_in_page(
     file: Option<&[u8]>,
 ) -> Result<Vec<u8>, AllocError> {
     let mut lines = names_object(alloc, names)?;
+    let places = places_object(alloc, names)?;
+    lines.extend_from_slice(places.as_slice())?;
     append_file(alloc, file, &mut lines)?;
     Ok(lines)
 }

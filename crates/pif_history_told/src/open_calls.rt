@@ -1,4 +1,4 @@
-//! The calls that are open behind all lines of a history.
+//! The calls that are open after all lines of a history.
 ghost use Rattle.std.specs.Prelude.{◌≡◌, IfOk, length, slice_set};
 ghost use Rattle.pif_history_text.specs.Reading.{IsPaired, heard_of};
 ghost use Rattle.pif_history_told.specs.OpenTables.{AreOpenBehind, once_heard};
@@ -49,7 +49,7 @@ fn hear(calls: &mut [Option<Began>], line: &Line, number: u32)
     }
 }
 
-/// The open calls behind all lines, each at the place of its thread.
+/// The open calls after all lines, each at the place of its thread.
 fn open_table(alloc: Global, history: &History) -> Result<Vec<Option<Began>>, AllocError>
     requires paired { IsPaired history.now }
     ensures { IfOk result (λ v. AreOpenBehind (heard_of history.now) (length (heard_of history.now).shown) v.items) }
@@ -62,7 +62,7 @@ fn open_table(alloc: Global, history: &History) -> Result<Vec<Option<Began>>, Al
     Ok(calls)
 }
 
-/// The calls that are open behind all lines of a history, in the order of the threads' numbers.
+/// The calls that are open after all lines of a history, in the order of the threads' numbers.
 ///
 /// # Errors
 ///

@@ -5,9 +5,11 @@ pub const SCRIPT: &str = r#"</script>
 const LANE = 56, TOP = 34;
 const at = id => document.getElementById(id);
 const every = at('lines').textContent.split('\n').filter(Boolean).map(line => JSON.parse(line));
-// The names that comments give, and the name of the file; all else is verdicts and runs.
+// The names and the places that comments give, and the name of the file; all else is verdicts and runs.
 const names = (every.find(one => 'names' in one) || {names: {}}).names, {file} = every.find(one => 'file' in one && one.file !== '-') || {};
-const objects = every.filter(one => !('names' in one || 'file' in one));
+const places = (every.find(one => 'places' in one) || {places: {}}).places;
+const objects = every.filter(one => !('names' in one || 'places' in one || 'file' in one));
+const placed = line => places[line] ? ', ' + places[line] : '';
 const full = name => names[name] ? name + ' ' + names[name] : name;
 // What POSIX says of a history that isn't legal, if it was asked; behind it come a verdict and a run with its rules.
 const asked = objects.findIndex(one => 'posix' in one), posix = objects[asked];
@@ -95,6 +97,8 @@ function wordsOf(before, by) {
 const ERRORS = {1: 'EPERM', 3: 'ESRCH', 11: 'EAGAIN', 14: 'EFAULT', 16: 'EBUSY', 22: 'EINVAL', 35: 'EDEADLK', 75: 'EOVERFLOW',
   110: 'ETIMEDOUT', 130: 'EOWNERDEAD', 131: 'ENOTRECOVERABLE'};
 const named = answer => answer in ERRORS ? answer + ' ' + ERRORS[answer] : answer;
+// Numbers that may stand in a line of this text.
+const numbersOf = (text, numbers) => numbers.map(text.startsWith('answer') ? named : String).join(', ') || 'none';
 
 // One way through all steps: the call of each, the calls that are open behind it, and the mutexes that are owned, or that an
 // owner who ended left behind.
@@ -226,7 +230,7 @@ function drawBar(bar, first, end) {
   const x = Math.max(middle(from), -40), right = middle(to), y = laneOf(bar.thread) - 13, isOpen = bar.answer === null;
   const text = bar.words.join(' ') + (isOpen ? '' : ' = ' + bar.answer), start = Math.max(x, view.scrollLeft);
   const made = add('rect', {class: 'bar' + (isOpen ? ' open' : '') + (fails(bar) ? ' wrong' : ''), x, y, width: Math.max(right - x, 4), height: 26, rx: 4});
-  made.append(titled(bar.words.map(full).join(' ') + (isOpen ? '' : ' = ' + bar.answer)));
+  made.append(titled(bar.words.map(full).join(' ') + (isOpen ? '' : ' = ' + bar.answer) + (steps[bar.from] ? placed(steps[bar.from].line) : '')));
   const room = middle(columnBehindBar(bar)) - start - 10;
   if (fails(bar)) add('text', {class: 'wrong', x: Math.max(Math.min(start, right - 7 - wide(text)), view.scrollLeft) + 7, y: y - 4}, text);
   else if (right > start + 8 && room > 24) add('text', {x: start + 7, y: y - 4}, cut(text, room));
@@ -432,14 +436,14 @@ function whyOf(verdict) {
   const why = [], but = verdict.but_for;
   if (but) why.push('but for ' + but.line + ': ' + but.answer + ' of ' + but.call + ', which no page of POSIX has');
   if (verdict.refused) why.push('refused ' + verdict.refused + ', whatever was answered');
-  if (verdict.possible) why.push('possible there: ' + (verdict.possible.join(' ') || 'none'));
+  if (verdict.possible) why.push('possible there: ' + numbersOf(verdict.text, verdict.possible));
   if (verdict.possible === null) why.push('possible there: undecided');
-  if (verdict.began) why.push('its call began at ' + verdict.began.line + ': ' + verdict.began.text);
-  if (verdict.in_the_way) why.push('in the way: ' + verdict.in_the_way);
-  if (verdict.legal_if) why.push('legal if line ' + verdict.legal_if.line + ' had ' + verdict.legal_if.answer);
+  if (verdict.began) why.push('its call began at ' + verdict.began.line + placed(verdict.began.line) + ': ' + verdict.began.text);
+  if (verdict.in_the_way) why.push('in the way: ' + verdict.in_the_way.replace(/began at (\d+)/, (all, line) => all + placed(line)));
+  if (verdict.legal_if) why.push('legal if line ' + verdict.legal_if.line + ' had ' + named(verdict.legal_if.answer));
   if (verdict.open) why.push('open at the end: ' + verdict.open.map(call => call.text.slice(6)).join(', '));
   if (verdict.deadlock) why.push('a deadlock: none of them can be answered');
-  if (verdict.found) why.push('found there: ' + (verdict.found.join(' ') || 'none'));
+  if (verdict.found) why.push('found there: ' + numbersOf(verdict.text, verdict.found));
   return why;
 }
 function posixWords() {

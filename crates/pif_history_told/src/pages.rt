@@ -16,7 +16,7 @@ pub fn first_shown(lines: usize) -> usize
     lines.saturating_sub(PAGE_LINES)
 }
 
-/// Appends these parts, one behind the other.
+/// Appends these parts, one after the other.
 pub fn append_parts(
     before: &[u8],
     lines: &[u8],
@@ -30,8 +30,8 @@ pub fn append_parts(
     out.extend_from_slice(behind)
 }
 
-/// Appends a page that shows these lines of JSON: a verdict, and a run behind it; and `beside` them lines that have names.
-/// It needs nothing from elsewhere.
+/// Appends a page that shows these lines of JSON: a verdict, and a run after it; and `beside` them lines that have
+/// names. It needs nothing from elsewhere.
 ///
 /// # Errors
 ///

@@ -42,11 +42,11 @@ pub struct Frame<'a> {
 /// A step of a run, from a state to a state.
 #[derive(Clone, Copy)]
 pub struct Leap<'a> {
-    /// The names of the rules that it needs, each behind a space.
+    /// The names of the rules that it needs, each after a space.
     pub names: &'a [u8],
     /// The state before it.
     pub from: &'a Wide,
-    /// The state behind it.
+    /// The state after it.
     pub to: &'a Wide,
 }
 

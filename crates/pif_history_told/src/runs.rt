@@ -53,8 +53,8 @@ fn take_step(
 ///
 /// # Errors
 ///
-/// Out of memory, or a number got too great for a state; or each such run comes to a step of more states than are made at
-/// once.
+/// Out of memory, or a number got too great for a state; or each such run comes to a step of more states than are made
+/// at once.
 pub fn run_text(
     alloc: Global,
     rules: &Rules,

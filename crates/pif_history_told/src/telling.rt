@@ -39,7 +39,7 @@ fn said_of(line: &Line, thread: Tid) -> Says
     }
 }
 
-/// The call that a thread has open behind the first `before` lines of a history.
+/// The call that a thread has open after the first `before` lines of a history.
 fn open_call(history: &History, thread: Tid, before: usize) -> Option<Began>
     requires paired { IsPaired history.now }
     requires within { before ≤ vec_len history.now.shown }
@@ -63,7 +63,7 @@ fn open_call(history: &History, thread: Tid, before: usize) -> Option<Began>
     None
 }
 
-/// The call that a thread, if it is one, has open behind the first `before` lines of a history.
+/// The call that a thread, if it is one, has open after the first `before` lines of a history.
 pub fn began_of(history: &History, thread: Option<Tid>, before: usize) -> Option<Began>
     requires paired { IsPaired history.now }
     requires within { before ≤ vec_len history.now.shown }
@@ -72,7 +72,7 @@ pub fn began_of(history: &History, thread: Option<Tid>, before: usize) -> Option
     open_call(history, thread?, before)
 }
 
-/// The call that the thread of a line behind the first `before` lines has open there; none if it is no line of a
+/// The call that the thread of a line after the first `before` lines has open there; none if it is no line of a
 /// thread.
 pub fn began_before(history: &History, before: usize, line: &Line) -> Option<Began>
     requires paired { IsPaired history.now }
@@ -93,12 +93,12 @@ fn tell_began(began: Option<Began>, out: &mut Vec<u8>) -> Result<(), AllocError>
 }
 
 /// Appends the line that says what is known of a line.
-fn tell_known(known: &Known, out: &mut Vec<u8>) -> Result<(), AllocError>
-    ensures { OnOk result (out.new.items ≡ out.old.items ++ known_text known.now) }
+fn tell_known(line: &Line, known: &Known, out: &mut Vec<u8>) -> Result<(), AllocError>
+    ensures { OnOk result (out.new.items ≡ out.old.items ++ known_text line.now known.now) }
 {
     match known {
         Known::Refused(why) => push_refused(out, *why),
-        Known::Numbers(Some(numbers)) => push_possible(out, numbers.as_slice()),
+        Known::Numbers(Some(numbers)) => push_possible(out, line, numbers.as_slice()),
         Known::Numbers(None) => push_possible_undecided(out),
         Known::Nothing => Ok(()),
     }
@@ -110,13 +110,18 @@ fn tell_known(known: &Known, out: &mut Vec<u8>) -> Result<(), AllocError>
 /// # Errors
 ///
 /// Out of memory.
-pub fn tell_why(known: &Known, began: Option<Began>, out: &mut Vec<u8>) -> Result<(), AllocError>
-    ensures { OnOk result (out.new.items ≡ out.old.items ++ why_text known.now began) }
+pub fn tell_why(
+    line: &Line,
+    known: &Known,
+    began: Option<Began>,
+    out: &mut Vec<u8>,
+) -> Result<(), AllocError>
+    ensures { OnOk result (out.new.items ≡ out.old.items ++ why_text line.now known.now began) }
 {
     match known {
         Known::Refused(why) => push_refused(out, *why),
         Known::Numbers(_) => {
-            tell_known(known, out)?;
+            tell_known(line, known, out)?;
             tell_began(began, out)
         }
         Known::Nothing => tell_began(began, out),
@@ -145,7 +150,7 @@ fn tell_line(line: Line, out: &mut Vec<u8>) -> Result<(), AllocError>
     out.extend_from_slice(text.as_slice())
 }
 
-/// Appends a line behind its number, of which it isn't known whether the history is legal up to it.
+/// Appends the number and the text of a line up to which the history may be legal or not.
 fn tell_undecided_from(number: u32, line: Line, out: &mut Vec<u8>) -> Result<(), AllocError>
     ensures { OnOk result (out.new.items ≡ out.old.items ++ undecided_from_text number line) }
 {
@@ -154,20 +159,20 @@ fn tell_undecided_from(number: u32, line: Line, out: &mut Vec<u8>) -> Result<(),
     tell_line(line, out)
 }
 
-/// Appends with which numbers a search found a run, if it looked, and the end of the line.
-fn tell_found(found: &Option<Vec<u32>>, out: &mut Vec<u8>) -> Result<(), AllocError>
-    ensures { OnOk result (out.new.items ≡ out.old.items ++ found_text found.now) }
+/// Appends with which numbers in a line a search found a run, if it looked, and the end of the line.
+fn tell_found(line: &Line, found: &Option<Vec<u32>>, out: &mut Vec<u8>) -> Result<(), AllocError>
+    ensures { OnOk result (out.new.items ≡ out.old.items ++ found_text line.now found.now) }
 {
     match found {
         Some(numbers) => {
             out.extend_from_slice(b"; ")?;
-            push_found(out, numbers.as_slice())
+            push_found(out, line, numbers.as_slice())
         }
         None => out.extend_from_slice(b"\n"),
     }
 }
 
-/// Appends up to which line a history is legal, and the next one, of which that isn't known.
+/// Appends up to which line a history is legal, and the next line, up to which it may be legal or not.
 ///
 /// # Errors
 ///
@@ -177,5 +182,5 @@ pub fn tell_undecided(unfound: &Unfound, out: &mut Vec<u8>) -> Result<(), AllocE
 {
     tell_up_to(unfound.up_to, out)?;
     tell_undecided_from(unfound.number, unfound.line, out)?;
-    tell_found(&unfound.found, out)
+    tell_found(&unfound.line, &unfound.found, out)
 }

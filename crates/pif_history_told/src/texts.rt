@@ -49,7 +49,7 @@ fn push_bounds(rules: &Rules, rule: Rule, out: &mut Vec<u8>) -> Result<(), Stop>
     }
 }
 
-/// Appends a rule of a set, behind a space.
+/// Appends a rule of a set, after a space.
 fn push_rule(rules: &Rules, rule: Rule, out: &mut Vec<u8>) -> Result<(), Stop>
     ensures { OnOk result (out.new.items ≡ out.old.items ++ rule_text rules.now rule) }
 {
@@ -58,7 +58,7 @@ fn push_rule(rules: &Rules, rule: Rule, out: &mut Vec<u8>) -> Result<(), Stop>
     push_bounds(rules, rule, out)
 }
 
-/// The rules of a set that add to those that hold in any case, each behind a space.
+/// The rules of a set that add to those that hold in any case, each after a space.
 fn names(alloc: Global, base: &Rules, rules: &Rules) -> Result<Vec<u8>, Stop>
     ensures { IfOk result (λ v. v.items ≡ names_of base.now rules.now) }
 {
@@ -70,7 +70,7 @@ fn names(alloc: Global, base: &Rules, rules: &Rules) -> Result<Vec<u8>, Stop>
     Ok(text)
 }
 
-/// Appends these names behind a word, if there are any, and ends the line.
+/// Appends these names after a word, if there are any, and ends the line.
 fn push_with(word: &[u8], names: &[u8], out: &mut Vec<u8>) -> Result<(), Stop>
     ensures { OnOk result (out.new.items ≡ out.old.items ++ with_names word.now names.now) }
 {
@@ -99,8 +99,8 @@ pub(crate) fn call_word(request: &Request) -> &'static [u8]
     CallKind::of(request).row().name.as_bytes()
 }
 
-/// Appends the line of an answer that no page has, the answer, and the word of its call, if there is one. The lines have
-/// these numbers in the text.
+/// Appends the line of an answer that no page has, the answer, and the word of its call, if there is one. The lines
+/// have these numbers in the text.
 ///
 /// # Errors
 ///
@@ -134,7 +134,7 @@ pub fn calls_in(history: &History) -> usize
         .count()
 }
 
-/// The word behind the number of calls, if there are some.
+/// The word after the number of calls, if there are some.
 fn calls_word(calls: usize) -> &'static [u8]
     ensures { result.now ≡ calls_word calls }
 {
@@ -169,8 +169,8 @@ fn push_legal(lines: u32, calls: usize, out: &mut Vec<u8>) -> Result<(), AllocEr
     push_calls(calls, out)
 }
 
-/// Appends the line of a legal history of so many lines and calls, with the answer that no page has, if its run has one,
-/// what is told of its end, and what stands behind that. The lines have these numbers in the text.
+/// Appends the line of a legal history of so many lines and calls, with the answer that no page has, if its run has
+/// one, what is told of its end, and what stands after that. The lines have these numbers in the text.
 ///
 /// # Errors
 ///
@@ -250,7 +250,7 @@ pub fn rule_names(alloc: Global, base: &Rules, rules: &Rules) -> Result<Vec<u8>,
     }
 }
 
-/// Appends these names behind a colon, if there are any.
+/// Appends these names after a colon, if there are any.
 fn push_colon(names: &[u8], out: &mut Vec<u8>) -> Result<(), Stop>
     ensures { OnOk result (out.new.items ≡ out.old.items ++ colon_names names.now) }
 {
@@ -261,7 +261,7 @@ fn push_colon(names: &[u8], out: &mut Vec<u8>) -> Result<(), Stop>
     Ok(())
 }
 
-/// Appends the rules of a set that add to those that hold in any case, behind a colon, if there are any.
+/// Appends the rules of a set that add to those that hold in any case, after a colon, if there are any.
 ///
 /// # Errors
 ///

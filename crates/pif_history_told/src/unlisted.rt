@@ -195,8 +195,8 @@ fn has_suspect(labels: &[Label]) -> bool
     labels.iter().any(|label| is_suspect(label))
 }
 
-/// Takes the next step of a run with these labels and choices, and answers to which position it leads, and what was sought
-/// in it.
+/// Takes the next step of a run with these labels and choices, and answers to which position it leads, and what was
+/// sought in it.
 fn take_step(
     alloc: Global,
     rules: &Rules,
@@ -254,13 +254,13 @@ fn walked(
     Ok(sought.first)
 }
 
-/// The first answer, in a run whose steps have these labels, newest first, that no page of POSIX has among the errors of
-/// its call. There has to be such a run. It is followed only if an answer may be one of these.
+/// The first answer, in a run whose steps have these labels, newest first, that no page of POSIX has among the errors
+/// of its call. There has to be such a run. It is followed only if an answer may be one of these.
 ///
 /// # Errors
 ///
-/// Out of memory, or a number got too great for a state; or each such run comes to a step of more states than are made at
-/// once.
+/// Out of memory, or a number got too great for a state; or each such run comes to a step of more states than are made
+/// at once.
 pub fn first_unlisted(
     alloc: Global,
     rules: &Rules,

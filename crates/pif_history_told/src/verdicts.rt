@@ -24,10 +24,11 @@ pub enum Known {
     Nothing,
 }
 
-/// The first line of which it isn't known whether some run shows the lines up to it: no search found one.
+/// The first line up to which no search found a run, though there may be one.
 #[derive(Drop)]
 pub struct Unfound {
-    /// The number of the line before it, from 1: some run shows the lines up to that. None: no run of any was found.
+    /// The number of the line before it, from 1: some run shows the lines up to that. None if no run was found of any
+    /// line.
     pub up_to: Option<u32>,
     /// The number of the line, from 1.
     pub number: u32,
@@ -48,7 +49,7 @@ pub struct Began {
     pub request: Request,
 }
 
-/// Appends numbers, each behind a comma.
+/// Appends numbers, each after a comma.
 fn append_further(numbers: &[u32], out: &mut Vec<u8>) -> Result<(), AllocError>
     ensures { OnOk result (out.new.items ≡ out.old.items ++ flat_map (λ k. codes "," ++ decimal k) numbers.now) }
 {
@@ -222,8 +223,7 @@ fn append_found(found: &Option<Vec<u32>>, out: &mut Vec<u8>) -> Result<(), Alloc
     }
 }
 
-/// Appends the verdict on a history that was given up: the first line of which it isn't known whether some run shows the
-/// lines up to it, and the one before it.
+/// Appends the verdict on a history of which the search was given up: up to which line it is legal, and the next line.
 ///
 /// # Errors
 ///

@@ -1,5 +1,5 @@
 -- A verdict with what POSIX says, put together.
-use Rattle.std.proofs.Common.{◌≡◌, ◌∙◌, ◌≤◌, ◌⊎◌, inl, inr, ℕ, Some, None, length, true, false, List, ◌++◌, Vec, Global, refl, sym, ap, subst}
+use Rattle.std.proofs.Common.{◌≡◌, ◌∙◌, ◌≤◌, ◌⊎◌, inl, inr, ℕ, Some, None, length, true, false, List, ◌++◌, Vec, Global, refl, sym, ap, subst, if◌then◌else◌}
 use Rattle.pif_history_model.specs.declared.labels.Label.{Label}
 use Rattle.pif_history_machine.specs.declared.verdicts.Verdict.{Verdict}
 use Rattle.pif_history_machine.specs.declared.verdicts.Verdict.TheVariants.{Legal}
@@ -7,7 +7,10 @@ use Rattle.pif_history_machine.specs.Verdicts.{IsVerdictOf}
 use Rattle.pif_history_model.specs.Verdicts.{IsLegal}
 use Rattle.pif_history_text.specs.Histories.{Heard, limits_of}
 use Rattle.pif_history_told.specs.Unlisted.{IsFirstUnlisted}
+use Rattle.pif_rules_model.specs.declared.rules.Rule.{Rule}
+use Rattle.pif_rules_model.specs.declared.rules.Rule.TheVariants.{Steal}
 use Rattle.pif_rules_model.specs.declared.rules.Rules.{Rules}
+use Rattle.pif_rules_model.specs.Sets.{has, is_of_posix}
 use Rattle.pif_job_judge.specs.declared.faults.Ended.{Ended}
 use Rattle.pif_job_judge.specs.declared.forms.Form.{Form}
 use Rattle.pif_job_judge.specs.declared.forms.Form.TheVariants.{Text, Witness, Json, Page}
@@ -16,12 +19,17 @@ use Rattle.pif_job_judge.specs.declared.posix.Says.TheVariants as says
 use Rattle.pif_job_judge.specs.declared.search.Enough.{Enough}
 use Rattle.pif_job_judge.specs.declared.undefined.Begun.{Begun}
 use Rattle.pif_job_judge.specs.Lines.{AppendsLines, TellsRun}
-use Rattle.pif_job_judge.specs.Posix.{IsNumberedBy, IsSaid, forbidden_from, forbids_text, posix_end, posix_object, posix_text, under, undecided_text, undefined_text, verdict_said}
+use Rattle.pif_job_judge.specs.Posix.{IsNumberedBy, IsSaid, against, forbidden_from, forbids_text, posix_end, posix_object, posix_text, under, undecided_text, undefined_text, verdict_said}
 use Rattle.pif_job_judge.specs.Asked.{AppendsAllowedBy, AppendsAsked, AppendsAskedLines, AppendsAskedObjects, AppendsBrief, AppendsFirst, AppendsForbidden, AppendsRest, AppendsWhy, AreObjectsBehind, AreRestObjects, IsAsked, TellsAllowed}
 use Rattle.pif_job_judge.specs.Endings.{is_legal}
 use Rattle.pif_job_judge.proofs.ObjectLemmas.{both}
 
--- two texts, one behind the other
+-- of some rules those against POSIX are those that POSIX doesn't allow
+pub against_each : (r : Rules) (x : Rule) → has (against r) x ≡ (if is_of_posix x then false else has r x)
+against_each r Steal = refl
+against_each r _ = refl
+
+-- two texts, one after the other
 pub together : (h : Heard) (First : Says → List ℕ → Ended → Type 0) (Rest : Says → ℕ → List ℕ → Type 0) (said : Says) (number : ℕ)
     (told end : Ended) (old mid new : List ℕ) → IsSaid h.allowed (limits_of h) h.shown said → IsNumberedBy h said number
     → (first : (text : List ℕ) × First said text told × (mid ≡ old ++ text))
@@ -45,7 +53,7 @@ together h First Rest said number told end old mid new is numbered first rest en
   both old mid new first.0 rest.0 first.2 rest.2,
 )
 
--- a line, and what stands behind it
+-- a line, and what stands after it
 pub behind_line : (h : Heard) (form : Form) (said : Says) (number : ℕ) (old mid new : List ℕ)
     → mid ≡ old ++ posix_object h.allowed said number
     → (behind : (text : List ℕ) × AreObjectsBehind form h said text × (new ≡ mid ++ text))

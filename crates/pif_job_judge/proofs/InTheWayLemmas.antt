@@ -13,7 +13,7 @@ use Rattle.pif_job_judge.specs.InTheWay.{IsSoBehind}
 pub read_of_all : {X : Type 0} (P : X → Type 0) (xs : List X) (i : ℕ) (x : X) → i < length xs → x ≡ get_or xs i x → All P xs → P x
 read_of_all P xs i x lt e all = subst P (sym e) (all i x lt)
 
--- what is so behind these lines, with these limits, is so behind the first lines of a history
+-- what is so after these lines, with these limits, is so after the first lines of a history
 pub all_behind : (h : Heard) (before : ℕ) (l : Bounds) (lines : List Line) (fs : List Fact) → l ≡ limits_of h
     → lines ≡ take before h.shown → All (IsAlwaysSo h.allowed l (reverse lines)) fs → All (IsSoBehind h before) fs
 all_behind h before l lines fs b s all =

@@ -48,12 +48,12 @@ if_ok (Err e) P Q f holds = tt
 -- what is known of an illegal line, and clues to what is wrong
 pub tells_why : (h : Heard) (n : ℕ) (old mid new : List ℕ) (line : Line) (known : Known) (began : Option Began) (clues : Clues)
     → slice_get h.shown (n - 1) ≡ Some line → IsKnown h (n - 1) line known → began ≡ open_of (thread_of line) h (n - 1)
-    → AreClues h (n - 1) clues → mid ≡ old ++ why_text known began → new ≡ mid ++ clues_text clues → AppendsWhy h n old new
+    → AreClues h (n - 1) clues → mid ≡ old ++ why_text line known began → new ≡ mid ++ clues_text clues → AppendsWhy h n old new
 tells_why h n old mid new line known began clues there is began_is are first second =
-    let whole = why_text known began ++ clues_text clues in (
+    let whole = why_text line known began ++ clues_text clues in (
       whole,
-      (line, there, (known, clues, is, are, ap (λ (o : Option Began). why_text known o ++ clues_text clues) began_is)),
-      second ∙ ap (λ (l : List ℕ). l ++ clues_text clues) first ∙ append_assoc old (why_text known began) (clues_text clues),
+      (line, there, (known, clues, is, are, ap (λ (o : Option Began). why_text line known o ++ clues_text clues) began_is)),
+      second ∙ ap (λ (l : List ℕ). l ++ clues_text clues) first ∙ append_assoc old (why_text line known began) (clues_text clues),
     )
 
 -- the lines of an illegal history
@@ -142,11 +142,14 @@ pub shown_told : (plain : Bool) (form : Form) (name : Option (List ℕ)) (h : He
     → old ≡ front_of name form → AppendsAll plain form h end old told → IsShown form told shown
     → AppendsShown plain form h end (front_of name form) shown
 shown_told plain Text name h end old told shown e t s =
-    with_names plain Text h end (front_of name Text) old t.0 told s.0 shown e t.1 t.2 (λ l. (s.0, s.1, refl)) s.2
+    with_names plain Text h end (front_of name Text) old t.0 told (s.0 ++ s.1) shown e t.1 t.2
+    (λ l. (s.0, s.1, s.2, s.3, sym (append_assoc l s.0 s.1))) (s.4 ∙ append_assoc told s.0 s.1)
 shown_told plain Witness name h end old told shown e t s =
-    with_names plain Witness h end (front_of name Witness) old t.0 told s.0 shown e t.1 t.2 (λ l. (s.0, s.1, refl)) s.2
+    with_names plain Witness h end (front_of name Witness) old t.0 told (s.0 ++ s.1) shown e t.1 t.2
+    (λ l. (s.0, s.1, s.2, s.3, sym (append_assoc l s.0 s.1))) (s.4 ∙ append_assoc told s.0 s.1)
 shown_told plain Json name h end old told shown e t s =
-    with_names plain Json h end (front_of name Json) old t.0 told s.0 shown e t.1 t.2 (λ l. (s.0, s.1, refl)) s.2
+    with_names plain Json h end (front_of name Json) old t.0 told (s.0 ++ s.1) shown e t.1 t.2
+    (λ l. (s.0, s.1, s.2, s.3, sym (append_assoc l s.0 s.1))) (s.4 ∙ append_assoc told s.0 s.1)
 shown_told plain Page name h end old told shown e t s =
     let empty = page_front name in
     let same : told ≡ t.0 = t.2 ∙ ap (λ (l : List ℕ). l ++ t.0) (e ∙ empty) in (
@@ -155,7 +158,7 @@ shown_told plain Page name h end old told shown e t s =
       ap (λ (l : List ℕ). l ++ shown) (sym empty),
     )
 
--- what is shown of a history was written, behind its front
+-- what is shown of a history was written, after its front
 pub judged : (plain : Bool) (form : Form) (h : Heard) (held holds : Option (List ℕ)) (front new : List ℕ)
     (end : Ended) (given result : Result (Unit {0}) JudgeFault) → AppendsShown plain form h end front new
     → given ≡ result_of end → WritesText held holds new given result → Judges plain form (Ok h) held holds front result

@@ -1,5 +1,5 @@
 -- Judging a history with sets of rules, put together.
-use Rattle.std.proofs.Common.{◌≡◌, ◌∙◌, ℕ, Bool, false, inl, inr, List, ◌++◌, Option, Result, Ok, Err, ap, append_assoc, refl, subst}
+use Rattle.std.proofs.Common.{◌≡◌, ◌∙◌, ℕ, Bool, false, inl, inr, List, ◌++◌, Option, Result, Ok, Err, ap, append_assoc, refl, subst, sym}
 use Rattle.pif_script_model.specs.declared.faults.CliFault.{CliFault}
 use Rattle.pif_rules_model.specs.declared.rules.Rules.{Rules}
 use Rattle.pif_history_text.specs.Histories.{Heard}
@@ -42,12 +42,13 @@ pub needed_written : (plain : Bool) (a : Rules) (h : Heard) (held holds : Option
     → done ≡ result_of end → WritesText held holds given done result → JudgesLeast plain a (Ok h) held holds front result
 needed_written plain a h held holds front old new shown given end done result e t s same is w =
     let grown : new ≡ front ++ t.0 = t.2 ∙ ap (λ (l : List ℕ). l ++ t.0) e in
-    let all : given ≡ front ++ (t.0 ++ s.0) = same
-    ∙ (s.2 ∙ (ap (λ (l : List ℕ). l ++ s.0) grown ∙ append_assoc front t.0 s.0)) in
+    let names = s.0 ++ s.1 in
+    let all : given ≡ front ++ (t.0 ++ names) = same
+    ∙ (s.4 ∙ (append_assoc new s.0 s.1 ∙ (ap (λ (l : List ℕ). l ++ names) grown ∙ append_assoc front t.0 names))) in
     inr (
-      t.0 ++ s.0,
+      t.0 ++ names,
       end,
-      (t.0, needed t.1, (s.0, s.1, refl)),
+      (t.0, needed t.1, (s.0, s.1, s.2, s.3, sym (append_assoc t.0 s.0 s.1))),
       subst (λ (l : List ℕ). WritesText held holds l (result_of end) result) all
           (subst (λ (x : Done). WritesText held holds given x result) is w),
     )

@@ -78,7 +78,7 @@ below_parts a (suc n) k held rules within = by_order (equal_or_less k n (omega (
               ∙ ap (λ (ys : List Rules). sets_below a k held rules ++ ys) (append_assoc (sets_of_size a k held rules) p.0 (sets_of_size a n held rules))),
         )
 
--- a set behind others with which lines are illegal, and before others
+-- a set after others with which lines are illegal, and before others
 behind_more : (l : Bounds) (lines : List Line) (first sets rest all : List Rules) (r : Rules) → all ≡ first ++ (sets ++ rest)
     → All (IsIllegalSomewhere l lines) first → IsBehind l lines sets r → IsBehind l lines all r
 behind_more l lines first sets rest all r are before found = (

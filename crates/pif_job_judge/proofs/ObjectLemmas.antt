@@ -32,7 +32,7 @@ use Rattle.pif_job_judge.specs.Fronts.{IsFront, IsUndecided, count_of}
 use Rattle.pif_job_judge.specs.OpenCalls.{IsAtEnd}
 use Rattle.pif_history_told.specs.Why.{IsKnown, IsNumbered, open_of}
 
--- what follows from what holds behind a call that ended well
+-- what follows from what holds after a call that ended well
 pub on_ok : {T E : Type 0} (r : Result T E) (P Q : Type 0) → (P → Q) → OnOk r P → OnOk r Q
 on_ok (Ok x) P Q f holds = f holds
 on_ok (Err e) P Q f holds = tt
@@ -63,7 +63,7 @@ before_untold h before left_out l lines v old new limits are is none same =
     let two = subst (λ (ls : List Line). IsVerdictOf h.allowed (limits_of h) ls v) are one in
     ([], inr (v, two, none, refl), same ∙ sym (append-nil old))
 
--- two texts, one behind the other
+-- two texts, one after the other
 pub both : (old mid new one two : List ℕ) → mid ≡ old ++ one → new ≡ mid ++ two → new ≡ old ++ (one ++ two)
 both old mid new one two first second =
     second ∙ ap (λ (l : List ℕ). l ++ two) first ∙ append_assoc old one two

@@ -1,5 +1,5 @@
--- What is told of a history that isn't legal, if POSIX is asked: the verdict, what POSIX says, and what is told with the
--- rules with which it says so.
+-- What is told of a history that isn't legal, if POSIX is asked: the verdict, what POSIX says, and what is told with
+-- the rules with which it says so.
 use Rattle.std.specs.Prelude.{ℕ, ◌≡◌, ◌-◌, List, [], ◌++◌, slice_get, Option, Some, None}
 use Rattle.pif_rules_model.specs.declared.rules.Rules.{Rules}
 use Rattle.pif_history_model.specs.declared.labels.Label.{Label}
@@ -36,13 +36,13 @@ pub data IsBrief (h : Heard) (text : List ℕ) (end : Ended) : Type 0 where
   undecided : (front : Option Front) (u : Unfound) → IsUndecided h front u → text ≡ legal_up_to_text u
       → end ≡ ended.Undecided u.number → IsBrief h text end
 
--- What is told before what POSIX says. If that forbids the history, what is possible is told behind it.
+-- What is told before what POSIX says. If that forbids the history, what is possible is told after it.
 abbrev pub IsFirst : Form → Heard → Says → (text : List ℕ) → Ended → Type 0
 IsFirst form h (Forbids n) text end = IsBrief h text end
 IsFirst form h other text end = IsTold form h text end
 
--- What POSIX says of a history that it allows, which has the rules with which it does: by a run of it, with the first answer
--- that no page has, if it has one; and the run, if it is wanted.
+-- What POSIX says of a history that it allows, which has the rules with which it does: by a run of it, with the first
+-- answer that no page has, if it has one; and the run, if it is wanted.
 abbrev pub TellsAllowed : Form → (base : Rules) → Heard → Says → (number : ℕ) → (text : List ℕ) → Type 0
 TellsAllowed form base h says number text =
     (labels : List Label) × (found : Option Unlisted) × (more : List ℕ) × IsLegal h.allowed (limits_of h) h.shown labels
@@ -53,8 +53,8 @@ TellsAllowed form base h says number text =
 abbrev pub TellsWhyAt : Heard → (n : ℕ) → (text : List ℕ) → Type 0
 TellsWhyAt h n text = (line : Line) × (slice_get h.shown (n - 1) ≡ Some line) × TellsWhy h (n - 1) line text
 
--- What POSIX says of a history, and what is told behind it, with the rules with which it says so: a run, if it allows the
--- history and that is wanted; or what is possible at the line from which on it forbids it.
+-- What POSIX says of a history, and what is told after it, with the rules with which it says so: a run, if it allows
+-- the history and that is wanted; or what is possible at the line from which on it forbids it.
 abbrev pub IsRest : Form → Heard → Says → (number : ℕ) → (text : List ℕ) → Type 0
 IsRest form h (Least e) number text = TellsAllowed form h.allowed (under (Least e) h) (Least e) number text
 IsRest form h (Found e) number text = TellsAllowed form h.allowed (under (Found e) h) (Found e) number text
@@ -65,7 +65,7 @@ IsRest form h (Undecided n) number text = text ≡ undecided_text h.allowed
 
 -- TOGETHER
 
--- A text tells what First is of it, and behind it what Rest is of what POSIX says of the history; and how that ends.
+-- A text tells what First is of it, and after it what Rest is of what POSIX says of the history; and how that ends.
 pub record IsAsked (h : Heard) (First : Says → List ℕ → Ended → Type 0) (Rest : Says → ℕ → List ℕ → Type 0) (text : List ℕ) (end : Ended) : Type 0 where
   pub says : Says
   pub number : ℕ
@@ -82,8 +82,8 @@ pub record IsAsked (h : Heard) (First : Says → List ℕ → Ended → Type 0) 
 abbrev pub AreAskedLines : Form → Heard → (text : List ℕ) → Ended → Type 0
 AreAskedLines form h text end = IsAsked h (IsFirst form h) (IsRest form h) text end
 
--- In lines of JSON the whole of what is told of a verdict, what POSIX says, and the whole again with the rules with which it
--- says so.
+-- In lines of JSON the whole of what is told of a verdict, what POSIX says, and the whole again with the rules with
+-- which it says so.
 abbrev pub AreObjectsBehind : Form → Heard → Says → (text : List ℕ) → Type 0
 AreObjectsBehind form h says text = (end : Ended) × AreObjects form (under says h) text end
 

@@ -18,8 +18,8 @@ is_legal (Undecided n) = false
 abbrev pub legal_end : (calls : ℕ) → Ended
 legal_end calls = if calls == 0 then ended.NoCall else ended.Legal
 
--- Well if it is legal, and begins a call; and else with the line up to which there is no run, at which the search was given
--- up, with which a call begins whose behaviour POSIX leaves undefined, or which is a mistake of the log.
+-- Well if it is legal, and begins a call; and else with the line up to which there is no run, at which the search was
+-- given up, with which a call begins whose behaviour POSIX leaves undefined, or which is a mistake of the log.
 abbrev pub result_of : Ended → Result (Unit {0}) JudgeFault
 result_of ended.Legal = Ok tt
 result_of ended.NoCall = Err fault.NoCall

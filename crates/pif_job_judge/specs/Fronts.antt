@@ -24,8 +24,8 @@ abbrev pub IsUpTo : Heard → Option Front → Option ℕ → Type 0
 IsUpTo h None up_to = up_to ≡ None
 IsUpTo h (Some f) up_to = (number : ℕ) × (up_to ≡ Some number) × IsNumbered h f.count number
 
--- What is told of an undecided history: some run shows the lines up to one, and of the next one it isn't known whether one
--- shows the lines up to that.
+-- What is told of an undecided history: some run shows the lines up to one, and of the next one it isn't known whether
+-- one shows the lines up to that.
 pub record IsUndecided (h : Heard) (front : Option Front) (u : Unfound) : Type 0 where
   pub legal : IfSome front (IsFront h)
   pub up_to : IsUpTo h front u.up_to

@@ -51,8 +51,8 @@ abbrev pub IsAskedOf : (plain : Bool) → Heard → (asked : Bool) → Type 0
 IsAskedOf plain h asked =
     (v : Verdict) × IsVerdictOf h.allowed (limits_of h) h.shown v × (asks plain (is_legal v) ≡ asked)
 
--- All that is told of a history, and how that ends: the verdict, and what POSIX says if it is asked; or the mistake of the
--- log.
+-- All that is told of a history, and how that ends: the verdict, and what POSIX says if it is asked; or the mistake of
+-- the log.
 pub data TellsAll (plain : Bool) (form : Form) (h : Heard) (text : List ℕ) (end : Ended) : Type 0 where
   verdict : Tells form h text end → IsAskedOf plain h false → TellsAll plain form h text end
   asked : TellsAsked form h text end → IsAskedOf plain h true → TellsAll plain form h text end
@@ -86,7 +86,7 @@ WritesText held holds text end result =
 abbrev pub HadNoMemory : (held holds : Option (List ℕ)) → (result : Result (Unit {0}) JudgeFault) → Type 0
 HadNoMemory held holds result = (result ≡ Err (fault.Cli NoMemory)) × Keeps held holds
 
--- Judging a history, or the bytes that have a fault: what is shown of it in this form was written, behind these bytes.
+-- Judging a history, or the bytes that have a fault: what is shown of it in this form was written, after these bytes.
 -- If a read failed or memory ran out, nothing was.
 abbrev pub Judges : (plain : Bool) → Form → (history : Result Heard CliFault) → (held holds : Option (List ℕ)) → (front : List ℕ)
     → Result (Unit {0}) JudgeFault → Type 0
@@ -108,8 +108,8 @@ abbrev pub heard_allowing : Rules → Result Heard CliFault → Result Heard Cli
 heard_allowing r (Ok h) = Ok (allowing r h)
 heard_allowing r (Err fault) = Err fault
 
--- Judging by what the reader had and has left, and what the writer held and holds. These rules hold beside those that the
--- history allows.
+-- Judging by what the reader had and has left, and what the writer held and holds. These rules hold beside those that
+-- the history allows.
 abbrev pub JudgesTo : (plain : Bool) → Form → Rules → (before after held holds : Option (List ℕ)) → (front : List ℕ)
     → Result (Unit {0}) JudgeFault → Type 0
 JudgesTo plain form r before after held holds front result =

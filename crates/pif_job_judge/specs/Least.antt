@@ -24,7 +24,7 @@ pub data IsTold (plain : Bool) (a : Rules) (h : Heard) (text : List ℕ) (end : 
 abbrev pub IsShownOf : (plain : Bool) → (a : Rules) → Heard → (shown : List ℕ) → (end : Ended) → Type 0
 IsShownOf plain a h shown end = (text : List ℕ) × IsTold plain a h text end × IsShown Text text shown
 
--- Judging a history, or the bytes that have a fault: what is told of it was written, behind these bytes. If a read
+-- Judging a history, or the bytes that have a fault: what is told of it was written, after these bytes. If a read
 -- failed or memory ran out, nothing was.
 abbrev pub JudgesLeast : (plain : Bool) → (a : Rules) → (history : Result Heard CliFault) → (held holds : Option (List ℕ)) → (front : List ℕ)
     → Result (Unit {0}) JudgeFault → Type 0

@@ -8,7 +8,7 @@ use Rattle.pif_history_text.specs.Histories.{Heard, limits_of}
 use Rattle.pif_history_told.specs.declared.clues.LegalIf.{LegalIf}
 use Rattle.pif_history_told.specs.Why.{IsNumbered}
 
--- The lines of a history up to the one behind the first `before`, with this line in the place of another.
+-- The lines of a history up to the one after the first `before`, with this line in the place of another.
 abbrev pub changed : Heard → (before place : ℕ) → Line → List Line
 changed h before place line = set (take (before + 1) h.shown) place line
 
@@ -20,8 +20,8 @@ IsLegalWith h before place line = (labels : List Label) × IsLegal h.allowed (li
 abbrev pub IsOtherAnswer : Heard → (before place t answer other : ℕ) → Type 0
 IsOtherAnswer h before place t answer other = (other ≡ answer → ⊥) × IsLegalWith h before place (Answer t other)
 
--- One of the first `before` lines of a history is an answer. With this one, which is another, the lines up to the one behind
--- those would be legal.
+-- One of the first `before` lines of a history is an answer. With this one, which is another, the lines up to the one
+-- after those would be legal.
 pub record IsLegalIf (h : Heard) (before : ℕ) (x : LegalIf) : Type 0 where
   pub place : ℕ
   pub thread : ℕ

@@ -1,4 +1,5 @@
 pub mod Asked
+pub mod Before
 pub mod Endings
 pub mod Shown
 pub mod Judging

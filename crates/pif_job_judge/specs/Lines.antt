@@ -33,14 +33,15 @@ use Rattle.pif_job_judge.specs.OpenCalls.{IsAtEnd}
 use Rattle.pif_history_told.specs.Why.{IsKnown, IsNumbered, open_of}
 use Rattle.pif_history_told.specs.WhyTexts.{legal_up_to_text, why_text}
 
--- What is told of the line behind the first `before` lines of a history, up to which there is no run: what is known of it,
--- and behind that the clues to what is wrong.
+-- What is told of the line after the first `before` lines of a history, up to which there is no run: what is known of
+-- it, and after that the clues to what is wrong.
 abbrev pub TellsWhy : (h : Heard) → (before : ℕ) → Line → (text : List ℕ) → Type 0
 TellsWhy h before line text =
     (known : Known) × (clues : Clues) × IsKnown h before line known × AreClues h before clues
-    × (text ≡ why_text known (open_of (thread_of line) h before) ++ clues_text clues)
+    × (text ≡ why_text line known (open_of (thread_of line) h before) ++ clues_text clues)
 
--- A text tells a run with these rules, whose steps have these labels, newest first, if the witness is wanted; else nothing.
+-- A text tells a run with these rules, whose steps have these labels, newest first, if the witness is wanted; else
+-- nothing.
 abbrev pub TellsRun : Form → Rules → Bounds → List Label → (text : List ℕ) → Type 0
 TellsRun Witness r l labels text = (last : Configuration) × IsRunTold r l labels last text
 TellsRun form r l labels text = text ≡ []
@@ -57,10 +58,10 @@ HasUnlisted r l (Legal witness) found = IsFirstUnlisted r l witness.items found
 HasUnlisted r l (Illegal n) found = ⊥
 HasUnlisted r l (Undecided n) found = ⊥
 
--- What is told of a history in lines, and how that ends: the verdict on it with the rules that it allows. Of a legal one
--- it is told how many calls it begins, and the first answer of the run that no page has, if it has one; and behind its
--- line which calls are open at its end, and its witness, if it is wanted. If the search was given up, it is told up to which
--- line some run shows the lines.
+-- What is told of a history in lines, and how that ends: the verdict on it with the rules that it allows. Of a legal
+-- one it is told how many calls it begins, and the first answer of the run that no page has, if it has one; and after
+-- its line which calls are open at its end, and its witness, if it is wanted. If the search was given up, it is told up
+-- to which line some run shows the lines.
 pub data IsTold (form : Form) (h : Heard) (text : List ℕ) (end : Ended) : Type 0 where
   legal : (v : Verdict) (witness : List ℕ) (found : Option Unlisted) (at_end : AtEnd)
       → IsVerdictOf h.allowed (limits_of h) h.shown v
@@ -78,8 +79,8 @@ pub data IsTold (form : Form) (h : Heard) (text : List ℕ) (end : Ended) : Type
 abbrev pub AppendsLines : Form → Heard → (end : Ended) → (old new : List ℕ) → Type 0
 AppendsLines form h end old new = (text : List ℕ) × IsTold form h text end × (new ≡ old ++ text)
 
--- Bytes grew by the line of a legal history, by what is told of its end, and by what is told of the run whose steps have
--- these labels, and this is how it ends.
+-- Bytes grew by the line of a legal history, by what is told of its end, and by what is told of the run whose steps
+-- have these labels, and this is how it ends.
 abbrev pub TellsLegal : Form → Heard → List Label → (old new : List ℕ) → Ended → Type 0
 TellsLegal form h labels old new end =
     (witness : List ℕ) × (found : Option Unlisted) × (at_end : AtEnd) × TellsRun form h.allowed (limits_of h) labels witness

@@ -1,11 +1,11 @@
--- Mistakes of a log: a line that the lines before it refuse by themselves, whatever was answered. It says nothing of what
--- was recorded.
-use Rattle.std.specs.Prelude.{ℕ, ◌≡◌, ◌≤◌, ◌-◌, Bool, false, List, [], ◌++◌, length, take, slice_get, IfSome, Some, codes, decimal}
+-- Mistakes of a log: a line that the lines before it refuse by themselves, whatever was answered. It says nothing of
+-- what was recorded.
+use Rattle.std.specs.Prelude.{ℕ, ◌≡◌, ◌-◌, Bool, false, List, [], ◌++◌, take, slice_get, IfSome, Some, codes, decimal}
 use Rattle.pif_history_model.specs.declared.labels.Label.{Label}
 use Rattle.pif_history_model.specs.declared.lines.Line.{Line}
 use Rattle.pif_history_model.specs.declared.refusals.LineRefusal.{LineRefusal}
 use Rattle.pif_history_model.specs.Verdicts.{IsLegal}
-use Rattle.pif_history_machine.specs.Verdicts.{IsRefusalThere, IsVerdictOf}
+use Rattle.pif_history_machine.specs.Verdicts.{IsVerdictOf}
 use Rattle.pif_history_text.specs.Histories.{Heard, limits_of}
 use Rattle.pif_history_text.specs.Verdicts.{line_refusal_word, refused_line}
 use Rattle.pif_history_told.specs.Verdicts.{at_line, left_out_member}
@@ -17,15 +17,14 @@ use Rattle.pif_job_judge.specs.declared.faults.Ended.{Ended}
 use Rattle.pif_job_judge.specs.declared.faults.Ended.TheVariants as ended
 use Rattle.pif_job_judge.specs.declared.mistakes.Outcome.{Outcome}
 use Rattle.pif_job_judge.specs.declared.mistakes.Outcome.TheVariants.{Log, Verdict}
+use Rattle.pif_job_judge.specs.Before.{IsRefusedAt}
 use Rattle.pif_job_judge.specs.Endings.{is_legal}
 use Rattle.pif_job_judge.specs.Fronts.{IsFront}
 use Rattle.pif_job_judge.specs.Objects.{TellsSteps, left_out_of}
 
 -- The nth line of a history is refused for this reason.
 abbrev pub IsRefused : Heard → (n : ℕ) → LineRefusal → Type 0
-IsRefused h n why =
-    (1 ≤ n) × (n ≤ length h.shown) × ((line : Line) × (slice_get h.shown (n - 1) ≡ Some line)
-    × IsRefusalThere (limits_of h) (take (n - 1) h.shown) line (Some why))
+IsRefused h = IsRefusedAt (limits_of h) h.shown
 
 -- It is a mistake of the log: the lines before it are legal, by a run with these labels.
 abbrev pub IsMistake : Heard → (n : ℕ) → LineRefusal → List Label → Type 0
@@ -36,12 +35,12 @@ abbrev pub IsFound : Heard → Outcome → Type 0
 IsFound h (Log m) = IsMistake h m.count m.why m.labels.items
 IsFound h (Verdict v front) = IsVerdictOf h.allowed (limits_of h) h.shown v × IfSome front (IsFront h)
 
--- Whether it is that the history is legal.
+-- Whether it says that the history is legal.
 abbrev pub is_found_legal : Outcome → Bool
 is_found_legal (Log m) = false
 is_found_legal (Verdict v front) = is_legal v
 
--- Of a history is found that it is legal; or it isn't.
+-- A history is found legal, or it isn't found legal.
 abbrev pub IsJudged : Heard → (legal : Bool) → Type 0
 IsJudged h legal = (found : Outcome) × IsFound h found × (is_found_legal found ≡ legal)
 
@@ -63,7 +62,7 @@ AreLogLines h text end =
     (n number : ℕ) × (why : LineRefusal) × (labels : List Label) × IsMistake h n why labels × IsNumbered h n number
     × (text ≡ log_text number why) × (end ≡ ended.Log number)
 
--- A text tells of it in lines of JSON, and behind it the run that shows the lines before it, and this is how that ends.
+-- A text tells of it in lines of JSON, and after it the run that shows the lines before it, and this is how that ends.
 abbrev pub AreLogObjects : Form → Heard → (text : List ℕ) → Ended → Type 0
 AreLogObjects form h text end =
     (n number : ℕ) × (line : Line) × (why : LineRefusal) × (labels : List Label) × (run : List ℕ) × IsMistake h n why labels

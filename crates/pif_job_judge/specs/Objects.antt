@@ -71,7 +71,7 @@ abbrev pub TellsFront : Heard → (left_out : ℕ) → Option Front → (text : 
 TellsFront h left_out None text = text ≡ []
 TellsFront h left_out (Some f) text = TellsSteps h left_out f.labels.items text
 
--- What is told of a history in lines of JSON, and how that ends: the verdict, and behind it a run that shows all lines,
+-- What is told of a history in lines of JSON, and how that ends: the verdict, and after it a run that shows all lines,
 -- or those before the line of the verdict, if it was found.
 pub data AreObjects (form : Form) (h : Heard) (text : List ℕ) (end : Ended) : Type 0 where
   legal : (labels : List Label) (run : List ℕ) (found : Option Unlisted) (at_end : AtEnd) → IsLegal h.allowed (limits_of h) h.shown labels

@@ -22,7 +22,7 @@ abbrev pub is_end_of : (t : ℕ) → Line → Bool
 is_end_of t (End u) = u == t
 is_end_of t line = false
 
--- Whether the thread that is about to end by a line, if one is, has ended by the lines behind it.
+-- Whether the thread that is about to end by a line, if one is, has ended by the lines after it.
 abbrev pub is_ended : Line → (behind : List Line) → Bool
 is_ended (Dying t) behind = list_any (is_end_of t) behind
 is_ended (Process t) behind = list_any (is_end_of t) behind
@@ -33,8 +33,8 @@ abbrev pub all_ended : List Line → Bool
 all_ended [] = true
 all_ended (line ∷ behind) = is_ended line behind && all_ended behind
 
--- These calls are open for good, unless another call begins or a thread ends yet: some run shows the lines of the history, and
--- none shows them and then an answer of one of these calls. No call has a deadline, and no thread is about to end.
+-- These calls stay open unless another call begins or a thread ends: some run shows the lines of the history, and none
+-- shows them and then an answer of one of these calls. No call has a deadline, and no thread is about to end.
 pub record IsDeadlock (h : Heard) (calls : List Began) : Type 0 where
   pub some : 1 ≤ length calls
   pub timeless : list_any (λ b. has_deadline b.request) calls ≡ false

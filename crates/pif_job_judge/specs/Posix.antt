@@ -1,5 +1,5 @@
--- What POSIX says of a history that wasn't found to be legal: the machine is asked with the rules that hold and with all
--- those of POSIX.
+-- What POSIX says of a history that wasn't found to be legal: the machine is asked with the rules that hold and with
+-- all those of POSIX.
 use Rattle.std.specs.Prelude.{⊤, ℕ, Bool, true, false, Option, Some, None, ◌≤◌, ◌-◌, List, [], ◌++◌, length, take, codes, decimal, if◌then◌else◌}
 use Rattle.pif_types.specs.Bounds.{Bounds}
 use Rattle.pif_rules_model.specs.declared.rules.Rules.{Rules}
@@ -26,8 +26,9 @@ use Rattle.pif_job_judge.specs.declared.faults.Ended.TheVariants as ended
 use Rattle.pif_job_judge.specs.LeastRules.{IsBehindIllegal, IsEnough}
 
 -- What is said of lines, if the rules of base hold in any case: the first set of the rules of POSIX with which they are
--- legal; a set with which they are; the first line up to which no run with all of them shows the lines, perhaps with a call
--- before it whose behaviour POSIX leaves undefined in some run; or the line at which the search with all was given up.
+-- legal; a set with which they are; the first line up to which no run with all of them shows the lines, perhaps with a
+-- call before it whose behaviour POSIX leaves undefined in some run; or the line at which the search with all was given
+-- up.
 abbrev pub IsSaid : (base : Rules) → Bounds → List Line → Says → Type 0
 IsSaid base l lines (Least e) = IsEnough l lines e × IsBehindIllegal base posix_rules l lines e.set
 IsSaid base l lines (Found e) = IsEnough l lines e
@@ -55,7 +56,7 @@ against r = record no_rules {
   revives = r.revives;
 }
 
--- The rules that hold against POSIX, behind a word, if there are some.
+-- The rules that hold against POSIX, after a word, if there are some.
 abbrev pub beside_text : (word : List ℕ) → (base : Rules) → List ℕ
 beside_text word base = if is_any (against base) then word ++ names_of (against base) else []
 
@@ -83,8 +84,8 @@ undefined_text base number b =
 abbrev pub undecided_text : (base : Rules) → List ℕ
 undecided_text base = codes "POSIX" ++ beside_text (codes " and") base ++ codes ": undecided\n"
 
--- The line that tells what is said, which names the line of this number if it names one; and the first answer that no page
--- has, if it allows the lines by a run that has one. These have these numbers in the text.
+-- The line that tells what is said, which names the line of this number if it names one; and the first answer that no
+-- page has, if it allows the lines by a run that has one. These have these numbers in the text.
 abbrev pub posix_text : (base : Rules) → Says → (number : ℕ) → (numbers : List ℕ) → Option Unlisted → List ℕ
 posix_text base (Least e) number numbers found = allows_text base e.rules [] numbers found
 posix_text base (Found e) number numbers found = allows_text base e.rules (codes ", perhaps fewer") numbers found
@@ -123,8 +124,8 @@ rules_said base (Undecided n) = both posix_rules base
 abbrev pub under : Says → Heard → Heard
 under says h = record h { allowed = rules_said h.allowed says }
 
--- What is said, as a verdict with these rules: a run shows the lines; a line is the first up to which there is none; or the
--- search was given up there.
+-- What is said, as a verdict with these rules: a run shows the lines; a line is the first up to which there is none; or
+-- the search was given up there.
 abbrev pub verdict_said : Says → Verdict
 verdict_said (Least e) = verdict.Legal e.labels
 verdict_said (Found e) = verdict.Legal e.labels

@@ -50,8 +50,8 @@ fn tell_first<V: WatchLines>(
     }
 }
 
-/// Appends that POSIX allows a history, which has the rules with which it does, by a run with these labels, newest first;
-/// and the run, if it is wanted.
+/// Appends that POSIX allows a history, which has the rules with which it does, by a run with these labels, newest
+/// first; and the run, if it is wanted.
 fn tell_allowed_by(
     alloc: Global,
     form: Form,
@@ -97,7 +97,7 @@ fn tell_forbidden<V: WatchLines>(
     tell_why_at(alloc, states, history, count, out, &mut numbered)
 }
 
-/// Appends, in lines, what POSIX says of a history, and what is told behind that, with the rules with which it says so.
+/// Appends, in lines, what POSIX says of a history, and what is told after that, with the rules with which it says so.
 fn tell_said<V: WatchLines>(
     alloc: Global,
     asked: &Judging<'_>,
@@ -139,8 +139,8 @@ fn tell_said<V: WatchLines>(
     }
 }
 
-/// Appends what is told in lines of a history with this verdict, by which it isn't legal, and of what POSIX says. Answers
-/// what that is.
+/// Appends what is told in lines of a history with this verdict, by which it isn't legal, and of what POSIX says.
+/// Answers what that is.
 fn tell_asked_lines<V: WatchLines>(
     alloc: Global,
     asked: &Judging<'_>,
@@ -183,8 +183,8 @@ fn append_behind<V: WatchLines>(
     tell_objects(alloc, asked, history, verdict, &front, out, &mut numbered)
 }
 
-/// Appends what is told in lines of JSON of a history with this verdict, by which it isn't legal, and of what POSIX says.
-/// Answers what that is.
+/// Appends what is told in lines of JSON of a history with this verdict, by which it isn't legal, and of what POSIX
+/// says. Answers what that is.
 fn tell_asked_objects<V: WatchLines>(
     alloc: Global,
     asked: &Judging<'_>,
@@ -211,8 +211,8 @@ fn tell_asked_objects<V: WatchLines>(
     Ok(end)
 }
 
-/// Appends what is told of a history with this verdict, by which it isn't legal, and this front;
-/// what POSIX says of it; and what is told with the rules with which it says so. Answers what that is.
+/// Appends what is told of a history with this verdict, by which it isn't legal, and this front; what POSIX says of it;
+/// and what is told with the rules with which it says so. Answers what that is.
 ///
 /// # Errors
 ///

@@ -1,4 +1,4 @@
-//! Clues to what is wrong with an illegal line, which are told behind what is possible there.
+//! Clues to what is wrong with an illegal line, which are told after what is possible there.
 ghost use Rattle.std.specs.Prelude.{◌<◌, IfOk, vec_len};
 ghost use Rattle.pif_history_text.specs.Reading.{IsPaired, heard_of};
 ghost use Rattle.pif_job_judge.specs.Clues.{AreClues};
@@ -10,8 +10,8 @@ use pif_history_told::{Clues, Known};
 use pif_search::{Stop, WatchLines};
 use std::alloc::Global;
 
-/// The clues to what is wrong with the line behind the first `before` lines of a history, up to which there is no run, as
-/// far as they are found; none if the line is refused whatever was answered. `watch` may end the searches for them.
+/// The clues to what is wrong with the line after the first `before` lines of a history, up to which there is no run,
+/// as far as they are found; none if the line is refused whatever was answered. `watch` may end the searches for them.
 ///
 /// # Errors
 ///

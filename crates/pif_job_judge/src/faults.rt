@@ -14,8 +14,8 @@ pub enum JudgeFault {
     Undecided(u64),
     /// At the line of this number, from 1, there is no run, or the search was given up, and POSIX allows the history.
     PosixAllows(u64),
-    /// At the line of this number, from 1, a call begins whose behaviour POSIX leaves undefined, in some run. POSIX forbids
-    /// the history at a later line.
+    /// At the line of this number, from 1, a call begins whose behaviour POSIX leaves undefined, in some run. POSIX
+    /// forbids the history at a later line.
     PosixUndefined(u64),
     /// It is legal, and begins no call, so that nothing was judged.
     NoCall,

@@ -1,4 +1,4 @@
-//! How far the lines of a history are legal for certain: the greatest front of which a run is found.
+//! Up to which line a history is known to be legal: the greatest front of which a run is found.
 ghost use Rattle.std.specs.Prelude.{◌≡◌, IfOk, IfSome};
 ghost use Rattle.pif_history_machine.specs.Verdicts.{IsVerdictOf};
 ghost use Rattle.pif_history_text.specs.Histories.{limits_of};
@@ -17,7 +17,7 @@ use pif_history_told::number_at;
 use pif_search::{Stop, WatchLines};
 use std::alloc::Global;
 
-/// So many states are looked at for a line at most as a front is looked for.
+/// The most states that are made for one line in the search for a front.
 const MOST_STATES: usize = 10_000;
 
 /// The first lines of a history, of which a run was found.
@@ -76,8 +76,8 @@ fn front_of<V: WatchLines>(
     }
 }
 
-/// How many lines are tried next, if so many are shown and of so many no run was found: not far behind those that are
-/// shown, since what is wrong shows soon.
+/// How many lines are tried next, if a run of so many was found, and none of so many others: few more than the former,
+/// since the mistake is mostly near.
 fn next_count(shown: usize, unfound: usize, reach: usize) -> usize {
     let gap = unfound.saturating_sub(shown);
     let more = usize::max(1, usize::min(reach, gap / 2));
@@ -85,8 +85,7 @@ fn next_count(shown: usize, unfound: usize, reach: usize) -> usize {
 }
 
 /// The greatest front of a history of which a guided search finds a run, by trying more and more lines, and then by
-/// halving. `watch` has for how many lines searches say that they found one, which are tried first. It ends as soon as the
-/// time is over.
+/// halving. The number of lines that `watch` saw shown is tried first. The search ends as soon as the time is over.
 ///
 /// # Errors
 ///
@@ -120,7 +119,8 @@ pub fn greatest_front<V: WatchLines>(
     Ok(front)
 }
 
-/// The front that is told with a verdict, if none is known yet: the greatest, if it is undecided.
+/// The front to tell with a verdict if none is known yet: the greatest that is found for an undecided history, and none
+/// for another.
 ///
 /// # Errors
 ///
@@ -141,8 +141,8 @@ pub fn front_with<V: WatchLines>(
     }
 }
 
-/// The verdict that the line behind so many is the first up to which there is no run, if a search of the lines up to it
-/// says so. None, too, if it is the last line.
+/// The verdict that no run shows one line more than so many, if a search of these lines says so. None if it doesn't, or
+/// if that line is the last.
 fn illegal_behind<V: WatchLines>(
     alloc: Global,
     states: usize,
@@ -166,7 +166,7 @@ fn illegal_behind<V: WatchLines>(
     }
 }
 
-/// A verdict on a history, and how far it is legal for certain, if it isn't in all.
+/// A verdict on a history, and, if it isn't legal, how far it is known to be.
 #[derive(Drop)]
 pub struct Judged {
     /// The verdict.
@@ -175,8 +175,8 @@ pub struct Judged {
     pub front: Option<Front>,
 }
 
-/// The verdict on a history of which no guided search found a run, and the greatest front. Of the line behind that it is
-/// asked first whether it is illegal.
+/// The verdict on a history of which no guided search found a run, and the greatest front. The line after that front is
+/// judged first.
 fn by_fronts<V: WatchLines>(
     alloc: Global,
     asked: &Judging<'_>,
@@ -197,8 +197,8 @@ fn by_fronts<V: WatchLines>(
     }
 }
 
-/// The verdict on a history in which a wait returns that nothing can have woken, and the greatest front if it is undecided
-/// even so: the search of all lines looks for a run of those before it.
+/// The verdict on a history in which a wait returns though nothing can have woken it, and the greatest front if even so
+/// it is undecided: the search of all lines looks for a run of those before that return.
 fn with_unwoken<V: WatchLines>(
     alloc: Global,
     asked: &Judging<'_>,

@@ -68,7 +68,7 @@ fn blocker_priority(found: &[Fact], fact: &Fact) -> Option<u32>
     }
 }
 
-/// What is told of a fact, with the priority that one of these facts tells of, if all are so behind the first `before`
+/// What is told of a fact, with the priority that one of these facts tells of, if all are so after the first `before`
 /// lines of a history.
 fn told_with(history: &History, before: usize, fact: &Fact, found: &[Fact]) -> InTheWay
     requires paired { IsPaired history.now }
@@ -82,7 +82,7 @@ fn told_with(history: &History, before: usize, fact: &Fact, found: &[Fact]) -> I
     }
 }
 
-/// What is told of these facts, if all are so behind the first `before` lines of a history.
+/// What is told of these facts, if all are so after the first `before` lines of a history.
 fn told_of(history: &History, before: usize, found: &[Fact]) -> Option<InTheWay>
     requires paired { IsPaired history.now }
     requires within { before ≤ vec_len history.now.shown }
@@ -94,9 +94,9 @@ fn told_of(history: &History, before: usize, found: &[Fact]) -> Option<InTheWay>
     }
 }
 
-/// What is in the way of this line behind the first `before` lines of a history, up to which there is no run: the first of
-/// some facts that is so in the last state of every run that shows these lines. None if none of them is, or if `watch` ended the
-/// search.
+/// What is in the way of this line after the first `before` lines of a history, up to which there is no run: the first
+/// of some facts that is so in the last state of every run that shows these lines. None if none of them is, or if
+/// `watch` ended the search.
 ///
 /// # Errors
 ///

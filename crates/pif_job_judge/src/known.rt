@@ -12,7 +12,7 @@ use pif_history_told::Known;
 use pif_search::{Stop, WatchLines};
 use std::alloc::Global;
 
-/// What is known of the line behind the first `before` lines of a history, if it isn't refused.
+/// What is known of the line after the first `before` lines of a history, if it isn't refused.
 fn numbers_of<V: WatchLines>(
     alloc: Global,
     states: usize,
@@ -43,7 +43,7 @@ fn numbers_of<V: WatchLines>(
     }
 }
 
-/// What is known of the line behind the first `before` lines of a history. `watch` may end the search for it.
+/// What is known of the line after the first `before` lines of a history. `watch` may end the search for it.
 ///
 /// # Errors
 ///

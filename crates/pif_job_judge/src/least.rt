@@ -65,8 +65,8 @@ fn needed_of<V: WatchLines>(
     )
 }
 
-/// Appends what is told of the rules that a history needs, which is legal with all by a run of these labels. Answers what
-/// that is.
+/// Appends what is told of the rules that a history needs, which is legal with all by a run of these labels. Answers
+/// what that is.
 fn tell_least<V: WatchLines>(
     alloc: Global,
     asked: &Judging<'_>,
@@ -83,8 +83,8 @@ fn tell_least<V: WatchLines>(
     tell_needed(alloc, &asked.allowed, history, found, out)
 }
 
-/// Writes what is told of the rules that a history needs, which is legal with all by a run of these labels, with the names
-/// that its comments give.
+/// Writes what is told of the rules that a history needs, which is legal with all by a run of these labels, with the
+/// names that its comments give.
 fn write_least<W: Write, V: WatchLines>(
     alloc: Global,
     asked: &Judging<'_>,
@@ -157,10 +157,11 @@ fn judge_history<W: Write, V: WatchLines>(
 ///
 /// # Errors
 ///
-/// `NoCall`, if it is legal and begins no call, which was written, too. `PosixAllows` as in `judge`. `Undecided` with the
-/// line at which the search was given up, and `Differs` with the first line up to which there is no run with all rules,
-/// which were written, too. `Script` with the line of the first fault, which was written, too. If the reader fails,
-/// `Read`; if memory ran out, `NoMemory`; then nothing was written. `Write`, if the writer fails or takes no byte.
+/// `NoCall`, if it is legal and begins no call, which was written, too. `PosixAllows` as in `judge`. `Undecided` with
+/// the line at which the search was given up, and `Differs` with the first line up to which there is no run with all
+/// rules, which were written, too. `Script` with the line of the first fault, which was written, too. If the reader
+/// fails, `Read`; if memory ran out, `NoMemory`; then nothing was written. `Write`, if the writer fails or takes no
+/// byte.
 pub fn judge_least<R: Read, W: Write, V: WatchLines>(
     alloc: Global,
     asked: &Judging<'_>,

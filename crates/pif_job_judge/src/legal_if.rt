@@ -12,13 +12,13 @@ use pif_search::{Stop, WatchLines};
 use pif_types::{Answer, Tid};
 use std::alloc::Global;
 
-/// So many answers are changed at most.
+/// The most answers that are changed.
 const MOST_CHANGED: usize = 64;
 
-/// So many lines are gone through at most in all searches together, if there are no more in two of them.
+/// The most lines that all searches together go through, for histories of which ten searches stay below this.
 const MOST_LINES: usize = 100_000;
 
-/// So many states are looked at for a line at most.
+/// The most states that are made for one line.
 const MOST_STATES: usize = 1_000;
 
 /// How many answers are changed at most if so many lines are gone through in each search.
@@ -27,7 +27,7 @@ fn most_changed(lines: usize) -> usize {
     usize::max(1, usize::min(MOST_CHANGED, searches / 10))
 }
 
-/// Whether a search finds a run of the lines up to the one behind the first `before`, with this line in another place.
+/// Whether a search finds a run of the lines up to the one after the first `before`, with this line in another place.
 fn is_legal_with<V: WatchLines>(
     alloc: Global,
     states: usize,
@@ -57,8 +57,8 @@ fn is_legal_with<V: WatchLines>(
     }
 }
 
-/// Whether an answer in this place is another than the one that is there, and a search finds a run with it up to the line
-/// behind the first `before`.
+/// Whether an answer differs from the one in this place, and a search finds a run with it up to the line after the
+/// first `before`.
 fn mends<V: WatchLines>(
     alloc: Global,
     states: usize,
@@ -81,8 +81,8 @@ fn mends<V: WatchLines>(
     is_legal_with(alloc, states, history, before, place, line, watch)
 }
 
-/// The least answer in this place, other than the one that is there, with which a search finds a run up to the line behind
-/// the first `before`; None if none is found.
+/// The least answer in this place, other than the one that is there, with which a search finds a run up to the line
+/// after the first `before`; None if none is found.
 fn other_answer<V: WatchLines>(
     alloc: Global,
     states: usize,
@@ -112,7 +112,7 @@ fn other_answer<V: WatchLines>(
     Ok(None)
 }
 
-/// The same, if there is an answer in this place.
+/// The least other answer in this place, if an answer stands there, and where that is; None if none is found.
 fn legal_if_in<V: WatchLines>(
     alloc: Global,
     states: usize,
@@ -139,8 +139,8 @@ fn legal_if_in<V: WatchLines>(
     }
 }
 
-/// The last answer in the first `before` lines of a history with another in place of which a search finds a run up to the
-/// line behind them, and the least such answer; None if none is found.
+/// The last answer in the first `before` lines of a history which can be replaced so that a search finds a run up to
+/// the next line, and the least answer that does this; None if none is found.
 ///
 /// # Errors
 ///

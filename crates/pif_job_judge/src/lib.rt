@@ -1,5 +1,5 @@
-//! `pif judge`: whether a history of an implementation is legal, told in lines, in lines of JSON or as a page; and which
-//! rules it needs to be legal, in lines.
+//! `pif judge`: whether a history of an implementation is legal, told in lines, in lines of JSON or as a page; and
+//! which rules it needs to be legal, in lines.
 //!
 //! | Module | What it has |
 //! |---|---|
@@ -9,13 +9,14 @@
 //! | `known` | what is known of an illegal line |
 //! | `signs` | which facts may be in the way of a line, by the lines before |
 //! | `in_the_way` | what is in the way of an illegal line |
-//! | `clues` | what is told behind that: clues to what is wrong |
+//! | `clues` | what is told after that: clues to what is wrong |
 //! | `legal_if` | another answer, with which the lines would be legal |
 //! | `fronts` | how far the lines are legal for certain |
 //! | `unfound` | what is found of the first line for which no run was |
 //! | `open_calls` | the calls that are open at the end, and whether any can be answered |
 //! | `lines` | verdicts in lines for a person |
 //! | `objects` | a history as lines of JSON: its verdict, and its run |
+//! | `before` | the first line that those before it refuse |
 //! | `mistakes` | mistakes of the log |
 //! | `posix` | what POSIX says of a history that isn't legal |
 //! | `undefined` | calls whose behaviour POSIX leaves undefined |
@@ -31,6 +32,7 @@
 #![tactic(auto)]
 
 mod asked;
+mod before;
 mod clues;
 mod faults;
 mod forms;

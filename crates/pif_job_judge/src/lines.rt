@@ -79,8 +79,8 @@ fn tell_verdict_legal<V: WatchLines>(
     Ok(Ended::of_legal(calls))
 }
 
-/// Appends what is known of the nth line of a history, up to which there is no run, where its thread's open call began, and
-/// clues to what is wrong.
+/// Appends what is known of the nth line of a history, up to which there is no run, where its thread's open call began,
+/// and clues to what is wrong.
 ///
 /// # Errors
 ///
@@ -100,7 +100,7 @@ pub fn tell_why_at<V: WatchLines>(
     let line = line_at(history, count);
     let known = known_of(alloc, states, history, count - 1, &line, watch)?;
     let began = began_before(history, count - 1, &line);
-    tell_why(&known, began, out)?;
+    tell_why(&line, &known, began, out)?;
     let clues = clues_at(alloc, states, history, count - 1, &known, watch)?;
     tell_clues(&clues, out)?;
     Ok(())
@@ -154,8 +154,8 @@ fn tell_verdict_undecided<V: WatchLines>(
     Ok(Ended::Undecided(u64::from(unfound.number)))
 }
 
-/// Appends what is told in lines of a history with this verdict, and this front. `watch` may
-/// end what is looked for yet. Answers what that is.
+/// Appends what is told in lines of a history with this verdict, and this front. `watch` may end what is looked for
+/// yet. Answers what that is.
 ///
 /// # Errors
 ///
@@ -185,8 +185,8 @@ pub fn tell_lines<V: WatchLines>(
     }
 }
 
-/// Appends the verdict alone, in lines, on a history that isn't legal: without what is possible at an illegal line. Answers
-/// what that is.
+/// Appends the verdict alone, in lines, on a history that isn't legal: without what is possible at an illegal line.
+/// Answers what that is.
 ///
 /// # Errors
 ///

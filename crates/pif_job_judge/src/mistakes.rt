@@ -1,24 +1,25 @@
 //! Mistakes of a log: a line that those before it refuse by themselves, whatever was answered.
-ghost use Rattle.std.specs.Prelude.{◌≡◌, ◌≤◌, ◌++◌, false, take, vec_len, Some, IfErr, IfOk, IfSome, OnOk};
-ghost use Rattle.pif_history_machine.specs.Verdicts.{IsRefusalThere, IsVerdictOf};
+ghost use Rattle.std.specs.Prelude.{◌≡◌, ◌≤◌, ◌++◌, false, take, vec_len, IfErr, IfOk, IfSome, OnOk};
+ghost use Rattle.pif_history_machine.specs.Verdicts.{IsVerdictOf};
 ghost use Rattle.pif_history_model.specs.Verdicts.{IsLegal};
 ghost use Rattle.pif_history_text.specs.Histories.{Heard, limits_of};
 ghost use Rattle.pif_history_text.specs.Reading.{IsPaired, heard_of};
+ghost use Rattle.pif_job_judge.specs.Before.{IsFirstRefused};
 ghost use Rattle.pif_job_judge.specs.Mistakes.{AppendsLog, AppendsLogLines, AppendsLogObjects, IsFound, IsMistake, IsRefused, is_found_legal, log_object, log_text};
 
+use crate::before::{Refused, first_refused};
 use crate::faults::Ended;
 use crate::forms::{Form, Judging};
 use crate::fronts::{Front, greatest_front};
 use crate::judging::Numbered;
 use crate::objects::{append_steps, left_out, written};
 use pif_history::judge_lines;
-use pif_history_machine::{Verdict, comes_while, halted_after, refusal};
-use pif_history_model::{HistoryLimits, Label, Line, LineRefusal};
+use pif_history_machine::Verdict;
+use pif_history_model::{Label, Line, LineRefusal};
 use pif_history_text::{History, line_text, push_refused, refusal_word};
 use pif_history_told::{line_at, number_at};
-use pif_search::{Stop, WatchLines, push};
+use pif_search::{Stop, WatchLines};
 use pif_text::{Member, Text, append_decimal, append_members};
-use pif_types::{Prio, Request, Tid};
 use std::alloc::Global;
 
 /// A line of a history that is refused, and a run that shows the lines before it.
@@ -37,7 +38,7 @@ pub struct Mistake {
 pub enum Outcome {
     /// A line is a mistake of the log.
     Log(Mistake),
-    /// The verdict on it, and the greatest front of which a run is known, if it isn't legal.
+    /// The verdict on the history, and the greatest front of which a run is known, if it isn't legal.
     Verdict(Verdict, Option<Front>),
 }
 
@@ -56,161 +57,16 @@ pub fn run_of(found: Outcome) -> Result<Vec<Label>, Outcome>
     }
 }
 
-/// A line that is refused, the nth, and why.
-#[derive(Clone, Copy)]
-pub struct Refused {
-    /// Its place among the lines, from 1.
-    pub count: usize,
-    /// Why it is refused.
-    pub why: LineRefusal,
-}
-
-/// How far a thread has come by the lines.
-#[derive(Clone, Copy, PartialEq, Eq)]
-enum Come {
-    /// It was added, and has no call open.
-    Added,
-    /// It has a call open.
-    Calling,
-    /// It is dying.
-    Dying,
-    /// It has ended.
-    Gone,
-}
-
-/// What lines tell of whether the next one is refused.
-#[derive(Drop)]
-struct LinesBefore {
-    halted: bool,
-    threads: Vec<Come>,
-    mutexes: u32,
-    conds: u32,
-    time: u32,
-}
-
-impl LinesBefore {
-    /// Before any line.
-    fn new(alloc: Global) -> LinesBefore {
-        LinesBefore {
-            halted: false,
-            threads: Vec::new(alloc),
-            mutexes: 0,
-            conds: 0,
-            time: 0,
-        }
-    }
-
-    /// Whether a thread was added, and has come so far.
-    fn has(&self, thread: Tid, come: Come) -> bool {
-        let place = thread.get() as usize - 1;
-        place < self.threads.len() && self.threads[place] == come
-    }
-
-    /// Whether a thread was added, and is neither dying nor has ended.
-    fn lives(&self, thread: Tid) -> bool {
-        self.has(thread, Come::Added) || self.has(thread, Come::Calling)
-    }
-
-    /// Whether the names of a request were added.
-    fn knows(&self, request: &Request) -> bool {
-        let named = request.names();
-        let mutex = match named.mutex {
-            Some(mutex) => mutex.get() <= self.mutexes,
-            None => true,
-        };
-        match named.cond {
-            Some(cond) => mutex && cond.get() <= self.conds,
-            None => mutex,
-        }
-    }
-
-    /// Whether a line may come behind these. It may be false of one that does.
-    fn takes(&self, limits: HistoryLimits, line: &Line) -> bool {
-        comes_while(self.halted, line) && self.takes_running(limits, line)
-    }
-
-    /// Whether a line may come behind these but for a halt.
-    fn takes_running(&self, limits: HistoryLimits, line: &Line) -> bool {
-        match *line {
-            Line::Thread(base) => {
-                Prio::new(base).is_some() && self.threads.len() < limits.threads as usize
-            }
-            Line::Mutex(_, _, _) => self.mutexes < limits.mutexes,
-            Line::Cond(mutex) => mutex.get() <= self.mutexes && self.conds < limits.conds,
-            Line::Begin(thread, request) => self.has(thread, Come::Added) && self.knows(&request),
-            Line::Answer(thread, _) => self.has(thread, Come::Calling),
-            Line::Tick(time) => time >= self.time,
-            Line::End(thread) => self.lives(thread) || self.has(thread, Come::Dying),
-            Line::Process(thread) => self.lives(thread) || self.has(thread, Come::Gone),
-            Line::Dying(thread) | Line::Rests(thread) | Line::Prio(thread, _) => {
-                self.lives(thread)
-            }
-            Line::Halted | Line::Resumed => true,
-            Line::Asks(_, _) => false,
-        }
-    }
-
-    /// Takes note of how far a thread has come, if it was added.
-    fn note(&mut self, thread: Tid, come: Come) {
-        let place = thread.get() as usize - 1;
-        if place < self.threads.len() {
-            self.threads[place] = come;
-        }
-    }
-
-    /// Hears one line more.
-    fn hear(&mut self, line: &Line) -> Result<(), Stop> {
-        self.halted = halted_after(line, self.halted);
-        match *line {
-            Line::Thread(_) => return push(&mut self.threads, Come::Added),
-            Line::Mutex(_, _, _) => self.mutexes = self.mutexes.saturating_add(1),
-            Line::Cond(_) => self.conds = self.conds.saturating_add(1),
-            Line::Tick(time) => self.time = time,
-            Line::Begin(thread, _) => self.note(thread, Come::Calling),
-            Line::Answer(thread, _) => self.note(thread, Come::Added),
-            Line::Dying(thread) => self.note(thread, Come::Dying),
-            Line::End(thread) => self.note(thread, Come::Gone),
-            _ => {}
-        }
-        Ok(())
-    }
-
-    /// Why a line is refused behind the lines before it, oldest first, which are these; None if it isn't.
-    fn refusal_of(
-        &self,
-        limits: HistoryLimits,
-        before: &[Line],
-        line: &Line,
-    ) -> Result<Option<LineRefusal>, Stop>
-        ensures { IfOk result (λ o. IfSome o (λ why. IsRefusalThere limits before.now line.now (Some why))) }
-    {
-        if self.takes(limits, line) {
-            return Ok(None);
-        }
-        refusal(limits, before, line)
-    }
-}
-
 /// The first line of a history that is refused, whatever was answered, and why.
 ///
 /// # Errors
 ///
 /// Out of memory.
 pub fn refused_in(alloc: Global, history: &History) -> Result<Option<Refused>, Stop>
-    ensures { IfOk result (λ o. IfSome o (λ x. IsRefused (heard_of history.now) x.count x.why)) }
+    ensures first { IfOk result (IsFirstRefused (limits_of (heard_of history.now)) history.now.shown.items) }
+    ensures each { IfOk result (λ o. IfSome o (λ x. IsRefused (heard_of history.now) x.count x.why)) }
 {
-    let mut front = LinesBefore::new(alloc);
-    let limits = history.limits();
-    for place in 0..history.shown.len() {
-        let count = place + 1;
-        let line = line_at(history, count);
-        let before = &history.shown.as_slice()[..place];
-        if let Some(why) = front.refusal_of(limits, before, &line)? {
-            return Ok(Some(Refused { count, why }));
-        }
-        front.hear(&line)?;
-    }
-    Ok(None)
+    first_refused(alloc, history.limits(), history.shown.as_slice())
 }
 
 /// The verdict on the first lines of a history with the rules that it allows.
@@ -282,7 +138,7 @@ fn push_log(number: u32, why: LineRefusal, out: &mut Vec<u8>) -> Result<(), Stop
     Ok(())
 }
 
-/// Appends the same, as a line of JSON, with the text of the line. So many lines of the run behind it are left out.
+/// Appends the same, as a line of JSON, with the text of the line. So many lines of the run after it are left out.
 fn append_log(
     number: u32,
     line: Line,
@@ -309,8 +165,8 @@ fn append_log(
     Ok(())
 }
 
-/// Appends what is told in lines of JSON of a mistake of the log, and of the run that shows the lines before it. Answers
-/// what that is.
+/// Appends what is told in lines of JSON of a mistake of the log, and of the run that shows the lines before it.
+/// Answers what that is.
 fn append_log_history(
     alloc: Global,
     form: Form,

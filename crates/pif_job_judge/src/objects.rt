@@ -87,8 +87,8 @@ pub fn append_steps(
     Ok(())
 }
 
-/// Appends the lines of a run that shows the first `before` lines of a history, but for so many of its first lines, if a
-/// search finds one; nothing, if it doesn't. `watch` may end it.
+/// Appends the lines of a run that shows the first `before` lines of a history, but for so many of its first lines, if
+/// a search finds one; nothing, if it doesn't. `watch` may end it.
 fn append_searched<V: WatchLines>(
     alloc: Global,
     states: usize,
@@ -118,7 +118,7 @@ fn append_searched<V: WatchLines>(
     }
 }
 
-/// The same, of the run of this front, if it has so many lines.
+/// Appends the run of this front in the same way, if the front has so many lines.
 fn append_known<V: WatchLines>(
     alloc: Global,
     states: usize,
@@ -139,7 +139,8 @@ fn append_known<V: WatchLines>(
     append_searched(alloc, states, history, before, left_out, out, watch)
 }
 
-/// The same, if there is a front.
+/// Appends the run of the lines before in the same way: that of the front if it has these lines, or one that a search
+/// finds.
 fn append_before<V: WatchLines>(
     alloc: Global,
     states: usize,
@@ -238,7 +239,8 @@ fn append_illegal_history<V: WatchLines>(
     Ok(Ended::Illegal(u64::from(number)))
 }
 
-/// Appends what is told of an undecided history with this front, and of the run that shows its lines. Answers what that is.
+/// Appends what is told of an undecided history with this front, and of the run that shows its lines. Answers what that
+/// is.
 fn append_undecided_history<V: WatchLines>(
     alloc: Global,
     asked: &Judging<'_>,
@@ -260,8 +262,8 @@ fn append_undecided_history<V: WatchLines>(
     Ok(Ended::Undecided(u64::from(unfound.number)))
 }
 
-/// Appends what is told in lines of JSON of a history with this verdict, and this front.
-/// `watch` may end what is looked for yet. Answers what that is.
+/// Appends what is told in lines of JSON of a history with this verdict, and this front. `watch` may end what is looked
+/// for yet. Answers what that is.
 ///
 /// # Errors
 ///

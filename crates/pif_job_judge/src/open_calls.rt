@@ -15,7 +15,7 @@ use pif_search::{Stop, WatchLines, push};
 use pif_types::{MutexId, Request, Tid};
 use std::alloc::Global;
 
-/// So many states are made for a line at most as it is asked whether calls can be answered.
+/// The most states that are made for one line in the search for an answer of an open call.
 const MOST_STATES: usize = 10_000;
 
 /// Whether a call has a deadline.
@@ -52,7 +52,7 @@ fn ends_in(thread: Tid, lines: &[Line]) -> bool
     lines.iter().any(|line| is_end_of(thread, line))
 }
 
-/// Whether the thread that is about to end by a line, if one is, has ended by the lines behind it.
+/// Whether the thread that is about to end by a line, if one is, has ended by the lines after it.
 fn is_ended(line: &Line, behind: &[Line]) -> bool
     ensures { result ≡ is_ended line.now behind.now }
 {
@@ -83,7 +83,7 @@ struct Seen {
     concerned: bool,
 }
 
-/// What the lines tell of the threads that could help others, and of these mutexes. Nothing that is told rests on it.
+/// What the lines tell of the threads that could help others, and of these mutexes. No verdict rests on this.
 #[derive(Drop)]
 struct Helpers {
     mutexes: Vec<MutexId>,
@@ -93,7 +93,7 @@ struct Helpers {
 }
 
 impl Helpers {
-    /// Whether a call is on one of the mutexes.
+    /// Whether a call names one of the mutexes.
     fn concerns(&self, request: &Request) -> bool {
         match request.names().mutex {
             Some(mutex) => self.mutexes.iter().any(|other| *other == mutex),
@@ -182,8 +182,8 @@ impl Helpers {
         false
     }
 
-    /// Whether an idle thread could help a call: it holds the mutex of a lock, or could signal to a wait. A call that never
-    /// waits needs no help.
+    /// Whether an idle thread could help a call: it holds the mutex of a lock, or could signal to a wait. A call that
+    /// never waits needs no help.
     fn may_help(&self, request: &Request) -> bool {
         match *request {
             Request::Lock(mutex) => self.is_held_idly(mutex),
@@ -229,7 +229,7 @@ fn may_be_helped(alloc: Global, history: &History, calls: &[Began]) -> Result<bo
     Ok(calls.iter().any(|call| helpers.may_help(&call.request)))
 }
 
-/// Whether a guided search finds a run in which a thread is answered 0 behind all lines.
+/// Whether a guided search finds a run in which a thread is answered 0 after all lines.
 fn is_answered<V: WatchLines>(
     alloc: Global,
     states: usize,
@@ -251,7 +251,7 @@ fn is_answered<V: WatchLines>(
     Ok(run.is_some())
 }
 
-/// Whether a search finds that no answer of a thread is possible behind all lines.
+/// Whether a search finds that no answer of a thread is possible after all lines.
 fn is_stuck<V: WatchLines>(
     alloc: Global,
     states: usize,
@@ -273,7 +273,7 @@ fn is_stuck<V: WatchLines>(
     }
 }
 
-/// Whether a search finds that none of these calls can be answered behind all lines.
+/// Whether a search finds that none of these calls can be answered after all lines.
 fn are_stuck<V: WatchLines>(
     alloc: Global,
     states: usize,

@@ -1,8 +1,9 @@
-ghost use Rattle.std.specs.Prelude.{◌≡◌, ◌≤◌, ◌++◌, length, IfOk, OnOk};
+ghost use Rattle.std.specs.Prelude.{◌≡◌, ◌≤◌, ◌++◌, false, length, IfOk, OnOk, if◌then◌else◌};
 ghost use Rattle.pif_history_model.specs.Verdicts.{IsIllegal, IsLegal};
 ghost use Rattle.pif_history_text.specs.Histories.{limits_of};
 ghost use Rattle.pif_history_text.specs.Reading.{IsPaired, heard_of};
-ghost use Rattle.pif_rules_model.specs.Sets.{posix_rules};
+ghost use Rattle.pif_rules_model.specs.declared.rules.Rule.{Rule as OneRule};
+ghost use Rattle.pif_rules_model.specs.Sets.{has, is_of_posix, posix_rules};
 ghost use Rattle.pif_rules.specs.Sets.{both};
 ghost use Rattle.pif_job_judge.specs.Posix.{IsSaid, IsNumberedBy, against, allowed_at, allows_front, allows_object, allows_text, beside_text, forbidden_from, forbids_text, line_said_object, posix_end, posix_object, posix_text, rules_said, said_front, under, undecided_text, undefined_object, undefined_text, verdict_said};
 
@@ -30,8 +31,8 @@ pub enum Says {
     Found(Enough),
     /// With all its rules no run shows the lines up to this one, from 1, and some run shows those before.
     Forbids(usize),
-    /// With all its rules no run shows the lines up to this one, from 1, and some run shows those before. In a run of the
-    /// lines before it POSIX leaves undefined what the call does that begins so.
+    /// With all its rules no run shows the lines up to this one, from 1, and some run shows those before. In a run of
+    /// the lines before it POSIX leaves undefined what the call does that begins so.
     Undefined(usize, Begun),
     /// The search with all its rules was given up at this line, from 1.
     Undecided(usize),
@@ -117,8 +118,8 @@ fn forbidden_with<V: WatchLines>(
     }
 }
 
-/// What POSIX says of lines, oldest first, beside the rules that hold in any case. At most `states` states are made for a
-/// line with each set of rules. `watch` is told of each search how far it has come.
+/// What POSIX says of lines, oldest first, beside the rules that hold in any case. At most `states` states are made for
+/// a line with each set of rules. `watch` is told of each search how far it has come.
 ///
 /// # Errors
 ///
@@ -147,7 +148,8 @@ fn posix_of<V: WatchLines>(
 
 /// Of these rules those that POSIX doesn't allow.
 fn against(rules: &Rules) -> Rules
-    ensures { result ≡ against rules.now }
+    ensures value { result ≡ against rules.now }
+    ensures each { (rule : OneRule) → has result rule ≡ (if is_of_posix rule then false else has rules.now rule) }
 {
     Rules {
         steal: rules.steal,
@@ -159,7 +161,7 @@ fn against(rules: &Rules) -> Rules
     }
 }
 
-/// Appends the rules that hold against POSIX, behind a word, if there are some.
+/// Appends the rules that hold against POSIX, after a word, if there are some.
 fn push_beside(word: &[u8], base: &Rules, out: &mut Vec<u8>) -> Result<(), Stop>
     ensures { OnOk result (out.new.items ≡ out.old.items ++ beside_text word.now base.now) }
 {
@@ -263,8 +265,8 @@ pub fn number_of(history: &History, says: &Says) -> u32
     }
 }
 
-/// Appends what POSIX says, which names the line of this number if it names one; and this answer that no page has, if there
-/// is one, of a run by which it allows the lines. These have these numbers in the text.
+/// Appends what POSIX says, which names the line of this number if it names one; and this answer that no page has, if
+/// there is one, of a run by which it allows the lines. These have these numbers in the text.
 ///
 /// # Errors
 ///

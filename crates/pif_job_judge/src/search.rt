@@ -118,8 +118,8 @@ pub fn bounded<W: WatchLines>(
     }
 }
 
-/// The first of these sets with which some run shows the lines, or with which the search is given up; `None` if there is
-/// no run with any of them.
+/// The first of these sets with which some run shows the lines, or with which the search is given up; `None` if there
+/// is no run with any of them.
 fn first_in<W: WatchLines>(
     alloc: Global,
     base: &Rules,
@@ -147,8 +147,8 @@ fn first_in<W: WatchLines>(
 
 /// The least set of the rules that are asked for, beside those that hold in any case, with which some run shows the
 /// lines of a history, oldest first. With all of them a run of these labels does, newest first. Sets come by the number
-/// of rules, and then in the order of `RULES`. At most `states` states are made for a line with each. `watch` is told of
-/// each search how far it has come.
+/// of rules, and then in the order of `RULES`. At most `states` states are made for a line with each. `watch` is told
+/// of each search how far it has come.
 ///
 /// # Errors
 ///

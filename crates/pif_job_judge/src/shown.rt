@@ -3,10 +3,13 @@ ghost use Rattle.pif_job_judge.specs.Shown.{IsShown};
 
 use crate::forms::{Form, Judging};
 use pif_history_text::Names;
-use pif_history_told::{append_page, beside_in_page, names_line, names_object};
+use pif_history_told::{
+    append_page, beside_in_page, names_line, names_object, places_line, places_object,
+};
 use std::alloc::{AllocError, Global};
 
-/// What is told in lines, and behind it a line that has the names of what stands in it by its number, from `from` on.
+/// What is told in lines, and after it a line that has the names of what stands in it by its number, from `from` on,
+/// and one that has the places of the calls that it names.
 ///
 /// # Errors
 ///
@@ -20,21 +23,25 @@ pub fn shown_lines(
     ensures { IfOk result (λ shown. IsShown Form.Text told.items shown.items) }
 {
     let start = usize::min(from, told.len());
-    let line = names_line(alloc, names, &told.as_slice()[start..])?;
-    told.extend_from_slice(line.as_slice())?;
+    let named = names_line(alloc, names, &told.as_slice()[start..])?;
+    let placed = places_line(alloc, names, &told.as_slice()[start..])?;
+    told.extend_from_slice(named.as_slice())?;
+    told.extend_from_slice(placed.as_slice())?;
     Ok(told)
 }
 
-/// What is told in lines of JSON, and behind it an object that has the names.
+/// What is told in lines of JSON, and after it an object that has the names and one that has the places.
 fn shown_objects(alloc: Global, names: &Names, mut told: Vec<u8>) -> Result<Vec<u8>, AllocError>
     ensures { IfOk result (λ shown. IsShown Form.Json told.items shown.items) }
 {
-    let line = names_object(alloc, names)?;
-    told.extend_from_slice(line.as_slice())?;
+    let named = names_object(alloc, names)?;
+    let placed = places_object(alloc, names)?;
+    told.extend_from_slice(named.as_slice())?;
+    told.extend_from_slice(placed.as_slice())?;
     Ok(told)
 }
 
-/// A page that has these lines of JSON, the names, and the name of the file.
+/// A page that has these lines of JSON, the names, the places, and the name of the file.
 fn shown_page(
     alloc: Global,
     names: &Names,
@@ -49,8 +56,8 @@ fn shown_page(
     Ok(page)
 }
 
-/// What is told in the form that is asked for, with names beside numbers, of which the first stands at `from` or behind
-/// that.
+/// What is told in the form that is asked for, with names and places beside numbers, of which the first stands at
+/// `from` or after that.
 ///
 /// # Errors
 ///

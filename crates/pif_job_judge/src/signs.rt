@@ -1,12 +1,12 @@
-//! Which facts may be in the way of a line, by what the lines before say. Nothing that is told rests on it: a search is
-//! asked of each.
+//! Which facts may be in the way of a line, by what the lines before say. No verdict rests on this: a search confirms
+//! each.
 use crate::holds::Holds;
 use pif_history_model::{Fact, Line};
 use pif_search::{Stop, push};
 use pif_types::{Answer, Errno, Kind, MutexId, Request, Tid};
 use std::alloc::Global;
 
-/// Of so many facts it is asked at most.
+/// The most facts that a search is asked about.
 const MOST_FACTS: usize = 64;
 
 /// A thread, by the lines that were heard.
@@ -312,7 +312,7 @@ impl Signs {
     }
 }
 
-/// Facts that may be in the way of a line behind these, the most telling first.
+/// Facts that may be in the way of a line after these, the most telling first.
 ///
 /// # Errors
 ///

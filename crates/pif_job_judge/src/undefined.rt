@@ -1,5 +1,5 @@
-//! Calls whose behaviour POSIX leaves undefined, and which threads may have made before the line from which on it forbids
-//! a history.
+//! Calls whose behaviour POSIX leaves undefined, and which threads may have made before the line from which on it
+//! forbids a history.
 ghost use Rattle.std.specs.Prelude.{◌∷◌, true, reverse, IfOk, IfSome, IsTrue};
 ghost use Rattle.pif_history_model.specs.declared.lines.Line.TheVariants.{Asks};
 ghost use Rattle.pif_history_model.specs.Verdicts.{IsShownBy};
@@ -161,7 +161,8 @@ pub(crate) fn is_found<V: WatchLines>(
     }
 }
 
-/// The begin at this place, if it is found that POSIX leaves undefined what the call does, and it is one of the first lines.
+/// The begin at this place, if it is found that POSIX leaves undefined what the call does, and it is one of the first
+/// lines.
 fn undefined_at<V: WatchLines>(
     alloc: Global,
     rules: &Rules,

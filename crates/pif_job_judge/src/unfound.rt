@@ -41,7 +41,7 @@ fn add_if_found<V: WatchLines>(
     Ok(())
 }
 
-/// The numbers of these candidates with which a search finds a run behind the first `before` lines of a history. `None`
+/// The numbers of these candidates with which a search finds a run after the first `before` lines of a history. `None`
 /// if `watch` ended a search.
 fn found_among<V: WatchLines>(
     alloc: Global,
@@ -76,8 +76,8 @@ fn candidates_of(alloc: Global, line: &Line) -> Result<Option<Vec<Label>>, Stop>
     }
 }
 
-/// The answers or priorities with which a search finds a run up to a line of a history, the nth. `None` if `watch` ended
-/// a search.
+/// The answers or priorities with which a search finds a run up to a line of a history, the nth. `None` if `watch`
+/// ended a search.
 fn found_at<V: WatchLines>(
     alloc: Global,
     states: usize,
