@@ -1,3 +1,5 @@
+mod ChoiceLemmas
 mod ExploringLemmas
+mod PlayingLemmas
 mod Parts
 pub mod Held

@@ -20,8 +20,10 @@ fn ruling(plan: &Plan, alloc: Global, explored: &Explored, claim: &Claim) -> Res
     ensures { IfOk result (λ r. (start : Situated) → (explored.now.is_whole ≡ true → IsWhole (Steps plan.now) AreSameSoFar start explored.now.nodes.items) → IsRuled plan.now start explored.now.nodes.items (claim_view claim.now) r) }
 {
     let verdict = verdict_of(plan, alloc, explored, &claim.scope, &claim.condition)?;
+    let text = Vec::from_slice(alloc, claim.text.as_slice())?;
     Ok(Ruling {
         number: claim.number,
+        text,
         verdict,
     })
 }
@@ -55,7 +57,7 @@ pub fn first_broken(rulings: &[Ruling]) -> Option<u32>
     for ruling in rulings {
         match ruling.verdict {
             Verdict::Broken(_) | Verdict::Unmet => return Some(ruling.number),
-            Verdict::Kept | Verdict::Open | Verdict::Met(_) => {}
+            Verdict::Kept | Verdict::Idle | Verdict::Open | Verdict::Met(_) => {}
         }
     }
     None

@@ -1,59 +1,82 @@
 //! What is told of a core at the end of a schedule.
+ghost use Rattle.std.specs.Prelude.{◌≡◌, ◌-◌, ◌≤◌, length, IfOk};
+ghost use Rattle.pif_model.specs.Calls.{threads_answer};
+ghost use Rattle.pif_job_explore.specs.Looking.{fate_by, fate_of, fates, health_of, named_in, outcome_of, owner_of, standings};
 
-use crate::player::Player;
+use crate::player::{Player, thread_at};
 use pif_core::Status;
-use pif_explore::Outcome;
+use pif_explore::{Outcome, Plan};
 use pif_explore_model::Fate;
 use pif_posix::named_by;
 use pif_search::{Stop, push};
-use pif_types::{Answer, Health, MutexId, Tid};
+use pif_types::{Answer, Health, MutexId, Request, Tid};
 use std::alloc::Global;
 
-impl Player<'_> {
-    /// For which mutex a thread waits for good.
-    fn named_mutex(&self, thread: Tid) -> usize {
-        match self.core.open_call(thread) {
-            Some(request) => named_by(&request) as usize,
-            None => 0,
-        }
+/// The mutex that a call names; 0 if there is none.
+fn named_in(call: &Option<Request>) -> usize
+    ensures { result ≡ named_in call.now }
+{
+    match call {
+        Some(request) => named_by(request) as usize,
+        None => 0,
     }
+}
 
+/// The mutex of this number, which is at least 1.
+fn mutex_at(number: u32) -> MutexId
+    requires { 1 ≤ number }
+    ensures { result ≡ number }
+{
+    match MutexId::new(number) {
+        Some(mutex) => mutex,
+        None => MutexId::default(),
+    }
+}
+
+impl Player {
     /// What has become of a thread that is not through its program, by what it does.
-    fn fate_by(&self, status: Status, thread: Tid) -> Fate {
+    fn fate_by(&self, status: Status, thread: Tid) -> Fate
+        ensures { result ≡ fate_by self.now thread status }
+    {
         match status {
             Status::Ended => Fate::HasEnded,
             Status::Queued(mutex) => Fate::WaitsFor(mutex.get() as usize),
             Status::Parked(cond) => Fate::IsBlockedOn(cond.get() as usize),
-            Status::Stopped => Fate::WaitsForGood(self.named_mutex(thread)),
+            Status::Stopped => Fate::WaitsForGood(named_in(&self.core.open_call(thread))),
             Status::Ready(_) => Fate::IsUnderWay,
         }
     }
 
     /// What has become of a thread.
-    fn fate_of(&self, thread: Tid) -> Fate {
-        if self.point_of(thread).is_none() {
+    pub(crate) fn fate_of(&self, plan: &Plan, thread: Tid) -> Fate
+        ensures { result ≡ fate_of plan.now self.now thread }
+    {
+        if self.point_of(plan, thread).is_none() {
             return Fate::IsThrough;
         }
         match self.core.status(thread) {
-            None => Fate::HasEnded,
             Some(status) => self.fate_by(status, thread),
+            None => Fate::HasEnded,
         }
     }
 
     /// What has become of each thread, that of nobody first.
-    fn fates(&self, alloc: Global) -> Result<Vec<Fate>, Stop> {
+    fn fates(&self, alloc: Global, plan: &Plan) -> Result<Vec<Fate>, Stop>
+        ensures { IfOk result (λ v. v.items ≡ fates plan.now self.now (threads_answer self.now.core)) }
+    {
         let mut all = Vec::new(alloc);
         push(&mut all, Fate::IsThrough)?;
-        for number in 1..=self.core.threads() {
-            if let Some(thread) = Tid::new(number) {
-                push(&mut all, self.fate_of(thread))?;
-            }
+        for before in 0..self.core.threads() {
+            let thread = thread_at(before + 1);
+            push(&mut all, self.fate_of(plan, thread))?;
         }
         Ok(all)
     }
 
-    /// The owner of a mutex, 0 if it has none, and its health.
-    pub(crate) fn owner(&self, mutex: MutexId) -> u32 {
+    /// The owner of a mutex; 0 if it has none.
+    pub(crate) fn owner(&self, mutex: MutexId) -> u32
+        ensures { result ≡ owner_of self.now mutex }
+    {
         match self.core.owner(mutex) {
             Some((thread, _)) => thread.get(),
             None => 0,
@@ -61,7 +84,9 @@ impl Player<'_> {
     }
 
     /// The health of a mutex; that of a mutex that was not added is fine.
-    pub(crate) fn health(&self, mutex: MutexId) -> Health {
+    pub(crate) fn health(&self, mutex: MutexId) -> Health
+        ensures { result ≡ health_of self.now mutex }
+    {
         match self.core.health(mutex) {
             Some(health) => health,
             None => Health::Fine,
@@ -69,24 +94,27 @@ impl Player<'_> {
     }
 
     /// The owner and the health of each mutex, those of none first.
-    fn standings(&self, alloc: Global) -> Result<Vec<(u32, Health)>, Stop> {
+    fn standings(&self, alloc: Global) -> Result<Vec<(u32, Health)>, Stop>
+        ensures { IfOk result (λ v. v.items ≡ standings self.now (length self.now.core.mutexes - 1)) }
+    {
         let mut all = Vec::new(alloc);
         push(&mut all, (0, Health::Fine))?;
-        for number in 1..=self.core.mutexes() {
-            if let Some(mutex) = MutexId::new(number) {
-                push(&mut all, (self.owner(mutex), self.health(mutex)))?;
-            }
+        for before in 0..self.core.mutexes() {
+            let mutex = mutex_at(before + 1);
+            push(&mut all, (self.owner(mutex), self.health(mutex)))?;
         }
         Ok(all)
     }
 
     /// The outcome to which the programs have come.
-    pub(crate) fn outcome(&self, alloc: Global) -> Result<Outcome, Stop> {
+    pub(crate) fn outcome(&self, alloc: Global, plan: &Plan) -> Result<Outcome, Stop>
+        ensures { IfOk result (λ o. o ≡ outcome_of plan.now self.now) }
+    {
         // The check has to be told of the type of answers, which an outcome holds.
         let _no_answer: Option<Answer> = None;
         Ok(Outcome {
             answers: Vec::from_slice(alloc, self.answers.as_slice())?,
-            fates: self.fates(alloc)?,
+            fates: self.fates(alloc, plan)?,
             mutexes: self.standings(alloc)?,
             cells: Vec::from_slice(alloc, self.cells.as_slice())?,
         })

@@ -51,6 +51,8 @@ pub enum Part {
     Count,
     /// `times`
     Times,
+    /// `wake-up`
+    WakeUp,
     /// `;`, or the end of a block or of the line.
     Semicolon,
     /// `{`
@@ -97,11 +99,12 @@ impl Part {
                 "a priority from 1 to 99 is wanted here, or 'least' and a priority",
             Part::Count => "'once', 'twice', or a number and 'times' is wanted here",
             Part::Times => "'times' is wanted here",
+            Part::WakeUp => "'wake-up' is wanted here",
             Part::Semicolon => "a ';' is wanted here",
             Part::Brace => "a '{' is wanted here",
             Part::Alternative => "'or' or a '{' is wanted here",
             Part::Guard => "an answer or a cell is wanted here, as 0, EBUSY or x1",
-            Part::Subject => "a thread, a mutex or a cell is wanted here, as t1, m1 or x1",
+            Part::Subject => "a thread, a mutex, a cell or a fault is wanted here, as t1 or race",
             Part::Connective => "'and' or 'or' is wanted here",
         }
     }

@@ -5,7 +5,7 @@ use crate::parts::{
     ends_early, is_answer, is_cell, near_part, number_named, wrong_with_part, wrong_with_word,
 };
 use crate::tables::{
-    KINDS, KINDS_OF_PROTOCOL, OF_CELL, OF_CELLS, OF_MUTEXES, OF_THREADS, RULE_COUNT, RULES,
+    FAULTS, KINDS, KINDS_OF_PROTOCOL, OF_CELL, OF_CELLS, OF_MUTEXES, OF_THREADS, RULE_COUNT, RULES,
 };
 use arrayvec::ArrayVec;
 use pif_text::number_of;
@@ -350,6 +350,8 @@ impl LineSoFar {
         } else if is_cell(word) {
             self.form = OF_CELL.shape();
             self.next = Next::OfCell;
+        } else if FAULTS.iter().any(|fault| word == fault.name.as_bytes()) {
+            return self.take_said(word, &FAULTS, Part::Subject);
         } else {
             return self.take_name(word);
         }

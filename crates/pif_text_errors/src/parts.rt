@@ -102,6 +102,7 @@ fn is_plain(word: &[u8], part: Part) -> bool {
         Part::PriorityOrLeast => is_between(word, 1, 99) || word == b"least".as_slice(),
         Part::Count => is_count_word(word) || number_of(word).is_some(),
         Part::Times => word == b"times".as_slice(),
+        Part::WakeUp => word == b"wake-up".as_slice(),
         _ => false,
     }
 }

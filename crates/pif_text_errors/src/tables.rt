@@ -482,6 +482,40 @@ pub static RULES: [Form; RULE_COUNT] = [
     },
 ];
 
+/// The faults of which a condition may speak.
+pub static FAULTS: [Form; 5] = [
+    Form {
+        name: "race",
+        text: "race",
+        parts: Parts::Of(&[]),
+        rest: Rest::End,
+    },
+    Form {
+        name: "misuse",
+        text: "misuse",
+        parts: Parts::Of(&[]),
+        rest: Rest::End,
+    },
+    Form {
+        name: "deadlock",
+        text: "deadlock",
+        parts: Parts::Of(&[]),
+        rest: Rest::End,
+    },
+    Form {
+        name: "stuck",
+        text: "stuck",
+        parts: Parts::Of(&[]),
+        rest: Rest::End,
+    },
+    Form {
+        name: "lost",
+        text: "lost wake-up",
+        parts: Parts::Of(&[Part::WakeUp]),
+        rest: Rest::End,
+    },
+];
+
 /// What a condition may say of a thread.
 pub static OF_THREADS: [Form; 7] = [
     Form {

@@ -1,4 +1,4 @@
-use Rattle.std.proofs.Common.{refl}
+use Rattle.std.proofs.Common.{◌∙◌, refl}
 use Rattle.pif_job_explore.proofs.rulings.ruling.Goals as goal
 
 pub returns : goal.returns
@@ -6,5 +6,6 @@ returns c = λ start whole. record {
   condition = c.args.claim.now.condition;
   is = refl;
   number = refl;
+  text = c.in_ok-text.ensures.items ∙ c.as_slice.ensures.value;
   verdict = c.in_ok-verdict.ensures start whole;
 }
