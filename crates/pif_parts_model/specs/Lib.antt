@@ -1,0 +1,4 @@
+pub mod Quiet
+pub mod Resting
+pub mod Parts
+pub mod Later
