@@ -6,7 +6,7 @@
 
 const char *pif_made(void);
 
-/* As "libpif 1.1.0, proved". */
+/* As "libpif 1.2.0, proved". */
 const char *pif_made(void)
 {
     return PIF_MADE;

@@ -195,7 +195,7 @@ static int read_options(int count, char **texts, Choice *choice)
         if (option == 'l')
             choice->late = true;
         if (option == '?')
-            return refuse("no such option, or no number behind it");
+            return refuse("no such option, or no number after it");
         if (option == 's' && !read_number(optarg, 86400, &choice->seconds))
             return refuse("the seconds are a number from 1 to 86400");
         if (option == 'm' && (!read_number(optarg, 8192, &choice->most) || choice->most < MOST_THREADS))

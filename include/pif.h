@@ -39,11 +39,11 @@ extern "C" {
 
 /* The version of this header, of libpif.a and libpif.so, and of pif.pc. Its first number is that of the file to which a
    program is linked, libpif.so.1. */
-#define PIF_VERSION "1.1.0"
+#define PIF_VERSION "1.2.0"
 
 /* The same for #if: 10000 times the first number, 100 times the second, and the third. A header of version 1.0 has
    none, so `#if defined PIF_VERSION_NUMBER && PIF_VERSION_NUMBER >= 10100` asks for version 1.1. */
-#define PIF_VERSION_NUMBER 10100
+#define PIF_VERSION_NUMBER 10200
 
 /* Before a function that is called for its result, or that makes nothing if its result says so. */
 #if defined __cplusplus && __cplusplus >= 201703L || defined __STDC_VERSION__ && __STDC_VERSION__ >= 202311L
@@ -450,6 +450,246 @@ pif_number pif_time(pif_core *core);
    PIF_NONE if the path has no such place, or no living thread has that number. */
 PIF_NODISCARD
 pif_number pif_path(pif_core *core, uint32_t thread, uint32_t place);
+
+/* How many threads, mutexes and condition variables were ever added. */
+PIF_NODISCARD
+pif_number pif_threads(pif_core *core);
+PIF_NODISCARD
+pif_number pif_mutexes(pif_core *core);
+PIF_NODISCARD
+pif_number pif_conds(pif_core *core);
+
+/* The limits under which the core was made. Each is 0 if `result` isn't PIF_OK. */
+typedef struct pif_bounds {
+    uint32_t result; /* enum pif_result */
+    uint32_t threads;
+    uint32_t mutexes;
+    uint32_t conds;
+    uint32_t signals;
+} pif_bounds;
+
+PIF_NODISCARD
+pif_bounds pif_limits(pif_core *core);
+
+/* The call that a thread has open, as it was begun. Each of its numbers is 0 if `result` isn't PIF_OK. */
+typedef struct pif_opened {
+    uint32_t result; /* enum pif_result */
+    pif_request request;
+} pif_opened;
+
+/* PIF_NONE if the thread has no call open, has ended, or was never added. */
+PIF_NODISCARD
+pif_opened pif_open_call(pif_core *core, uint32_t thread);
+
+/* THE POSIX MACHINE: what POSIX leaves open is a choice here, which is yours. A core is one implementation of POSIX, and
+   answers each call in one way. The machine has all ways that POSIX has, and by rules those that some implementations
+   have (docs/JUDGE.md says what each rule is). A machine has threads, mutexes and condition variables of its own. A
+   thread begins a call, moves until the call has its result, and is answered. Each move leads to one of some states, of
+   which you choose one. What is owed for a handle is owed here, too, and its calls take memory: each may answer
+   PIF_NO_MEMORY, or PIF_TOO_MANY if a number passes 32 bits or a move has more than 65536 results. Then nothing has
+   changed. PIF_NO_CORE says here that a handle holds no machine. */
+
+/* A handle. Its fields are the library's. `pif_machine machine = {0};` holds no machine. */
+typedef struct pif_machine {
+    void *at;
+    bool full;
+} pif_machine;
+
+/* By what a thread moves. The numbers from 1 on are rules, in the order in which they are told. A machine by itself moves
+   as if it allowed no rule. By a rule there are the moves of the machine by itself first, and behind them those of the
+   rule, if the machine allows it. */
+enum pif_by {
+    PIF_ITSELF = 0,
+    PIF_STEAL = 1,
+    PIF_ANY_WAITER = 2,
+    PIF_SPURIOUS = 3,
+    PIF_RECURSION = 4,
+    PIF_OWN_ERRORCHECK = 5,
+    PIF_ANY_CONSISTENT = 6,
+    PIF_HELD_WAIT = 7,
+    PIF_LOST_SIGNAL = 8,
+    PIF_REVIVES = 9,
+    PIF_BARGE = 10,
+    PIF_CYCLE_WAITS = 11,
+    PIF_CYCLE_REFUSED = 12,
+    PIF_TIMEOUT_CONSUMES = 13,
+    PIF_ENDS_APART = 14,
+    PIF_STAYS_LOCKED = 15,
+    PIF_REBINDS = 16,
+    PIF_MORE_USES = 17,
+    PIF_REFUSES_SETPRIO = 18,
+    PIF_CONSISTENT_BY_ANY = 19,
+    PIF_CUT_UNLOCK = 20,
+    PIF_OTHER_ERROR = 21,
+    PIF_WAIT_GIVES_ALL = 22
+};
+
+/* The same for any rule: of the machine by itself, and of all rules that it allows, in this order. */
+#define PIF_ANY UINT32_C(0xffffffff)
+
+/* Has an empty handle hold a new machine, which allows no rule and to which nothing was added, under these limits, which
+   may be any numbers. PIF_OK; or PIF_FULL or PIF_NO_MEMORY, and then the handle holds what it held. */
+PIF_NODISCARD
+uint32_t pif_machine_new(pif_machine *machine, uint32_t threads, uint32_t mutexes, uint32_t conds, uint32_t signals);
+
+/* Gives up the machine that a handle holds, if it holds one. The handle is empty then, and may be filled again. */
+void pif_machine_free(pif_machine *machine);
+
+/* A handle of malloc that holds a new machine, which allows the rules that these words name, with blanks between them,
+   as "posix" or "spurious barge". Null if there is none: then `*result` is PIF_INVALID, if a word names no rule, or
+   PIF_NO_MEMORY. Else it is PIF_OK. A null pointer for `result` leaves that out. */
+PIF_NODISCARD
+pif_machine *pif_machine_open(uint32_t threads, uint32_t mutexes, uint32_t conds, uint32_t signals, const char *rules,
+                              uint32_t *result);
+
+/* Gives up a handle of pif_machine_open with the machine that it holds. A null pointer is passed over. */
+void pif_machine_close(pif_machine *machine);
+
+/* The machine allows the rules that a word names, beside those that it allows: a rule, as `steal` or
+   `recursion=1..300`, `posix` for all that POSIX leaves open, or `all`. PIF_OK; or PIF_INVALID if it names none. */
+uint32_t pif_machine_allow(pif_machine *machine, const uint8_t *word, size_t word_length);
+
+/* As pif_add_thread, pif_add_mutex and pif_add_cond. A mutex inherits, or is one of PTHREAD_PRIO_NONE, if `inherits` is
+   false: who waits for that lends its owner no priority, and a cycle through it is no answer EDEADLK. */
+pif_number pif_machine_add_thread(pif_machine *machine, uint32_t prio);
+pif_number pif_machine_add_mutex(pif_machine *machine, uint32_t kind, bool robust, bool inherits);
+pif_number pif_machine_add_cond(pif_machine *machine, uint32_t mutex);
+
+/* A thread begins a call, and nothing else happens: PIF_OK. PIF_NONE if it can't: the thread was never added, has ended,
+   or has a call open, or the call names what was never added. PIF_INVALID if a number names nothing. */
+PIF_NODISCARD
+uint32_t pif_machine_begin(pif_machine *machine, uint32_t thread, pif_request request);
+
+/* How many states there are to which a move of a thread leads (enum pif_by). By the machine itself 0 if the thread has no
+   call open, waits, or has its result; PIF_INVALID if a number names nothing. */
+PIF_NODISCARD
+pif_number pif_machine_moves(pif_machine *machine, uint32_t thread, uint32_t by);
+
+/* A thread moves, to the state at this place of those, from 0: PIF_OK. PIF_NONE if there are so few. */
+PIF_NODISCARD
+uint32_t pif_machine_move(pif_machine *machine, uint32_t thread, uint32_t by, uint32_t place);
+
+/* What the open call of a thread is answered (enum pif_answer), once it has its result. PIF_NONE if it has none yet. */
+PIF_NODISCARD
+pif_number pif_machine_result(pif_machine *machine, uint32_t thread);
+
+/* The open call of a thread is answered, and closes: its answer. PIF_NONE if it has no result yet, or if it is a wait that
+   has to take holds again first, by a move of PIF_WAIT_GIVES_ALL. */
+PIF_NODISCARD
+pif_number pif_machine_answer(pif_machine *machine, uint32_t thread);
+
+/* How many states there are to which the end of a thread leads, at one moment, with a call open or not: several by
+   `barge` and `stays_locked`, for its robust mutexes. PIF_INVALID if the number names nothing. */
+PIF_NODISCARD
+pif_number pif_machine_ends(pif_machine *machine, uint32_t thread);
+
+/* A thread ends, and leads to the state at this place of those: PIF_OK. PIF_NONE if there are so few. */
+PIF_NODISCARD
+uint32_t pif_machine_end(pif_machine *machine, uint32_t thread, uint32_t place);
+
+/* The same for one step of an end by the rule `ends_apart`: the thread lives no more, and behind that each of its robust
+   mutexes passes on by a step. None without the rule, and once all have. */
+PIF_NODISCARD
+pif_number pif_machine_ends_apart(pif_machine *machine, uint32_t thread);
+PIF_NODISCARD
+uint32_t pif_machine_end_apart(pif_machine *machine, uint32_t thread, uint32_t place);
+
+/* The time is this from now on: PIF_OK. PIF_NONE if that would set it back. */
+PIF_NODISCARD
+uint32_t pif_machine_tick(pif_machine *machine, uint32_t time);
+
+/* As pif_owner, pif_health, pif_status and pif_effective. A thread is PIF_PARKED as long as it is blocked on a variable,
+   and PIF_QUEUED while it is among the waiters of a mutex. */
+PIF_NODISCARD
+pif_owned pif_machine_owner(pif_machine *machine, uint32_t mutex);
+PIF_NODISCARD
+pif_number pif_machine_health(pif_machine *machine, uint32_t mutex);
+PIF_NODISCARD
+pif_doing pif_machine_status(pif_machine *machine, uint32_t thread);
+PIF_NODISCARD
+pif_number pif_machine_effective(pif_machine *machine, uint32_t thread);
+
+/* 1 if a thread's open call has had no effect, and POSIX leaves undefined what it does, 0 if not: it unlocks a mutex or
+   waits with one that it doesn't own, where no error is told, waits with another mutex than those that are blocked on the
+   variable, or sets the priority of a thread that has ended. */
+PIF_NODISCARD
+pif_number pif_machine_undefined(pif_machine *machine, uint32_t thread);
+
+/* CHOOSING: who goes next when threads go one at a time, which schedule is visited next when each is tried, and whether
+   all stand still. No handle is used, and no memory taken: any number of threads may call these at once. */
+
+/* A thread that can go, and its rank. */
+typedef struct pif_candidate {
+    uint32_t thread;
+    uint64_t rank; /* of pif_choose_ranked */
+} pif_candidate;
+
+/* Who goes next, of those that can go; PIF_NONE exactly if there are none. The present thread goes on if it can; else the
+   next one by number goes, or the first if there is none. Or the one at the place of a number that was drawn goes,
+   counted round. Or the first of those of the greatest rank does. */
+PIF_NODISCARD
+pif_number pif_choose_staying(uint32_t present, const pif_candidate *can, size_t can_length);
+PIF_NODISCARD
+pif_number pif_choose_drawn(uint32_t number, const pif_candidate *can, size_t can_length);
+PIF_NODISCARD
+pif_number pif_choose_ranked(const pif_candidate *can, size_t can_length);
+
+/* What an option counts towards the bounds of a search, or these bounds. */
+typedef struct pif_counts {
+    uint32_t preemptions;
+    uint32_t ends;
+    uint32_t wakes;
+} pif_counts;
+
+/* A point of a run: how many options there were, and the place of the one that was chosen, from 0. */
+typedef struct pif_point {
+    size_t options;
+    size_t chosen;
+} pif_point;
+
+/* Where a schedule leaves the one before it: so many choices are kept, then the option at this place is chosen, and the
+   first option of each point behind that. */
+typedef struct pif_change {
+    uint32_t result; /* enum pif_result */
+    size_t kept;
+    size_t option;
+} pif_change;
+
+/* The schedule that comes next in a depth-first search of all that count no more than the bound, behind that of a run:
+   its points, and the options of all of them in a row, each with what it counts. PIF_NONE if there is no further one. A
+   search begins with the run that has the first option of each point, which has to count nothing. If the program does
+   the same after the same choices, each schedule is visited once. */
+PIF_NODISCARD
+pif_change pif_choose_next(const pif_counts *bound, const pif_point *points, size_t points_length,
+                           const pif_counts *options, size_t options_length);
+
+/* What a thread does at a point. */
+typedef struct pif_standing {
+    uint32_t thread;
+    uint32_t mutex;  /* for which it waits; 0: for none */
+    uint32_t owner;  /* who holds that; 0: nobody does */
+    bool goes;       /* it can go */
+    bool is_timed;   /* it can once its deadline is reached */
+    bool is_outside; /* it can once something comes from outside of the program */
+    bool wants_lock; /* it wants a lock, of a mutex or of another kind */
+} pif_standing;
+
+/* 1 if this is a deadlock: no thread can go, now or later, and one of them wants a lock. Else 0. */
+PIF_NODISCARD
+uint32_t pif_choose_is_deadlock(const pif_standing *standings, size_t standings_length);
+
+/* A link of a chain: a thread waits for a mutex, which the owner holds. */
+typedef struct pif_link {
+    uint32_t thread;
+    uint32_t mutex;
+    uint32_t owner;
+} pif_link;
+
+/* Writes the chain from a thread to the start of a room: each link begins with the owner of the one before. It ends at a
+   thread that waits for nobody, when it comes back to the first thread, or when the room is full. How many links it has. */
+PIF_NODISCARD
+size_t pif_choose_chain(const pif_standing *standings, size_t standings_length, uint32_t first, pif_link *room,
+                        size_t room_length);
 
 /* TEXTS: bytes in, bytes out. No handle is used: any number of threads may call these at once, if your malloc allows
    that. A text is written to the start of the room if all of it fits, and no other byte of the room changes. Otherwise

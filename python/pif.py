@@ -61,6 +61,16 @@ A number that the core can't be given, and a name of nothing, are refused before
     Traceback (most recent call last):
     ValueError: there is no kind 'nromal', but normal, recursive, errorcheck
 
+A search of schedules is told which one is next, here of two points with two options each, of which the second is a
+preemption:
+
+    >>> free, preempts = (0, 0, 0), (1, 0, 0)
+    >>> options = [free, preempts]
+    >>> next_schedule((1, 0, 0), [(options, 0), (options, 0)]), next_schedule((1, 0, 0), [(options, 0), (options, 1)])
+    ((1, 1), (0, 1))
+    >>> next_schedule((1, 0, 0), [(options, 1), (options, 0)]) is None
+    True
+
 Texts go in, as str or bytes, and come out as str. Its `ended` says how that ended: whole (a history is legal), fault,
 differs (a history is illegal) or undecided:
 
@@ -213,6 +223,21 @@ Owned = words("Owned", "result", "thread", "count")
 Doing = words("Doing", "result", "state", "waits_for")
 Request = words("Request", "call", "mutex", "cond", "thread", "prio", "deadline")
 
+Counts = words("Counts", "preemptions", "ends", "wakes")
+
+
+class Point(ctypes.Structure):
+    """A point of a run: how many options there were, and the place of the one that was chosen."""
+
+    _fields_ = [("options", ctypes.c_size_t), ("chosen", ctypes.c_size_t)]
+
+
+class Change(ctypes.Structure):
+    """Where a schedule leaves the one before it."""
+
+    _fields_ = [("result", ctypes.c_uint32), ("kept", ctypes.c_size_t), ("option", ctypes.c_size_t)]
+
+
 U32, HANDLE, LOG = ctypes.c_uint32, ctypes.POINTER(Handle), ctypes.POINTER(Log)
 BYTES, SIZE, HOW = ctypes.c_char_p, ctypes.c_size_t, ctypes.POINTER(Options)
 
@@ -246,6 +271,7 @@ SIGNATURES = {
     "pif_ready": (Number, HANDLE, U32),
     "pif_time": (Number, HANDLE),
     "pif_path": (Number, HANDLE, U32, U32),
+    "pif_choose_next": (Change, ctypes.POINTER(Counts), ctypes.POINTER(Point), SIZE, ctypes.POINTER(Counts), SIZE),
     "pif_run": (TextBy, BYTES, SIZE, BYTES, SIZE),
     "pif_replay": (TextBy, BYTES, SIZE, BYTES, SIZE),
     "pif_check": (TextBy, BYTES, SIZE, BYTES, SIZE, BYTES, SIZE),
@@ -555,3 +581,15 @@ def show(story, shown="changes"):
     """What `pif show` prints of a story or a script: what each command changes, or all of the core behind each; and with
     "json" or "dot" what it prints for programs."""
     return done(LIBRARY.pif_show_with, story, 0, None, shown=named("form", shown, SHOWN))
+
+
+def next_schedule(bound, points):
+    """Where the schedule that comes next in a search leaves that of a run: how many choices are kept, and the place of the
+    option that is chosen then; None if there is no further one. `bound` is how many preemptions, ends and wake-ups there
+    may be. A point is what each of its options counts towards these, and the place of the one that was chosen. The first
+    option of each point counts nothing, and is chosen behind the change."""
+    options = [Counts(*map(fitting, counts)) for offered, _ in points for counts in offered]
+    taken = [Point(len(offered), chosen) for offered, chosen in points]
+    told = LIBRARY.pif_choose_next(Counts(*map(fitting, bound)), (Point * len(taken))(*taken), len(taken),
+                                   (Counts * len(options))(*options), len(options))
+    return None if told.result == NONE else (told.kept, told.option)

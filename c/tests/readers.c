@@ -28,9 +28,33 @@ static void add_all(pif_core *core)
     NUMBER(pif_add_cond(core, 1), PIF_OK, 1);
 }
 
-/* What stands still: base priorities, kinds, and the mutex of a variable. */
+static void expect_limits(int line, pif_bounds is, uint32_t result, uint32_t threads, uint32_t mutexes, uint32_t conds,
+                          uint32_t signals)
+{
+    expect_true(line, "the limits", is.result == result && is.threads == threads && is.mutexes == mutexes
+                && is.conds == conds && is.signals == signals);
+}
+
+static void expect_call(int line, pif_opened is, uint32_t result, pif_request request)
+{
+    pif_request of = is.request;
+
+    expect_true(line, "the open call", is.result == result && of.call == request.call && of.mutex == request.mutex
+                && of.cond == request.cond && of.thread == request.thread && of.prio == request.prio
+                && of.deadline == request.deadline);
+}
+
+#define LIMITS(result, threads, mutexes, conds, signals) \
+    expect_limits(__LINE__, pif_limits(core), result, threads, mutexes, conds, signals)
+#define OPEN(thread, result, request) expect_call(__LINE__, pif_open_call(core, thread), result, request)
+
+/* What stands still: counts, limits, base priorities, kinds, and the mutex of a variable. */
 static void what_was_added(pif_core *core)
 {
+    NUMBER(pif_threads(core), PIF_OK, 2);
+    NUMBER(pif_mutexes(core), PIF_OK, 2);
+    NUMBER(pif_conds(core), PIF_OK, 1);
+    LIMITS(PIF_OK, 8, 8, 8, 2);
     NUMBER(pif_base(core, 1), PIF_OK, 10);
     NUMBER(pif_base(core, 2), PIF_OK, 20);
     NUMBER(pif_mutex_kind(core, 1), PIF_OK, PIF_RECURSIVE);
@@ -46,6 +70,11 @@ static void what_was_added(pif_core *core)
 
 static void what_was_never_added(pif_core *core)
 {
+    pif_request none = {0};
+
+    OPEN(0, PIF_NONE, none);
+    OPEN(1, PIF_NONE, none);
+    OPEN(3, PIF_NONE, none);
     NUMBER(pif_base(core, 0), PIF_NONE, 0);
     NUMBER(pif_base(core, 3), PIF_NONE, 0);
     NUMBER(pif_mutex_kind(core, 0), PIF_NONE, 0);
@@ -85,6 +114,10 @@ static void waits(pif_core *core)
     SEEN(pif_call(core, 1, pif_unlock(1)), PIF_ANSWERED, PIF_DONE);
     SEEN(pif_call(core, 1, pif_timedwait(1, 1, 5)), PIF_WAITS, 0);
     DOES(1, PIF_OK, PIF_PARKED, 1);
+    OPEN(1, PIF_OK, pif_timedwait(1, 1, 5));
+    SEEN(pif_begin(core, 2, pif_setprio(1, 10)), PIF_BEGUN, 0);
+    OPEN(2, PIF_OK, pif_setprio(1, 10));
+    SEEN(pif_finish(core, 2), PIF_ANSWERED, PIF_DONE);
     SEEN(pif_call(core, 2, pif_lock(1)), PIF_ANSWERED, PIF_DONE);
     SEEN(pif_call(core, 2, pif_signal(1)), PIF_ANSWERED, PIF_DONE);
     NUMBER(pif_cond_word(core, 1), PIF_OK, 1);
@@ -93,6 +126,17 @@ static void waits(pif_core *core)
     SEEN(pif_call(core, 2, pif_broadcast(1)), PIF_ANSWERED, PIF_EOVERFLOW);
     SEEN(pif_call(core, 2, pif_unlock(1)), PIF_ANSWERED, PIF_DONE);
     SEEN(pif_finish(core, 1), PIF_ANSWERED, PIF_DONE);
+}
+
+static void has_no_core(pif_core *core)
+{
+    pif_request none = {0};
+
+    NUMBER(pif_threads(core), PIF_NO_CORE, 0);
+    NUMBER(pif_mutexes(core), PIF_NO_CORE, 0);
+    NUMBER(pif_conds(core), PIF_NO_CORE, 0);
+    LIMITS(PIF_NO_CORE, 0, 0, 0, 0);
+    OPEN(1, PIF_NO_CORE, none);
 }
 
 /* Three wait for a mutex: those of equal priority in order of arrival, behind the greatest. One is parked, and a tick
@@ -135,6 +179,7 @@ static void in_order(void)
     NUMBER(pif_waiter(&core, 1, 0), PIF_NO_CORE, 0);
     NUMBER(pif_parked(&core, 1, 0), PIF_NO_CORE, 0);
     NUMBER(pif_ready(&core, 0), PIF_NO_CORE, 0);
+    has_no_core(&core);
 }
 
 /* A robust mutex whose owner ended, and that the next owner gives up as it is: nobody can lock it again. */

@@ -76,7 +76,7 @@ int main(void)
     long replay = requests_of(replays, "pif-trace 2\nthread 10 = t1\n", "same 1\n");
     long check = requests_of(checks, "thread 10 = t1\n", "ok mine 1\n");
     long judge = requests_of(judges_with_witness, "thread 10\nbegin t1 setprio t1 20\n",
-                              "legal 2, 1 call\nthread 10\nbegin t1 setprio t1 20\n");
+                             "legal 2, 1 call\nopen at the end: t1 setprio t1 20\nthread 10\nbegin t1 setprio t1 20\n");
 
     long least = requests_of(finds_least, "thread 10\nbegin t1 setprio t1 20\n", "legal 2, 1 call\n");
     long explore = requests_of(explores, "thread 10\ndo t1: set x1 1\n", "t1; x1 = 1\n1 outcomes, 2 states, 1 steps\n");

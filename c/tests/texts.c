@@ -56,7 +56,7 @@ static void more_texts(void)
     TEXT(finds_least, WAIT, PIF_WHOLE, "legal 7, 2 calls, with spurious\n");
     TEXT(finds_least_by_options, WAIT, PIF_WHOLE, "legal 7, 2 calls, with spurious\n");
     TEXT(finds_least, CALL, PIF_WHOLE, "legal 2, 1 call\n");
-    TEXT(judges_by_options, CALL, PIF_WHOLE, "legal 2, 1 call\n");
+    TEXT(judges_by_options, CALL, PIF_WHOLE, "legal 2, 1 call\nopen at the end: t1 setprio t1 20\n");
 }
 
 int main(void)

@@ -45,7 +45,7 @@ int main(int count, char **words)
     for (long i = 0; i < wanted; i++)
         pthread_join(threads[i], NULL);
     double calls = 2.0 * (double)pairs * (double)wanted;
-    printf("%.0f nanoseconds a call, %.0f of a processor\n", (now(CLOCK_MONOTONIC) - began) / calls,
+    fprintf(stderr, "%.0f nanoseconds a call, %.0f of a processor\n", (now(CLOCK_MONOTONIC) - began) / calls,
            (now(CLOCK_PROCESS_CPUTIME_ID) - spent) / calls);
     return 0;
 }

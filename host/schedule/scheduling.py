@@ -60,34 +60,47 @@ class Told(NamedTuple):
     text: str
 
 
-LINE = re.compile(r"(\d+) t(\d+)\.(\d+) (?:> t(\d+)|end t(\d+)|(time)) of((?: t\d+)*)(?: or end((?: t\d+)+))? at .+")
+LINE = re.compile(r"(\d+) t(\d+)\.(\d+) (?:> t(\d+)|end t(\d+)|wake t(\d+)|(time)) of((?: t\d+)*)"
+                  r"(?: or end((?: t\d+)+))?(?: or wake((?: t\d+)+))? at .+")
+WAY = re.compile(r"(\d+) t(\d+)\.(\d+) by (\S+) of((?: \S+)+) at .+")
+MARKS = {"go": ">", "end": "end", "wake": "wake"}
 
 
 class Choice(NamedTuple):
-    """A line of a schedule: `kind` is `go`, `end` or `time`, `can` are those who can go, `may_end` who may stop."""
+    """A line of a schedule: `kind` is `go`, `end`, `wake`, `time` or `by`, `can` are those who can go, `may_end` who may
+    stop, `may_wake` who may wake by itself. `way` is that of a call, of `ways`."""
 
     line: str
     chooser: int
     kind: str
-    thread: int
-    can: tuple
-    may_end: tuple
+    thread: int = 0
+    can: tuple = ()
+    may_end: tuple = ()
+    may_wake: tuple = ()
+    way: str = ""
+    ways: tuple = ()
 
     def is_preemption(self):
-        """Whether a thread that can go on makes way for another one."""
-        return self.kind == "go" and self.chooser in self.can and self.thread != self.chooser
+        """Whether a thread that can go on makes way for another one, or one wakes that nobody woke."""
+        return self.kind == "wake" or self.kind == "go" and self.chooser in self.can and self.thread != self.chooser
 
     def is_usual(self):
         """Whether this is what happens without a choice: a thread goes on, then the next one by number."""
+        if self.kind == "by":
+            return self.way == self.ways[0]
         later = [thread for thread in self.can if thread > self.chooser]
         usual = self.chooser if self.chooser in self.can else (later or list(self.can))[0]
         return self.kind == "go" and self.thread == usual
 
-    def instead(self, kind, thread):
-        """This choice with another thread."""
+    def with_instead(self, chosen):
+        """This choice with another one in its place."""
         before = self.line[: self.line.index(" ", self.line.index(" t") + 1)]
         behind = self.line[self.line.index(" of ") :]
-        return read_choice("%s %s t%d%s" % (before, ">" if kind == "go" else "end", thread, behind))
+        return read_choice("%s %s%s" % (before, chosen, behind))
+
+    def instead(self, kind, thread):
+        """This choice with another thread."""
+        return self.with_instead("%s t%d" % (MARKS[kind], thread))
 
 
 def numbers_of(text):
@@ -96,12 +109,15 @@ def numbers_of(text):
 
 def read_choice(line):
     """A line of a schedule as a choice; None if it is none."""
+    found = WAY.fullmatch(line)
+    if found is not None:
+        return Choice(line, int(found[2]), "by", way=found[4], ways=tuple(found[5].split()))
     found = LINE.fullmatch(line)
     if found is None:
         return None
-    kind = "go" if found[4] else "end" if found[5] else "time"
-    thread = int(found[4] or found[5] or 0)
-    return Choice(line, int(found[2]), kind, thread, numbers_of(found[7]), numbers_of(found[8]))
+    kind = "go" if found[4] else "end" if found[5] else "wake" if found[6] else "time"
+    thread = int(found[4] or found[5] or found[6] or 0)
+    return Choice(line, int(found[2]), kind, thread, *map(numbers_of, found.groups()[7:]))
 
 
 class Run(NamedTuple):
@@ -142,19 +158,38 @@ class Asked(NamedTuple):
     story: bool = False
     memory: bool = False
     races: bool = False
+    posix: bool = False
+    spurious: int = 0
     expect: int = 0
     output: bytes | None = None
     seconds: float = 10.0
+    allow: tuple = ()
 
     def text(self, choices):
         """The file that the library reads."""
         told = self._replace(strategy=STRATEGIES.index(self.strategy))._asdict()
         lines = ["%s %d" % (name, told[name]) for name in list(told)[: list(told).index("expect")]]
+        lines += ["allow " + rule for rule in self.allow]
         return "".join(line + "\n" for line in [*lines, *(choice.line for choice in choices)])
 
 
 # What a schedule keeps of what was asked: a replay needs it.
-KEPT = ("ends", "time", "steps", "inherit", "errors", "each", "memory", "races", "expect")
+KEPT = ("ends", "time", "steps", "inherit", "errors", "each", "memory", "races", "spurious", "expect")
+
+# What answers the calls of a program, by the words of --on.
+MACHINES = ("core", "posix")
+
+# The rules of POSIX that are choices on the POSIX machine: those of schedule.h.
+CHOSEN_RULES = ("spurious", "barge", "any_waiter", "cycle_waits", "ends_apart", "timeout_consumes")
+
+# Those that are choices, too, if they are allowed.
+RULES = ("steal", "own_errorcheck", "any_consistent", "held_wait", "lost_signal", "revives", "cycle_refused",
+         "stays_locked", "rebinds", "more_uses", "refuses_setprio", "consistent_by_any", "cut_unlock", "wait_gives_all")
+BOUNDS = re.compile(r"recursion=\d+\.\.\d+")
+
+
+def is_rule(word):
+    return word in RULES or BOUNDS.fullmatch(word) is not None
 
 
 def sum_of(program):
@@ -350,8 +385,9 @@ class Schedule(NamedTuple):
     def text(self):
         asked = self.asked._asdict()
         kept = ["set %s %d" % (name, asked[name]) for name in KEPT]
-        lines = [FIRST_LINE, "program %s" % self.sum, *("word %s" % json.dumps(word) for word in self.words), "on core",
-                 "strategy %s" % self.asked.strategy, "seed %d" % self.asked.seed, *kept,
+        lines = [FIRST_LINE, "program %s" % self.sum, *("word %s" % json.dumps(word) for word in self.words),
+                 "on %s" % MACHINES[self.asked.posix], "strategy %s" % self.asked.strategy,
+                 "seed %d" % self.asked.seed, *kept, *("allow %s" % rule for rule in self.asked.allow),
                  "outcome %s" % self.outcome, *("# %s" % line for line in self.reasons),
                  *(choice.line for choice in self.choices)]
         return "".join(line + "\n" for line in lines)
@@ -365,7 +401,7 @@ def read_schedule(path):
         raise Refused("%s can't be read: %s" % (path, getattr(why, "strerror", None) or "it is no text")) from why
     if not lines or lines[0] != FIRST_LINE:
         raise Refused("%s is no schedule: its first line isn't '%s'" % (path, FIRST_LINE))
-    words, head, kept, reasons, choices = [], {}, {}, [], []
+    words, head, kept, allow, reasons, choices = [], {}, {}, [], [], []
     for number, line in enumerate(lines[1:], 2):
         word, _, behind = line.partition(" ")
         if word == "word" and behind.startswith('"'):
@@ -374,6 +410,8 @@ def read_schedule(path):
             head[word] = behind
         elif word == "set" and re.fullmatch(r"(?:%s) \d+" % "|".join(KEPT), behind):
             kept[behind.split()[0]] = int(behind.split()[1])
+        elif word == "allow" and is_rule(behind):
+            allow.append(behind)
         elif word == "#":
             reasons.append(behind)
         elif choice := read_choice(line):
@@ -381,8 +419,10 @@ def read_schedule(path):
         else:
             raise Refused("%s is no schedule: its line %d is '%s'" % (path, number, line))
     missing = [word for word in ("program", "on", "strategy", "seed", "outcome") if word not in head]
-    if missing or not words or head["strategy"] not in STRATEGIES or not head["seed"].isdigit() or head["on"] != "core":
+    if (missing or not words or head["strategy"] not in STRATEGIES or not head["seed"].isdigit()
+            or head["on"] not in MACHINES):
         why = "it has no line '%s'" % missing[0] if missing else "a line of its head is wrong"
         raise Refused("%s is no schedule: %s" % (path, why))
-    asked = Asked(strategy=head["strategy"], seed=int(head["seed"]), **kept)
+    asked = Asked(strategy=head["strategy"], seed=int(head["seed"]), posix=head["on"] == "posix", allow=tuple(allow),
+                  **kept)
     return Schedule(words, head["program"], asked, head["outcome"], reasons, choices)

@@ -1,8 +1,9 @@
 """How schedules are looked for: by seeds, each with few preemptions, and with fewer switches than one that is known."""
 
 import itertools
+import sys
 
-from scheduling import Choice
+from scheduling import TOP, Choice, Refused
 
 MOST_IN_PAIRS = 40
 
@@ -20,50 +21,60 @@ def by_seeds(program, asked, runs):
     """Runs by seeds, one after another: what was asked, and the run."""
     is_mix = asked.strategy == "mix"
     if is_mix or asked.strategy == "pct":  # its changes are drawn among the points of a run without switches
-        asked = asked._replace(length=max(1, program.run(asked._replace(strategy="stay", ends=0)).points))
+        asked = asked._replace(length=max(1, program.run(asked._replace(strategy="stay", ends=0, spurious=0)).points))
     for number in range(runs):
         one = asked._replace(seed=asked.seed + number)
         one = of_mix(one) if is_mix else one
         yield one, program.run(one)
 
 
-class Node:
-    """A choice of the run that is looked at, with the others that are left to try."""
+class Point:
+    """A point of the run that is looked at: its options, the usual one first, and the place of the one that is chosen."""
 
-    def __init__(self, choice: Choice, preemptions, ends, bounds):
-        self.choice = choice
-        self.before = preemptions, ends
-        most_preemptions, most_ends = bounds
-        others = [choice.instead("go", thread) for thread in choice.can]
-        if ends < most_ends:
-            others += [choice.instead("end", thread) for thread in choice.may_end]
-        self.left = [other for other in others if other.line != choice.line
-                     and preemptions + other.is_preemption() <= most_preemptions]
+    def __init__(self, usual: Choice):
+        others = [usual.instead("go", thread) for thread in usual.can]
+        others += [usual.instead("end", thread) for thread in usual.may_end]
+        others += [usual.instead("wake", thread) for thread in usual.may_wake]
+        others += [usual.with_instead("by " + way) for way in usual.ways]
+        self.options = [usual] + [other for other in others if other.line != usual.line]
+        self.counts = [counts_of(option) for option in self.options]
+        self.chosen = 0
 
-    def after(self):
-        """How many preemptions and ends there are up to here."""
-        preemptions, ends = self.before
-        return preemptions + self.choice.is_preemption(), ends + (self.choice.kind == "end")
+    def choice(self):
+        return self.options[self.chosen]
 
-    def take_next(self):
-        self.choice = self.left.pop(0)
+
+def counts_of(choice):
+    """What a choice counts: preemptions, ends and wake-ups by themselves."""
+    return int(choice.is_preemption()), int(choice.kind == "end"), int(choice.kind == "wake")
+
+
+def successor():
+    """The function of libpif that says which schedule is next."""
+    sys.path.insert(0, str(TOP / "python"))
+    try:
+        from pif import next_schedule
+    except ImportError as why:
+        raise Refused(str(why)) from None
+    return next_schedule
 
 
 def every_one(program, asked, preemptions):
-    """Each schedule with at most so many preemptions, once: depth first, the usual choice first."""
-    asked = asked._replace(strategy="stay", each=asked.ends > 0)
-    path = []
+    """Each schedule with at most so many preemptions, once: depth first, the usual choice first. The library says which
+    one is next."""
+    asked = asked._replace(strategy="stay", each=asked.ends + asked.spurious > 0)
+    bound = (preemptions, asked.ends, asked.spurious)
+    next_schedule, path = successor(), []
     while True:
-        run = program.run(asked, [node.choice for node in path])
+        run = program.run(asked, [point.choice() for point in path])
         yield asked, run
-        for choice in run.choices[len(path):]:
-            before = path[-1].after() if path else (0, 0)
-            path.append(Node(choice, *before, (preemptions, asked.ends)))
-        while path and not path[-1].left:
-            path.pop()
-        if not path:
+        path += [Point(choice) for choice in run.choices[len(path):]]
+        change = next_schedule(bound, [(point.counts, point.chosen) for point in path])
+        if change is None:
             return
-        path[-1].take_next()
+        kept, option = change
+        del path[kept + 1:]
+        path[kept].chosen = option
 
 
 def size(run):

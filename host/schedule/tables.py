@@ -22,7 +22,7 @@ def verdict_in(lines):
 
 def library_in(lines):
     """Of what libpif it holds."""
-    return next((line.partition("core: ")[2] for line in lines if "core: libpif" in line), "")
+    return next(("libpif" + line.partition(": libpif")[2] for line in lines if ": libpif" in line), "")
 
 
 def write_page(path, head, rows):

@@ -1,4 +1,6 @@
 pub mod Words
 pub mod Handed
+pub mod HandedMachine
 pub mod Keeping
 pub mod Making
+pub mod MachineSteps

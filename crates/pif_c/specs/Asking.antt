@@ -1,25 +1,27 @@
 -- What a handle answers to what C asks: what its core answers, if it holds one and the numbers name something.
-use Rattle.std.specs.Prelude.{ℕ, ◌≡◌, ◌==◌, Bool, Option, Some, None, option_map, option_and_then, List, slice_get, Result, if◌then◌else◌}
+use Rattle.std.specs.Prelude.{ℕ, ◌≡◌, ◌==◌, ◌-◌, Bool, Option, Some, None, option_map, option_and_then, List, length, slice_get, Result, if◌then◌else◌}
 use Rattle.pif_types.specs.declared.errors.AddFault.{AddFault}
 use Rattle.pif_model.specs.declared.events.Event.TheVariants.{Begin, Go, End, Tick}
 use Rattle.pif_model.specs.Word.{health_word}
 use Rattle.pif_model.specs.Table.{Table}
 use Rattle.pif_model.specs.Lines.{Outcome, event_outcome}
-use Rattle.pif_model.specs.Calls.{add_thread_answer, add_thread_after, add_mutex_answer, add_mutex_after, add_cond_answer, add_cond_after, effective_answer, waiting_answer, word_answer, health_answer, cond_word_answer, pick_answer, owner_answer, status_answer, base_answer, kind_answer, bound_answer, waiter_answer, parked_answer, ready_answer, IsPathAnswer}
+use Rattle.pif_model.specs.Calls.{add_thread_answer, add_thread_after, add_mutex_answer, add_mutex_after, add_cond_answer, add_cond_after, effective_answer, waiting_answer, word_answer, health_answer, cond_word_answer, pick_answer, owner_answer, status_answer, base_answer, kind_answer, bound_answer, waiter_answer, parked_answer, ready_answer, threads_answer, open_call_answer, IsPathAnswer}
 use Rattle.pif_model_simulation.specs.Calls.{call_outcome, finish_outcome}
 use Rattle.pif_c.specs.declared.asking.Turn.{Turn}
 use Rattle.pif_c.specs.declared.asking.Turn.TheVariants.{Event as OneEvent, Call, Finish}
 use Rattle.pif_c.specs.declared.adding.Addition.{Addition}
 use Rattle.pif_c.specs.declared.adding.Addition.TheVariants.{Thread, Mutex, Cond}
 use Rattle.pif_c.specs.declared.asking.Look.{Look}
-use Rattle.pif_c.specs.declared.asking.Look.TheVariants.{Effective, Waiting, Word, Health, CondWord, Pick, Base, MutexKind, Robust, Bound, Waiter, ParkedOn, ReadyAt, Time}
+use Rattle.pif_c.specs.declared.asking.Look.TheVariants.{Effective, Waiting, Word, Health, CondWord, Pick, Base, MutexKind, Robust, Bound, Waiter, ParkedOn, ReadyAt, Time, Threads, Mutexes, Conds}
 use Rattle.pif_c_numbers.specs.declared.numbers.PifSeen.{PifSeen}
 use Rattle.pif_c_numbers.specs.declared.numbers.PifNumber.{PifNumber}
 use Rattle.pif_c_numbers.specs.declared.numbers.PifOwned.{PifOwned}
 use Rattle.pif_c_numbers.specs.declared.numbers.PifDoing.{PifDoing}
 use Rattle.pif_c_numbers.specs.declared.numbers.PifRequest.{PifRequest}
+use Rattle.pif_c_numbers.specs.declared.numbers.PifOpen.{PifOpen}
+use Rattle.pif_c_numbers.specs.declared.numbers.PifLimits.{PifLimits}
 use Rattle.pif_c_numbers.specs.Codes as pif
-use Rattle.pif_c_numbers.specs.Numbers.{if_named, no_number, no_owner, no_state, request_of, kind_of, kind_number, seen_reported, nothing_seen, unnamed_seen, number_told, owner_told, status_told, added_told}
+use Rattle.pif_c_numbers.specs.Numbers.{if_named, no_number, no_owner, no_state, no_limits, no_request, limits_told, open_told, request_of, kind_of, kind_number, seen_reported, nothing_seen, unnamed_seen, number_told, owner_told, status_told, added_told}
 
 -- TURNS
 
@@ -81,6 +83,9 @@ shown (Waiter m place) s = option_and_then (λ n. waiter_answer n place s) (if_n
 shown (ParkedOn c place) s = option_and_then (λ n. parked_answer n place s) (if_named c)
 shown (ReadyAt place) s = ready_answer place s
 shown Time s = Some s.time
+shown Threads s = Some (threads_answer s)
+shown Mutexes s = Some (length s.mutexes - 1)
+shown Conds s = Some (length s.conds - 1)
 
 -- what is answered of what a handle holds
 abbrev pub shown_told : Look → Option Table → PifNumber
@@ -109,6 +114,15 @@ owner_shown m (Some s) = owner_told (owner_answer m s)
 abbrev pub status_shown : ℕ → Option Table → PifDoing
 status_shown t None = no_state pif.no_core
 status_shown t (Some s) = status_told (status_answer t s)
+
+-- the limits, and the open call of a thread, by what a handle holds
+abbrev pub limits_shown : Option Table → PifLimits
+limits_shown None = no_limits pif.no_core
+limits_shown (Some s) = limits_told s.limits
+
+abbrev pub open_shown : ℕ → Option Table → PifOpen
+open_shown t None = record { result = pif.no_core; request = no_request }
+open_shown t (Some s) = open_told (open_call_answer t s)
 
 -- ADDITIONS
 

@@ -5,3 +5,9 @@ pub mod Standing
 pub mod Texts
 pub mod Explores
 pub mod Shows
+pub mod Running
+pub mod Machines
+pub mod LooseMachines
+pub mod MachineHandles
+pub mod Going
+pub mod Choosing

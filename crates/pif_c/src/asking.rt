@@ -52,6 +52,12 @@ pub enum Look {
     ReadyAt(u32),
     /// The time.
     Time,
+    /// How many threads were ever added.
+    Threads,
+    /// How many mutexes were.
+    Mutexes,
+    /// How many condition variables were.
+    Conds,
 }
 
 /// A turn of a core: what was seen.
@@ -114,6 +120,9 @@ fn see(core: &Core, look: Look) -> Option<u32>
         Look::ParkedOn(cond, place) => parked_on(core, cond, place),
         Look::ReadyAt(place) => ready_at(core, place),
         Look::Time => Some(core.time()),
+        Look::Threads => Some(core.threads()),
+        Look::Mutexes => Some(core.mutexes()),
+        Look::Conds => Some(core.conds()),
     }
 }
 

@@ -56,7 +56,7 @@ impl PifCore {
 }
 
 /// A value of a type that may cross to another thread.
-fn crosses<T: Send>(value: T) -> T
+pub(crate) fn crosses<T: Send>(value: T) -> T
     ensures { result ≡ value }
 {
     value

@@ -11,6 +11,7 @@
 //! | `handles` | the handle |
 //! | `holding` | a handle filled and emptied, and that it may pass to another thread between two calls |
 //! | `asking` | what is asked of a core, on a handle: turns, and looks |
+//! | `choosing` | who goes next, and which schedule is visited next |
 //! | `adding` | threads, mutexes and condition variables added |
 //! | `cores` | a core made, and given up |
 //! | `events` | events and whole calls |
@@ -18,21 +19,37 @@
 //! | `texts` | scripts, traces, stories and histories: bytes in, bytes out |
 //! | `shows` | stories shown to a person, likewise |
 //! | `explores` | small programs that lock, likewise |
+//! | `machines` | the POSIX machine with rules, and what may happen to it next |
+//! | `loose_machines`, `machine_handles`, `machine_holding` | a machine behind a pointer, and the handle, filled and emptied |
+//! | `machine_exports` | a machine made, and given up; rules allowed |
+//! | `machine_adding`, `going`, `machine_readers` | what is added to it, its steps, and what it shows |
 #![tactic(auto)]
 
 mod adding;
 mod asking;
+mod choosing;
 mod cores;
 mod events;
 mod explores;
+mod going;
 mod handles;
 mod holding;
 mod loose;
+mod loose_machines;
+mod machine_adding;
+mod machine_exports;
+mod machine_handles;
+mod machine_holding;
+mod machine_readers;
+mod machines;
 mod readers;
 mod shows;
 mod texts;
 
+pub use choosing::PifChange;
 pub use handles::PifCore;
 pub use holding::handle_crosses;
-pub use pif_c_numbers::{PifDoing, PifNumber, PifOwned, PifRequest, PifSeen};
+pub use machine_handles::PifMachine;
+pub use machine_holding::machine_crosses;
+pub use pif_c_numbers::{PifDoing, PifLimits, PifNumber, PifOpen, PifOwned, PifRequest, PifSeen};
 pub use texts::PifText;

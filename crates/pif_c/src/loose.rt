@@ -9,8 +9,8 @@ use std::marker::Model;
 
 /// A box that was taken apart: where its value lies, and the handle of the heap that has the block.
 pub(crate) struct Opened<T, A: Allocator> {
-    at: *mut T,
-    alloc: A,
+    pub(crate) at: *mut T,
+    pub(crate) alloc: A,
     pub(crate) ghost value: { T },
 }
 

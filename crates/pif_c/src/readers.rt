@@ -2,12 +2,15 @@ ghost use Rattle.std.specs.Prelude.{◌≡◌, Option, Some, None};
 ghost use Rattle.pif_model.specs.Calls.{owner_answer, status_answer};
 ghost use Rattle.pif_c.specs.Handles.{held};
 ghost use Rattle.pif_c_numbers.specs.Numbers.{owner_told, status_told};
-ghost use Rattle.pif_c.specs.Asking.{IsOnPath, Looks, PathTold, owner_shown, status_shown};
+ghost use Rattle.pif_c.specs.Asking.{IsOnPath, Looks, PathTold, owner_shown, status_shown, limits_shown, open_shown};
 
 use crate::asking::{Look, look_on};
 use crate::handles::PifCore;
 use pif_c_numbers::codes::{NO_CORE, NONE, OK};
-use pif_c_numbers::{PifDoing, PifNumber, PifOwned, doing_told, number_told};
+use pif_c_numbers::{
+    PifDoing, PifLimits, PifNumber, PifOpen, PifOwned, doing_told, limits_told, number_told,
+    open_told,
+};
 use pif_core::Core;
 use pif_types::{MutexId, Tid};
 use std::alloc::Global;
@@ -132,6 +135,71 @@ pub extern "C" fn pif_time(alloc: Global, handle: &mut PifCore) -> PifNumber
     ensures { Looks Look.Time (held handle.old) (held handle.new) result }
 {
     look_on(alloc, handle, Look::Time)
+}
+
+/// How many threads were ever added: `Core::threads`.
+#[unsafe(no_mangle)]
+pub extern "C" fn pif_threads(alloc: Global, handle: &mut PifCore) -> PifNumber
+    ensures { Looks Look.Threads (held handle.old) (held handle.new) result }
+{
+    look_on(alloc, handle, Look::Threads)
+}
+
+/// How many mutexes were ever added: `Core::mutexes`.
+#[unsafe(no_mangle)]
+pub extern "C" fn pif_mutexes(alloc: Global, handle: &mut PifCore) -> PifNumber
+    ensures { Looks Look.Mutexes (held handle.old) (held handle.new) result }
+{
+    look_on(alloc, handle, Look::Mutexes)
+}
+
+/// How many condition variables were ever added: `Core::conds`.
+#[unsafe(no_mangle)]
+pub extern "C" fn pif_conds(alloc: Global, handle: &mut PifCore) -> PifNumber
+    ensures { Looks Look.Conds (held handle.old) (held handle.new) result }
+{
+    look_on(alloc, handle, Look::Conds)
+}
+
+/// The limits: `Core::limits`.
+#[unsafe(no_mangle)]
+pub extern "C" fn pif_limits(alloc: Global, handle: &mut PifCore) -> PifLimits
+    ensures answer { result ≡ limits_shown (held handle.old) }
+    ensures same { held handle.new ≡ held handle.old }
+{
+    match handle.take(alloc) {
+        Some(core) => {
+            let shown = limits_told(core.limits());
+            handle.put(core);
+            shown
+        }
+        None => PifLimits::refused(NO_CORE),
+    }
+}
+
+fn open_call(core: &Core, thread: u32) -> PifOpen
+    ensures { result ≡ open_shown thread (Some core.now) }
+{
+    match Tid::new(thread) {
+        Some(thread) => open_told(core.open_call(thread)),
+        None => PifOpen::refused(NONE),
+    }
+}
+
+/// The call that a thread has open, as it was begun: `Core::open_call`.
+#[unsafe(no_mangle)]
+pub extern "C" fn pif_open_call(alloc: Global, handle: &mut PifCore, thread: u32) -> PifOpen
+    ensures answer { result ≡ open_shown thread (held handle.old) }
+    ensures same { held handle.new ≡ held handle.old }
+{
+    match handle.take(alloc) {
+        Some(core) => {
+            let shown = open_call(&core, thread);
+            handle.put(core);
+            shown
+        }
+        None => PifOpen::refused(NO_CORE),
+    }
 }
 
 /// The thread at a place of the path of waiting from a thread.

@@ -1,5 +1,6 @@
 -- What the numbers that cross to C and back stand for.
 use Rattle.std.specs.Prelude.{ℕ, ◌==◌, Option, Some, None, option_and_then, Result, Ok, Err, if◌then◌else◌}
+use Rattle.pif_types.specs.Bounds.{Bounds}
 use Rattle.pif_types.specs.declared.errors.AddFault.{AddFault}
 use Rattle.pif_types.specs.declared.errors.AddFault.TheVariants.{TooMany, BadPrio, NoSuch as NoSuchMutex}
 use Rattle.pif_types.specs.declared.errors.Refusal.{Refusal}
@@ -16,8 +17,10 @@ use Rattle.pif_c_numbers.specs.declared.numbers.PifNumber.{PifNumber}
 use Rattle.pif_c_numbers.specs.declared.numbers.PifOwned.{PifOwned}
 use Rattle.pif_c_numbers.specs.declared.numbers.PifDoing.{PifDoing}
 use Rattle.pif_c_numbers.specs.declared.numbers.PifRequest.{PifRequest}
+use Rattle.pif_c_numbers.specs.declared.numbers.PifOpen.{PifOpen}
+use Rattle.pif_c_numbers.specs.declared.numbers.PifLimits.{PifLimits}
 use Rattle.pif_text_model.specs.declared.calls.Arguments.{Arguments}
-use Rattle.pif_text_model.specs.Calls.{call_numbered, request_with}
+use Rattle.pif_text_model.specs.Calls.{arguments_of, call_numbered, kind_of as call_of, request_with, row_of}
 use Rattle.pif_c_numbers.specs.Codes as pif
 
 -- NUMBERS
@@ -31,6 +34,15 @@ no_owner why = record { result = why; thread = 0; count = 0 }
 
 abbrev pub no_state : ℕ → PifDoing
 no_state why = record { result = why; state = 0; waits_for = 0 }
+
+-- no limits, and why
+abbrev pub no_limits : ℕ → PifLimits
+no_limits why = record { result = why; threads = 0; mutexes = 0; conds = 0; signals = 0 }
+
+-- the limits of a core
+abbrev pub limits_told : Bounds → PifLimits
+limits_told l =
+    record { result = pif.ok; threads = l.threads; mutexes = l.mutexes; conds = l.conds; signals = l.signals }
 
 -- what kept an addition from being made
 abbrev pub add_number : AddFault → ℕ
@@ -123,3 +135,28 @@ arguments_in r = record {
 -- the call that these numbers name, if each number that it needs names something
 abbrev pub request_of : PifRequest → Option Request
 request_of r = option_and_then (λ k. request_with k (arguments_in r)) (call_numbered r.call)
+
+-- a number, 0 if there is none
+abbrev pub number_or_0 : Option ℕ → ℕ
+number_or_0 None = 0
+number_or_0 (Some n) = n
+
+-- no call
+abbrev pub no_request : PifRequest
+no_request = record { call = 0; mutex = 0; cond = 0; thread = 0; prio = 0; deadline = 0 }
+
+-- a call in numbers
+abbrev pub request_told : Request → PifRequest
+request_told q = record {
+  call = (row_of (call_of q)).number;
+  mutex = number_or_0 (arguments_of q).mutex;
+  cond = number_or_0 (arguments_of q).cond;
+  thread = number_or_0 (arguments_of q).thread;
+  prio = number_or_0 (arguments_of q).priority;
+  deadline = number_or_0 (arguments_of q).deadline;
+}
+
+-- the call that a thread may have open
+abbrev pub open_told : Option Request → PifOpen
+open_told None = record { result = pif.none; request = no_request }
+open_told (Some q) = record { result = pif.ok; request = request_told q }

@@ -7,6 +7,7 @@ pub mod codes;
 mod numbers;
 
 pub use numbers::{
-    PifDoing, PifNumber, PifOwned, PifRequest, PifSeen, added_told, doing_told, health_code,
-    kind_code, kind_of, number_told, request_of, seen_reported,
+    PifDoing, PifLimits, PifNumber, PifOpen, PifOwned, PifRequest, PifSeen, added_told, doing_told,
+    health_code, kind_code, kind_of, limits_told, number_told, open_told, request_of, request_told,
+    seen_reported,
 };

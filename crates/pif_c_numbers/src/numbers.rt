@@ -1,6 +1,6 @@
 ghost use Rattle.std.specs.Prelude.{◌≡◌, ℕ, Option, Result};
 ghost use Rattle.pif_model.specs.Word.{health_word};
-ghost use Rattle.pif_c_numbers.specs.Numbers.{if_named, no_number, no_owner, no_state, refusal_number, add_number, added_told, number_told, seen_reported, kind_of, kind_number, request_of, doing_told};
+ghost use Rattle.pif_c_numbers.specs.Numbers.{if_named, no_number, no_owner, no_state, no_limits, no_request, limits_told, number_or_0, request_told, open_told, refusal_number, add_number, added_told, number_told, seen_reported, kind_of, kind_number, request_of, doing_told};
 
 use crate::codes::{
     ANSWERED, BAD_PRIO, BEGUN, BUSY, DEAD, ENDED, ERRORCHECK, FINE, GONE, IDLE, INCONSISTENT,
@@ -9,7 +9,7 @@ use crate::codes::{
 };
 use pif_model::{Seen, Status};
 use pif_text_model::{Arguments, CallKind};
-use pif_types::{AddFault, CondId, Health, Kind, MutexId, Refusal, Request, Tid};
+use pif_types::{AddFault, CondId, Health, Kind, Limits, MutexId, Refusal, Request, Tid};
 
 /// What is answered to an event: what became of it, and beside it the answer of a call or the number of a refusal.
 #[repr(C)]
@@ -122,6 +122,88 @@ pub struct PifRequest {
     pub prio: u32,
     /// The deadline.
     pub deadline: u32,
+}
+
+impl PifRequest {
+    /// No call: each number is 0.
+    pub fn none() -> PifRequest
+        ensures { result ≡ no_request }
+    {
+        PifRequest {
+            call: 0,
+            mutex: 0,
+            cond: 0,
+            thread: 0,
+            prio: 0,
+            deadline: 0,
+        }
+    }
+}
+
+/// The call that a thread has open, if it has one.
+#[repr(C)]
+#[derive(Clone, Copy, Drop)]
+pub struct PifOpen {
+    /// 0, or why there is none (`enum pif_result`).
+    pub result: u32,
+    /// The call as it was begun; each number is 0 if there is none.
+    pub request: PifRequest,
+}
+
+impl PifOpen {
+    /// No call, and why (`enum pif_result`).
+    pub fn refused(why: u32) -> PifOpen
+        ensures { result ≡ record { result = why; request = no_request } }
+    {
+        PifOpen {
+            result: why,
+            request: PifRequest::none(),
+        }
+    }
+}
+
+/// The limits of a core, if there is one.
+#[repr(C)]
+#[derive(Clone, Copy, Drop)]
+pub struct PifLimits {
+    /// 0, or why there are none (`enum pif_result`).
+    pub result: u32,
+    /// The most threads that are ever added.
+    pub threads: u32,
+    /// The most mutexes.
+    pub mutexes: u32,
+    /// The most condition variables.
+    pub conds: u32,
+    /// The most signals and broadcasts together on one variable.
+    pub signals: u32,
+}
+
+impl PifLimits {
+    /// No limits, and why (`enum pif_result`).
+    pub fn refused(why: u32) -> PifLimits
+        ensures { result ≡ no_limits why }
+    {
+        PifLimits {
+            result: why,
+            threads: 0,
+            mutexes: 0,
+            conds: 0,
+            signals: 0,
+        }
+    }
+}
+
+/// The limits of a core, in numbers.
+pub fn limits_told(limits: Limits) -> PifLimits
+    ensures { result ≡ limits_told limits }
+{
+    PifLimits {
+        result: OK,
+        threads: limits.threads(),
+        mutexes: limits.mutexes(),
+        conds: limits.conds(),
+        signals: limits.signals(),
+    }
 }
 
 /// The number of a refusal.
@@ -272,4 +354,70 @@ pub fn request_of(asked: PifRequest) -> Option<Request>
         deadline: Some(asked.deadline),
     };
     CallKind::numbered(asked.call)?.request(&arguments)
+}
+
+/// The number of a thread, 0 if there is none.
+fn thread_or_0(thread: Option<Tid>) -> u32
+    ensures { result ≡ number_or_0 thread }
+{
+    match thread {
+        Some(thread) => thread.get(),
+        None => 0,
+    }
+}
+
+/// The number of a mutex, 0 if there is none.
+fn mutex_or_0(mutex: Option<MutexId>) -> u32
+    ensures { result ≡ number_or_0 mutex }
+{
+    match mutex {
+        Some(mutex) => mutex.get(),
+        None => 0,
+    }
+}
+
+/// The number of a condition variable, 0 if there is none.
+fn cond_or_0(cond: Option<CondId>) -> u32
+    ensures { result ≡ number_or_0 cond }
+{
+    match cond {
+        Some(cond) => cond.get(),
+        None => 0,
+    }
+}
+
+/// A number, 0 if there is none.
+fn number_or_0(number: Option<u32>) -> u32
+    ensures { result ≡ number_or_0 number }
+{
+    number.unwrap_or(0)
+}
+
+/// A call in numbers. What it doesn't name is 0.
+pub fn request_told(request: &Request) -> PifRequest
+    ensures { result ≡ request_told request.now }
+{
+    let arguments = Arguments::of(request);
+    let row = CallKind::of(request).row();
+    PifRequest {
+        call: row.number,
+        mutex: mutex_or_0(arguments.mutex),
+        cond: cond_or_0(arguments.cond),
+        thread: thread_or_0(arguments.thread),
+        prio: number_or_0(arguments.priority),
+        deadline: number_or_0(arguments.deadline),
+    }
+}
+
+/// The call that a thread may have open.
+pub fn open_told(call: Option<Request>) -> PifOpen
+    ensures { result ≡ open_told call }
+{
+    match call {
+        Some(request) => PifOpen {
+            result: OK,
+            request: request_told(&request),
+        },
+        None => PifOpen::refused(NONE),
+    }
 }

@@ -166,8 +166,36 @@ static void main_ends_first(void)
     pthread_exit(NULL);
 }
 
+static pthread_mutex_t held_twice;
+static bool is_told;
+
+/* A wait with a recursive mutex that its thread holds twice. */
+static void *wait_held_twice(void *unused)
+{
+    CHECK(pthread_mutex_lock(&held_twice) == 0 && pthread_mutex_lock(&held_twice) == 0);
+    while (!is_told)
+        CHECK(pthread_cond_wait(&variable, &held_twice) == 0);
+    CHECK(pthread_mutex_unlock(&held_twice) == 0 && pthread_mutex_unlock(&held_twice) == 0);
+    return unused;
+}
+
+static void *tell(void *unused)
+{
+    CHECK(pthread_mutex_lock(&held_twice) == 0);
+    is_told = true;
+    CHECK(pthread_cond_signal(&variable) == 0 && pthread_mutex_unlock(&held_twice) == 0);
+    return unused;
+}
+
+static void waits_held_twice(void)
+{
+    make_mutex(&held_twice, PTHREAD_MUTEX_RECURSIVE, false);
+    run_two(wait_held_twice, tell);
+}
+
 const Feature wait_features[] = {
     {"long_sleeps", long_sleeps},     {"timed_locks", timed_locks}, {"own_in_time", own_in_time}, {"joins", joins},
     {"yields", yields},               {"trylocks", trylocks},       {"other_mutexes", other_mutexes},
-    {"destructors", destructors},     {"main_ends_first", main_ends_first}, {NULL, NULL},
+    {"destructors", destructors},     {"main_ends_first", main_ends_first},
+    {"waits_held_twice", waits_held_twice}, {NULL, NULL},
 };

@@ -1,4 +1,5 @@
-/* What the tool asks of a run: options, a name and a number in each line, and the choices of a schedule. */
+/* What the tool asks of a run: options, a name and a number in each line, rules that are choices, too, and the choices of
+   a schedule. */
 #define _GNU_SOURCE
 #include <fcntl.h>
 #include <stdlib.h>
@@ -9,7 +10,7 @@
 
 #include "schedule.h"
 
-enum { BASE = 10 };
+enum { BASE = 10, MOST_RULES = 32 };
 
 static const struct {
     const char *name;
@@ -20,7 +21,11 @@ static const struct {
     {"steps", &options.steps},       {"inherit", &options.inherit}, {"errors", &options.errors},
     {"each", &options.each},         {"loose", &options.loose},   {"whole", &options.whole},
     {"story", &options.story},       {"memory", &options.memory}, {"races", &options.races},
+    {"posix", &options.posix},       {"spurious", &options.spurious},
 };
+
+static const char *rules[MOST_RULES + 1];
+static size_t rule_count;
 
 static Choice *choices;
 static size_t choice_count, next_choice;
@@ -36,6 +41,17 @@ static bool set_option(const char *line)
     }
     return false;
 }
+
+/* `allow steal` */
+static bool set_rule(const char *line)
+{
+    if (strncmp(line, "allow ", 6) != 0 || rule_count == MOST_RULES)
+        return false;
+    rules[rule_count++] = line + 6;
+    return true;
+}
+
+const char *allowed_rule(size_t place) { return rules[place]; }
 
 static bool read_number(const char **text, const char *before, uint32_t *number)
 {
@@ -62,9 +78,14 @@ static bool read_choice(const char *line, Choice *choice)
         choice->kind = CHOOSE_THREAD;
     else if (read_number(&at, " end t", &choice->thread))
         choice->kind = CHOOSE_END;
+    else if (read_number(&at, " wake t", &choice->thread))
+        choice->kind = CHOOSE_WAKE;
     else if (strncmp(at, " time ", 6) == 0)
         choice->kind = CHOOSE_TIME;
-    else
+    else if (strncmp(at, " by ", 4) == 0) {
+        choice->kind = CHOOSE_WAY;
+        choice->way = at + 4;
+    } else
         return false;
     return choice->thread <= MOST_THREADS;
 }
@@ -104,7 +125,7 @@ bool read_asked(const char *file)
     choices = map_memory((lines_of(text) + 1) * sizeof *choices);
     for (char *line = text; choices != NULL && (end = strchr(line, '\n')) != NULL; line = end + 1) {
         *end = '\0';
-        if (set_option(line))
+        if (set_option(line) || set_rule(line))
             continue;
         if (!read_choice(line, &choices[choice_count++]))
             return false;

@@ -40,8 +40,7 @@ static void move_to(uint32_t time)
         return;
     if (time == UINT32_MAX)
         stop(LIMIT, "the time of a run ends after 71 minutes");
-    pif_tick(&core, time);
-    tell_event("tick %u = ticked", time);
+    set_time(time);
     core_time = time;
     if (nanoseconds < (uint64_t)time * NANOSECONDS)
         nanoseconds = (uint64_t)time * NANOSECONDS;
@@ -51,14 +50,19 @@ void catch_up(void) { move_to(microseconds()); }
 
 bool is_due(const Thread *thread) { return thread->is_timed && core_time >= thread->deadline; }
 
+/* A deadline that isn't reached yet ends its wait. */
+bool waits_for_time(const Thread *thread)
+{
+    return (thread->open || thread->can_go != NULL) && thread->is_timed && !is_due(thread);
+}
+
 bool move_to_deadline(void)
 {
     const Thread *first = NULL;
 
     for (uint32_t i = 0; i < living.count; i++) {
         const Thread *thread = living.at[i];
-        bool waits = thread->open || thread->can_go != NULL;
-        if (waits && thread->is_timed && !is_due(thread) && (first == NULL || thread->deadline < first->deadline))
+        if (waits_for_time(thread) && (first == NULL || thread->deadline < first->deadline))
             first = thread;
     }
     if (first != NULL)

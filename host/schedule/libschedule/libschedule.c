@@ -1,5 +1,5 @@
-/* libschedule.so: runs a program of glibc on the core, one thread at a time, and in the order of a schedule. This file
-   starts it: which process is scheduled, and what becomes of its children. */
+/* libschedule.so: runs a program of glibc on the core or the POSIX machine, one thread at a time, and in the order of a
+   schedule. This file starts it: which process is scheduled, and what becomes of its children. */
 #define _GNU_SOURCE
 #include <errno.h>
 #include <stdio.h>
@@ -16,7 +16,6 @@ enum { MOST_OF_PATH = 4096, STATUS_OF_FAULT = 2 };
 typedef enum { OFF, WAITS, ON } State;
 
 Options options;
-pif_core core;
 
 bool keeps_time;
 
@@ -54,13 +53,6 @@ static void fail(const char *why)
     syscall(SYS_exit_group, STATUS_OF_FAULT);
 }
 
-/* Each run's is a copy of the one that is made here. */
-static void make_core(void)
-{
-    if (pif_core_new(&core, MOST_THREADS, MOST_MUTEXES, MOST_VARIABLES, UINT32_MAX) != PIF_OK)
-        fail("there is no memory for a core");
-}
-
 /* The run is this process's if no other one has taken it. */
 static void take_the_run(void)
 {
@@ -73,6 +65,8 @@ static void take_the_run(void)
     strcat(strcpy(asked, folder), "/asked");
     if (!read_asked(asked))
         fail("what is asked can't be read");
+    if (options.posix && !make_machine())
+        fail("there is no memory for the POSIX machine, or a rule isn't known");
     if (!begin_threads() || pthread_atfork(NULL, in_parent, in_child) != 0)
         fail("there is no key for a thread's end");
     begin_strategy();
@@ -118,7 +112,8 @@ __attribute__((constructor)) static void begin(void)
     if (given == NULL || given[0] == '\0' || strlen(given) >= MOST_OF_PATH)
         return;
     strcpy(folder, given);
-    make_core();
+    if (!make_core())
+        fail("there is no memory for a core");
     serve();
     if (!open_told(folder))
         fail("the folder of the run has no files 'told' and 'story'");

@@ -1,4 +1,4 @@
-/* Which number of the core is whose. A mutex is marked in its own memory, in the two words that glibc writes before it
+/* Which number is whose. A mutex is marked in its own memory, in the two words that glibc writes before it
    reads them. So one that is initialised again, also by a static initialiser, or copied, is seen to be another one, and
    a child of a fork goes on with it. */
 #define _GNU_SOURCE
@@ -6,11 +6,11 @@
 
 #include "schedule.h"
 
-enum { MARK = 0x70696673, KINDS = 6, SHARED_BIT = 1 }; /* the last: of glibc's variables */
+enum { MARK = 0x70696673, KINDS = 12, LENDS_NOTHING = 6, SHARED_BIT = 1 }; /* the last: of glibc's variables */
 
 typedef struct {
     uintptr_t address, first_used;
-    uint32_t kind; /* twice that of the core, and 1 for a robust one */
+    uint32_t kind; /* twice that of pif.h, and 1 for a robust one, and LENDS_NOTHING if it doesn't inherit */
     uint32_t next; /* in the list of those that are free */
 } Mutex;
 
@@ -59,10 +59,11 @@ static uint32_t kind_of(int bits)
 {
     static const uint32_t kinds[] = {PIF_NORMAL, PIF_RECURSIVE, PIF_ERRORCHECK, PIF_NORMAL}; /* the last: adaptive */
 
-    return 2 * kinds[bits & KIND_TYPE] + ((bits & KIND_ROBUST) != 0);
+    return 2 * kinds[bits & KIND_TYPE] + ((bits & KIND_ROBUST) != 0)
+           + (options.posix && (bits & KIND_INHERIT) == 0 ? LENDS_NOTHING : 0);
 }
 
-bool is_plain(uint32_t mutex) { return mutexes[mutex].kind == 2 * PIF_NORMAL; }
+bool is_plain(uint32_t mutex) { return mutexes[mutex].kind % LENDS_NOTHING == 2 * PIF_NORMAL; }
 
 static const char *where_it_is(const pthread_mutex_t *mutex)
 {
@@ -80,7 +81,7 @@ static void refuse_others(const Thread *me, const pthread_mutex_t *mutex)
         misuse(me, "uses the mutex %s, which is destroyed or isn't initialised", where_it_is(mutex));
     if ((bits & KIND_PROTECT) != 0)
         stop(UNSUPPORTED, "a mutex with PTHREAD_PRIO_PROTECT: %s", where_it_is(mutex));
-    if ((bits & KIND_INHERIT) == 0 && !options.inherit)
+    if ((bits & KIND_INHERIT) == 0 && !options.inherit && !options.posix)
         stop(UNSUPPORTED, "a mutex without PTHREAD_PRIO_INHERIT: %s; --inherit takes each mutex as inheriting",
              where_it_is(mutex));
 }
@@ -89,11 +90,12 @@ static uint32_t added_mutex(uint32_t kind)
 {
     static const char *const names[] = {"normal", "normal robust", "recursive", "recursive robust", "errorcheck",
                                         "errorcheck robust"};
-    pif_number added = pif_add_mutex(&core, kind / 2, kind % 2 != 0);
+    uint32_t own = kind % LENDS_NOTHING;
+    pif_number added = add_mutex(own / 2, own % 2 != 0, kind < LENDS_NOTHING);
 
     if (added.result != PIF_OK)
         stop(LIMIT, "more than %d mutexes", MOST_MUTEXES);
-    tell_event("mutex %s = m%u", names[kind], added.number);
+    tell_event("mutex %s%s = m%u", names[own], kind < LENDS_NOTHING ? "" : " none", added.number);
     return added.number;
 }
 
@@ -103,7 +105,7 @@ static void give_back(uint32_t number)
     Mutex *mutex = &mutexes[number];
 
     mutex->address = 0;
-    if (pif_word(&core, number).number != 0 || pif_health(&core, number).number != PIF_FINE)
+    if (!is_as_new(number))
         return;
     mutex->next = free_mutexes[mutex->kind];
     free_mutexes[mutex->kind] = number;
@@ -161,7 +163,7 @@ void forget_mutex(const Thread *me, pthread_mutex_t *mutex)
     if (!is_marked(mutex))
         return;
     uint32_t number = marked_number(mutex);
-    pif_owned owner = pif_owner(&core, number);
+    pif_owned owner = owner_of(number);
     if (owner.result == PIF_OK && !threads[owner.thread].gone)
         misuse(me, "destroys m%u%s, which t%u holds", number, name_of_mutex(number), owner.thread);
     give_back(number);
@@ -193,7 +195,7 @@ Variable *variable_at(const Thread *me, pthread_cond_t *variable)
 bool is_waited_on(const Variable *variable)
 {
     for (uint32_t i = 0; variable->waiting > 0 && i < living.count; i++) {
-        pif_doing doing = pif_status(&core, living.at[i]->number);
+        pif_doing doing = doing_of(living.at[i]->number);
         if (doing.state == PIF_PARKED && doing.waits_for == variable->number)
             return true;
     }
@@ -206,7 +208,7 @@ static uint32_t take_variable(uint32_t mutex)
     for (uint32_t number = 1; number <= variable_count; number++)
         if (variable_of[number] == NULL && bound_to[number] == mutex)
             return number;
-    pif_number added = pif_add_cond(&core, mutex);
+    pif_number added = add_variable(mutex);
     if (added.result != PIF_OK)
         stop(LIMIT, "more than %d condition variables", MOST_VARIABLES);
     variable_count = added.number;
@@ -215,7 +217,7 @@ static uint32_t take_variable(uint32_t mutex)
     return added.number;
 }
 
-/* A variable on which nobody waits may be used with another mutex. The core's is bound for good. */
+/* A variable on which nobody waits may be used with another mutex. A number is bound for good. */
 void bind_variable(const Thread *me, Variable *variable, uint32_t mutex)
 {
     if (variable->number != 0 && variable->mutex == mutex)

@@ -333,10 +333,10 @@ int sigtimedwait(const sigset_t *restrict wanted, siginfo_t *restrict signal, co
         point(me); \
         tell_outside(#call); \
         pass_order(me, &of_kernel); \
-        bool has_left = leave_turn(me); \
+        leave_turn(me); \
         type answer = BELOW(call) arguments; \
         int number = errno; \
-        come_back(me, has_left); \
+        come_back(me); \
         take_order(me, &of_kernel); \
         leave(me); \
         errno = number; \

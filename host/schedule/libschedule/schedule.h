@@ -8,6 +8,7 @@
 
 enum { MOST_THREADS = 1024, MOST_MUTEXES = 1024, MOST_VARIABLES = 256 };
 enum { MOST_OF_CHOICE = 1 << 14, MOST_OF_REASON = 400, MOST_OF_NAME = 300 }; /* bytes */
+enum { MOST_WAYS = 256, MOST_OF_WAY = 40 };
 enum { MOST_IDLE = 2 }; /* calls in a row that find nothing to do, before another thread goes first */
 
 /* How the library ends a run. */
@@ -41,6 +42,8 @@ typedef struct {
     uint64_t story;         /* the events of the core are told */
     uint64_t memory;        /* each access of memory is a point, too */
     uint64_t races;         /* then a race is no verdict */
+    uint64_t posix;         /* the POSIX machine answers, and not the core */
+    uint64_t spurious;      /* how many wake-ups there may be that nobody has caused */
 } Options;
 
 /* glibc's call of the same name, which is looked for once. */
@@ -61,14 +64,15 @@ typedef struct Clock Clock;
 typedef bool Condition(const Thread *);
 
 struct Thread {
-    uint32_t number; /* of the core, from 1 */
+    uint32_t number; /* of the core or the machine, from 1 */
     _Atomic int turn;
     bool gone;    /* it has ended, or has stopped for good */
+    bool passes;  /* then robust mutexes of it have to pass on yet, one by one */
     bool stopped; /* it has stopped for good, since the tool said so */
     bool joined, detached, in_call;
     uint32_t idle, was_idle; /* how often in a row calls of it found nothing to do: with this call, and before it */
     bool yields;         /* that was too often: another thread goes first */
-    bool open;           /* a call of the core is open, and waits */
+    bool open;           /* a call of the core or the machine is open, and waits */
     bool is_inside;      /* it was, when a signal's handler began that it is in */
     bool asks_the_kernel; /* what it waits for may come from outside of the program */
     bool is_timed;
@@ -99,7 +103,6 @@ struct Thread {
 
 /* libschedule.c: the run, and whose it is */
 extern Options options;
-extern pif_core core;
 extern bool keeps_time;                            /* the run's, and not the machine's */
 Thread *enter(const char *call, uintptr_t caller); /* NULL: this process isn't scheduled */
 Thread *enter_if_on(const char *call, uintptr_t caller);
@@ -110,18 +113,20 @@ bool is_on(void);
 void serve(void); /* returns in a process of its own for each run */
 
 /* asked.c: what the tool asks */
-typedef enum { CHOOSE_THREAD, CHOOSE_END, CHOOSE_TIME } Kind;
+typedef enum { CHOOSE_THREAD, CHOOSE_END, CHOOSE_TIME, CHOOSE_WAKE, CHOOSE_WAY } Kind;
 
 /* A line `20 t1.5 > t2 of t1 t2 at sem_wait`: at point 20, the fifth of t1's own and in that call, t2 goes, of those
-   that can. In place of `> t2` stands `end t2` if t2 stops for good, and `time` if the time moves. */
+   that can. In place of `> t2` stands `end t2` if t2 stops for good, `time` if the time moves, and `wake t2` if t2 wakes
+   by itself. `by barge of itself barge` says in which way a call goes on, of those that there are. */
 typedef struct {
-    const char *line;
+    const char *line, *way;
     uint32_t chooser, count, thread;
     Kind kind;
     bool is_used;
 } Choice;
 
 bool read_asked(const char *file);
+const char *allowed_rule(size_t place); /* of those that are choices beside the tool's own; NULL: there are no more */
 const Choice *asked_choice(Kind, const char *line, const Thread *chooser);
 const char *next_line(void);
 
@@ -138,19 +143,34 @@ void tell_verdict(Verdict, const char *reason);
 void tell_reason(const char *format, ...) __attribute__((format(printf, 1, 2)));
 void tell_event(const char *format, ...) __attribute__((format(printf, 1, 2)));
 void tell_call(const Thread *, const char *how, const pif_request *, pif_seen);
+void tell_begin(const Thread *, const pif_request *);
 void end_run(void) __attribute__((noreturn));
 
 /* turns.c */
 extern Thread *running;
+bool can_go(const Thread *);
 void point(Thread *);                       /* another thread may go first */
-void wait_in_core(Thread *);                /* its call of the core waits */
+void wait_in_call(Thread *);                /* its call of the core or the machine waits */
 void wait_until(Thread *, Condition *, const void *on, const char *how);
 bool wait_or_handle(Thread *, Condition *, const void *on, const char *how); /* false: a handler has run before */
-bool leave_turn(Thread *);                  /* to another thread, if one can go: this one goes outside */
-void come_back(Thread *, bool has_left);
+void leave_turn(Thread *);                  /* this one goes outside, and another one goes, if one can */
+void come_back(Thread *);
 void first_turn(Thread *);                  /* of a new thread */
 void last_turn(Thread *);                   /* of one that ends */
 void find_nothing(Thread *);                /* its call found nothing to do, as in a loop that waits for others */
+
+/* A way in which a call goes on: a move of a thread by the POSIX machine itself or by a rule, and which of them. */
+typedef struct {
+    uint32_t thread, by, place;
+    char name[MOST_OF_WAY];
+} Way;
+
+typedef struct {
+    Way at[MOST_WAYS];
+    uint32_t count, of; /* the thread whose call or end it is */
+} Ways;
+
+uint32_t choose_way(Thread *, const Ways *);
 
 /* strategies.c */
 typedef struct {
@@ -174,9 +194,10 @@ const char *call_name(uintptr_t returns_to);
 
 /* clock.c: the run's time, which moves if nobody can go, and a little at each look */
 uint32_t microseconds(void);
-void catch_up(void); /* the core's time is the run's */
+void catch_up(void); /* the time of what answers is the run's */
 bool move_to_deadline(void); /* the least one that anybody waits for; false: nobody does */
 bool is_due(const Thread *);
+bool waits_for_time(const Thread *);
 void set_deadline(Thread *, clockid_t, const struct timespec *);
 void set_timeout(Thread *, uint64_t microseconds);
 
@@ -185,6 +206,7 @@ extern Thread threads[MOST_THREADS + 1]; /* by number */
 extern uint32_t thread_count;
 extern Threads living;
 extern uint32_t stopped_count; /* those that have stopped for good */
+extern uint32_t ended_count;   /* those that have ended */
 bool begin_threads(void);
 Thread *this_thread(void);
 Thread *thread_named(pthread_t);
@@ -201,11 +223,40 @@ void pass_order(const Thread *, const volatile void *on); /* what it did comes b
 void take_order(const Thread *, const volatile void *on);
 void forget_stack(const Thread *);
 
-/* core.c: calls that the core answers */
+/* answering.c: what the core, or the POSIX machine, answers and shows */
+#define CHOSEN_RULES "spurious", "barge", "any_waiter", "cycle_waits", "ends_apart", "timeout_consumes"
+extern pif_machine machine;
+bool make_core(void);
+bool make_machine(void);
+pif_number add_thread(uint32_t priority);
+pif_number add_mutex(uint32_t kind, bool is_robust, bool inherits);
+pif_number add_variable(uint32_t mutex);
+pif_doing doing_of(uint32_t thread);
+pif_owned owner_of(uint32_t mutex);
+bool is_as_new(uint32_t mutex);
+uint32_t priority_of(uint32_t thread);
+pif_number picked(void);
+bool may_go_on(uint32_t thread);
+void set_time(uint32_t);
+void end_of_thread(Thread *);
 int ask(Thread *, pif_request);
 int ask_for_lock(Thread *, pif_request); /* a cycle is no answer, but a deadlock, or a wait until a deadline */
+bool has_deadline(uint32_t mutex, const Thread *);
+bool closes_cycle(const Thread *, uint32_t mutex);
 
-/* objects.c: the core's numbers of mutexes and variables */
+/* core.c: calls that the core answers */
+int ask_core(Thread *, pif_core *, pif_request);
+int ask_core_for_lock(Thread *, pif_request);
+
+/* machine.c: calls that the POSIX machine answers */
+int ask_machine(Thread *, pif_request);
+bool can_move(uint32_t thread);
+bool can_wake(const Thread *);
+void wake(const Thread *);
+void end_on_machine(Thread *);
+void pass_on(Thread *present, Thread *ended);
+
+/* objects.c: the numbers of mutexes and variables */
 typedef struct {
     uintptr_t address, first_used;
     uint32_t number;    /* of the core; 0: no wait has bound it yet */

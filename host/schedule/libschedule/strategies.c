@@ -50,14 +50,28 @@ void rank_new(Thread *thread) { thread->rank = high_ranks + (draw() >> 32); }
 
 void rank_last(Thread *thread) { thread->rank = low_rank--; }
 
+/* Those that can go, as libpif takes them. */
+static pif_candidate candidates[MOST_THREADS];
+
+static void name_candidates(const Threads *can)
+{
+    for (uint32_t i = 0; i < can->count; i++)
+        candidates[i] = (pif_candidate){.thread = can->at[i]->number, .rank = can->at[i]->rank};
+}
+
+/* The thread that libpif has chosen. It chooses one, since some can go. */
+static Thread *thread_chosen(pif_number chosen) { return &threads[chosen.number]; }
+
+static Thread *choose_drawn(const Threads *can)
+{
+    name_candidates(can);
+    return thread_chosen(pif_choose_drawn(draw_below(can->count), candidates, can->count));
+}
+
 static Thread *of_greatest_rank(const Threads *can)
 {
-    Thread *best = can->at[0];
-
-    for (uint32_t i = 1; i < can->count; i++)
-        if (can->at[i]->rank > best->rank)
-            best = can->at[i];
-    return best;
+    name_candidates(can);
+    return thread_chosen(pif_choose_ranked(candidates, can->count));
 }
 
 static Thread *choose_by_rank(const Threads *can, uint64_t point)
@@ -67,49 +81,38 @@ static Thread *choose_by_rank(const Threads *can, uint64_t point)
     return of_greatest_rank(can);
 }
 
-static bool has(const Threads *can, const Thread *thread)
+/* As SCHED_FIFO on one processor: the core's choice, if that thread can go. The core knows nothing of sleeps: else one of
+   the greatest priority goes, the present thread first. */
+static Thread *choose_by_priority(const Threads *can, const Thread *present)
 {
-    for (uint32_t i = 0; i < can->count; i++)
-        if (can->at[i] == thread)
-            return true;
-    return false;
-}
+    pif_number next = picked();
 
-/* As SCHED_FIFO on one processor: the core's choice, if that thread can go. The core knows nothing of sleeps. */
-static Thread *choose_by_priority(const Threads *can, Thread *present)
-{
-    pif_number picked = pif_pick(&core);
-    Thread *best = has(can, present) ? present : can->at[0];
-
-    if (picked.result == PIF_OK && has(can, &threads[picked.number]))
-        return &threads[picked.number];
-    for (uint32_t i = 0; i < can->count; i++)
-        if (pif_effective(&core, can->at[i]->number).number > pif_effective(&core, best->number).number)
-            best = can->at[i];
-    return best;
+    name_candidates(can);
+    for (uint32_t i = 0; i < can->count; i++) {
+        const Thread *thread = can->at[i];
+        bool is_picked = next.result == PIF_OK && next.number == thread->number;
+        candidates[i].rank = is_picked ? UINT64_MAX : 2 * (uint64_t)priority_of(thread->number) + (thread == present);
+    }
+    return thread_chosen(pif_choose_ranked(candidates, can->count));
 }
 
 /* The present thread goes on as long as it can; then the next one by number. */
-static Thread *choose_present(const Threads *can, Thread *present)
+static Thread *choose_staying(const Threads *can, const Thread *present)
 {
-    if (has(can, present))
-        return present;
-    for (uint32_t i = 0; i < can->count; i++)
-        if (can->at[i]->number > present->number)
-            return can->at[i];
-    return can->at[0];
+    name_candidates(can);
+    return thread_chosen(pif_choose_staying(present->number, candidates, can->count));
 }
 
 Thread *choose_by_strategy(const Threads *can, Thread *present, uint64_t point)
 {
     switch (options.strategy) {
     case RANDOM:
-        return can->at[draw_below(can->count)];
+        return choose_drawn(can);
     case PCT:
         return choose_by_rank(can, point);
     case PICK:
         return choose_by_priority(can, present);
     default:
-        return choose_present(can, present);
+        return choose_staying(can, present);
     }
 }

@@ -11,7 +11,7 @@
 Thread threads[MOST_THREADS + 1];
 uint32_t thread_count;
 Threads living;
-uint32_t stopped_count;
+uint32_t stopped_count, ended_count;
 
 static __thread Thread *self __attribute__((tls_model("initial-exec")));
 static pthread_key_t key;
@@ -22,7 +22,7 @@ static Thread *new_thread(int priority)
 {
     if (thread_count == MOST_THREADS)
         stop(LIMIT, "more than %d threads", MOST_THREADS);
-    pif_number added = pif_add_thread(&core, (uint32_t)priority);
+    pif_number added = add_thread((uint32_t)priority);
     if (added.result != PIF_OK)
         stop(UNSUPPORTED, "a thread of priority %d", priority);
     Thread *thread = &threads[++thread_count];
@@ -34,7 +34,7 @@ static Thread *new_thread(int priority)
     return thread;
 }
 
-/* The core lets its robust mutexes pass on. */
+/* Its robust mutexes pass on. */
 static void leave_the_living(Thread *thread)
 {
     uint32_t at = 0;
@@ -47,8 +47,8 @@ static void leave_the_living(Thread *thread)
     pass_order(thread, &living);
     thread->gone = true;
     thread->call = "its end";
-    pif_end(&core, thread->number);
-    tell_event("end t%u = ended", thread->number);
+    ended_count++;
+    end_of_thread(thread);
 }
 
 void stop_thread(Thread *thread)
@@ -261,7 +261,7 @@ int pthread_detach(pthread_t name)
     return answer;
 }
 
-/* PRIORITIES: the core's alone. */
+/* PRIORITIES: those of the core or the machine alone. */
 
 static int set_priority(Thread *me, pthread_t name, int priority)
 {

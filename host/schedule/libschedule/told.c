@@ -187,3 +187,14 @@ void tell_call(const Thread *thread, const char *how, const pif_request *asked, 
     else
         tell_event("%s t%u%s = waits", how, thread->number, words);
 }
+
+/* A line of a history: the begin of a call. */
+void tell_begin(const Thread *thread, const pif_request *asked)
+{
+    char words[MOST_OF_LINE] = "";
+
+    if (!options.story)
+        return;
+    write_request(asked, words);
+    tell_event("begin t%u%s", thread->number, words);
+}

@@ -16,7 +16,9 @@ Thread *running;
 static Threads can; /* at this choice */
 static char line[MOST_OF_CHOICE];
 static uint64_t points;
+static uint64_t woken_count; /* threads that have woken by themselves */
 static uint32_t idle; /* points, one behind another, at which nobody had anything to do */
+static _Atomic bool is_free; /* nobody has the turn */
 static pid_t ending; /* a thread that has ended, and that the kernel may still have */
 
 static long futex(_Atomic int *word, int what, int number)
@@ -26,12 +28,12 @@ static long futex(_Atomic int *word, int what, int number)
 
 /* CHOICES */
 
-static bool can_go(const Thread *thread)
+bool can_go(const Thread *thread)
 {
     if (thread->caught != 0)
         return true;
     if (thread->open)
-        return pif_waiting(&core, thread->number).number == 0;
+        return may_go_on(thread->number);
     return thread->can_go == NULL || thread->can_go(thread);
 }
 
@@ -44,7 +46,8 @@ static void remove_from(Threads *some, const Thread *thread)
         }
 }
 
-/* A thread in a loop that waits for another one lets the others go first, so that its loop ends. */
+/* A thread in a loop that waits for another one lets the others go first, so that its loop ends. One that has ended goes
+   as long as its robust mutexes have to pass on. */
 static void find_those_who_can(const Thread *me)
 {
     can.count = 0;
@@ -53,6 +56,9 @@ static void find_those_who_can(const Thread *me)
             can.at[can.count++] = living.at[i];
     if (me->yields && can.count > 1)
         remove_from(&can, me);
+    for (uint32_t number = 1; ended_count > 0 && number <= thread_count; number++)
+        if (threads[number].passes)
+            can.at[can.count++] = &threads[number];
 }
 
 static char *write_number(char *at, const char *before, uint64_t number)
@@ -73,21 +79,27 @@ static char *write_names(char *at, const char *before, const Threads *some)
 /* Who may stop for good here: any thread but the first. */
 static bool may_stop(void) { return stopped_count < options.ends; }
 
+/* Threads may wake by themselves here. */
+static bool may_wake(void) { return woken_count < options.spurious; }
+
 /* Up to what is chosen. */
 static char *begin_line(const Thread *me)
 {
     return write_number(write_number(write_number(line, "", points), " t", me->number), ".", me->count);
 }
 
-static char *write_others(char *at)
+static bool can_stop(const Thread *thread) { return thread->number > 1; }
+
+/* Those of the living of which this is so. */
+static char *write_others(char *at, const char *before, bool is_one(const Thread *))
 {
     static Threads others;
 
     others.count = 0;
     for (uint32_t i = 0; i < living.count; i++)
-        if (living.at[i]->number > 1)
+        if (is_one(living.at[i]))
             others.at[others.count++] = living.at[i];
-    return others.count == 0 ? at : write_names(at, " or end", &others);
+    return others.count == 0 ? at : write_names(at, before, &others);
 }
 
 /* What there is to choose from, and where the thread is that has the turn. */
@@ -95,7 +107,9 @@ static void end_line(const Thread *me, char *at)
 {
     at = write_names(at, " of", &can);
     if (options.each && may_stop())
-        at = write_others(at);
+        at = write_others(at, " or end", can_stop);
+    if (options.each && may_wake())
+        at = write_others(at, " or wake", can_wake);
     stpcpy(stpcpy(at, " at "), me->call);
 }
 
@@ -191,6 +205,36 @@ static bool stops_one(Thread *me)
     return true;
 }
 
+/* One that is drawn: at one of so many points a thread that waits on a variable wakes by itself. */
+static Thread *drawn_to_wake(void)
+{
+    enum { ONE_OF = 16 };
+
+    if (options.strategy == STAY || draw_below(ONE_OF) != 0)
+        return NULL;
+    Thread *thread = living.at[draw_below(living.count)];
+    return can_wake(thread) ? thread : NULL;
+}
+
+static bool wakes_one(Thread *me)
+{
+    if (!may_wake() || living.count == 0)
+        return false;
+    char *at = begin_line(me);
+    const Choice *asked = asked_choice(CHOOSE_WAKE, line, me);
+    Thread *thread = asked == NULL ? drawn_to_wake() : living_thread(asked->thread);
+    if (thread == NULL || !can_wake(thread)) {
+        if (asked != NULL)
+            refuse(me, at, asked);
+        return false;
+    }
+    end_line(me, write_number(at, " wake t", thread->number));
+    note_choice(asked);
+    woken_count++;
+    wake(thread);
+    return true;
+}
+
 static Thread *choose_thread(Thread *me)
 {
     char *at = begin_line(me);
@@ -210,7 +254,7 @@ static Thread *choose_thread(Thread *me)
     return next;
 }
 
-/* Whether the schedule has a choice where there is none. */
+/* Whether the schedule has a choice where there is none. A way of a call is no choice of who goes. */
 static bool has_choice_here(const Thread *me)
 {
     const char *next = next_line();
@@ -218,7 +262,8 @@ static bool has_choice_here(const Thread *me)
     if (next == NULL)
         return false;
     begin_line(me);
-    return strncmp(next, line, strlen(line)) == 0;
+    size_t length = strlen(line);
+    return strncmp(next, line, length) == 0 && next[length] == ' ' && strncmp(next + length, " by ", 4) != 0;
 }
 
 static void look_again(void)
@@ -265,22 +310,86 @@ static void count_point(Thread *me)
         stop(LIVELOCK, "more than %lu points", (unsigned long)options.steps);
 }
 
-static Thread *choose(Thread *me)
+static Thread *choose_one(Thread *me)
 {
-    count_point(me);
-    count_idle(me);
     for (;;) {
         catch_up();
         find_those_who_can(me);
         if (can.count == 0)
             help();
-        else if (lets_time_pass(me) || stops_one(me))
+        else if (lets_time_pass(me) || stops_one(me) || wakes_one(me))
             continue;
-        else if (can.count > 1 || (options.each && may_stop()) || has_choice_here(me))
+        else if (can.count > 1 || (options.each && (may_stop() || may_wake())) || has_choice_here(me))
             return choose_thread(me);
         else
             return can.at[0];
     }
+}
+
+/* A thread that has ended lets a robust mutex pass on, and then another one is chosen. */
+static Thread *choose(Thread *me)
+{
+    Thread *next;
+
+    count_point(me);
+    count_idle(me);
+    while ((next = choose_one(me))->gone)
+        pass_on(me, next);
+    return next;
+}
+
+/* WAYS OF A CALL */
+
+static char *write_ways(char *at, const Ways *ways)
+{
+    at = stpcpy(at, " of");
+    for (uint32_t i = 0; i < ways->count; i++)
+        at = stpcpy(stpcpy(at, " "), ways->at[i].name);
+    return at;
+}
+
+/* `by barge of itself barge at pthread_mutex_unlock` */
+static void end_ways(const Thread *me, char *at, const char *name, const Ways *ways)
+{
+    at = write_ways(stpcpy(stpcpy(at, " by "), name), ways);
+    stpcpy(stpcpy(at, " at "), me->call);
+}
+
+/* The place of the way that a choice names; the number of ways if it isn't there. */
+static uint32_t place_of(const Ways *ways, const Choice *asked)
+{
+    for (uint32_t i = 0; i < ways->count; i++) {
+        size_t length = strlen(ways->at[i].name);
+        if (strncmp(asked->way, ways->at[i].name, length) == 0 && asked->way[length] == ' ')
+            return i;
+    }
+    return ways->count;
+}
+
+static uint32_t way_by_strategy(const Ways *ways)
+{
+    return options.strategy == STAY || options.strategy == PICK ? 0 : draw_below(ways->count);
+}
+
+uint32_t choose_way(Thread *me, const Ways *ways)
+{
+    if (ways->count == 1)
+        return 0;
+    char *at = begin_line(me);
+    const Choice *asked = asked_choice(CHOOSE_WAY, line, me);
+    uint32_t place = asked == NULL ? ways->count : place_of(ways, asked);
+    if (asked == NULL) {
+        end_ways(me, at, "?", ways);
+        expect_none();
+    } else if (place == ways->count && !options.loose) {
+        end_ways(me, at, "?", ways);
+        stop(DIVERGED, "the schedule has '%s', which can't be done at point %s", asked->line, line);
+    }
+    if (place == ways->count)
+        place = way_by_strategy(ways);
+    end_ways(me, at, ways->at[place].name, ways);
+    note_choice(asked);
+    return place;
 }
 
 /* THE TURN */
@@ -347,12 +456,12 @@ void find_nothing(Thread *me)
         rank_last(me);
 }
 
-void wait_in_core(Thread *me)
+void wait_in_call(Thread *me)
 {
     me->open = true;
     do
         pass_turn(me);
-    while (pif_waiting(&core, me->number).number != 0);
+    while (!may_go_on(me->number));
 }
 
 static void begin_wait(Thread *me, Condition *condition, const void *on, const char *how)
@@ -390,25 +499,45 @@ bool wait_or_handle(Thread *me, Condition *condition, const void *on, const char
 
 static bool has_come_back(const Thread *thread) { return thread->is_back; }
 
-/* Until it comes back it can't be chosen, and nobody is told to wait for good. If nobody else can go it keeps the
-   turn. */
-bool leave_turn(Thread *me)
+static bool take_free(Thread *me)
+{
+    if (!atomic_exchange(&is_free, false))
+        return false;
+    running = me;
+    return true;
+}
+
+/* Whether the turn was given to it; waits for that a little. */
+static bool is_given(Thread *me)
+{
+    static const struct timespec little = {0, 1000000};
+
+    if (atomic_exchange(&me->turn, 0) != 0)
+        return true;
+    syscall(SYS_futex, &me->turn, FUTEX_WAIT_PRIVATE, 0, &little, NULL, 0);
+    return false;
+}
+
+/* Until it comes back it can't be chosen, and nobody is told to wait for good. If nobody can go, the turn is free for the
+   first that comes back. */
+void leave_turn(Thread *me)
 {
     me->is_back = false;
     me->asks_the_kernel = true;
     begin_wait(me, has_come_back, NULL, "is outside");
     find_those_who_can(me);
     if (can.count == 0)
-        return false;
-    give(choose(me));
-    return true;
+        atomic_store(&is_free, true);
+    else
+        give(choose(me));
 }
 
-void come_back(Thread *me, bool has_left)
+void come_back(Thread *me)
 {
     me->is_back = true;
-    if (has_left)
-        await(me);
+    while (!take_free(me) && !is_given(me))
+        continue;
+    let_it_end();
     me->asks_the_kernel = false;
     end_wait(me);
     run_handlers(me);

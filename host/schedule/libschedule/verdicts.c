@@ -28,10 +28,10 @@ const char *call_name(uintptr_t returns_to)
     return name_of_call(returns_to);
 }
 
-/* The mutex for which a thread waits, in the core or outside of it; 0: none. */
+/* The mutex for which a thread waits, in its call or outside of it; 0: none. */
 static uint32_t mutex_of(const Thread *thread)
 {
-    pif_doing doing = pif_status(&core, thread->number);
+    pif_doing doing = doing_of(thread->number);
 
     if (thread->wants != 0)
         return thread->wants;
@@ -40,44 +40,60 @@ static uint32_t mutex_of(const Thread *thread)
 
 static bool is_parked(const Thread *thread)
 {
-    return thread->open && pif_status(&core, thread->number).state == PIF_PARKED;
+    return thread->open && doing_of(thread->number).state == PIF_PARKED;
 }
 
 /* The owner of the mutex for which a thread waits; NULL: there is none. */
 static const Thread *next_in_chain(const Thread *thread)
 {
     uint32_t mutex = mutex_of(thread);
-    pif_owned owner = pif_owner(&core, mutex);
+    pif_owned owner = owner_of(mutex);
 
     return mutex == 0 || owner.result != PIF_OK ? NULL : &threads[owner.thread];
+}
+
+static pif_standing standings[MOST_THREADS];
+static pif_link links[MOST_THREADS];
+
+/* What the living threads do here, as libpif takes it. How many they are. */
+static uint32_t name_standings(void)
+{
+    for (uint32_t i = 0; i < living.count; i++) {
+        const Thread *thread = living.at[i], *owner = next_in_chain(thread);
+        uint32_t mutex = mutex_of(thread);
+        standings[i] = (pif_standing){.thread = thread->number,
+                                      .mutex = mutex,
+                                      .owner = owner == NULL ? 0 : owner->number,
+                                      .goes = can_go(thread),
+                                      .is_timed = waits_for_time(thread),
+                                      .is_outside = thread->asks_the_kernel,
+                                      .wants_lock = mutex != 0 || thread->wants_lock};
+    }
+    return living.count;
+}
+
+/* Finds the chain from this thread. How many links it has. */
+static size_t find_chain(const Thread *first)
+{
+    return pif_choose_chain(standings, name_standings(), first->number, links, MOST_THREADS);
 }
 
 /* Whether the chain from this thread comes back to it. */
 static bool is_in_cycle(const Thread *thread)
 {
-    const Thread *next = next_in_chain(thread);
+    size_t count = find_chain(thread);
 
-    for (uint32_t i = 0; i < thread_count && next != NULL && next != thread; i++)
-        next = next_in_chain(next);
-    return next == thread;
+    return count > 0 && links[count - 1].owner == thread->number;
 }
 
 /* `chain: t2 -> m2 -> t3 -> m1 -> t2` */
 static void tell_chain(const Thread *first)
 {
     static char line[MOST_OF_CHOICE];
-    size_t size = (size_t)snprintf(line, sizeof line, "chain: t%u", first->number);
-    const Thread *thread = first;
+    size_t size = (size_t)snprintf(line, sizeof line, "chain: t%u", first->number), count = find_chain(first);
 
-    for (uint32_t i = 0; i < thread_count && size < sizeof line - MOST_OF_NAME; i++) {
-        uint32_t mutex = mutex_of(thread);
-        thread = next_in_chain(thread);
-        if (thread == NULL)
-            break;
-        size += (size_t)snprintf(line + size, sizeof line - size, " -> m%u -> t%u", mutex, thread->number);
-        if (thread == first)
-            break;
-    }
+    for (size_t i = 0; i < count && size < sizeof line - MOST_OF_NAME; i++)
+        size += (size_t)snprintf(line + size, sizeof line - size, " -> m%u -> t%u", links[i].mutex, links[i].owner);
     tell_reason("  %s", line);
 }
 
@@ -102,7 +118,7 @@ static void write_mutex(const Thread *thread, char *text, size_t size)
 
 static void write_variable(const Thread *thread, char *text, size_t size)
 {
-    uint32_t number = pif_status(&core, thread->number).waits_for;
+    uint32_t number = doing_of(thread->number).waits_for;
     const Variable *variable = variable_numbered(number);
     uint32_t lost = variable == NULL ? 0 : variable->for_nobody;
 
@@ -196,19 +212,18 @@ void tell_deadlock(Thread *me)
 void nobody_can_go(void)
 {
     const Thread *queued = NULL;
-    bool is_lost = false, wants_lock = false;
+    bool is_lost = false, is_deadlock = pif_choose_is_deadlock(standings, name_standings()) == 1;
 
     for (uint32_t i = 0; i < living.count; i++) {
         const Thread *thread = living.at[i];
         if (queued == NULL && mutex_of(thread) != 0)
             queued = thread;
-        wants_lock = wants_lock || queued != NULL || thread->wants_lock;
         if (is_parked(thread)) {
-            const Variable *variable = variable_numbered(pif_status(&core, thread->number).waits_for);
+            const Variable *variable = variable_numbered(doing_of(thread->number).waits_for);
             is_lost = is_lost || (variable != NULL && variable->for_nobody > 0);
         }
     }
-    tell_verdict(wants_lock ? DEADLOCK : is_lost ? LOST_WAKE_UP : STUCK, "no thread can go");
+    tell_verdict(is_deadlock ? DEADLOCK : is_lost ? LOST_WAKE_UP : STUCK, "no thread can go");
     if (queued != NULL)
         tell_chain(queued);
     tell_threads();

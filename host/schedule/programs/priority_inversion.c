@@ -1,8 +1,7 @@
-/* A thread of low priority holds what one of high priority waits for, and one between the two goes on for long: what is
-   held is a semaphore, of which nobody knows the owner. Mended: a mutex with PTHREAD_PRIO_INHERIT. It is seen in the
-   order of SCHED_FIFO on one processor. */
+/* A thread of low priority holds a mutex for which one of high priority waits, and one between the two goes on for long:
+   the mutex lends no priority to its owner. Mended: it has PTHREAD_PRIO_INHERIT. It is seen in the order of SCHED_FIFO on
+   one processor. */
 #include <assert.h>
-#include <semaphore.h>
 #include <time.h>
 
 #include "programs.h"
@@ -11,7 +10,6 @@ enum { LOW = 10, MIDDLE = 20, HIGH = 30 };                         /* priorities
 enum { START = 1000, LATER = 20, SHORT = 100, LONG = 1000, LATE = 500 }; /* in microseconds */
 enum { THOUSAND = 1000, MILLION = 1000000 };
 
-static sem_t semaphore;
 static pthread_mutex_t mutex, of_low, of_middle;
 
 static long now(void)
@@ -40,16 +38,12 @@ static void work(pthread_mutex_t *own, long time)
     }
 }
 
-static void take(void) { MENDED ? pthread_mutex_lock(&mutex) : sem_wait(&semaphore); }
-
-static void give(void) { MENDED ? pthread_mutex_unlock(&mutex) : sem_post(&semaphore); }
-
 static void *hold(void *unused)
 {
     begin(LOW, START);
-    take();
+    pthread_mutex_lock(&mutex);
     work(&of_low, SHORT);
-    give();
+    pthread_mutex_unlock(&mutex);
     return unused;
 }
 
@@ -64,28 +58,27 @@ static void *have_a_deadline(void *unused)
 {
     begin(HIGH, START + LATER);
     long began = now();
-    take();
+    pthread_mutex_lock(&mutex);
     assert(now() - began < LATE);
-    give();
+    pthread_mutex_unlock(&mutex);
     return unused;
 }
 
-static void make_mutex(pthread_mutex_t *made)
+static void make_mutex(pthread_mutex_t *made, int protocol)
 {
     pthread_mutexattr_t attributes;
 
     pthread_mutexattr_init(&attributes);
-    pthread_mutexattr_setprotocol(&attributes, PTHREAD_PRIO_INHERIT);
+    pthread_mutexattr_setprotocol(&attributes, protocol);
     if (pthread_mutex_init(made, &attributes) != 0)
         exit(2);
 }
 
 int main(void)
 {
-    sem_init(&semaphore, 0, 1);
-    make_mutex(&mutex);
-    make_mutex(&of_low);
-    make_mutex(&of_middle);
+    make_mutex(&mutex, MENDED ? PTHREAD_PRIO_INHERIT : PTHREAD_PRIO_NONE);
+    make_mutex(&of_low, PTHREAD_PRIO_INHERIT);
+    make_mutex(&of_middle, PTHREAD_PRIO_INHERIT);
     start_and_join((Body *[]){hold, go_between, have_a_deadline}, 3);
     return 0;
 }

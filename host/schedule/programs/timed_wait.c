@@ -16,7 +16,9 @@ static void *await(void *unused)
     clock_gettime(CLOCK_REALTIME, &deadline);
     deadline.tv_sec++;
     pthread_mutex_lock(&lock);
-    int answer = is_ready ? 0 : pthread_cond_timedwait(&changed, &lock, &deadline);
+    int answer = 0;
+    while (!is_ready && answer == 0)
+        answer = pthread_cond_timedwait(&changed, &lock, &deadline);
     was_late = MENDED && answer == ETIMEDOUT && !is_ready;
     assert(is_ready || was_late);
     pthread_mutex_unlock(&lock);
