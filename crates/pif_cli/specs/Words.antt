@@ -75,7 +75,7 @@ JudgesAs asked name before after held holds done =
     MatchBool asked.least (JudgesLeastTo asked.plain asked.allowed before after held holds (front_of name form.Text) done)
     (JudgesTo asked.plain (form_of asked) asked.allowed before after held holds (front_of name (form_of asked)) done)
 
--- the name under which a history is told: if there are several, or a page has it in its title
+-- the name with which a history is told, if there are several, or if a page has it in its title
 abbrev pub told_name : Judging → Text → Option Text
 told_name asked name = if asked.several || asked.html then Some name else None
 

@@ -270,7 +270,7 @@ pub struct Ahead {
     jobs: usize,
     /// The place of the first file that was taken.
     begin: usize,
-    /// The place behind the last of them.
+    /// The place after the last of them.
     end: usize,
     /// What was done with each of them, or nothing at all.
     found: Vec<Apart>,

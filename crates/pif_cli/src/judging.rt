@@ -26,7 +26,7 @@ fn as_judged(done: Result<(), JudgeFault>) -> Result<(), JobFault>
     }
 }
 
-/// The name that is told of a history, if there are several, or a page has it in its title.
+/// The name with which a history is told, if there are several, or if a page has it in its title.
 fn told_name<'n>(asked: pif_cli_words::Judging, name: &'n Name<'_>) -> Option<&'n [u8]>
     ensures { option_copied result ≡ told_name asked (shown_name name.now) }
 {

@@ -2,11 +2,11 @@
 use pif_job_judge::WatchLines;
 use std::time::{Clock, Instant};
 
-/// Who watches a search that ends behind so many seconds, or whose time isn't counted.
+/// Who watches a search that ends after so many seconds, or whose time isn't counted.
 #[derive(Drop)]
 pub struct Timed<'c, 'v, C, V> {
     clock: &'c C,
-    /// Behind how many seconds the search ends, if at all.
+    /// After how many seconds the search ends, if at all.
     seconds: Option<u32>,
     /// When the time began; none if it isn't counted, or the clock couldn't be read.
     begun: Option<Instant>,

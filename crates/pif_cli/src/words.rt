@@ -264,7 +264,7 @@ pub fn refuse_input<E: Write>(errors: &mut E) -> u8
     show(NO_FILE, 1, errors)
 }
 
-/// Why the words ask for no job. Behind a command that there is not stands the nearest one, if there is one, and `clap`
+/// Why the words ask for no job. After a command that there is not stands the nearest one, if there is one, and `clap`
 /// names none.
 fn refusal_text(
     alloc: Global,
@@ -310,12 +310,12 @@ pub fn refuse<W: Write, E: Write>(
     }
 }
 
-/// The program over its words, the program's name first. A word behind all commands but `random`, `drive` and `shell`
+/// The program over its words, the program's name first. A word after all commands but `random`, `drive` and `shell`
 /// names a file: no file is opened here, and `input` stands for the first. What a job makes goes to `output`:
 ///
 /// - `run` reads a script, and writes what its lines are answered, and the line of a fault, as `run` does.
 /// - `show` reads a story or a script, and writes each command, its answer and what it has changed, as `show_noting`
-///   does; with `--all` the state behind it; with `--json` or `--dot` a picture of it.
+///   does; with `--all` the state after it; with `--json` or `--dot` a picture of it.
 /// - `draw` reads a story or a script, and writes a drawing of it, as `write_drawn` does.
 /// - `check` reads a story, and writes whether it is ok, as `check` does. With `--strict` it wants an answer beside
 ///   each refusal. With `--print` it writes the story with its answers, as `fill` does. `--write` is refused, since

@@ -19,7 +19,7 @@ both false b e = absurd (cc)
 pub nothing_shown : (text : List ℕ) → text ≡ [] → is_shown text ≡ true
 nothing_shown text e = rw (e, is_utf8-from_IsUtf8 [] IsUtf8-nil, chars-nil) refl
 
--- a printable character behind a printable text
+-- a printable character after a printable text
 pub shown_behind : (before text : List ℕ) (c : ℕ) → IsScalar c → is_printable c ≡ true → is_shown before ≡ true
     → text ≡ before ++ encode_utf8 c → is_shown text ≡ true
 shown_behind before text c s p shown e =

@@ -19,7 +19,7 @@ are_printable text = list_all is_printable (chars text)
 abbrev pub is_shown : List ℕ → Bool
 is_shown text = is_utf8 text && are_printable text
 
--- one line was told: printable characters, and the one LF behind them; or a proper part of it, if a write failed
+-- one line was told: printable characters, and the one LF after them; or a proper part of it, if a write failed
 abbrev pub TellsLine : (held holds : Option (List ℕ)) → Type 0
 TellsLine held holds =
     (text : List ℕ) × (is_shown text ≡ true)

@@ -360,7 +360,7 @@ fn cause_in(kind: TextKind, cause: Cause) -> &'static str {
     }
 }
 
-/// Appends the text of a line behind what was said of it; nothing if the line is empty.
+/// Appends the text of a line after what was said of it; nothing if the line is empty.
 fn show_line(line: &[u8], message: &mut Message) {
     if !line.is_empty() {
         message.say(": ");
@@ -380,7 +380,7 @@ fn say_difference(place: &Place<'_, '_>, notice: &Notice, message: &mut Message)
     show_line(notice.line(), message);
 }
 
-/// Appends what a line is answered, with the name of an error behind its number.
+/// Appends what a line is answered, with the name of an error after its number.
 fn show_answer(answer: &[u8], message: &mut Message) {
     message.show(answer);
     if let Some(error) = error_in(answer) {

@@ -46,7 +46,7 @@ impl<'n, 's> Place<'n, 's> {
     }
 
     /// Says the place of a byte, whose column is counted from 1 in the line with one space between its words. That is
-    /// name, line and column, with a colon behind each, or the name alone if no line is known.
+    /// name, line and column, with a colon after each, or the name alone if no line is known.
     pub fn say(&self, column: usize, message: &mut Message) {
         message.show_name(self.name);
         if let Some(line) = self.line {

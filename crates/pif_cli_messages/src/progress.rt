@@ -8,7 +8,7 @@ use std::time::{Clock, Instant};
 
 /// Who is told of each file that a job begins with.
 pub trait WatchFiles {
-    /// A job begins with a file behind which so many of `count` are done.
+    /// A job begins with a file after which so many of `count` are done.
     fn file(&mut self, done: usize, count: usize);
 }
 

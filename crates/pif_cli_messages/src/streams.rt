@@ -15,7 +15,7 @@ pub enum Keeps {
     Nothing,
     /// All of it.
     All,
-    /// The lines that the last read has ended, and what stands behind them.
+    /// The lines that the last read has ended, and what stands after them.
     LastLines,
 }
 
@@ -72,14 +72,14 @@ impl<R> Model for Input<R> {
     ghost view = { λ s. s.reader };
 }
 
-/// A text with more bytes behind it; `None` if memory is refused.
+/// A text with more bytes after it; `None` if memory is refused.
 fn extended(text: Vec<u8>, bytes: &[u8]) -> Option<Vec<u8>> {
     let mut text = text;
     text.extend_from_slice(bytes).ok()?;
     Some(text)
 }
 
-/// What stands behind the last LF of a text.
+/// What stands after the last LF of a text.
 fn behind_lines(text: &[u8]) -> &[u8] {
     match memrchr(b'\n', text) {
         Some(place) => &text[place + 1..],
@@ -133,7 +133,7 @@ impl<R> Input<R> {
         self.why
     }
 
-    /// What is kept behind so many bytes more, of which lines were read before these.
+    /// What is kept after so many bytes more, of which lines were read before these.
     fn last_lines(&mut self, alloc: Global, text: &[u8], bytes: &[u8]) -> Option<Vec<u8>>
         ensures { self.new ≡ self.old }
     {

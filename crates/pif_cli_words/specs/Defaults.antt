@@ -14,11 +14,11 @@ abbrev pub begins_with_number : List Text → Bool
 begins_with_number [] = false
 begins_with_number (word ∷ words) = is_number word
 
--- a word that is `--core`, and needs a number, since none stands behind it
+-- a word that is `--core`, and needs a number, since none stands after it
 abbrev pub lacks_number : Text → (behind : List Text) → Bool
 lacks_number word behind = bytes_eq word (codes "--core") && not (begins_with_number behind)
 
--- the words behind `explore`, with the number of each `--core` that has none; behind `--` they are files
+-- the words after `explore`, with the number of each `--core` that has none; after `--` they are files
 abbrev pub with_numbers : List Text → List Text
 with_numbers [] = []
 with_numbers (word ∷ words) =

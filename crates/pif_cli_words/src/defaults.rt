@@ -56,7 +56,7 @@ fn push_all<'a, S: AsStr>(words: &'a [S], out: &mut Vec<&'a str>) -> Result<(), 
     Ok(())
 }
 
-/// Appends the words behind `explore`, with the number of each `--core` that has none. Behind `--` they stay as they are.
+/// Appends the words after `explore`, with the number of each `--core` that has none. After `--` they stay as they are.
 fn push_with_numbers<'a, S: AsStr>(words: &'a [S], out: &mut Vec<&'a str>) -> Result<(), AllocError>
     ensures { OnOk result (map (λ word. word.now) out.new.items ≡ map (λ word. word.now) out.old.items ++ with_numbers (map S.text words.now)) }
 {

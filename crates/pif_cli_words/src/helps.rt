@@ -478,9 +478,11 @@ is stuck, and mutexes and cells. Then, and last:
   undecided at L              no state that was found breaks it, and there are
                               more
   race: tN tN xN              two next steps access xN, and the first writes it
+  misuse: tN CALL             POSIX leaves tN's call undefined, or refuses it
   deadlock: tN                at the end tN waits for a mutex
   cycle: tN mN                tN locks mN next, whose owner waits for tN
   lost wake-up: tN cN         at the end tN waits on cN; a signal woke nobody
+  stuck: tN WHY               at the end tN is not through its program
   livelock                    from some state no final one is reached
   N outcomes, S states, T steps
 It begins with 'undecided: ' if there are more states than --states. The first

@@ -32,7 +32,7 @@ pub struct Judging {
     pub plain: bool,
     /// How many states may be made for a line.
     pub states: u32,
-    /// Behind how many seconds the search for a run of a history is given up, 1 to 86,400, if at all.
+    /// After how many seconds the search for a run of a history is given up, 1 to 86,400, if at all.
     pub seconds: Option<u32>,
     /// How many histories are judged side by side at most, 1 to 64; as many as there are processors if it isn't said.
     pub jobs: Option<u32>,
@@ -56,7 +56,7 @@ pub struct Exploring {
 /// What of a story is drawn, and how.
 #[derive(Clone, Copy)]
 pub struct Drawn {
-    /// Whether it is a page with the states behind the commands, and not an image alone.
+    /// Whether it is a page with the states after the commands, and not an image alone.
     pub html: bool,
     /// The first line whose command is drawn; 0 if none is named, and then it is the first of all.
     pub from: u32,
@@ -90,7 +90,7 @@ pub enum Job {
     Strict,
     /// `check --print`, and `check --write` for what is written into the file: fill a story in.
     Fill,
-    /// `check --print` over several files: fill each story in, behind a comment with its name.
+    /// `check --print` over several files: fill each story in, after a comment with its name.
     FillSeveral,
     /// `judge`: say whether a history is legal.
     Judge(Judging),

@@ -8,7 +8,7 @@ const COMMANDS: [&str; 13] = [
     "random", "drive", "help",
 ];
 
-/// The command that is near to the one that the words name, behind the program's name or behind `help`, if that is
+/// The command that is near to the one that the words name, after the program's name or after `help`, if that is
 /// none.
 pub fn near_command<S: AsStr>(words: &[S]) -> Option<&'static str> {
     match words {
