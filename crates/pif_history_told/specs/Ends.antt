@@ -3,7 +3,6 @@ use Rattle.std.specs.Prelude.{ℕ, Bool, true, false, List, [], ◌∷◌, ◌++
 use Rattle.std.specs.List.{flat_map}
 use Rattle.pif_text_model.specs.CommandTexts.{request_text}
 use Rattle.pif_text_model.specs.Replies.{cond_name, mutex_name, thread_name}
-use Rattle.pif_types.specs.declared.requests.Named.{Named}
 use Rattle.pif_types.specs.Shapes.{names_of}
 use Rattle.pif_history_told.specs.declared.ends.AtEnd.{AtEnd}
 use Rattle.pif_history_told.specs.declared.ends.Part.{Part}

@@ -5,14 +5,6 @@ use Rattle.pif_history_model.specs.declared.facts.Fact.TheVariants.{LeftUndefine
 use Rattle.pif_history_told.specs.declared.in_the_way.InTheWay.{InTheWay}
 use Rattle.pif_history_told.specs.declared.verdicts.Began.{Began}
 
--- The thread that stands in the way by a fact, if the fact says that a thread holds, gets or waits for something.
-abbrev pub blocker_of : Fact → Option ℕ
-blocker_of (Held m t) = Some t
-blocker_of (Next m t) = Some t
-blocker_of (HeldOrNext m t) = Some t
-blocker_of (WaitsFor u t) = Some u
-blocker_of f = None
-
 -- Words, and a number after them.
 abbrev pub numbered : (words : List ℕ) → ℕ → List ℕ
 numbered words n = words ++ decimal n

@@ -1,5 +1,5 @@
 -- What is known of a line of a history up to which there is no run, and which call is open there.
-use Rattle.std.specs.Prelude.{ℕ, ◌≡◌, ◌≤◌, ◌-◌, ◌==◌, Bool, true, false, List, [], ◌∷◌, count_by, length, reverse, take, slice_get, Option, Some, None, if◌then◌else◌}
+use Rattle.std.specs.Prelude.{ℕ, ◌≡◌, ◌-◌, ◌==◌, Bool, true, false, List, [], ◌∷◌, count_by, length, reverse, take, slice_get, Option, Some, None, if◌then◌else◌}
 use Rattle.pif_history_model.specs.declared.lines.Line.{Line}
 use Rattle.std.specs.List.{flat_map}
 use Rattle.pif_history_model.specs.declared.lines.Line.TheVariants.{Answer, Begin, Prio, Thread}

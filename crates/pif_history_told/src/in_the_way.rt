@@ -1,12 +1,11 @@
 //! What is in the way of an illegal line: a fact that is so in all states to which the lines before lead.
 ghost use Rattle.std.specs.Prelude.{◌≡◌, ◌++◌, None, OnOk};
 ghost use Rattle.pif_history_model.specs.declared.facts.Fact.TheVariants.{NotDue};
-ghost use Rattle.pif_history_told.specs.InTheWay.{blocker_of, call_words, fact_words, in_the_way_member, in_the_way_text, in_the_way_words, numbered, priority_words, thread_words};
+ghost use Rattle.pif_history_told.specs.InTheWay.{call_words, fact_words, in_the_way_member, in_the_way_text, in_the_way_words, numbered, priority_words, thread_words};
 
 use crate::verdicts::Began;
 use pif_history_model::Fact;
 use pif_text::append_decimal;
-use pif_types::Tid;
 use std::alloc::AllocError;
 
 /// What is in the way of an illegal line.
@@ -18,19 +17,6 @@ pub struct InTheWay {
     pub priority: Option<u32>,
     /// Where the open call of that thread began, if it has one.
     pub began: Option<Began>,
-}
-
-/// The thread that stands in the way by a fact, if the fact says that a thread holds, gets or waits for something.
-pub fn blocker_of(fact: &Fact) -> Option<Tid>
-    ensures { result ≡ blocker_of fact.now }
-{
-    match *fact {
-        Fact::Held(_, thread) => Some(thread),
-        Fact::Next(_, thread) => Some(thread),
-        Fact::HeldOrNext(_, thread) => Some(thread),
-        Fact::WaitsFor(thread, _) => Some(thread),
-        _ => None,
-    }
 }
 
 /// Appends words, and a number after them.

@@ -61,7 +61,7 @@ mod ways;
 pub use clues::{Clues, LegalIf, tell_clues};
 pub use ends::{AtEnd, tell_at_end};
 pub use following::{rules_of_run, witness_text};
-pub use in_the_way::{InTheWay, blocker_of};
+pub use in_the_way::InTheWay;
 pub use names::{beside_in_page, names_line, names_object, places_line, places_object};
 pub use open_calls::open_at_end;
 pub use pages::{PAGE_LINES, append_page, first_shown};

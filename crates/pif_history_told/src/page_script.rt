@@ -139,6 +139,8 @@ function barsOf() {
   return now;
 }
 const last = barsOf();
+// The line of the first verdict, if the run shows it by further rules.
+const blamed = isWrong || first.text === undefined ? -1 : steps.findIndex(step => step.line === first.line && step.text === first.text);
 
 // WHAT IS CONCERNED, of an illegal history
 
@@ -221,8 +223,8 @@ function columnBehindBar(bar) {
   while (next && !column.has(next.from)) next = next.next;
   return next ? column.get(next.from) : shown.length;
 }
-// Whether a bar is the call of the line that no run has.
-const fails = bar => isWrong && bar.end === steps.length && bar.thread === verdict.text.split(' ')[1];
+// Whether a bar is the call of the line that no run has, or none without further rules.
+const fails = bar => isWrong ? bar.end === steps.length && bar.thread === verdict.text.split(' ')[1] : blamed >= 0 && bar.end === blamed;
 function drawBar(bar, first, end) {
   if (!lanes.includes(bar.thread) || (bar.from >= 0 && !column.has(bar.from))) return;
   const from = bar.from < 0 ? -1 : column.get(bar.from), to = columnBehind(bar.end);
@@ -265,6 +267,7 @@ function drawMark(place, x, k) {
   else if (kind === 'seen') made = add('path', {...mark, d: 'M' + x + ' ' + (y - 7) + 'l7 7l-7 7l-7 -7z'});
   else made = add('circle', {...mark, cx: x, cy: y, r: kind === 'move' ? 4.5 : 5});
   made.append(titled(titleOf(place)));
+  if (place === blamed) drawCross(x, y);
 }
 // The numbers of the lines, as far as there is room for them.
 function drawNumbers(first, end) {
@@ -278,10 +281,11 @@ function drawNumbers(first, end) {
 }
 const titleOf = place => steps[place].text ? 'line ' + steps[place].line + ': ' + steps[place].text
   : steps[place].thread + (steps[place].kind === 'ends' ? ' ends' : ' goes on') + ', before line ' + steps[place].line;
+const drawCross = (x, y) => add('path', {class: 'wrong cross', d: 'M' + (x - 6) + ' ' + (y - 6) + 'l12 12m0 -12l-12 12'});
 function drawWrong() {
   const x = middle(shown.length), thread = verdict.text.split(' ')[1], y = lanes.includes(thread) ? laneOf(thread) : TOP;
   add('line', {class: 'wrong', id: 'wrong', x1: x, x2: x, y1: 16, y2: TOP + lanes.length * LANE});
-  add('path', {class: 'wrong', d: 'M' + (x - 6) + ' ' + (y - 6) + 'l12 12m0 -12l-12 12'});
+  drawCross(x, y);
   add('text', {class: 'wrong', x: x - 6, y: 12}, wrongText());
 }
 function wrongText() {
@@ -461,8 +465,8 @@ function tell() {
   at('verdict').textContent = says[first.verdict]();
   at('file').textContent = file || '';
   document.title = (file ? file + ': ' : '') + says[first.verdict]();
-  at('red').hidden = !isWrong;
-  at('red').append(verdict.verdict === 'undecided' ? 'the line from which on it is undecided' : 'the line that no run has there');
+  at('red').hidden = !isWrong && blamed < 0;
+  at('red').append(first.verdict === 'undecided' ? 'the line from which on it is undecided' : 'the line that no run has there' + (isWrong ? '' : ', without rules'));
   at('verdict').className = first.verdict;
   const isForbidden = posix && posix.posix === 'forbids';
   const why = posix ? [...(isForbidden ? [] : whyOf(first)), posixWords(), ...whyOf(verdict)] : whyOf(verdict);
@@ -495,7 +499,7 @@ at('width').value = width;
 draw();
 if (steps.length) {
   const waiting = steps.findIndex(step => step.by.threads.some(thread => waitsFor(thread)));
-  const place = isWrong ? shown[shown.length - 1] : waiting < 0 ? shown[0] : waiting;
+  const place = isWrong ? shown[shown.length - 1] : [blamed, waiting, verdict.open ? steps.length - 1 : 0].find(place => place >= 0);
   if (verdict.verdict !== 'legal') view.scrollLeft = middle(shown.length);
   choose(place === undefined ? steps.length - 1 : place);
   if (!isWrong) reveal(chosen);

@@ -41,6 +41,7 @@ svg .seen{fill:var(--seen);stroke:var(--back)}
 svg text.seen{stroke:none;font-weight:600}
 svg .tick{stroke:var(--faint);stroke-dasharray:2 3}
 svg .wrong{stroke:var(--red);stroke-width:2}
+svg .cross{pointer-events:none;fill:none}
 svg text.wrong{fill:var(--red);stroke:none;font-weight:600}
 svg .chosen{fill:var(--lit);opacity:.7}
 svg .wait{fill:none;stroke:var(--faint);stroke-width:1.5}

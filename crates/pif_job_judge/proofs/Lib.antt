@@ -1,6 +1,5 @@
 mod AskedLemmas
 mod BeforeLemmas
-mod InTheWayLemmas
 mod JudgingLemmas
 mod LeastLemmas
 mod ObjectLemmas

@@ -20,7 +20,7 @@ use Rattle.pif_job_judge.specs.declared.faults.Ended.{Ended}
 use Rattle.pif_job_judge.specs.declared.faults.Ended.TheVariants as ended
 use Rattle.pif_job_judge.specs.declared.posix.Says.{Says}
 use Rattle.pif_job_judge.specs.declared.posix.Says.TheVariants.{Least, Found, Forbids, Undefined, Undecided}
-use Rattle.pif_job_judge.specs.declared.fronts.Front.{Front}
+use Rattle.pif_judge_reasons.specs.declared.fronts.Front.{Front}
 use Rattle.pif_job_judge.specs.Fronts.{IsUndecided}
 use Rattle.pif_job_judge.specs.Lines.{IsTold, TellsRun, TellsWhy}
 use Rattle.pif_job_judge.specs.Objects.{AreObjects}

@@ -4,6 +4,7 @@ pub mod Endings
 pub mod Shown
 pub mod Judging
 pub mod Least
+pub mod Terms
 pub mod Fronts
 pub mod OpenCalls
 pub mod LegalIf

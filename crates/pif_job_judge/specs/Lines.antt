@@ -26,7 +26,7 @@ use Rattle.pif_history_told.specs.declared.clues.Clues.{Clues}
 use Rattle.pif_history_told.specs.Clues.{clues_text}
 use Rattle.pif_history_told.specs.declared.ends.AtEnd.{AtEnd}
 use Rattle.pif_history_told.specs.Ends.{at_end_text}
-use Rattle.pif_job_judge.specs.declared.fronts.Front.{Front}
+use Rattle.pif_judge_reasons.specs.declared.fronts.Front.{Front}
 use Rattle.pif_job_judge.specs.Clues.{AreClues}
 use Rattle.pif_job_judge.specs.Fronts.{IsUndecided}
 use Rattle.pif_job_judge.specs.OpenCalls.{IsAtEnd}

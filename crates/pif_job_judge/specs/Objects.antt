@@ -26,9 +26,10 @@ use Rattle.pif_job_judge.specs.declared.faults.Ended.TheVariants as ended
 use Rattle.pif_job_judge.specs.Endings.{legal_end}
 use Rattle.pif_history_told.specs.declared.clues.Clues.{Clues}
 use Rattle.pif_history_told.specs.declared.ends.AtEnd.{AtEnd}
-use Rattle.pif_job_judge.specs.declared.fronts.Front.{Front}
+use Rattle.pif_judge_reasons.specs.declared.fronts.Front.{Front}
 use Rattle.pif_job_judge.specs.Clues.{AreClues}
-use Rattle.pif_job_judge.specs.Fronts.{IsUndecided, count_of}
+use Rattle.pif_judge_reasons.specs.Fronts.{count_of}
+use Rattle.pif_job_judge.specs.Fronts.{IsUndecided}
 use Rattle.pif_job_judge.specs.OpenCalls.{IsAtEnd}
 use Rattle.pif_history_told.specs.Why.{IsKnown, IsNumbered, open_of}
 

@@ -11,7 +11,7 @@ ghost use Rattle.pif_job_judge.specs.Asked.{AppendsAllowedBy, AppendsAsked, Appe
 
 use crate::faults::Ended;
 use crate::forms::{Form, Judging};
-use crate::fronts::{Front, front_with};
+use crate::fronts::front_with;
 use crate::judging::Numbered;
 use crate::lines::{tell_briefly, tell_lines, tell_why_at, told_run};
 use crate::objects::tell_objects;
@@ -22,6 +22,7 @@ use pif_history_machine::Verdict;
 use pif_history_model::Label;
 use pif_history_text::History;
 use pif_history_told::first_unlisted;
+use pif_judge_reasons::Front;
 use pif_rules_model::Rules;
 use pif_search::{Stop, WatchLines};
 use std::alloc::Global;

@@ -1,43 +1,22 @@
 //! Up to which line a history is known to be legal: the greatest front of which a run is found.
-ghost use Rattle.std.specs.Prelude.{◌≡◌, IfOk, IfSome};
+ghost use Rattle.std.specs.Prelude.{IfOk, IfSome};
 ghost use Rattle.pif_history_machine.specs.Verdicts.{IsVerdictOf};
 ghost use Rattle.pif_history_text.specs.Histories.{limits_of};
 ghost use Rattle.pif_history_text.specs.Reading.{IsPaired, heard_of};
 ghost use Rattle.pif_history_model.specs.Verdicts.{IsLegal};
-ghost use Rattle.pif_job_judge.specs.Fronts.{IsFront, IsJudgedSo, IsUpTo, count_of};
+ghost use Rattle.pif_job_judge.specs.Fronts.{IsFront, IsJudgedSo, IsUpTo};
 
 use crate::forms::Judging;
 use crate::judging::{Numbered, verdict_on};
 use crate::mistakes::verdict_before;
-use pif_history::find_run;
+use crate::terms::terms_of;
 use pif_history_machine::{Verdict, first_unwoken};
 use pif_history_model::Label;
 use pif_history_text::History;
 use pif_history_told::number_at;
+use pif_judge_reasons::{Front, count_of, greatest_front};
 use pif_search::{Stop, WatchLines};
 use std::alloc::Global;
-
-/// The most states that are made for one line in the search for a front.
-const MOST_STATES: usize = 10_000;
-
-/// The first lines of a history, of which a run was found.
-#[derive(Drop)]
-pub struct Front {
-    /// How many lines they are: at least one, and not all.
-    pub count: usize,
-    /// The labels of the steps of the run, newest first.
-    pub labels: Vec<Label>,
-}
-
-/// How many lines a front has; none, if there is none.
-pub fn count_of(front: &Option<Front>) -> usize
-    ensures { result ≡ count_of front.now }
-{
-    match front {
-        Some(front) => front.count,
-        None => 0,
-    }
-}
 
 /// The number of the last line of a front, if there is one.
 pub fn up_to(history: &History, front: &Option<Front>) -> Option<u32>
@@ -51,46 +30,13 @@ pub fn up_to(history: &History, front: &Option<Front>) -> Option<u32>
     }
 }
 
-/// So many first lines as a front, if a search finds a run of them.
-fn front_of<V: WatchLines>(
-    alloc: Global,
-    states: usize,
-    history: &History,
-    count: usize,
-    watch: &mut V,
-) -> Result<Option<Front>, Stop>
-    ensures { IfOk result (λ o. IfSome o (IsFront (heard_of history.now))) }
-{
-    if count == 0 {
-        return Ok(None);
-    }
-    if count >= history.shown.len() {
-        return Ok(None);
-    }
-    let limits = history.limits();
-    let lines = &history.shown.as_slice()[..count];
-    let run = find_run(alloc, &history.allowed, limits, lines, states, watch)?;
-    match run {
-        Some(labels) => Ok(Some(Front { count, labels })),
-        None => Ok(None),
-    }
-}
-
-/// How many lines are tried next, if a run of so many was found, and none of so many others: few more than the former,
-/// since the mistake is mostly near.
-fn next_count(shown: usize, unfound: usize, reach: usize) -> usize {
-    let gap = unfound.saturating_sub(shown);
-    let more = usize::max(1, usize::min(reach, gap / 2));
-    shown.saturating_add(more)
-}
-
-/// The greatest front of a history of which a guided search finds a run, by trying more and more lines, and then by
-/// halving. The number of lines that `watch` saw shown is tried first. The search ends as soon as the time is over.
+/// The greatest front of a history of which a guided search finds a run. The number of lines that `watch` saw shown is
+/// tried first. The search ends as soon as the time is over.
 ///
 /// # Errors
 ///
 /// That of a search.
-pub fn greatest_front<V: WatchLines>(
+pub fn front_found<V: WatchLines>(
     alloc: Global,
     states: usize,
     history: &History,
@@ -98,25 +44,9 @@ pub fn greatest_front<V: WatchLines>(
 ) -> Result<Option<Front>, Stop>
     ensures { IfOk result (λ o. IfSome o (IsFront (heard_of history.now))) }
 {
-    let states = usize::min(states, MOST_STATES);
-    let mut front = None;
-    let mut unfound = history.shown.len();
-    let mut count = usize::max(1, usize::min(watch.shown, unfound.saturating_sub(1)));
-    let mut reach = 0_usize;
-    for _ in 0..2 * usize::BITS {
-        if count >= unfound || !watch.goes_on() {
-            return Ok(front);
-        }
-        match front_of(alloc, states, history, count, watch)? {
-            Some(found) => {
-                front = Some(found);
-                reach = reach.saturating_mul(2).saturating_add(1);
-            }
-            None => unfound = count,
-        }
-        count = next_count(count_of(&front), unfound, reach);
-    }
-    Ok(front)
+    let terms = terms_of(history, states);
+    let first = watch.shown;
+    greatest_front(alloc, &terms, history.shown.as_slice(), first, watch)
 }
 
 /// The front to tell with a verdict if none is known yet: the greatest that is found for an undecided history, and none
@@ -135,7 +65,7 @@ pub fn front_with<V: WatchLines>(
     ensures { IfOk result (λ o. IfSome o (IsFront (heard_of history.now))) }
 {
     match verdict {
-        Verdict::Undecided(_) => greatest_front(alloc, states, history, watch),
+        Verdict::Undecided(_) => front_found(alloc, states, history, watch),
         Verdict::Legal(_) => Ok(None),
         Verdict::Illegal(_) => Ok(None),
     }
@@ -186,7 +116,7 @@ fn by_fronts<V: WatchLines>(
     ensures { IfOk result (IsJudgedSo (heard_of history.now)) }
 {
     let states = asked.states as usize;
-    let front = greatest_front(alloc, states, history, watch)?;
+    let front = front_found(alloc, states, history, watch)?;
     let count = count_of(&front);
     match illegal_behind(alloc, states, history, count, watch)? {
         Some(verdict) => Ok(Judged { verdict, front }),
@@ -221,9 +151,8 @@ fn run_of_all<V: WatchLines>(
 ) -> Result<Option<Vec<Label>>, Stop>
     ensures { IfOk result (λ o. IfSome o (λ v. IsLegal history.now.allowed (limits_of (heard_of history.now)) history.now.shown.items v.items)) }
 {
-    let lines = history.shown.as_slice();
-    let limits = history.limits();
-    find_run(alloc, &history.allowed, limits, lines, states, watch)
+    let terms = terms_of(history, states);
+    terms.run_of(alloc, history.shown.as_slice(), watch)
 }
 
 /// The verdict on a history with the rules that it allows, and the greatest front of which a run is known, if it isn't

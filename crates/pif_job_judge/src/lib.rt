@@ -7,6 +7,7 @@
 //! | `forms` | how a history is judged, and in which form that is told |
 //! | `holds` | what threads hold by the answers in lines |
 //! | `known` | what is known of an illegal line |
+//! | `terms` | by which rules and within which limits the lines of a history are searched |
 //! | `signs` | which facts may be in the way of a line, by the lines before |
 //! | `in_the_way` | what is in the way of an illegal line |
 //! | `clues` | what is told after that: clues to what is wrong |
@@ -52,6 +53,7 @@ mod posix;
 mod search;
 mod shown;
 mod signs;
+mod terms;
 mod undefined;
 mod unfound;
 

@@ -11,7 +11,6 @@ ghost use Rattle.pif_job_judge.specs.Lines.{AppendsLines, TellsIllegal, TellsIll
 use crate::clues::clues_at;
 use crate::faults::Ended;
 use crate::forms::{Form, Judging};
-use crate::fronts::Front;
 use crate::known::known_of;
 use crate::open_calls::at_end_of;
 use crate::unfound::unfound_behind;
@@ -22,6 +21,7 @@ use pif_history_told::{
     began_before, calls_in, first_unlisted, line_at, number_at, tell_clues, tell_legal,
     tell_undecided, tell_why, witness_text,
 };
+use pif_judge_reasons::Front;
 use pif_rules_model::Rules;
 use pif_search::{Stop, WatchLines};
 use std::alloc::Global;

@@ -10,7 +10,7 @@ ghost use Rattle.pif_job_judge.specs.Mistakes.{AppendsLog, AppendsLogLines, Appe
 use crate::before::{Refused, first_refused};
 use crate::faults::Ended;
 use crate::forms::{Form, Judging};
-use crate::fronts::{Front, greatest_front};
+use crate::fronts::front_found;
 use crate::judging::Numbered;
 use crate::objects::{append_steps, left_out, written};
 use pif_history::judge_lines;
@@ -18,6 +18,7 @@ use pif_history_machine::Verdict;
 use pif_history_model::{Label, Line, LineRefusal};
 use pif_history_text::{History, line_text, push_refused, refusal_word};
 use pif_history_told::{line_at, number_at};
+use pif_judge_reasons::Front;
 use pif_search::{Stop, WatchLines};
 use pif_text::{Member, Text, append_decimal, append_members};
 use std::alloc::Global;
@@ -110,7 +111,7 @@ pub fn judged_before<V: WatchLines>(
         Verdict::Legal(labels) => Ok(Outcome::Log(Mistake { count, why, labels })),
         Verdict::Illegal(line) => Ok(Outcome::Verdict(Verdict::Illegal(line), None)),
         Verdict::Undecided(line) => {
-            let front = greatest_front(alloc, states, history, watch)?;
+            let front = front_found(alloc, states, history, watch)?;
             Ok(Outcome::Verdict(Verdict::Undecided(line), front))
         }
     }

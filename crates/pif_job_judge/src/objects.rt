@@ -11,7 +11,6 @@ ghost use Rattle.pif_job_judge.specs.Objects.{AppendsBefore, AppendsFront, Appen
 use crate::clues::clues_at;
 use crate::faults::Ended;
 use crate::forms::{Form, Judging};
-use crate::fronts::{Front, count_of};
 use crate::known::known_of;
 use crate::open_calls::at_end_of;
 use crate::unfound::unfound_behind;
@@ -23,6 +22,7 @@ use pif_history_told::{
     Began, Known, append_illegal, append_legal, append_undecided, began_before, calls_in,
     first_shown, first_unlisted, line_at, number_at, run_text,
 };
+use pif_judge_reasons::{Front, count_of};
 use pif_search::{Stop, WatchLines};
 use std::alloc::Global;
 

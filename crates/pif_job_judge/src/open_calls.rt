@@ -7,16 +7,14 @@ ghost use Rattle.pif_history_text.specs.Reading.{IsPaired, heard_of};
 ghost use Rattle.pif_job_judge.specs.OpenCalls.{IsAtEnd, IsDeadlock, all_ended, has_deadline, is_end_of, is_ended};
 
 use crate::holds::Holds;
-use pif_history::{find_run, possible_answers};
+use crate::terms::terms_of;
 use pif_history_model::Line;
 use pif_history_text::History;
 use pif_history_told::{AtEnd, Began, open_at_end};
+use pif_judge_reasons::is_stuck;
 use pif_search::{Stop, WatchLines, push};
 use pif_types::{MutexId, Request, Tid};
 use std::alloc::Global;
-
-/// The most states that are made for one line in the search for an answer of an open call.
-const MOST_STATES: usize = 10_000;
 
 /// Whether a call has a deadline.
 fn has_deadline(request: &Request) -> bool
@@ -229,30 +227,8 @@ fn may_be_helped(alloc: Global, history: &History, calls: &[Began]) -> Result<bo
     Ok(calls.iter().any(|call| helpers.may_help(&call.request)))
 }
 
-/// Whether a guided search finds a run in which a thread is answered 0 after all lines.
-fn is_answered<V: WatchLines>(
-    alloc: Global,
-    states: usize,
-    history: &History,
-    thread: Tid,
-    watch: &mut V,
-) -> Result<bool, Stop> {
-    let mut lines = Vec::from_slice(alloc, history.shown.as_slice())?;
-    push(&mut lines, Line::Answer(thread, 0))?;
-    let limits = history.limits();
-    let run = find_run(
-        alloc,
-        &history.allowed,
-        limits,
-        lines.as_slice(),
-        states,
-        watch,
-    )?;
-    Ok(run.is_some())
-}
-
 /// Whether a search finds that no answer of a thread is possible after all lines.
-fn is_stuck<V: WatchLines>(
+fn is_stuck_in<V: WatchLines>(
     alloc: Global,
     states: usize,
     history: &History,
@@ -261,16 +237,8 @@ fn is_stuck<V: WatchLines>(
 ) -> Result<bool, Stop>
     ensures { IfOk result (λ b. b ≡ true → ArePossibleAnswers history.now.allowed (limits_of (heard_of history.now)) history.now.shown.items thread []) }
 {
-    if is_answered(alloc, states, history, thread, watch)? {
-        return Ok(false);
-    }
-    let limits = history.limits();
-    let lines = history.shown.as_slice();
-    let rules = &history.allowed;
-    match possible_answers(alloc, rules, limits, lines, thread, states, watch)? {
-        Some(answers) => Ok(answers.is_empty()),
-        None => Ok(false),
-    }
+    let terms = terms_of(history, states);
+    is_stuck(alloc, &terms, history.shown.as_slice(), thread, watch)
 }
 
 /// Whether a search finds that none of these calls can be answered after all lines.
@@ -284,7 +252,7 @@ fn are_stuck<V: WatchLines>(
     ensures { IfOk result (λ b. b ≡ true → All (λ x. ArePossibleAnswers history.now.allowed (limits_of (heard_of history.now)) history.now.shown.items x.thread []) calls.now) }
 {
     for call in calls {
-        if !is_stuck(alloc, states, history, call.thread, watch)? {
+        if !is_stuck_in(alloc, states, history, call.thread, watch)? {
             return Ok(false);
         }
     }
@@ -310,7 +278,6 @@ fn is_deadlock<V: WatchLines>(
     if may_be_helped(alloc, history, calls)? {
         return Ok(false);
     }
-    let states = usize::min(states, MOST_STATES);
     are_stuck(alloc, states, history, calls, watch)
 }
 

@@ -10,7 +10,7 @@ pub loop-call-preserved : goal.loop-call-preserved
 loop-call-preserved g c =
     let h = heard_of c.args.history.now in
     all_more (λ (x : Began). ArePossibleAnswers h.allowed (limits_of h) h.shown x.thread []) c.args.calls.now c.loop-call.call-index
-    c.call-item.result c.loop-call-test.true c.call-item.is (c.in_ok-is_stuck.ensures c.if-not-branch.false) c.loop-call.invariant
+    c.call-item.result c.loop-call-test.true c.call-item.is (c.in_ok-is_stuck_in.ensures c.if-not-branch.false) c.loop-call.invariant
 
 pub returns : goal.returns
 returns g c =

@@ -1,0 +1,2 @@
+mod Candidates
+mod Certain

@@ -1,0 +1,4 @@
+pub mod Fronts
+pub mod Found
+pub mod LegalIf
+pub mod InTheWay
