@@ -344,7 +344,9 @@ fn undecided_words(job: Job) -> &'static str {
 /// The words of a cause, of a text of this kind: of a history, or of a program that is explored.
 fn cause_in(kind: TextKind, cause: Cause) -> &'static str {
     match (kind, cause) {
-        (TextKind::Program, Cause::Long) => "the line has more than 500 bytes",
+        (TextKind::Program, Cause::Long) => {
+            "the line has more than 500 bytes, or the lines of its program more than 4000"
+        }
         (TextKind::Program, Cause::Limits) => {
             "there is no room left for it, or a number is out of its range"
         }

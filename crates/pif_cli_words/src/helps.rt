@@ -452,12 +452,15 @@ lines:
   allow RULE ..               as in histories, before all programs
   thread P, mutex K [robust] [none], cond mN
                               as in histories, before all programs
-  do tN: S; S; ..             what the thread does. S is a call, as 'lock m1',
-                              'set x1 1' or 'add x1 1' for a cell of 0 to 255,
-                              or has a block: 'if T { .. } else { .. }' and
+  cell xN V                   the value of a cell at first, 0 to 255. These four
+                              may have a name: 'thread P NAME', 'cell NAME V'
+  do tN ..: S; S; ..          what the threads do. S is a call, as 'lock m1',
+                              'set x1 1' or 'add x1 1' for a cell, 'break', or
+                              has a block, which may have several lines:
+                              'if T { .. } else if T { .. } else { .. }' and
                               'while T { .. }'. T asks for the last answer, as
-                              '130', or for a cell, as 'x1 = 0', also with
-                              'not' and 'or'
+                              '130', or for a cell, as 'x1 = 0' or 'x1 < 5',
+                              also with 'not', 'and', 'or' and '(..)'
   ends N, ticks N N ..        at most N threads end, and these times come
   never: C, always: C         of all states that are reached
   finally: C                  of those from which only ends lead

@@ -1,7 +1,7 @@
 //! What is told of a core at the end of a schedule.
 ghost use Rattle.std.specs.Prelude.{◌≡◌, ◌-◌, ◌≤◌, length, IfOk};
 ghost use Rattle.pif_model.specs.Calls.{threads_answer};
-ghost use Rattle.pif_job_explore.specs.Looking.{fate_by, fate_of, fates, health_of, named_in, outcome_of, owner_of, standings};
+ghost use Rattle.pif_job_explore.specs.Looking.{fate_by, fate_of, fates, has_died, health_by, health_of, named_in, outcome_of, owner_of, standings};
 
 use crate::player::{Player, thread_at};
 use pif_core::Status;
@@ -10,6 +10,7 @@ use pif_explore_model::Fate;
 use pif_posix::named_by;
 use pif_search::{Stop, push};
 use pif_types::{Answer, Health, MutexId, Request, Tid};
+use pif_word::owner_died;
 use std::alloc::Global;
 
 /// The mutex that a call names; 0 if there is none.
@@ -30,6 +31,17 @@ fn mutex_at(number: u32) -> MutexId
     match MutexId::new(number) {
         Some(mutex) => mutex,
         None => MutexId::default(),
+    }
+}
+
+/// The health of a mutex by POSIX, by its health word and whether OWNER_DIED is set. Once its owner has ended it is
+/// inconsistent, though the health word is written only when a thread takes it over.
+fn health_by(health: Health, died: bool) -> Health
+    ensures { result ≡ health_by health died }
+{
+    match health {
+        Health::Fine if died => Health::Inconsistent,
+        health => health,
     }
 }
 
@@ -83,14 +95,19 @@ impl Player {
         }
     }
 
-    /// The health of a mutex; that of a mutex that was not added is fine.
+    /// Whether OWNER_DIED is set in the word of a mutex.
+    fn has_died(&self, mutex: MutexId) -> bool
+        ensures { result ≡ has_died self.now mutex }
+    {
+        owner_died(self.core.word(mutex).unwrap_or(0))
+    }
+
+    /// The health of a mutex by POSIX; that of a mutex that was not added is fine.
     pub(crate) fn health(&self, mutex: MutexId) -> Health
         ensures { result ≡ health_of self.now mutex }
     {
-        match self.core.health(mutex) {
-            Some(health) => health,
-            None => Health::Fine,
-        }
+        let health = self.core.health(mutex).unwrap_or(Health::Fine);
+        health_by(health, self.has_died(mutex))
     }
 
     /// The owner and the health of each mutex, those of none first.

@@ -35,6 +35,16 @@ pub enum Part {
     Equals,
     /// `=` or `<`
     Sign,
+    /// `=`, `<` or `>`
+    Comparison,
+    /// The name of a cell, or a new name.
+    NewCell,
+    /// A new name.
+    Name,
+    /// The word `robust` or `none`, or a new name.
+    ModifierOrName,
+    /// The word `none`, or a new name.
+    LendingOrName,
     /// The value of a cell, or the name of a cell.
     CellValue,
     /// `by`
@@ -57,7 +67,7 @@ pub enum Part {
     Semicolon,
     /// `{`
     Brace,
-    /// `or`, or `{`
+    /// `and`, `or` or `{`
     Alternative,
     /// What a test asks.
     Guard,
@@ -90,6 +100,9 @@ impl Part {
             Part::Colon => "a ':' is wanted here",
             Part::Equals => "a '=' is wanted here",
             Part::Sign => "a '=' or a '<' is wanted here",
+            Part::Comparison => "a '=', a '<' or a '>' is wanted here",
+            Part::NewCell | Part::Name | Part::ModifierOrName | Part::LendingOrName =>
+                "a new name is wanted here, neither a word of programs nor like t1",
             Part::CellValue => "a number from 0 to 255 is wanted here",
             Part::By => "'by' is wanted here",
             Part::At => "'at' is wanted here",
@@ -102,7 +115,7 @@ impl Part {
             Part::WakeUp => "'wake-up' is wanted here",
             Part::Semicolon => "a ';' is wanted here",
             Part::Brace => "a '{' is wanted here",
-            Part::Alternative => "'or' or a '{' is wanted here",
+            Part::Alternative => "'and', 'or' or a '{' is wanted here",
             Part::Guard => "an answer or a cell is wanted here, as 0, EBUSY or x1",
             Part::Subject => "a thread, a mutex, a cell or a fault is wanted here, as t1 or race",
             Part::Connective => "'and' or 'or' is wanted here",
@@ -123,10 +136,12 @@ pub enum Rest {
     Kind,
     /// The same, of a mutex that may be of PTHREAD_PRIO_NONE.
     KindOfProtocol,
+    /// The same, of a mutex that may have a name.
+    KindOfProgram,
     /// The rules that are allowed.
     Rules,
-    /// Statements.
-    Statements,
+    /// More threads, or none, and then `:` and statements.
+    Program,
     /// The test of an `if` or a `while`, and a block.
     Test,
     /// A condition.

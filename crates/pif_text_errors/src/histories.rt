@@ -4,6 +4,7 @@ ghost use Rattle.pif_text_errors.specs.SyntaxErrors.{IsIn};
 use crate::bytes::syntax_error_of_bytes;
 use crate::calls::Table;
 use crate::forms::{Form, form_of};
+use crate::given::GivenNames;
 use crate::lines::{Added, LineSoFar};
 use crate::marks::word_from;
 use crate::parts::wrong_with_word;
@@ -37,6 +38,18 @@ pub fn syntax_error_of_form(
     ensures { IfSome result (IsIn line.now) }
 {
     let mut read = LineSoFar::new(form, added);
+    syntax_error_of_words(line, from, &mut read, &GivenNames::nothing())
+}
+
+/// The first syntax error of the words of a line from this place on, or none. Some of them may be names.
+pub fn syntax_error_of_words<'a>(
+    line: &'a [u8],
+    from: usize,
+    read: &mut LineSoFar,
+    names: &GivenNames,
+) -> Option<SyntaxError<'a>>
+    ensures { IfSome result (IsIn line.now) }
+{
     let mut place = from;
     for _ in 0..line.len() {
         let spot = word_from(line, place);
@@ -44,7 +57,7 @@ pub fn syntax_error_of_form(
         if word.is_empty() {
             break;
         }
-        if let Err(slip) = read.take(word) {
+        if let Err(slip) = read.take(names.meant(word)) {
             return Some(syntax_error_at(line, spot.start, slip.wrong, slip.form, slip.near));
         }
         place = spot.end;

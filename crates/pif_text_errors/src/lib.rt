@@ -18,6 +18,7 @@
 mod bytes;
 mod calls;
 mod forms;
+mod given;
 mod histories;
 mod lines;
 mod marks;

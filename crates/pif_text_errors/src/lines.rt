@@ -1,17 +1,36 @@
-use crate::Wrong;
 use crate::calls::{BEHIND_BEGIN, Table, calls, statements};
 use crate::forms::{Form, Part, Parts, Rest, Shape};
 use crate::parts::{
     ends_early, is_answer, is_cell, near_part, number_named, wrong_with_part, wrong_with_word,
 };
 use crate::tables::{
-    FAULTS, KINDS, KINDS_OF_PROTOCOL, OF_CELL, OF_CELLS, OF_MUTEXES, OF_THREADS, RULE_COUNT, RULES,
+    FAULTS, KINDS, KINDS_OF_PROGRAM, KINDS_OF_PROTOCOL, OF_CELL, OF_CELLS, OF_MUTEXES, OF_TESTS,
+    OF_THREADS, RULE_COUNT, RULES,
 };
+use crate::{Misplaced, Wrong};
 use arrayvec::ArrayVec;
 use pif_text::number_of;
 
-/// The most blocks that may be open in a line, which has at most 500 bytes.
-const MOST_OPEN: usize = 500;
+/// The most blocks that may be open in a program, whose lines have at most 4000 bytes.
+const MOST_OPEN: usize = 1000;
+
+/// A block that is open.
+#[derive(Clone, Copy)]
+enum Open {
+    /// That of an `if`, behind which `else` may stand.
+    If,
+    /// That of an `else`.
+    Else,
+    /// That of a `while`.
+    While,
+}
+
+impl Default for Open {
+    /// What fills a list in which no block is open.
+    fn default() -> Open {
+        Open::If
+    }
+}
 
 /// How many threads, mutexes and condition variables there are.
 #[derive(Clone, Copy)]
@@ -79,6 +98,8 @@ enum Next {
     Kind,
     /// The same, of a mutex that may be of PTHREAD_PRIO_NONE.
     KindOfProtocol,
+    /// The same, of a mutex that may have a name.
+    KindOfProgram,
     /// The next part, or the end.
     Optional,
     /// A rule.
@@ -97,11 +118,13 @@ enum Next {
     Closed,
     /// `else`, or the same.
     Else,
-    /// `{`
+    /// `{` or `if`, behind `else`
     Brace,
+    /// A thread or `:`
+    Colon,
     /// What a test asks. Whether `not` may stand in front.
     Guard(bool),
-    /// `or` or `{`
+    /// `and`, `or`, `)` or `{`
     Alternative,
     /// What a condition speaks of. Whether `not` may stand in front.
     Subject(bool),
@@ -111,6 +134,8 @@ enum Next {
     OfMutex,
     /// What a condition says of a cell.
     OfCell,
+    /// What a test asks of a cell.
+    OfTest,
     /// `and`, `or`, `)` or the end.
     Connective,
 }
@@ -143,10 +168,10 @@ pub struct LineSoFar {
     form: Shape,
     /// The rules that were named.
     rules: ArrayVec<&'static str, RULE_COUNT>,
-    /// The open blocks, and which of them are those of an `if`.
-    blocks: ArrayVec<bool, MOST_OPEN>,
-    /// Whether the test is that of an `if`.
-    is_if: bool,
+    /// The open blocks.
+    blocks: ArrayVec<Open, MOST_OPEN>,
+    /// What the block of the test is.
+    opens: Open,
     /// How many brackets are open.
     brackets: usize,
     /// The last time.
@@ -160,8 +185,9 @@ fn after_parts(rest: Rest) -> Next {
         Rest::Call | Rest::Begin => Next::Call,
         Rest::Kind => Next::Kind,
         Rest::KindOfProtocol => Next::KindOfProtocol,
+        Rest::KindOfProgram => Next::KindOfProgram,
         Rest::Rules => Next::Rule,
-        Rest::Statements => Next::Statement,
+        Rest::Program => Next::Colon,
         Rest::Test => Next::Guard(true),
         Rest::Condition => Next::Subject(true),
         Rest::Ticks => Next::Tick,
@@ -181,7 +207,7 @@ impl LineSoFar {
             form: form.shape(),
             rules: ArrayVec::new(),
             blocks: ArrayVec::new(),
-            is_if: false,
+            opens: Open::If,
             brackets: 0,
             time: 0,
         };
@@ -196,6 +222,7 @@ impl LineSoFar {
         self.next = match parts.split() {
             None => behind,
             Some((Part::Robust | Part::Modifier | Part::Lending, _)) => Next::Optional,
+            Some((Part::Name | Part::ModifierOrName | Part::LendingOrName, _)) => Next::Optional,
             Some(_) => Next::Part,
         };
     }
@@ -259,6 +286,12 @@ impl LineSoFar {
         Ok(())
     }
 
+    /// Takes a kind of mutex.
+    fn take_kind(&mut self, word: &[u8], kinds: &'static [Form]) -> Result<(), Slip> {
+        self.take_form(word, Table::of(kinds), Wrong::NoKind, Next::End)?;
+        Ok(())
+    }
+
     /// Takes a rule.
     fn take_rule(&mut self, word: &[u8]) -> Result<(), Slip> {
         self.form = self.line;
@@ -289,7 +322,14 @@ impl LineSoFar {
         }
         let front = self.take_form(word, statements(), Wrong::NoStatement, Next::Semicolon);
         let form = front.map_err(|slip| Slip { form: None, ..slip })?;
-        self.is_if = form.name == "if";
+        if form.name == "break" && !self.is_in_while() {
+            return Err(alone(Wrong::Misplaced(Misplaced::Break)));
+        }
+        self.opens = if form.name == "if" {
+            Open::If
+        } else {
+            Open::While
+        };
         if let Rest::Test = form.rest {
             self.next = Next::Guard(true);
         }
@@ -309,19 +349,52 @@ impl LineSoFar {
             });
         }
         match self.blocks.pop() {
-            Some(true) => self.next = Next::Else,
-            Some(false) => self.next = Next::Closed,
+            Some(Open::If) => self.next = Next::Else,
+            Some(_) => self.next = Next::Closed,
             None => return Err(alone(Wrong::ClosesNothing)),
         }
         Ok(())
     }
 
-    /// Takes `{`, which begins a block: that of an `if`, or another one.
-    fn take_brace(&mut self, word: &[u8], is_if: bool, slip: Slip) -> Result<(), Slip> {
+    /// Takes what stands behind a block: what ends a statement, or the next one.
+    fn take_behind(&mut self, word: &[u8]) -> Result<(), Slip> {
+        if is_end(word) || word == b"else".as_slice() {
+            return self.take_end(word, None);
+        }
+        self.take_statement(word)
+    }
+
+    /// Whether a `while` is open.
+    fn is_in_while(&self) -> bool {
+        self.blocks.iter().any(|block| matches!(block, Open::While))
+    }
+
+    /// Takes one more thread of a program, or `:`.
+    fn take_colon(&mut self, word: &[u8]) -> Result<(), Slip> {
+        if word == b":".as_slice() {
+            self.next = Next::Statement;
+            return Ok(());
+        }
+        if !word.starts_with(b"t") {
+            return Err(self.no(Part::Colon));
+        }
+        self.take_thread(word)
+    }
+
+    /// Takes `if` behind `else`, or the `{` of its block.
+    fn take_other(&mut self, word: &[u8]) -> Result<(), Slip> {
+        if word == b"if".as_slice() {
+            return self.take_statement(word);
+        }
+        self.take_brace(word, Open::Else, alone(Wrong::Not(Part::Brace)))
+    }
+
+    /// Takes `{`, which begins a block.
+    fn take_brace(&mut self, word: &[u8], block: Open, slip: Slip) -> Result<(), Slip> {
         if word != b"{".as_slice() {
             return Err(slip);
         }
-        let _ = self.blocks.try_push(is_if);
+        let _ = self.blocks.try_push(block);
         self.next = Next::Statement;
         Ok(())
     }
@@ -330,13 +403,50 @@ impl LineSoFar {
     fn take_guard(&mut self, word: &[u8], may_deny: bool) -> Result<(), Slip> {
         if may_deny && word == b"not".as_slice() {
             self.next = Next::Guard(false);
+        } else if word == b"(".as_slice() {
+            self.brackets = self.brackets.saturating_add(1);
+            self.next = Next::Guard(true);
         } else if is_answer(word) {
             self.next = Next::Alternative;
         } else if is_cell(word) {
-            self.begin(OF_CELL.parts, Next::Alternative);
+            self.next = Next::OfTest;
         } else {
             return Err(self.slip(Wrong::Not(Part::Guard), near_part(word, Part::Answer)));
         }
+        Ok(())
+    }
+
+    /// Takes what stands behind what a test asks.
+    fn take_alternative(&mut self, word: &[u8]) -> Result<(), Slip> {
+        if word == b"and".as_slice() || word == b"or".as_slice() {
+            self.next = Next::Guard(true);
+            return Ok(());
+        }
+        if word == b")".as_slice() {
+            return self.close_bracket();
+        }
+        if self.brackets > 0 {
+            return Err(self.no(Part::Connective));
+        }
+        self.take_brace(word, self.opens, self.no(Part::Alternative))
+    }
+
+    /// Takes a `)`.
+    fn close_bracket(&mut self) -> Result<(), Slip> {
+        match self.brackets.checked_sub(1) {
+            Some(left) => {
+                self.brackets = left;
+                Ok(())
+            }
+            None => Err(alone(Wrong::ClosesNothing)),
+        }
+    }
+
+    /// Takes what a test asks of a cell.
+    fn take_comparison(&mut self, word: &[u8]) -> Result<(), Slip> {
+        let wrong = Wrong::Not(Part::Comparison);
+        let form = self.take_form(word, Table::of(&OF_TESTS), wrong, Next::Alternative);
+        form.map_err(|slip| Slip { near: None, ..slip })?;
         Ok(())
     }
 
@@ -385,13 +495,7 @@ impl LineSoFar {
         if word != b")".as_slice() {
             return Err(alone(Wrong::Not(Part::Connective)));
         }
-        match self.brackets.checked_sub(1) {
-            Some(left) => {
-                self.brackets = left;
-                Ok(())
-            }
-            None => Err(alone(Wrong::ClosesNothing)),
-        }
+        self.close_bracket()
     }
 
     /// Takes the next word, unless it is wrong.
@@ -404,17 +508,9 @@ impl LineSoFar {
                 self.form = call.behind(BEHIND_BEGIN);
                 Ok(())
             }
-            Next::Kind => self
-                .take_form(word, Table::of(&KINDS), Wrong::NoKind, Next::End)
-                .map(|_| ()),
-            Next::KindOfProtocol => self
-                .take_form(
-                    word,
-                    Table::of(&KINDS_OF_PROTOCOL),
-                    Wrong::NoKind,
-                    Next::End,
-                )
-                .map(|_| ()),
+            Next::Kind => self.take_kind(word, &KINDS),
+            Next::KindOfProtocol => self.take_kind(word, &KINDS_OF_PROTOCOL),
+            Next::KindOfProgram => self.take_kind(word, &KINDS_OF_PROGRAM),
             Next::Rule | Next::Rules => self.take_rule(word),
             Next::Tick => self.take_tick(word),
             Next::Threads => self.take_thread(word),
@@ -424,32 +520,39 @@ impl LineSoFar {
                 Ok(())
             }
             Next::Semicolon => self.take_end(word, Some(self.form)),
-            Next::Closed | Next::Else => self.take_end(word, None),
-            Next::Brace => self.take_brace(word, false, alone(Wrong::Not(Part::Brace))),
+            Next::Closed | Next::Else => self.take_behind(word),
+            Next::Brace => self.take_other(word),
+            Next::Colon => self.take_colon(word),
             Next::Guard(may_deny) => self.take_guard(word, may_deny),
-            Next::Alternative if word == b"or".as_slice() => {
-                self.next = Next::Guard(true);
-                Ok(())
-            }
-            Next::Alternative => { self.take_brace(word, self.is_if, self.no(Part::Alternative)) }
+            Next::Alternative => self.take_alternative(word),
             Next::Subject(may_deny) => self.take_subject(word, may_deny),
             Next::OfThread => self.take_said(word, &OF_THREADS, Part::OfThread),
             Next::OfMutex => self.take_said(word, &OF_MUTEXES, Part::OfMutex),
             Next::OfCell => self.take_said(word, &OF_CELLS, Part::Sign),
+            Next::OfTest => self.take_comparison(word),
             Next::Connective => self.take_connective(word),
         }
     }
 
-    /// Ends the line, unless another word is wanted.
+    /// Whether a block is open, so that the next line goes on with the program.
+    pub fn is_open(&self) -> bool {
+        !self.blocks.is_empty()
+    }
+
+    /// Begins the next line of a program. A statement ends at the end of its line.
+    pub fn begin_line(&mut self) {
+        if let Next::Semicolon = self.next {
+            self.next = Next::Statement;
+        }
+        self.form = self.line;
+    }
+
+    /// Ends the line, unless another word is wanted. A program may go on in the next line.
     pub fn end(&self) -> Result<(), Slip> {
         let wrong = match self.next {
             Next::End | Next::Optional | Next::Rules | Next::Tick | Next::Threads => return Ok(()),
-            Next::Statement | Next::Semicolon | Next::Closed | Next::Else
-                if self.blocks.is_empty() => {
-                return Ok(());
-            }
+            Next::Statement | Next::Semicolon | Next::Closed | Next::Else => return Ok(()),
             Next::Connective if self.brackets == 0 => return Ok(()),
-            Next::Statement | Next::Semicolon | Next::Closed | Next::Else => Wrong::OpenBlock,
             Next::Connective => Wrong::OpenBrackets,
             _ => return Err(self.slip(Wrong::Missing, None)),
         };

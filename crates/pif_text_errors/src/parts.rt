@@ -2,8 +2,9 @@ use crate::Wrong;
 use crate::calls::Table;
 use crate::forms::Part;
 use crate::near::nearest_name;
-use crate::tables::{LENDING, MODIFIERS, ROBUST};
+use crate::tables::{LENDING, MODIFIERS, RESERVED, ROBUST};
 use pif_text::{ERRORS, errno_named, number_behind, number_of};
+use pif_text_model::CallKind;
 
 /// What is wrong with a word where a name with this letter is wanted.
 fn wrong_with_name(word: &[u8], letter: u8, part: Part) -> Option<Wrong> {
@@ -72,11 +73,41 @@ fn is_count_word(word: &[u8]) -> bool {
 pub fn ends_early(word: &[u8], part: Part) -> bool {
     match part {
         // Behind `none` a line ends.
-        Part::Modifier => word == b"none".as_slice(),
+        Part::Modifier => is_lending(word),
+        // Behind a name, too.
+        Part::ModifierOrName => !is_modifier(word),
+        Part::LendingOrName => !is_lending(word),
         Part::PriorityOrLeast => word != b"least".as_slice(),
         Part::Count => is_count_word(word),
         _ => false,
     }
+}
+
+/// Whether a word is a number behind the letter of a name.
+fn is_numbered(word: &[u8]) -> bool {
+    [b't', b'm', b'c', b'x']
+        .iter()
+        .any(|letter| number_behind(*letter, word).is_some())
+}
+
+/// Whether a program may name something so.
+fn is_new_name(word: &[u8]) -> bool {
+    word.first()
+        .is_some_and(|first| first.is_ascii_alphabetic())
+        && !is_numbered(word)
+        && !is_answer(word)
+        && CallKind::named(word).is_none()
+        && !RESERVED.iter().any(|reserved| word == reserved.as_bytes())
+}
+
+/// Whether a word is `none`.
+fn is_lending(word: &[u8]) -> bool {
+    word == b"none".as_slice()
+}
+
+/// Whether a word is `robust` or `none`.
+fn is_modifier(word: &[u8]) -> bool {
+    word == b"robust".as_slice() || is_lending(word)
 }
 
 /// Whether a word that is no name is what this part wants.
@@ -90,8 +121,8 @@ fn is_plain(word: &[u8], part: Part) -> bool {
         Part::Value => is_between(word, 0, 255),
         Part::Processors => is_between(word, 1, 64),
         Part::Robust => word == b"robust".as_slice(),
-        Part::Modifier => word == b"robust".as_slice() || word == b"none".as_slice(),
-        Part::Lending => word == b"none".as_slice(),
+        Part::Modifier => is_modifier(word),
+        Part::Lending => is_lending(word),
         Part::Colon => word == b":".as_slice(),
         Part::Equals => word == b"=".as_slice(),
         Part::CellValue => is_between(word, 0, 255) || is_cell(word),
@@ -103,6 +134,10 @@ fn is_plain(word: &[u8], part: Part) -> bool {
         Part::Count => is_count_word(word) || number_of(word).is_some(),
         Part::Times => word == b"times".as_slice(),
         Part::WakeUp => word == b"wake-up".as_slice(),
+        Part::Name => is_new_name(word),
+        Part::NewCell => is_cell(word) || is_new_name(word),
+        Part::ModifierOrName => is_modifier(word) || is_new_name(word),
+        Part::LendingOrName => is_lending(word) || is_new_name(word),
         _ => false,
     }
 }

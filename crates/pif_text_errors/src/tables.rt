@@ -182,17 +182,33 @@ pub static HISTORY: [Form; 15] = [
 ];
 
 /// The lines of programs that are explored, by their first word.
-pub static PROGRAM: [Form; 14] = [
+pub static PROGRAM: [Form; 15] = [
     LIMITS,
     ALLOW,
     Form {
         name: "thread",
-        text: "thread P",
-        parts: Parts::Of(&[Part::Priority]),
+        text: "thread P [NAME]",
+        parts: Parts::Of(&[Part::Priority, Part::Name]),
         rest: Rest::End,
     },
-    MUTEX_OF_PROTOCOL,
-    COND,
+    Form {
+        name: "mutex",
+        text: NAMED_MUTEX_TEXT,
+        parts: Parts::Of(&[]),
+        rest: Rest::KindOfProgram,
+    },
+    Form {
+        name: "cond",
+        text: "cond mN [NAME]",
+        parts: Parts::Of(&[Part::Mutex, Part::Name]),
+        rest: Rest::End,
+    },
+    Form {
+        name: "cell",
+        text: "cell xN V",
+        parts: Parts::Of(&[Part::NewCell, Part::Value]),
+        rest: Rest::End,
+    },
     Form {
         name: "schedule",
         text: "schedule K",
@@ -201,9 +217,9 @@ pub static PROGRAM: [Form; 14] = [
     },
     Form {
         name: "do",
-        text: "do tN: S; S; ..",
-        parts: Parts::Of(&[Part::Thread, Part::Colon]),
-        rest: Rest::Statements,
+        text: "do tN ..: S; S; ..",
+        parts: Parts::Of(&[Part::Thread]),
+        rest: Rest::Program,
     },
     Form {
         name: "ends",
@@ -311,6 +327,96 @@ pub static KINDS_OF_PROTOCOL: [Form; 4] = [
         parts: Parts::Of(&[Part::Modifier, Part::Lending]),
         rest: Rest::End,
     },
+];
+
+/// A mutex of programs.
+const NAMED_MUTEX_TEXT: &str = "mutex KIND [robust] [none] [NAME]";
+
+/// The kinds of mutexes of programs. Behind a kind the line ends, or `robust`, `none` or a name is wanted.
+pub static KINDS_OF_PROGRAM: [Form; 4] = [
+    Form {
+        name: NORMAL_WORD,
+        text: NAMED_MUTEX_TEXT,
+        parts: Parts::Of(&[Part::ModifierOrName, Part::LendingOrName, Part::Name]),
+        rest: Rest::End,
+    },
+    Form {
+        name: DEFAULT_WORD,
+        text: NAMED_MUTEX_TEXT,
+        parts: Parts::Of(&[Part::ModifierOrName, Part::LendingOrName, Part::Name]),
+        rest: Rest::End,
+    },
+    Form {
+        name: ERROR_CHECK_WORD,
+        text: NAMED_MUTEX_TEXT,
+        parts: Parts::Of(&[Part::ModifierOrName, Part::LendingOrName, Part::Name]),
+        rest: Rest::End,
+    },
+    Form {
+        name: RECURSIVE_WORD,
+        text: NAMED_MUTEX_TEXT,
+        parts: Parts::Of(&[Part::ModifierOrName, Part::LendingOrName, Part::Name]),
+        rest: Rest::End,
+    },
+];
+
+/// The words of programs that are no calls and no errors: none of them is a name.
+pub static RESERVED: [&str; 55] = [
+    "if",
+    "else",
+    "while",
+    "break",
+    "set",
+    "add",
+    "not",
+    "and",
+    "or",
+    "stuck",
+    "ended",
+    "answered",
+    "runs",
+    "at",
+    "least",
+    "waits",
+    "for",
+    "blocked",
+    "on",
+    "holds",
+    "once",
+    "twice",
+    "times",
+    "free",
+    "inconsistent",
+    "unusable",
+    "held",
+    "by",
+    "race",
+    "misuse",
+    "deadlock",
+    "lost",
+    "wake-up",
+    "livelock",
+    "limits",
+    "allow",
+    "thread",
+    "mutex",
+    "cond",
+    "cell",
+    "schedule",
+    "do",
+    "ends",
+    "ticks",
+    "never",
+    "always",
+    "finally",
+    "sometimes",
+    "delay",
+    "normal",
+    "default",
+    "errorcheck",
+    "recursive",
+    "robust",
+    "none",
 ];
 
 /// What is wanted behind such a kind.
@@ -601,6 +707,28 @@ pub static OF_CELLS: [Form; 2] = [
     Form {
         name: "<",
         text: "xN < V",
+        parts: Parts::Of(&[Part::Value]),
+        rest: Rest::End,
+    },
+];
+
+/// What a test may ask of a cell.
+pub static OF_TESTS: [Form; 3] = [
+    Form {
+        name: "=",
+        text: "xN = V",
+        parts: Parts::Of(&[Part::Value]),
+        rest: Rest::End,
+    },
+    Form {
+        name: "<",
+        text: "xN < V",
+        parts: Parts::Of(&[Part::Value]),
+        rest: Rest::End,
+    },
+    Form {
+        name: ">",
+        text: "xN > V",
         parts: Parts::Of(&[Part::Value]),
         rest: Rest::End,
     },

@@ -20,6 +20,8 @@ pub enum Misplaced {
     NoRoom,
     /// A delay is asked for without a schedule.
     Unscheduled,
+    /// A `break` stands in no `while`.
+    Break,
     /// It stands too late or twice.
     Other,
 }
@@ -39,6 +41,7 @@ impl Misplaced {
             Misplaced::Second => "there is such a line already",
             Misplaced::NoRoom => "no room is left for it (limits)",
             Misplaced::Unscheduled => "'delay' stands behind a line 'schedule' only",
+            Misplaced::Break => "'break' may stand in a 'while' only",
             Misplaced::Other => "it stands too late or twice",
         }
     }

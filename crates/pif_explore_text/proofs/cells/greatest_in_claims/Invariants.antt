@@ -1,5 +1,6 @@
 use Rattle.std.proofs.Common.{◌≡◌, drop, map}
-use Rattle.pif_explore_text.specs.Cells.{greater, greatest_in_claims}
+use Rattle.pif_explore_text.specs.Cells.{greatest_in_claims}
+use Rattle.pif_explore_text.specs.Names.{greater}
 use Rattle.pif_explore_text.specs.Views.{claim_view}
 use Rattle.pif_explore_text.proofs.cells.greatest_in_claims.Given as goal
 

@@ -1,10 +1,10 @@
 use Rattle.std.proofs.Common.{◌≡◌, ◌+◌, ◌++◌, drop, map}
-use Rattle.pif_explore_text.specs.Points.{body_of_thread, points, size}
+use Rattle.pif_explore_text.specs.Points.{thread_points, thread_size}
 use Rattle.pif_explore_text.specs.Views.{program_view}
 use Rattle.pif_explore_text.proofs.points.put_thread.Given as goal
 
 abbrev pub invariant-loop-program : goal.invariant-loop-program
 invariant-loop-program l =
-    (l.at + size (body_of_thread l.thread (map program_view (drop l.program-index l.programs))) ≡ l.end)
-    × (l.out.items ++ points (body_of_thread l.thread (map program_view (drop l.program-index l.programs))) l.at l.exit
-    ≡ l.initial.out.items ++ points (body_of_thread l.thread (map program_view l.programs)) l.initial.at l.exit)
+    (l.at + thread_size l.thread (map program_view (drop l.program-index l.programs)) ≡ l.end)
+    × (l.out.items ++ thread_points l.thread (map program_view (drop l.program-index l.programs)) l.at l.exit
+    ≡ l.initial.out.items ++ thread_points l.thread (map program_view l.programs) l.initial.at l.exit)

@@ -3,7 +3,7 @@ use Rattle.pif_job_explore.proofs.rulings.ruling.Goals as goal
 
 pub returns : goal.returns
 returns c = λ start whole. record {
-  condition = c.args.claim.now.condition;
+  assertion = c.args.claim.now.assertion;
   is = refl;
   number = refl;
   text = c.in_ok-text.ensures.items ∙ c.as_slice.ensures.value;
