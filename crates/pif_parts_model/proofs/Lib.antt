@@ -8,8 +8,8 @@ mod Accounting
 mod Entering
 mod Stepping
 mod Resting
-mod Cutting
-mod Judging
+pub mod Cutting
+pub mod Judging
 mod Later
 mod LaterMoves
 mod LaterEntries

@@ -1,0 +1,6 @@
+pub mod CallLemmas
+pub mod HoldingLemmas
+pub mod ToldLemmas
+pub mod WatchLemmas
+pub mod RestLemmas
+pub mod PartLemmas

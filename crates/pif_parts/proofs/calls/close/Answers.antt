@@ -1,0 +1,8 @@
+use Rattle.std.proofs.Common.{◌==◌, not, rules, tests}
+use Rattle.std.proofs.lemmas.Fn.{filter_same}
+use Rattle.pif_parts.specs.declared.calls.OpenCall.{OpenCall}
+use Rattle.pif_parts.proofs.calls.close.Goals as goal
+
+pub returns : goal.returns
+returns c =
+    filter_same _ (λ (x : OpenCall). not (x.thread == c.args.thread)) _ (λ x b f' k. (search (rules, tests), search rules)) _ _ c.retain.ensures.filtered
