@@ -3,6 +3,7 @@
 from __future__ import annotations
 
 import ctypes
+import functools
 import hashlib
 import json
 import os
@@ -107,8 +108,9 @@ def numbers_of(text):
     return tuple(int(word[1:]) for word in (text or "").split())
 
 
+@functools.lru_cache(maxsize=1 << 16)
 def read_choice(line):
-    """A line of a schedule as a choice; None if it is none."""
+    """A line of a schedule as a choice; None if it is none. Runs of one program have most of their lines in common."""
     found = WAY.fullmatch(line)
     if found is not None:
         return Choice(line, int(found[2]), "by", way=found[4], ways=tuple(found[5].split()))
@@ -184,7 +186,8 @@ CHOSEN_RULES = ("spurious", "barge", "any_waiter", "cycle_waits", "ends_apart", 
 
 # Those that are choices, too, if they are allowed.
 RULES = ("steal", "own_errorcheck", "any_consistent", "held_wait", "lost_signal", "revives", "cycle_refused",
-         "stays_locked", "rebinds", "more_uses", "refuses_setprio", "consistent_by_any", "cut_unlock", "wait_gives_all")
+         "stays_locked", "rebinds", "more_uses", "refuses_setprio", "consistent_by_any", "cut_unlock", "other_error",
+         "wait_gives_all")
 BOUNDS = re.compile(r"recursion=\d+\.\.\d+")
 
 

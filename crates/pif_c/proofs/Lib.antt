@@ -4,3 +4,5 @@ pub mod HandedMachine
 pub mod Keeping
 pub mod Making
 pub mod MachineSteps
+pub mod InPlace
+pub mod Replaying

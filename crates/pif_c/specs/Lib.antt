@@ -10,4 +10,5 @@ pub mod Machines
 pub mod LooseMachines
 pub mod MachineHandles
 pub mod Going
+pub mod Replays
 pub mod Choosing

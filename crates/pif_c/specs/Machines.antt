@@ -1,6 +1,7 @@
 -- The POSIX machine as C holds it: its state with what rules remember, the rules by which it goes, and how much it takes.
 -- What may happen to it next is listed by the definitions of pif_rules_model.
-use Rattle.std.specs.Prelude.{ℕ, ◌≡◌, ◌==◌, ◌-◌, Bool, List, [], ◌∷◌, map, Option, Some, None, option_map, slice_get, length, nat_lt, if◌then◌else◌}
+use Rattle.std.specs.Prelude.{ℕ, ◌≡◌, ◌==◌, ◌-◌, ◌||◌, ◌&&◌, not, Bool, true, false, List, [], ◌∷◌, map, Option, Some, None, option_map, slice_get, length, nat_lt, if◌then◌else◌}
+use Rattle.std.specs.List.{list_all}
 use Rattle.pif_types.specs.Bounds.{Bounds}
 use Rattle.pif_types.specs.declared.errors.Refusal.{Refusal}
 use Rattle.pif_types.specs.declared.errors.Refusal.TheVariants.{Dead}
@@ -11,11 +12,12 @@ use Rattle.pif_model.specs.Deadlines.{reported_result}
 use Rattle.pif_model.specs.World.{Health, Progress, Mutex}
 use Rattle.pif_model.specs.World.Health.{Fine, Inconsistent, Unusable}
 use Rattle.pif_model.specs.World.Progress.{Waiting, Stuck, Has}
-use Rattle.pif_model.specs.Posix.{World, Call, empty_world, thread_at, mutex_at, is_blocked, named_by, refusal_of, variable_of}
+use Rattle.pif_model.specs.Posix.{World, Call, empty_world, thread_at, mutex_at, is_blocked, leads_to, named_by, refusal_of, variable_of}
 use Rattle.pif_rules_model.specs.declared.rules.Rules.{Rules}
 use Rattle.pif_rules_model.specs.Sets.{no_rules, rules_in_order}
 use Rattle.pif_rules_model.specs.Rules.{Wide, WideMoves, WideEnters, WideEndsApart}
-use Rattle.pif_rules_model.specs.Ruled.{ended_apart, widely_entered, widely_moved}
+use Rattle.pif_rules_model.specs.Lending.{not_named}
+use Rattle.pif_rules_model.specs.Ruled.{closes_unseen, ended_apart, widely_entered, widely_moved}
 use Rattle.pif_rules.specs.Sets.{only}
 use Rattle.pif_c_numbers.specs.declared.numbers.PifDoing.{PifDoing}
 use Rattle.pif_c_numbers.specs.declared.numbers.PifOwned.{PifOwned}
@@ -74,6 +76,23 @@ LeadsTo (AddsNone m k robust) s n =
     (v : Wide) × WideEnters s.rules s.limits s.wide (entry.Mutex m k robust) v × (n ≡ lending_nothing m v)
 LeadsTo (Move t by) s n = WideMoves (rules_by by s.rules) t s.wide n
 LeadsTo (EndsApart t) s n = WideEndsApart s.rules t s.wide n
+
+-- STEPS IN PLACE
+
+-- what is asked happens, and goes to the state at this place; or nothing changes
+abbrev pub HappensInPlace : Ask → (place : ℕ) → Running → Running → Bool → Type 0
+HappensInPlace x place s n true = (slice_get (next_states x s) place ≡ Some n.wide) × (n ≡ record s { wide = n.wide })
+HappensInPlace x place s n false = n ≡ s
+
+-- whether m is free, or its owner is t or doesn't wait for t, and no other mutex lends nothing
+abbrev pub is_alone : (t : ℕ) → Wide → (m : ℕ) → Bool
+is_alone t s m =
+    (((mutex_at s.world m).owner == 0 || (mutex_at s.world m).owner == t) || not (leads_to s.world (mutex_at s.world m).owner t))
+    && list_all (λ k. m == k) s.prio_none
+
+-- a move of t is one of the plain machine: no mutex looks free to it, and it closes no cycle that nobody sees
+abbrev pub MovesPlainly : ℕ → Wide → Type 0
+MovesPlainly t s = (not_named s.world t s.prio_none ≡ []) × (closes_unseen s.prio_none t s.world ≡ false)
 
 -- WHAT IT SHOWS
 

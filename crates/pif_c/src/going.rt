@@ -22,18 +22,29 @@ pub(crate) fn stop_number(stop: Stop) -> u32
     }
 }
 
-/// Something happens to a machine.
+/// Something happens to a machine, by a copy of its state.
 #[tactic(auto, using(crate::proofs::MachineSteps::not_happened_at))]
-fn happen(alloc: Global, machine: &mut Machine, ask: &Ask, place: u32) -> u32
+fn happen_copied(alloc: Global, machine: &mut Machine, ask: &Ask, place: u32) -> u32
     ensures { Happens (Some ask.now) place (Some machine.old) (Some machine.new) result }
 {
     match machine.next_at(alloc, ask, place) {
         Ok(Some(wide)) => {
-            machine.wide = wide;
+            machine.kept.set(wide);
             OK
         }
         Ok(None) => NONE,
         Err(stop) => stop_number(stop),
+    }
+}
+
+/// Something happens to a machine.
+fn happen(alloc: Global, machine: &mut Machine, ask: &Ask, place: u32) -> u32
+    ensures { Happens (Some ask.now) place (Some machine.old) (Some machine.new) result }
+{
+    if machine.happens_in_place(alloc, ask, place) {
+        OK
+    } else {
+        happen_copied(alloc, machine, ask, place)
     }
 }
 

@@ -20,6 +20,7 @@
 //! | `shows` | stories shown to a person, likewise |
 //! | `explores` | small programs that lock, likewise |
 //! | `machines` | the POSIX machine with rules, and what may happen to it next |
+//! | `kept` | its state, in which steps are made in place |
 //! | `loose_machines`, `machine_handles`, `machine_holding` | a machine behind a pointer, and the handle, filled and emptied |
 //! | `machine_exports` | a machine made, and given up; rules allowed |
 //! | `machine_adding`, `going`, `machine_readers` | what is added to it, its steps, and what it shows |
@@ -34,6 +35,7 @@ mod explores;
 mod going;
 mod handles;
 mod holding;
+mod kept;
 mod loose;
 mod loose_machines;
 mod machine_adding;
@@ -49,6 +51,7 @@ mod texts;
 pub use choosing::PifChange;
 pub use handles::PifCore;
 pub use holding::handle_crosses;
+pub use machine_exports::replays_are_alike;
 pub use machine_handles::PifMachine;
 pub use machine_holding::machine_crosses;
 pub use pif_c_numbers::{PifDoing, PifLimits, PifNumber, PifOpen, PifOwned, PifRequest, PifSeen};

@@ -70,7 +70,7 @@ impl Machine {
     fn asks_to_add(&self, adding: &Adding) -> Option<(u32, Ask)>
         ensures { IfSome result (λ x. (x.0 ≡ next_number adding.now self.now.wide.world) × (x.1 ≡ asks_to_add adding.now self.now.wide.world)) }
     {
-        let state = &self.wide.state;
+        let state = &self.kept.wide().state;
         match *adding {
             Adding::AddThread(prio) => asks_for_thread(state.thread_count(), prio),
             Adding::AddMutex(kind, robust) => asks_for_mutex(state.mutex_count(), kind, robust),
@@ -84,7 +84,7 @@ impl Machine {
         ensures { result ≡ lacks_mutex adding.now self.now.wide.world }
     {
         match *adding {
-            Adding::AddCond(mutex) => mutex.get() as usize >= self.wide.state.mutex_count(),
+            Adding::AddCond(mutex) => mutex.get() as usize >= self.kept.wide().state.mutex_count(),
             _ => false,
         }
     }
@@ -97,7 +97,7 @@ fn add_numbered(alloc: Global, machine: &mut Machine, number: u32, ask: &Ask) ->
 {
     match machine.next_at(alloc, ask, 0) {
         Ok(Some(wide)) => {
-            machine.wide = wide;
+            machine.kept.set(wide);
             PifNumber { result: OK, number }
         }
         Ok(None) => PifNumber::refused(TOO_MANY),

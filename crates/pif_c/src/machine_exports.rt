@@ -2,6 +2,7 @@ ghost use Rattle.std.specs.Prelude.{◌≡◌, Option, Some, None, IfSome};
 ghost use Rattle.pif_c.specs.MachineHandles.{running};
 ghost use Rattle.pif_c.specs.Going.{Allows, IsBegun};
 ghost use Rattle.pif_c.specs.Machines.{new_running};
+ghost use Rattle.pif_c.specs.Replays.{ReplaysAreAlike};
 
 use crate::machine_handles::PifMachine;
 use crate::machines::Machine;
@@ -95,3 +96,9 @@ pub extern "C" fn pif_machine_allow(alloc: Global, handle: &mut PifMachine, word
         None => NO_CORE,
     }
 }
+
+/// A law: the same requests with the same choices, from the same machine, tell the same and lead to the same state, unless
+/// memory, the numbers or a limit gave out.
+pub fn replays_are_alike()
+    ensures { ReplaysAreAlike }
+{}

@@ -52,26 +52,26 @@ impl Machine {
     fn result_in(&self, thread: u32) -> Option<u32>
         ensures { result ≡ result_in self.now.wide.world thread }
     {
-        result_in(&self.wide.state, thread)
+        result_in(&self.kept.wide().state, thread)
     }
 
     /// Whether a thread lives.
     fn is_living(&self, thread: u32) -> bool
         ensures { result ≡ is_living self.now.wide.world thread }
     {
-        self.wide.state.is_living(thread as usize)
+        self.kept.wide().state.is_living(thread as usize)
     }
 }
 
-/// The open call of a thread is answered this.
+/// The open call of a thread is answered this, by a copy of the state.
 #[tactic(auto, using(crate::proofs::MachineSteps::not_answered_at))]
-fn answer_by(alloc: Global, machine: &mut Machine, thread: Tid, answer: u32) -> PifNumber
+fn answer_copied(alloc: Global, machine: &mut Machine, thread: Tid, answer: u32) -> PifNumber
     ensures { result_in machine.old.wide.world thread ≡ Some answer → IsAnswered thread (Some machine.old) (Some machine.new) result }
 {
     let ask = Ask::Line(Entry::Step(Event::Go(thread), Seen::Answered(answer)));
     match machine.next_at(alloc, &ask, 0) {
         Ok(Some(wide)) => {
-            machine.wide = wide;
+            machine.kept.set(wide);
             PifNumber {
                 result: OK,
                 number: answer,
@@ -79,6 +79,21 @@ fn answer_by(alloc: Global, machine: &mut Machine, thread: Tid, answer: u32) -> 
         }
         Ok(None) => PifNumber::refused(NONE),
         Err(stop) => PifNumber::refused(stop_number(stop)),
+    }
+}
+
+/// The open call of a thread is answered this.
+fn answer_by(alloc: Global, machine: &mut Machine, thread: Tid, answer: u32) -> PifNumber
+    ensures { result_in machine.old.wide.world thread ≡ Some answer → IsAnswered thread (Some machine.old) (Some machine.new) result }
+{
+    let ask = Ask::Line(Entry::Step(Event::Go(thread), Seen::Answered(answer)));
+    if machine.happens_in_place(alloc, &ask, 0) {
+        PifNumber {
+            result: OK,
+            number: answer,
+        }
+    } else {
+        answer_copied(alloc, machine, thread, answer)
     }
 }
 
@@ -127,7 +142,7 @@ pub extern "C" fn pif_machine_result(
 {
     match handle.take(alloc) {
         Some(machine) => {
-            let shown = result_in(&machine.wide.state, thread);
+            let shown = result_in(&machine.kept.wide().state, thread);
             handle.put(machine);
             number_told(shown)
         }
@@ -201,7 +216,7 @@ pub extern "C" fn pif_machine_status(
 {
     match handle.take(alloc) {
         Some(machine) => {
-            let shown = doing_numbered(&machine.wide.state, thread);
+            let shown = doing_numbered(&machine.kept.wide().state, thread);
             handle.put(machine);
             shown
         }
@@ -234,7 +249,7 @@ pub extern "C" fn pif_machine_owner(alloc: Global, handle: &mut PifMachine, mute
 {
     match handle.take(alloc) {
         Some(machine) => {
-            let shown = owner_in(&machine.wide.state, mutex);
+            let shown = owner_in(&machine.kept.wide().state, mutex);
             handle.put(machine);
             shown
         }
@@ -275,7 +290,7 @@ pub extern "C" fn pif_machine_health(
 {
     match handle.take(alloc) {
         Some(machine) => {
-            let shown = health_in(&machine.wide.state, mutex);
+            let shown = health_in(&machine.kept.wide().state, mutex);
             handle.put(machine);
             number_told(shown)
         }
@@ -302,7 +317,7 @@ pub extern "C" fn pif_machine_undefined(
 {
     match handle.take(alloc) {
         Some(machine) => {
-            let is = bit_of(machine.wide.state.is_left_undefined(thread as usize));
+            let is = bit_of(machine.kept.wide().state.is_left_undefined(thread as usize));
             handle.put(machine);
             number_told(Some(is))
         }
@@ -317,7 +332,7 @@ fn effective(alloc: Global, machine: &Machine, thread: u32) -> PifNumber
     if !machine.is_living(thread) {
         return PifNumber::refused(NONE);
     }
-    match machine.wide.effective(alloc, thread as usize) {
+    match machine.kept.wide().effective(alloc, thread as usize) {
         Ok(number) => PifNumber { result: OK, number },
         Err(stop) => PifNumber::refused(stop_number(stop)),
     }

@@ -2,8 +2,9 @@ ghost use Rattle.std.specs.Prelude.{◌≡◌, ◌≤◌, ◌-◌, map, length, 
 ghost use Rattle.pif_rules_model.specs.Sets.{rules_in_order};
 ghost use Rattle.pif_model.specs.declared.events.Entry.TheVariants as entry;
 ghost use Rattle.pif_rules_model.specs.Ruled.{widely_entered, widely_moved};
-ghost use Rattle.pif_c.specs.Machines.{by_numbered, lending_nothing, new_running, next_states, rules_by};
+ghost use Rattle.pif_c.specs.Machines.{HappensInPlace, by_numbered, lending_nothing, new_running, next_states, rules_by};
 
+use crate::kept::Kept;
 use pif_model::{Entry, Event};
 use pif_posix::{State, Wide};
 use pif_posix_steps::HistoryLimits;
@@ -40,7 +41,7 @@ pub enum Ask {
 /// The POSIX machine in a state, the rules by which it goes, and how much it takes.
 #[derive(Drop)]
 pub struct Machine {
-    pub(crate) wide: Wide,
+    pub(crate) kept: Kept,
     pub(crate) rules: Rules,
     pub(crate) limits: HistoryLimits,
 }
@@ -50,7 +51,7 @@ impl Model for Machine {
 
     ghost Value = { Running };
 
-    ghost view = { λ x. record { wide = x.wide; rules = x.rules; limits = x.limits } };
+    ghost view = { λ x. record { wide = x.kept; rules = x.rules; limits = x.limits } };
 }
 
 /// The rule of a number, from 1 on, as that by which a thread moves.
@@ -83,7 +84,7 @@ impl Machine {
     {
         let state = State::new(alloc, limits.signals)?;
         Ok(Machine {
-            wide: Wide::new(alloc, state),
+            kept: Kept::of(Wide::new(alloc, state)),
             rules: no_rules(),
             limits,
         })
@@ -104,7 +105,9 @@ impl Machine {
     fn entered(&self, alloc: Global, entry: &Entry) -> Result<Vec<Wide>, Stop>
         ensures { IfOk result (λ v. v.items ≡ widely_entered self.now.rules self.now.limits self.now.wide entry.now) }
     {
-        self.wide.enter(alloc, &self.limits, &self.rules, entry)
+        self.kept
+            .wide()
+            .enter(alloc, &self.limits, &self.rules, entry)
     }
 
     /// Where a move leads.
@@ -112,7 +115,22 @@ impl Machine {
         ensures { IfOk result (λ v. v.items ≡ widely_moved (rules_by by self.now.rules) thread self.now.wide) }
     {
         let rules = self.rules_by(by);
-        self.wide.moves(alloc, thread, &rules)
+        self.kept.wide().moves(alloc, thread, &rules)
+    }
+
+    /// What is asked happens in place, and goes to the state at this place, if that is the only one, by the machine itself,
+    /// and can be made so; else nothing changes.
+    pub(crate) fn happens_in_place(&mut self, alloc: Global, ask: &Ask, place: u32) -> bool
+        ensures { HappensInPlace ask.now place self.old self.new result }
+    {
+        if place != 0 {
+            return false;
+        }
+        match *ask {
+            Ask::Line(entry) => self.kept.enter(alloc, &self.limits, &entry),
+            Ask::Move(thread, By::Itself) => self.kept.go(alloc, thread),
+            _ => false,
+        }
     }
 
     /// The states to which it leads, in the order of the definitions.
@@ -123,7 +141,7 @@ impl Machine {
             Ask::Line(entry) => self.entered(alloc, &entry),
             Ask::AddsNone(mutex, kind, robust) => self.added_none(alloc, mutex, kind, robust),
             Ask::Move(thread, by) => self.moved(alloc, thread, by),
-            Ask::EndsApart(thread) => self.wide.ends_apart(alloc, thread, &self.rules),
+            Ask::EndsApart(thread) => self.kept.wide().ends_apart(alloc, thread, &self.rules),
         }
     }
 

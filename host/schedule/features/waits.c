@@ -1,6 +1,7 @@
 /* Waits that end: by time, by a join, or since another thread is let go first. */
 #include <errno.h>
 #include <stdatomic.h>
+#include <stdlib.h>
 #include <unistd.h>
 
 #include "features.h"
@@ -193,9 +194,23 @@ static void waits_held_twice(void)
     run_two(wait_held_twice, tell);
 }
 
+/* Two errors hold of a lock of one's own ERRORCHECK mutex whose time is over. */
+static void locks_its_own_late(void)
+{
+    pthread_mutex_t own;
+    struct timespec time = after(CLOCK_MONOTONIC, 0);
+
+    make_mutex(&own, PTHREAD_MUTEX_ERRORCHECK, false);
+    CHECK(pthread_mutex_lock(&own) == 0);
+    int why = pthread_mutex_clocklock(&own, CLOCK_MONOTONIC, &time);
+    CHECK(why == EDEADLK || why == ETIMEDOUT);
+    if (why == ETIMEDOUT)
+        exit(3);
+}
+
 const Feature wait_features[] = {
     {"long_sleeps", long_sleeps},     {"timed_locks", timed_locks}, {"own_in_time", own_in_time}, {"joins", joins},
     {"yields", yields},               {"trylocks", trylocks},       {"other_mutexes", other_mutexes},
     {"destructors", destructors},     {"main_ends_first", main_ends_first},
-    {"waits_held_twice", waits_held_twice}, {NULL, NULL},
+    {"waits_held_twice", waits_held_twice}, {"locks_its_own_late", locks_its_own_late}, {NULL, NULL},
 };

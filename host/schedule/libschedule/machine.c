@@ -56,20 +56,19 @@ static uint32_t moves_by(uint32_t thread, uint32_t rule, uint32_t itself)
 
 static bool has_result(uint32_t thread) { return pif_machine_result(&machine, thread).result == PIF_OK; }
 
-/* Who waits can move once its time is over, and by `barge` once its mutex is free. Other rules may have other moves. */
-static bool waits_on(uint32_t thread)
-{
-    pif_doing doing = doing_of(thread);
-
-    if (allowed_rule(0) != NULL || is_due(&threads[thread]))
-        return false;
-    return doing.state == PIF_PARKED || (doing.state == PIF_QUEUED && owner_of(doing.waits_for).result == PIF_OK);
-}
-
+/* A thread that is blocked on a variable has to be woken, and one that waits for a mutex takes it by `barge` once it is
+   free. One that is ready goes on. Only a wait whose time is over, and other rules, may have other moves. */
 bool can_move(uint32_t thread)
 {
-    return has_result(thread)
-           || (!waits_on(thread) && number_in(pif_machine_moves(&machine, thread, PIF_BARGE)) > 0);
+    if (has_result(thread))
+        return true;
+    pif_doing doing = doing_of(thread);
+    bool is_known = allowed_rule(0) == NULL && !is_due(&threads[thread]);
+    if (is_known && doing.state == PIF_QUEUED)
+        return owner_of(doing.waits_for).result != PIF_OK;
+    if (is_known && doing.state != PIF_STOPPED)
+        return doing.state == PIF_READY;
+    return number_in(pif_machine_moves(&machine, thread, PIF_BARGE)) > 0;
 }
 
 /* SPURIOUS WAKE-UPS */
@@ -126,14 +125,51 @@ static void add_allowed(const Thread *me, uint32_t itself)
         add_by(me->number, rule_named(allowed_rule(i)), itself);
 }
 
+static bool is_allowed(uint32_t rule)
+{
+    for (size_t i = 0; allowed_rule(i) != NULL; i++)
+        if (rule_named(allowed_rule(i)) == rule)
+            return true;
+    return false;
+}
+
+static bool waits_for(const Thread *thread, uint32_t mutex)
+{
+    pif_doing doing = doing_of(thread->number);
+
+    return doing.state == PIF_QUEUED && doing.waits_for == mutex;
+}
+
+/* Only a thread whose call is open waits for a mutex. */
 static bool is_waited_for(uint32_t mutex)
 {
-    for (uint32_t i = 0; i < living.count; i++) {
-        pif_doing doing = doing_of(living.at[i]->number);
-        if (doing.state == PIF_QUEUED && doing.waits_for == mutex)
+    for (uint32_t i = 0; i < living.count; i++)
+        if (living.at[i]->open && waits_for(living.at[i], mutex))
             return true;
-    }
     return false;
+}
+
+/* Whether it waits for a mutex, and its time isn't over. */
+static bool is_queued(const Thread *me) { return doing_of(me->number).state == PIF_QUEUED && !is_due(me); }
+
+/* How many ways the machine itself has: one for an unlock, and none for a thread that waits. */
+static uint32_t ways_itself(const Thread *me, const pif_request *asked)
+{
+    if (asked->call == PIF_UNLOCK)
+        return 1;
+    return is_queued(me) ? 0 : moves_itself(me->number);
+}
+
+/* How many more `barge` has. An unlock of the last hold may leave a mutex free, unless it is inconsistent, and a thread
+   that waits may take a mutex that is free. */
+static uint32_t ways_by_barge(const Thread *me, const pif_request *asked, uint32_t itself)
+{
+    pif_owned owner = owner_of(asked->mutex);
+
+    if (asked->call == PIF_UNLOCK)
+        return owner.thread == me->number && owner.count == 1
+               && pif_machine_health(&machine, asked->mutex).number != PIF_INCONSISTENT;
+    return is_queued(me) ? owner.result != PIF_OK : moves_by(me->number, PIF_BARGE, itself);
 }
 
 /* A mutex that nobody waits for is left free in one way alone. */
@@ -163,10 +199,15 @@ static void find_whom_to_wake(const Thread *me, uint32_t itself)
     add_allowed(me, itself);
 }
 
+static bool may_close_cycle(const Thread *me, const pif_request *asked)
+{
+    return asked->mutex != 0 && owner_of(asked->mutex).thread != me->number && closes_cycle(me, asked->mutex);
+}
+
 /* A lock that closes a cycle waits. That may be told of in place of it to who asks for errors, if its mutex checks them. */
 static void find_ways(const Thread *me, const pif_request *asked, uint32_t steps)
 {
-    uint32_t itself = moves_itself(me->number);
+    uint32_t itself = ways_itself(me, asked);
 
     ways.of = me->number;
     ways.count = 0;
@@ -174,12 +215,12 @@ static void find_ways(const Thread *me, const pif_request *asked, uint32_t steps
         find_whom_to_wake(me, itself);
         return;
     }
-    if (asked->mutex != 0 && owner_of(asked->mutex).thread != me->number && closes_cycle(me, asked->mutex))
+    if (may_close_cycle(me, asked))
         add_by(me->number, PIF_CYCLE_WAITS, itself);
     if (ways.count == 0 || (options.errors && !is_plain(asked->mutex)))
         add_ways(me->number, PIF_ITSELF, 0, itself);
     if (may_barge(asked, itself))
-        add_by(me->number, PIF_BARGE, itself);
+        add_ways(me->number, PIF_BARGE, itself, ways_by_barge(me, asked, itself));
     add_allowed(me, itself);
 }
 
@@ -212,8 +253,33 @@ static void judge_wait(Thread *me)
         tell_deadlock(me);
 }
 
+/* No rule has a way here, and the machine itself has one at most: only who signals or broadcasts may have several. So the
+   ways needn't be counted. A call's first move gives no mutex up, unless it is an unlock. */
+static bool has_no_choice(const Thread *me, const pif_request *asked, uint32_t steps)
+{
+    if (allowed_rule(0) != NULL || asked->call == PIF_SIGNAL || asked->call == PIF_BROADCAST || is_queued(me))
+        return false;
+    if (asked->mutex == 0)
+        return true;
+    bool gives_up = steps > 0 || asked->call == PIF_UNLOCK;
+    return !(gives_up && is_waited_for(asked->mutex)) && !may_close_cycle(me, asked);
+}
+
+/* Whether a thread has moved that has no choice. */
+static bool has_moved(const Thread *me, const pif_request *asked, uint32_t steps)
+{
+    if (!has_no_choice(me, asked, steps))
+        return false;
+    uint32_t result = pif_machine_move(&machine, me->number, PIF_ITSELF, 0);
+    if (result != PIF_NONE)
+        done(result);
+    return result == PIF_OK;
+}
+
 static void go_on(Thread *me, const pif_request *asked, uint32_t steps)
 {
+    if (has_moved(me, asked, steps))
+        return;
     find_ways(me, asked, steps);
     if (ways.count > 0) {
         const Way *way = &ways.at[choose_way(me, &ways)];
@@ -225,6 +291,20 @@ static void go_on(Thread *me, const pif_request *asked, uint32_t steps)
     judge_wait(me);
     wait_in_call(me);
     me->wants = 0;
+}
+
+/* By `other_error` a call that failed may be answered another error that holds of it, too. */
+static void choose_error(Thread *me)
+{
+    if (!is_allowed(PIF_OTHER_ERROR))
+        return;
+    ways.of = me->number;
+    ways.count = 0;
+    add_ways(me->number, PIF_ITSELF, 0, 1);
+    add_by(me->number, PIF_OTHER_ERROR, moves_itself(me->number));
+    const Way *way = &ways.at[choose_way(me, &ways)];
+    if (way->by == PIF_OTHER_ERROR)
+        done(pif_machine_move(&machine, way->thread, way->by, way->place));
 }
 
 /* A wait that gave up all holds of its mutex takes them again before it is answered. */
@@ -248,6 +328,7 @@ int ask_machine(Thread *me, pif_request request)
     judge_use(me, &request);
     for (uint32_t steps = 0; !has_result(me->number); steps++)
         go_on(me, &request, steps);
+    choose_error(me);
     uint32_t answer = answer_of(me);
     tell_event("answer t%u %u", me->number, answer);
     return (int)answer;

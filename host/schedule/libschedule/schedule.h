@@ -181,6 +181,7 @@ void begin_strategy(void);
 uint32_t draw_below(uint32_t);
 void rank_new(Thread *);
 void rank_last(Thread *);
+Thread *choose_named(const Threads *, uint32_t number);
 Thread *choose_by_strategy(const Threads *, Thread *present, uint64_t point);
 
 /* verdicts.c: each ends the run */

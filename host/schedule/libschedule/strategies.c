@@ -62,6 +62,14 @@ static void name_candidates(const Threads *can)
 /* The thread that libpif has chosen. It chooses one, since some can go. */
 static Thread *thread_chosen(pif_number chosen) { return &threads[chosen.number]; }
 
+/* The thread that a schedule names; NULL: it can't go. One that can go stays chosen. */
+Thread *choose_named(const Threads *can, uint32_t number)
+{
+    name_candidates(can);
+    pif_number chosen = pif_choose_staying(number, candidates, can->count);
+    return chosen.result == PIF_OK && chosen.number == number ? thread_chosen(chosen) : NULL;
+}
+
 static Thread *choose_drawn(const Threads *can)
 {
     name_candidates(can);

@@ -148,14 +148,6 @@ static Thread *living_thread(uint32_t number)
     return thread == NULL || thread->gone ? NULL : thread;
 }
 
-static Thread *thread_that_can(uint32_t number)
-{
-    for (uint32_t i = 0; i < can.count; i++)
-        if (can.at[i]->number == number)
-            return can.at[i];
-    return NULL;
-}
-
 /* Whether the time moves though somebody can go. */
 static bool lets_time_pass(Thread *me)
 {
@@ -239,7 +231,7 @@ static Thread *choose_thread(Thread *me)
 {
     char *at = begin_line(me);
     const Choice *asked = asked_choice(CHOOSE_THREAD, line, me);
-    Thread *next = asked == NULL ? NULL : thread_that_can(asked->thread);
+    Thread *next = asked == NULL ? NULL : choose_named(&can, asked->thread);
 
     if (asked != NULL && next == NULL)
         refuse(me, at, asked);

@@ -1,14 +1,12 @@
--- It goes to the state at the place, or memory or numbers gave out.
-use Rattle.std.proofs.Common.{sym, ◌∙◌}
-use Rattle.pif_c.specs.Running.{Running}
-use Rattle.pif_c.proofs.MachineSteps.{happened_at, happens_given_up}
+-- It happens in place, or by a copy.
+use Rattle.pif_c.proofs.InPlace.{happens_in_place, happens_otherwise}
 use Rattle.pif_c.proofs.going.happen.Goals as goal
 
-pub returns-in-Ok-Some : goal.returns-in-Ok-Some
-returns-in-Ok-Some c =
-    let fields : Running = record { wide = c.machine.inside.wide; rules = c.machine.inside.rules; limits = c.machine.inside.limits } in
-    happened_at c.args.ask.now c.args.place c.args.machine.now fields c.in-Ok-Some.wide c.machine.view_is
-    (sym c.in-Ok-Some.field-0-is ∙ c.in-Ok-Some.ensures)
+pub returns-then-happens_in_place : goal.returns-then-happens_in_place
+returns-then-happens_in_place c =
+    happens_in_place c.args.ask.now c.args.place c.args.machine.now _ _ c.happens_in_place.ensures c.if-happens_in_place.true
 
-pub returns-in-Err : goal.returns-in-Err
-returns-in-Err c = happens_given_up c.args.ask.now c.args.place c.args.machine.now c.in-Err.stop _ c.stop_number.ensures
+pub returns-else-happens_in_place : goal.returns-else-happens_in_place
+returns-else-happens_in_place c =
+    happens_otherwise c.args.ask.now c.args.place c.args.machine.now _ _ _ _ c.happens_in_place.ensures c.if-happens_in_place.false
+    c.happen_copied.ensures

@@ -1,16 +1,12 @@
--- It is answered, or memory or numbers gave out.
-use Rattle.std.proofs.Common.{sym, ◌∙◌}
-use Rattle.pif_c.specs.Running.{Running}
-use Rattle.pif_c.proofs.MachineSteps.{answered_at, answers_given_up}
+-- It is answered in place, or by a copy.
+use Rattle.pif_c.proofs.InPlace.{answers_in_place, answers_otherwise}
 use Rattle.pif_c.proofs.machine_readers.answer_by.Goals as goal
 
-pub returns-in-Ok-Some : goal.returns-in-Ok-Some
-returns-in-Ok-Some c =
-    let fields : Running = record { wide = c.machine.inside.wide; rules = c.machine.inside.rules; limits = c.machine.inside.limits } in
-    λ has. answered_at c.args.thread c.args.answer c.args.machine.now fields c.in-Ok-Some.wide c.machine.view_is has
-    (sym c.in-Ok-Some.field-0-is ∙ c.in-Ok-Some.ensures)
+pub returns-then-happens_in_place : goal.returns-then-happens_in_place
+returns-then-happens_in_place c =
+    answers_in_place c.args.thread c.args.answer c.args.machine.now _ _ c.happens_in_place.ensures c.if-happens_in_place.true
 
-pub returns-in-Err : goal.returns-in-Err
-returns-in-Err c =
-    λ has. answers_given_up c.args.thread c.args.machine.now c.in-Err.stop _ c.stop_number.result c.refused-in-Err.ensures
-    c.stop_number.ensures
+pub returns-else-happens_in_place : goal.returns-else-happens_in_place
+returns-else-happens_in_place c =
+    answers_otherwise c.args.thread c.args.answer c.args.machine.now _ _ _ _ c.happens_in_place.ensures c.if-happens_in_place.false
+    c.answer_copied.ensures
