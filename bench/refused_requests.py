@@ -6,6 +6,9 @@ memory` on standard error, or with status 6 and `fault threads` if a thread coul
 no refusal, since the standard library asks again for some. A shell may go on, and say that a line has changed nothing.
 With the words of a job behind the program it is that job alone, over an example.
 
+The two clients are asked once more with each two requests in a row refused. A client whose call was refused memory asks
+for its end until it is made: one that asks once, and holds the mutex, leaves the other waiting.
+
 Two rows more are asked if they are built. The test `desk_keeps_receipts` of pif_test_core (by `rt test` there) asks
 again for what was refused, by `resume` if a call is open: no answer, book or replayed trace may change. The
 benchmark `new_core` of pif_bench (by `rt run` there) makes cores: whichever request of `Core::new` is refused, the
@@ -77,10 +80,12 @@ REFUSE = r"""
 
 static _Atomic long requests;
 
-/* Whether the next request is the one that is refused, which leaves a file. */
+/* Whether the next request is one of those in a row that are refused, which leaves a file. None is from number 0 on. */
 static int is_refused(void) {
-  const char *number = getenv("REFUSED_REQUEST"), *path = getenv("REFUSED");
-  if (!number || !path || ++requests != atol(number)) return 0;
+  const char *number = getenv("REFUSED_REQUEST"), *many = getenv("REFUSED_IN_A_ROW"), *path = getenv("REFUSED");
+  if (!number || !many || !path || atol(number) < 1) return 0;
+  long behind = ++requests - atol(number);
+  if (behind < 0 || behind >= atol(many)) return 0;
   close(open(path, O_CREAT | O_WRONLY, 0600));
   return 1;
 }
@@ -100,14 +105,15 @@ void *realloc(void *old, size_t size) {
 
 
 class Row(NamedTuple):
-    """What is run: its name, its words, its input, its status with no refusal, and whether an end is that of a refused
-    request, beside the end with no refusal."""
+    """What is run: its name, its words, its input, its status with no refusal, whether an end is that of a refused
+    request, beside the end with no refusal, and how many requests in a row are refused."""
 
     name: str
     words: list
     text: bytes
     status: int
     is_refusal: object
+    in_a_row: int = 1
 
 
 class Stopped(Exception):
@@ -115,11 +121,12 @@ class Stopped(Exception):
 
 
 def run(room, row, number):
-    """Runs a row with this request refused: its status, what it printed, and whether a request was refused. A run that
-    takes too long has no status."""
+    """Runs a row with the requests from this one on refused: its status, what it printed, and whether a request was
+    refused. A run that takes too long has no status."""
     left = room / "refused"
     left.unlink(missing_ok=True)
-    variables = dict(os.environ, LD_PRELOAD=str(room / "refuse.so"), REFUSED_REQUEST=str(number), REFUSED=str(left))
+    variables = dict(os.environ, LD_PRELOAD=str(room / "refuse.so"), REFUSED_REQUEST=str(number),
+                     REFUSED_IN_A_ROW=str(row.in_a_row), REFUSED=str(left))
     try:
         done = subprocess.run(row.words, input=row.text, capture_output=True, env=variables, timeout=MOST_SECONDS)
     except subprocess.TimeoutExpired as why:
@@ -146,7 +153,8 @@ def sweep(room, row):
     if number == 1:
         print("%s: no request was seen" % row.name)
         return False
-    print("%s: %d requests, each refused alone; as with no refusal at %d" % (row.name, number - 1, len(same)))
+    how = "alone" if row.in_a_row == 1 else "with the next"
+    print("%s: %d requests, each refused %s; as with no refusal at %d" % (row.name, number - 1, how, len(same)))
     return True
 
 
@@ -164,6 +172,7 @@ def rows_of(program, words):
         yield Row("pif " + job, [program] + (words or job.split(" ")), text, status, is_refused)
     if words:
         return
+    yield Row("pif drive 2, two in a row", [program, "drive", "2"], b"", 0, is_refused, 2)
     if TESTS.is_file():
         yield Row("desk_keeps_receipts", [TESTS, "desk::receipts::desk_keeps_receipts"], b"", 0,
                   lambda ended, whole: False)

@@ -86,8 +86,7 @@ def demand_joined(kit, done, status, *said):
 
 
 def demand_legal(kit, history):
-    said = kit.run([kit.program(), "judge", history]).stdout
-    kit.demand(said == kit.legal_text(history.read_text().splitlines()) + "\n", "it is %s" % said.splitlines())
+    kit.demand_legal(history, history.read_text().splitlines())
 
 
 def test_killed(kit, place, is_stored):
