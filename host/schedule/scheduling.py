@@ -272,7 +272,9 @@ class Program:
     def names(self):
         """What the environment of the program has for the library."""
         options = ":".join(filter(None, [os.environ.get("ASAN_OPTIONS"), "verify_asan_link_order=0"]))
-        return {"LD_PRELOAD": self.preloaded(), "PIF_SCHEDULE": str(self.folder), "ASAN_OPTIONS": options}
+        processors = ",".join(map(str, sorted(os.sched_getaffinity(0))))
+        return {"LD_PRELOAD": self.preloaded(), "PIF_SCHEDULE": str(self.folder), "ASAN_OPTIONS": options,
+                "PIF_SCHEDULE_PROCESSORS": processors}
 
     def start(self):
         read_end, self.to_program = os.pipe()

@@ -29,6 +29,7 @@ static void in_child(void)
 {
     state = OFF;
     keeps_time = false;
+    leave_processor();
 }
 
 static void in_parent(void)
@@ -37,13 +38,13 @@ static void in_parent(void)
         tell_fork();
 }
 
-/* What the program starts finds no run to take. */
-static void hide_the_run(void)
+void hide_variable(const char *name)
 {
     extern char **environ;
+    size_t length = strlen(name);
 
     for (char **entry = environ; entry != NULL && *entry != NULL; entry++)
-        if (strncmp(*entry, "PIF_SCHEDULE=", 13) == 0)
+        if (strncmp(*entry, name, length) == 0 && (*entry)[length] == '=')
             (*entry)[0] = '_';
 }
 
@@ -61,7 +62,7 @@ static void take_the_run(void)
     state = OFF;
     if (!take_told())
         return;
-    hide_the_run();
+    hide_variable("PIF_SCHEDULE"); /* what the program starts finds no run to take */
     strcat(strcpy(asked, folder), "/asked");
     if (!read_asked(asked))
         fail("what is asked can't be read");
@@ -70,6 +71,7 @@ static void take_the_run(void)
     if (!begin_threads() || pthread_atfork(NULL, in_parent, in_child) != 0)
         fail("there is no key for a thread's end");
     begin_strategy();
+    share_processor();
     state = ON;
 }
 
@@ -109,8 +111,10 @@ __attribute__((constructor)) static void begin(void)
 {
     const char *given = getenv("PIF_SCHEDULE");
 
-    if (given == NULL || given[0] == '\0' || strlen(given) >= MOST_OF_PATH)
+    if (given == NULL || given[0] == '\0' || strlen(given) >= MOST_OF_PATH) {
+        take_processors();
         return;
+    }
     strcpy(folder, given);
     if (!make_core())
         fail("there is no memory for a core");

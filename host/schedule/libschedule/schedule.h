@@ -108,6 +108,7 @@ Thread *enter(const char *call, uintptr_t caller); /* NULL: this process isn't s
 Thread *enter_if_on(const char *call, uintptr_t caller);
 void leave(Thread *);
 bool is_on(void);
+void hide_variable(const char *name); /* of the environment: what is started then finds none of that name */
 
 /* server.c */
 void serve(void); /* returns in a process of its own for each run */
@@ -212,6 +213,11 @@ bool begin_threads(void);
 Thread *this_thread(void);
 Thread *thread_named(pthread_t);
 void stop_thread(Thread *); /* for good */
+
+/* processors.c: the run's threads are on one, unless the program asks for others */
+void share_processor(void);
+void leave_processor(void); /* a child of a fork has all of the run's */
+void take_processors(void); /* a program that was started has all of the tool's */
 
 /* handlers.c: of signals */
 static inline uint64_t bit_of_signal(int signal) { return UINT64_C(1) << (signal - 1); }
