@@ -70,9 +70,12 @@ RENAMED = {
     "pif_job_explore": ["pif_job_explore", "pif_explore_core"],
     "pif_job_drive": ["pif_drive"],
     "pif_cli_words": ["pif_arguments"],
-    "pif_test_calls": ["pif_test_calls", "pif_test_foundation", "pif_call_tests", "pif_foundation_tests"],
     "pif_test_core": [
         "pif_test_core",
+        "pif_test_calls",
+        "pif_test_foundation",
+        "pif_call_tests",
+        "pif_foundation_tests",
         "pif_test_quick",
         "pif_test_desk",
         "pif_test_drive",

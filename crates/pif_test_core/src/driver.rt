@@ -1,4 +1,5 @@
 //! What the tables of the tests are made of, by numbers, and the core on which each is played.
+use crate::seen::{cond, mutex, thread};
 use crate::uses::ways_out;
 use crate::{cores, uses};
 use pif_core::{Core, Event, Seen};
@@ -10,21 +11,6 @@ use pif_model::{Status, Woken};
 use pif_types::{AddFault, CondId, Health, Kind, Limits, MutexId, Prio, Request, Tid};
 use std::process::Abort;
 use std::test::Fail;
-
-/// The thread of this number. No row asks number 0, which is nobody's.
-pub fn thread(number: u32) -> Tid {
-    Tid::new(number.max(1)).unwrap()
-}
-
-/// The mutex of this number, as `thread`.
-pub fn mutex(number: u32) -> MutexId {
-    MutexId::new(number.max(1)).unwrap()
-}
-
-/// The variable of this number, as `thread`.
-fn cond(number: u32) -> CondId {
-    CondId::new(number.max(1)).unwrap()
-}
 
 /// The request of a call.
 #[derive(Clone, Copy)]

@@ -1,7 +1,8 @@
 //! What is done at a desk, by numbers, and what that comes to.
 use super::stress;
 use super::watch::Watch;
-use crate::driver::{Wish, mutex, request, thread};
+use crate::driver::{Wish, request};
+use crate::seen::{mutex, thread};
 use pif_desk::{Client, Desk, DeskFault, NoPause, Pause, Receipt};
 use pif_types::{AddFault, Kind, Limits, NoMemory, Refusal};
 use std::alloc::Global;

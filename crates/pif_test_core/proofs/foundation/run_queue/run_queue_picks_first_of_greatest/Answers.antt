@@ -3,7 +3,7 @@ use Rattle.std.proofs.Common.{◌≡◌, ℕ, List, [], length, replicate, ap, s
 use Rattle.std.proofs.lemmas.List.{get_or-replicate, length-replicate}
 use Rattle.pif_nodes_model.specs.Table.{NodeLists, IsApart, no_key, list_with}
 use Rattle.pif_nodes_model.specs.Levels.{Queue, list_for, HasRoom}
-use Rattle.pif_test_calls.proofs.foundation.run_queue.run_queue_picks_first_of_greatest.Goals as goal
+use Rattle.pif_test_core.proofs.foundation.run_queue.run_queue_picks_first_of_greatest.Goals as goal
 
 new_queue : Queue
 new_queue = record { first_list = 0; first_node = 0; threads = 3; mask = 0 }

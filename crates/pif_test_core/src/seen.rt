@@ -1,4 +1,4 @@
-//! What the tests below calls see, and the threads, mutexes, variables and priorities that they have.
+//! What tests see, and the threads, mutexes, variables and priorities that they have.
 ghost use Rattle.std.specs.Prelude.{◌≡◌, ◌≤◌};
 
 use pif_types::{CondId, MutexId, Prio, Tid};

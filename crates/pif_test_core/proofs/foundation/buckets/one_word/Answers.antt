@@ -1,5 +1,5 @@
 use Rattle.std.proofs.Common.{IsSome, refl, sym, subst}
-use Rattle.pif_test_calls.proofs.foundation.buckets.one_word.Goals as goal
+use Rattle.pif_test_core.proofs.foundation.buckets.one_word.Goals as goal
 
 pub put-requires-clause-none : goal.put-requires-clause-none
 put-requires-clause-none g c = c.requires.empty 3

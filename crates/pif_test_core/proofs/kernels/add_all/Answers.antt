@@ -2,7 +2,7 @@ use Rattle.std.proofs.Common.{◌≡◌, ◌+◌, length, ap, ◌∙◌, arith}
 use Rattle.std.proofs.lemmas.List.{length_push}
 use Rattle.pif_model.specs.PiKernel.{Kernel}
 use Rattle.pif_kernel_model.specs.Inside.{kernel_of}
-use Rattle.pif_test_calls.proofs.kernels.add_all.Goals as goal
+use Rattle.pif_test_core.proofs.kernels.add_all.Goals as goal
 
 pub loop-level-preserved : goal.loop-level-preserved
 loop-level-preserved g c =

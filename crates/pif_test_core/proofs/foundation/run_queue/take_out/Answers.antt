@@ -1,7 +1,7 @@
 use Rattle.std.proofs.Common.{sym, ap, ◌∙◌}
 use Rattle.std.specs.Option.{is_some}
 use Rattle.pif_nodes_model.proofs.LevelWithLemmas.{queued_found}
-use Rattle.pif_test_calls.proofs.foundation.run_queue.take_out.Goals as goal
+use Rattle.pif_test_core.proofs.foundation.run_queue.take_out.Goals as goal
 
 pub take_out-requires-clause-queued : goal.take_out-requires-clause-queued
 take_out-requires-clause-queued c =

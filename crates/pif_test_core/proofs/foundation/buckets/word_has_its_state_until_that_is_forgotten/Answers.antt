@@ -3,7 +3,7 @@ use Rattle.std.proofs.Common.{◌≡◌, ◌≤◌, [], replicate, sym, subst, i
 use Rattle.pif_nodes_model.specs.Table.{NodeLists, IsApart, no_key}
 use Rattle.pif_kernel_model.specs.Buckets.{Buckets, HasRoomForBuckets}
 use Rattle.pif_kernel_model.proofs.Rooms.{no_buckets, room-made}
-use Rattle.pif_test_calls.proofs.foundation.buckets.word_has_its_state_until_that_is_forgotten.Goals as goal
+use Rattle.pif_test_core.proofs.foundation.buckets.word_has_its_state_until_that_is_forgotten.Goals as goal
 
 has_room : (b : Buckets) (t : NodeLists) → b ≡ no_buckets 0 3 0 3 2
     → t ≡ record { lists = replicate 66 []; keys = replicate 6 no_key } → IsApart t → HasRoomForBuckets b t
