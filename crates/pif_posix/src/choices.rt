@@ -1,4 +1,5 @@
-ghost use Rattle.std.specs.Prelude.{◌≡◌, ◌<◌, ◌++◌, ◌==◌, ℕ, false, length, map, drop, nat_le, if◌then◌else◌, IfOk, OnOk};
+ghost use Rattle.std.specs.Prelude.{◌≡◌, ◌≤◌, ◌<◌, ◌++◌, ◌∷◌, [], ◌==◌, ℕ, false, length, map, drop, nat_le, if◌then◌else◌, IfOk, OnOk, vec_len};
+ghost use Rattle.pif_search.specs.Stops.{IsMany};
 ghost use Rattle.std.specs.List.{filter, list_all, list_any};
 ghost use Rattle.pif_model.specs.Posix.{blocked_below, is_still_blocked, effective_of, with_call_by, after_unblocking};
 ghost use Rattle.pif_posix_steps.specs.Doing.{signalled, broadcast, chosen, all_blocked, found_left, woken};
@@ -12,7 +13,26 @@ use pif_types::Request;
 use std::alloc::Global;
 
 /// How many states of one step are made at most: those of a broadcast with 16 threads that it may wake or not.
-pub(crate) const MOST_AT_ONCE: usize = 65_536;
+const MOST_AT_ONCE: usize = 65_536;
+
+/// A further state, if not too many are made already.
+///
+/// # Errors
+///
+/// `Many` if `MOST_AT_ONCE` are made already; else out of memory.
+pub(crate) fn push_within(all: &mut Vec<State>, state: State) -> Result<(), Stop>
+    ensures pushed { OnOk result (all.new.items ≡ all.old.items ++ state ∷ []) }
+    ensures within { OnOk result (vec_len all.old < MOST_AT_ONCE) }
+    ensures full { IsMany result → MOST_AT_ONCE ≤ vec_len all.old }
+{
+    if all.len() >= MOST_AT_ONCE {
+        return Err(Stop::Many);
+    }
+    match all.push(state) {
+        Ok(()) => Ok(()),
+        Err(_) => Err(Stop::NoMemory),
+    }
+}
 
 /// Whether none of these priorities is greater than this one.
 fn is_none_above(priorities: &[u32], priority: u32) -> bool
@@ -232,10 +252,7 @@ impl State {
         ensures { OnOk result (all.new.items ≡ all.old.items ++ wakings (drop from marked.now) self.now) }
     {
         if from >= marked.len() {
-            if all.len() >= MOST_AT_ONCE {
-                return Err(Stop::Many);
-            }
-            return push(all, self.copied(alloc)?);
+            return push_within(all, self.copied(alloc)?);
         }
         let (thread, has_to) = marked[from];
         if thread as usize >= self.thread_count() {

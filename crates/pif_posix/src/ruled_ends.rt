@@ -5,7 +5,7 @@ ghost use Rattle.pif_posix_steps.specs.Doing.{robust_of};
 ghost use Rattle.pif_rules_model.specs.Ruled.{one_if, may_revive, revived_if, found_by, passed_by_death, released_by, all_released, ended_found, ended_by, left_apart, passed_apart};
 
 use crate::State;
-use crate::choices::MOST_AT_ONCE;
+use crate::choices::push_within;
 use crate::health::is_unusable;
 use crate::next::{is_mutex_of, unlocked_next};
 use crate::wide_lists::append;
@@ -96,16 +96,6 @@ fn passed_once(alloc: Global, state: &State, rules: &Rules, thread: u32) -> Resu
         }
     }
     Ok(all)
-}
-
-/// A further state, if not too many are made already.
-fn push_within(all: &mut Vec<State>, state: State) -> Result<(), Stop>
-    ensures { OnOk result (all.new.items ≡ all.old.items ++ state ∷ []) }
-{
-    if all.len() >= MOST_AT_ONCE {
-        return Err(Stop::Many);
-    }
-    push(all, state)
 }
 
 /// A state as it is, if it may be so.
