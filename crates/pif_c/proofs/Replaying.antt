@@ -1,5 +1,5 @@
 -- What a deed tells and leaves is a function of what the handle held, unless memory, the numbers or a limit gave out.
-use Rattle.std.proofs.Common.{◌≡◌, ◌≢◌, ◌==◌, ◌⊎◌, inl, inr, ℕ, zero, suc, Bool, true, false, refl, sym, ap, ◌∙◌, subst, List, [], ◌∷◌, map, Option, Some, None, Contains, length}
+use Rattle.std.proofs.Common.{◌≡◌, ◌≢◌, ◌==◌, inl, inr, ℕ, Bool, true, false, refl, sym, ap, ◌∙◌, subst, List, [], ◌∷◌, map, Option, Some, None, Contains, length}
 use Rattle.std.specs.Prelude.{not, nat_lt, nat_le, ◌++◌, option_to_list, slice_get, if◌then◌else◌}
 use Rattle.pif_types.specs.declared.requests.Kind.{Kind}
 use Rattle.pif_model.specs.declared.events.Entry.TheVariants as entry
@@ -7,7 +7,7 @@ use Rattle.pif_model.specs.declared.events.Event.TheVariants.{Go}
 use Rattle.pif_model.specs.declared.events.Seen.TheVariants.{Answered}
 use Rattle.pif_model.specs.Posix.{World, new_variable}
 use Rattle.pif_posix_steps.specs.Doing.{answered, mutex_added, thread_added, variable_added}
-use Rattle.pif_posix_steps.proofs.DoingLists.{in_cases, in_map_from, in_then, not_in_none}
+use Rattle.pif_posix_steps.proofs.DoingLists.{in_cases, not_in_none}
 use Rattle.pif_rules_model.specs.Rules.{Wide, WideEnters, has_all_again}
 use Rattle.pif_rules_model.specs.Ruled.{beside, widely_entered}
 use Rattle.pif_rules_model.proofs.Entries.{widely_entered_from}
@@ -17,7 +17,6 @@ use Rattle.pif_c_numbers.specs.declared.numbers.PifNumber.{PifNumber}
 use Rattle.pif_c_numbers.specs.Codes as pif
 use Rattle.pif_c_numbers.specs.Numbers.{no_number}
 use Rattle.pif_c.specs.declared.machines.Ask.{Ask}
-use Rattle.pif_c.specs.declared.machines.Ask.TheVariants.{Line, AddsNone}
 use Rattle.pif_c.specs.declared.machine_adding.Adding.{Adding}
 use Rattle.pif_c.specs.declared.machine_adding.Adding.TheVariants.{AddThread, AddMutex, AddNone, AddCond}
 use Rattle.pif_c.specs.Running.{Running}
@@ -27,7 +26,7 @@ use Rattle.pif_c.specs.Going.Happens.{happened, none_there, no_machine, given_up
 use Rattle.pif_c.specs.Going.IsAdded.{added, at_limit, given_up as addition_given_up}
 use Rattle.pif_c.specs.Going.AddsTo.{asked, no_mutex, given_up as asking_given_up, unnamed as addition_unnamed, no_machine as nothing_added}
 use Rattle.pif_c.specs.Going.IsAnswered.{answered as is_answered, not_there, no_result, nobody, given_up as answer_given_up, no_machine as nothing_answered}
-use Rattle.pif_c.specs.Replays.{Deed, Does, GaveOut, NeverGaveOut, Plays, ReplaysAreAlike}
+use Rattle.pif_c.specs.Replays.{Deed, Does, GaveOut, Plays, ReplaysAreAlike}
 use Rattle.pif_c.specs.Replays.Deed.{happens, answers, adds}
 
 -- what a handle holds, and what was told

@@ -1,6 +1,6 @@
 -- The POSIX machine as C holds it: its state with what rules remember, the rules by which it goes, and how much it takes.
 -- What may happen to it next is listed by the definitions of pif_rules_model.
-use Rattle.std.specs.Prelude.{ℕ, ◌≡◌, ◌==◌, ◌-◌, ◌||◌, ◌&&◌, not, Bool, true, false, List, [], ◌∷◌, map, Option, Some, None, option_map, slice_get, length, nat_lt, if◌then◌else◌}
+use Rattle.std.specs.Prelude.{ℕ, ◌≡◌, ◌==◌, ◌-◌, ◌||◌, not, Bool, true, false, List, [], ◌∷◌, map, Option, Some, None, option_map, slice_get, length, nat_lt, if◌then◌else◌}
 use Rattle.std.specs.List.{list_all}
 use Rattle.pif_types.specs.Bounds.{Bounds}
 use Rattle.pif_types.specs.declared.errors.Refusal.{Refusal}
@@ -13,10 +13,11 @@ use Rattle.pif_model.specs.World.{Health, Progress, Mutex}
 use Rattle.pif_model.specs.World.Health.{Fine, Inconsistent, Unusable}
 use Rattle.pif_model.specs.World.Progress.{Waiting, Stuck, Has}
 use Rattle.pif_model.specs.Posix.{World, Call, empty_world, thread_at, mutex_at, is_blocked, leads_to, named_by, refusal_of, variable_of}
+use Rattle.pif_posix_steps.specs.Doing.{moved}
 use Rattle.pif_rules_model.specs.declared.rules.Rules.{Rules}
 use Rattle.pif_rules_model.specs.Sets.{no_rules, rules_in_order}
 use Rattle.pif_rules_model.specs.Rules.{Wide, WideMoves, WideEnters, WideEndsApart}
-use Rattle.pif_rules_model.specs.Lending.{not_named}
+use Rattle.pif_rules_model.specs.Lending.{looking_free, owned_as_in}
 use Rattle.pif_rules_model.specs.Ruled.{closes_unseen, ended_apart, widely_entered, widely_moved}
 use Rattle.pif_rules.specs.Sets.{only}
 use Rattle.pif_c_numbers.specs.declared.numbers.PifDoing.{PifDoing}
@@ -84,15 +85,24 @@ abbrev pub HappensInPlace : Ask → (place : ℕ) → Running → Running → Bo
 HappensInPlace x place s n true = (slice_get (next_states x s) place ≡ Some n.wide) × (n ≡ record s { wide = n.wide })
 HappensInPlace x place s n false = n ≡ s
 
--- whether m is free, or its owner is t or doesn't wait for t, and no other mutex lends nothing
-abbrev pub is_alone : (t : ℕ) → Wide → (m : ℕ) → Bool
-is_alone t s m =
-    (((mutex_at s.world m).owner == 0 || (mutex_at s.world m).owner == t) || not (leads_to s.world (mutex_at s.world m).owner t))
-    && list_all (λ k. m == k) s.prio_none
+-- whether m is free, or its owner is t or doesn't wait for t
+abbrev pub opens_no_cycle : (t : ℕ) → World → (m : ℕ) → Bool
+opens_no_cycle t w m =
+    ((mutex_at w m).owner == 0 || (mutex_at w m).owner == t) || not (leads_to w (mutex_at w m).owner t)
 
--- a move of t is one of the plain machine: no mutex looks free to it, and it closes no cycle that nobody sees
-abbrev pub MovesPlainly : ℕ → Wide → Type 0
-MovesPlainly t s = (not_named s.world t s.prio_none ≡ []) × (closes_unseen s.prio_none t s.world ≡ false)
+-- t closes no cycle that nobody sees, whichever mutexes lend nothing
+abbrev pub ClosesNone : ℕ → World → Type 0
+ClosesNone t w = (none : List ℕ) → closes_unseen none t w ≡ false
+
+-- Hidden mutexes look free to a move of t by the plain machine. It leads to one state alone, and n is that, in which they
+-- have the owners that they have in o
+abbrev pub MovesUnseen : (hidden : List ℕ) → ℕ → (w o n : World) → Type 0
+MovesUnseen hidden t w o n =
+    ClosesNone t (looking_free hidden w) × (map (owned_as_in o hidden) (moved t (looking_free hidden w)) ≡ n ∷ [])
+
+-- whether each of these mutexes has the same owner in both
+abbrev pub are_owned_alike : List ℕ → (w o : World) → Bool
+are_owned_alike ms w o = list_all (λ m. (mutex_at w m).owner == (mutex_at o m).owner) ms
 
 -- WHAT IT SHOWS
 

@@ -1,12 +1,12 @@
 //! A state in which steps are made in place.
-ghost use Rattle.std.specs.Prelude.{◌≡◌, ◌==◌, ◌∷◌, [], true, false, is_some, IfSome};
-ghost use Rattle.std.specs.List.{list_all};
-ghost use Rattle.pif_posix_steps.specs.Doing.{entered, moved};
+ghost use Rattle.std.specs.Prelude.{◌≡◌, ◌∷◌, [], true, false, is_some, IfSome};
+ghost use Rattle.pif_posix_steps.specs.Doing.{entered};
+ghost use Rattle.pif_rules_model.specs.Lending.{not_named};
 ghost use Rattle.pif_rules_model.specs.Rules.{end_of};
 ghost use Rattle.pif_rules_model.specs.Ruled.{beside, widely_entered, widely_moved};
 ghost use Rattle.pif_rules_model.specs.Sets.{no_rules};
 ghost use Rattle.pif_rules_model.specs.declared.rules.Rules.{Rules};
-ghost use Rattle.pif_c.specs.Machines.{MovesPlainly, is_alone};
+ghost use Rattle.pif_c.specs.Machines.{ClosesNone, MovesUnseen, are_owned_alike, opens_no_cycle};
 
 use pif_model::{Entry, Event, Seen};
 use pif_posix::{State, Wide, named_by};
@@ -54,45 +54,68 @@ fn entered(alloc: Global, state: State, limits: &HistoryLimits, entry: &Entry) -
     }
 }
 
-/// Where a move leads in place, if it can be made.
-fn moved(alloc: Global, state: State, thread: u32) -> Option<State>
-    ensures { IfSome result (λ n. moved thread state ≡ n ∷ []) }
+/// Whether a mutex is free, or its owner is this thread or doesn't wait for it.
+fn opens_no_cycle(state: &State, thread: u32, mutex: u32) -> bool
+    ensures { result ≡ opens_no_cycle thread state.now mutex }
+{
+    let owner = state.owner_or_none(mutex as usize);
+    owner == 0 || owner == thread || !state.leads_to(owner as usize, thread as usize)
+}
+
+/// Whether a thread closes no cycle that nobody sees, since the mutex that its call names opens none.
+fn closes_none(state: &State, thread: u32) -> bool
+    ensures { result ≡ true → ClosesNone thread state.now }
 {
     let _no_event: Option<Event> = None;
-    let mut next = state;
-    match next.go(alloc, thread) {
-        Ok(true) => Some(next),
-        _ => None,
+    match &state.call(thread as usize) {
+        None => false,
+        Some(call) => opens_no_cycle(state, thread, named_by(&call.request)),
     }
 }
 
-/// Whether these are all this mutex.
-fn are_all(mutexes: &[u32], mutex: u32) -> bool
-    ensures { result ≡ list_all (λ m. mutex == m) mutexes.now }
-{
-    mutexes.iter().all(|other| mutex == *other)
-}
-
-/// Whether a mutex is free, or its owner is this thread or doesn't wait for it; and no other mutex is one of
-/// PTHREAD_PRIO_NONE.
-fn is_alone(wide: &Wide, thread: u32, mutex: u32) -> bool
-    ensures { result ≡ is_alone thread wide.now mutex }
-{
-    let owner = wide.state.owner_or_none(mutex as usize);
-    let opens_none = owner == 0
-        || owner == thread
-        || !wide.state.leads_to(owner as usize, thread as usize);
-    opens_none && are_all(wide.prio_none.as_slice(), mutex)
-}
-
-/// Whether a move of a thread is one of the plain machine, since nothing that it does is about lending.
-fn moves_plainly(wide: &Wide, thread: u32) -> bool
-    ensures { result ≡ true → MovesPlainly thread wide.now }
+/// Where a move of a thread leads, made in place, to which these mutexes look free; they have then the owners that they
+/// have in the other state. None if it doesn't lead to one state alone, or can't be made so.
+fn moved_unseen(
+    alloc: Global,
+    state: State,
+    thread: u32,
+    hidden: &[u32],
+    owners: &State,
+) -> Option<State>
+    ensures { IfSome result (λ n. MovesUnseen hidden.now thread state owners.now n) }
 {
     let _no_event: Option<Event> = None;
-    match &wide.state.call(thread as usize) {
-        None => false,
-        Some(call) => is_alone(wide, thread, named_by(&call.request)),
+    let mut next = state;
+    next.look_free(hidden).ok()?;
+    if !closes_none(&next, thread) || !next.go(alloc, thread).ok()? {
+        return None;
+    }
+    next.own_as_in(owners, hidden).ok()?;
+    Some(next)
+}
+
+/// Whether each of these mutexes has the same owner in both states.
+fn are_owned_alike(mutexes: &[u32], state: &State, other: &State) -> bool
+    ensures { result ≡ are_owned_alike mutexes.now state.now other.now }
+{
+    mutexes.iter().all(|m| state.owner_or_none(*m as usize) == other.owner_or_none(*m as usize))
+}
+
+/// Where the same move of a thread leads from a copy of the state before, if this state is where it has led; none if it
+/// can't be made again.
+fn in_step(
+    alloc: Global,
+    before: State,
+    thread: u32,
+    hidden: &[u32],
+    state: &State,
+) -> Option<State>
+    ensures { MovesUnseen hidden.now thread before before state.now → IfSome result (λ w. w ≡ state.now) }
+{
+    if are_owned_alike(hidden, state, &before) {
+        moved_unseen(alloc, before, thread, hidden, state)
+    } else {
+        None
     }
 }
 
@@ -153,39 +176,42 @@ impl Kept {
         }
     }
 
-    /// One move of a thread in place by the plain machine, if it leads to one state and that can be made; else nothing
-    /// changes.
-    fn go_plainly(&mut self, alloc: Global, thread: u32) -> bool
-        ensures went { result ≡ true → moved thread self.old.world ≡ self.new.world ∷ [] }
+    /// The mutexes that look free to a move of a thread; none if there is no memory for them.
+    fn hidden(&self, alloc: Global, thread: u32) -> Option<Vec<u32>>
+        ensures { IfSome result (λ v. v.items ≡ not_named self.now.world thread self.now.prio_none) }
+    {
+        let prio_none = self.wide.prio_none.as_slice();
+        self.wide.state.not_named(alloc, thread, prio_none).ok()
+    }
+
+    /// One move of a thread in place, to which these mutexes look free, if it leads to one state alone and can be made so;
+    /// else nothing changes.
+    fn go_unseen(&mut self, alloc: Global, thread: u32, hidden: &[u32]) -> bool
+        ensures went { result ≡ true → MovesUnseen hidden.now thread self.old.world self.old.world self.new.world }
         ensures beside { self.new ≡ beside self.old self.new.world }
         ensures same { result ≡ false → self.new ≡ self.old }
     {
-        let _no_event: Option<Event> = None;
         let Some(second) = self.take_second(alloc) else {
             return false;
         };
-        match self.wide.state.go(alloc, thread) {
-            Ok(true) => {
-                self.second = moved(alloc, second, thread);
-                true
-            }
-            _ => {
-                self.wide.state = second;
-                false
-            }
-        }
+        let first = std::mem::replace(&mut self.wide.state, second);
+        let Some(next) = moved_unseen(alloc, first, thread, hidden, &self.wide.state) else {
+            return false;
+        };
+        let before = std::mem::replace(&mut self.wide.state, next);
+        self.second = in_step(alloc, before, thread, hidden, &self.wide.state);
+        true
     }
 
-    /// One move of a thread by the machine itself in place, if it is plain, leads to one state and can be made; else
-    /// nothing changes.
+    /// One move of a thread by the machine itself in place, if it leads to one state alone and can be made so; else nothing
+    /// changes.
     pub(crate) fn go(&mut self, alloc: Global, thread: u32) -> bool
         ensures went { result ≡ true → widely_moved no_rules thread self.old ≡ self.new ∷ [] }
         ensures same { result ≡ false → self.new ≡ self.old }
     {
-        let _no_event: Option<Event> = None;
-        if !moves_plainly(self.wide(), thread) {
-            return false;
+        match self.hidden(alloc, thread) {
+            Some(hidden) => self.go_unseen(alloc, thread, hidden.as_slice()),
+            None => false,
         }
-        self.go_plainly(alloc, thread)
     }
 }

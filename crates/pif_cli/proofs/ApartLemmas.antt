@@ -179,7 +179,7 @@ apart-ahead job names begin place found name one past is are item =
 -- a job that was done has no notes
 no-notes : (notes : List Note) (done : Result (Unit {0}) JobFault) → notes ≡ [] → OnOk done (notes ≡ [])
 no-notes notes (Ok x) e = e
-no-notes notes (Err fault) e = tt
+no-notes notes (Err end) e = tt
 
 -- what was judged of a file, and written in its turn, is what is done in its turn
 pub did-judged : (job : Job) (name : Text) (judged : Judged) (held holds errors_held errors_hold : Option (List ℕ))

@@ -10,8 +10,8 @@ pub answers_written : (clients answered : ℕ) (held holds : Option (List ℕ)) 
     → Drives clients held holds r
 answers_written clients answered held holds (Ok x) e w =
     subst (λ (n : ℕ). WritesLine held holds (codes "answered " ++ decimal n ++ 10 ∷ []) (Ok x)) e w
-answers_written clients answered held holds (Err fault) e w =
-    let part = subst (λ (n : ℕ). WritesLine held holds (codes "answered " ++ decimal n ++ 10 ∷ []) (Err fault)) e w in
+answers_written clients answered held holds (Err end) e w =
+    let part = subst (λ (n : ℕ). WritesLine held holds (codes "answered " ++ decimal n ++ 10 ∷ []) (Err end)) e w in
     subst (λ (f : JobFault). Drives clients held holds (Err f)) (sym part.0)
     (answered_text clients, inl refl, part.1)
 
@@ -19,7 +19,7 @@ answers_written clients answered held holds (Err fault) e w =
 pub threads_said : (clients : ℕ) (held holds : Option (List ℕ)) (r : Result (Unit {0}) JobFault)
     → SaysSo held holds threads_text Threads r → Drives clients held holds r
 threads_said clients held holds (Ok x) w = absurd w
-threads_said clients held holds (Err fault) w =
+threads_said clients held holds (Err end) w =
     elim w [
       | inl s ↦ subst (λ (f : JobFault). Drives clients held holds (Err f)) (sym s.0) s.1
       | inr s ↦ subst (λ (f : JobFault). Drives clients held holds (Err f)) (sym s.0)
@@ -30,7 +30,7 @@ threads_said clients held holds (Err fault) w =
 pub unsettled_said : (clients : ℕ) (held holds : Option (List ℕ)) (r : Result (Unit {0}) JobFault)
     → SaysSo held holds unsettled_text Unsettled r → Drives clients held holds r
 unsettled_said clients held holds (Ok x) w = absurd w
-unsettled_said clients held holds (Err fault) w =
+unsettled_said clients held holds (Err end) w =
     elim w [
       | inl s ↦ subst (λ (f : JobFault). Drives clients held holds (Err f)) (sym s.0) s.1
       | inr s ↦ subst (λ (f : JobFault). Drives clients held holds (Err f)) (sym s.0)

@@ -2,7 +2,7 @@
 use Rattle.std.specs.Prelude.{ℕ, List, Option, Result, Ok, Err}
 use Rattle.pif_job_random.specs.Lines.{WritesScript}
 use Rattle.pif_cli_messages.specs.declared.statuses.JobFault.{JobFault}
-use Rattle.pif_cli_messages.specs.declared.statuses.JobFault.TheVariants.{Cli, Threads, Unsettled, Undecided, PosixAllows, PosixUndefined, NotOnCore, NoCall, Mistake}
+use Rattle.pif_cli_messages.specs.declared.statuses.JobFault.TheVariants.{Cli, Threads, Unsettled, Undecided, PosixAllows, PosixUndefined, NotOnCore, NoCall, Mistake, Faulty, Parts}
 
 -- what `random` writes: a random script; nothing if it is out of memory; a proper part of a script if a write fails
 abbrev pub WritesRandom : ℕ → (held holds : Option (List ℕ)) → Result (Unit {0}) JobFault → Type 0
@@ -16,3 +16,5 @@ WritesRandom lines held holds (Err (NotOnCore mutex)) = ⊥
 WritesRandom lines held holds (Err (PosixUndefined line)) = ⊥
 WritesRandom lines held holds (Err NoCall) = ⊥
 WritesRandom lines held holds (Err (Mistake line)) = ⊥
+WritesRandom lines held holds (Err Faulty) = ⊥
+WritesRandom lines held holds (Err (Parts fault)) = ⊥

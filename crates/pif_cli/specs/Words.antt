@@ -16,6 +16,9 @@ use Rattle.pif_script_model.specs.Checks.{TellsTo, check_telling, fill_telling, 
 use Rattle.pif_story.specs.declared.missing.Note.{Note}
 use Rattle.pif_story.specs.Notes.{ShowsNoting, TellsNoting, notes_text}
 use Rattle.pif_job_draw.specs.Pictures.{DrawsTo, PicturesTo}
+use Rattle.pif_job_explore.specs.declared.exploring.Exploring.{Exploring as Explored}
+use Rattle.pif_job_explore.specs.declared.forms.Form.{Form as FoundForm}
+use Rattle.pif_job_explore.specs.declared.forms.Form.TheVariants as found
 use Rattle.pif_job_explore.specs.declared.faults.ExploreFault.{ExploreFault}
 use Rattle.pif_job_explore.specs.declared.faults.ExploreFault.TheVariants as explore_fault
 use Rattle.pif_job_explore.specs.Exploring.{ExploresTo}
@@ -30,12 +33,13 @@ use Rattle.pif_job_shell.specs.Talks.{TalksTo}
 use Rattle.pif_cli_words.specs.declared.jobs.Exploring.{Exploring}
 use Rattle.pif_cli_words.specs.declared.jobs.Judging.{Judging}
 use Rattle.pif_cli_words.specs.declared.jobs.Job.{Job}
-use Rattle.pif_cli_words.specs.declared.jobs.Job.TheVariants.{Run, Replay, Trace, Migrate, Show, Picture, Draw, Shell, Check, Strict, Fill, FillSeveral, Judge, Explore, Random, Drive}
+use Rattle.pif_cli_words.specs.declared.jobs.Job.TheVariants.{Run, Replay, Trace, Migrate, Show, Picture, Draw, Shell, Check, Strict, Fill, FillSeveral, Judge, Split, Joined, Explore, Random, Drive}
 use Rattle.pif_cli_words.specs.Words.{files_of, inputs_of, job_of, refusals_of, rewrites, standard_name}
 use Rattle.pif_cli_messages.specs.declared.statuses.JobFault.{JobFault}
-use Rattle.pif_cli_messages.specs.declared.statuses.JobFault.TheVariants.{Cli, NotOnCore, PosixAllows, PosixUndefined, Undecided, NoCall, Mistake}
+use Rattle.pif_cli_messages.specs.declared.statuses.JobFault.TheVariants.{Cli, NotOnCore, PosixAllows, PosixUndefined, Undecided, NoCall, Mistake, Faulty, Parts}
 use Rattle.pif_cli_messages.specs.Messages.{TellsLine, TellsOf}
 use Rattle.pif_cli.specs.Names.{noted_name, shown_name}
+use Rattle.pif_cli.specs.Parts.{JoinsBy, SplitsInto}
 use Rattle.pif_cli.specs.Random.{WritesRandom}
 use Rattle.pif_cli_messages.specs.Statuses.{job_status}
 use Rattle.pif_cli.specs.Driving.{Drives}
@@ -93,11 +97,28 @@ as_explored (Ok x) = Ok x
 as_explored (Err (explore_fault.Cli e)) = Err (Cli e)
 as_explored (Err explore_fault.Undecided) = Err (Undecided 1)
 as_explored (Err (explore_fault.NotOnCore mutex)) = Err (NotOnCore mutex)
+as_explored (Err explore_fault.Faulty) = Err Faulty
+
+-- the form in which is told what was found
+abbrev pub found_form : Exploring → FoundForm
+found_form asked =
+    if asked.html then found.Page
+    else (if asked.json then found.Json
+    else found.Lines (record { schedules = asked.witness; calls = asked.calls }))
+
+-- how a program is explored, by what the words ask for
+abbrev pub exploring_of : Exploring → Explored
+exploring_of asked = record {
+  form = found_form asked;
+  states = asked.states;
+  core = asked.core;
+  strict = asked.strict;
+}
 
 -- a program was explored
 abbrev pub ExploresAsked : Exploring → (before after held holds : Option (List ℕ)) → Result (Unit {0}) JobFault → Type 0
 ExploresAsked asked before after held holds result =
-    (done : Result (Unit {0}) ExploreFault) × ExploresTo asked.witness asked.core before after held holds done
+    (done : Result (Unit {0}) ExploreFault) × ExploresTo (exploring_of asked) before after held holds done
     × (result ≡ as_explored done)
 
 -- a job over an input that is told under this name, by the bytes that were read and written; `random` and `drive` read
@@ -118,6 +139,8 @@ Does Fill name before after held holds result = EndsAsCli (TellsTo (fill_telling
 Does FillSeveral name before after held holds result =
     EndsAsCli (TellsTo (titled_telling name) before after held holds) result
 Does (Judge asked) name before after held holds result = JudgesNamed asked name before after held holds result
+Does (Split least) name before after held holds result = SplitsInto before after held holds result
+Does Joined name before after held holds result = JoinsBy before after held holds result
 Does (Explore asked) name before after held holds result = ExploresAsked asked before after held holds result
 Does (Random recipe) name before after held holds result =
     Keeps before after × WritesRandom recipe.lines held holds result

@@ -69,7 +69,7 @@ fn do_one<P: Files + Runtime + Sync, S: Shelf, R: Read, W: Write, E: Write, V: W
 {
     match (name.is_standard(), asked.rewrites) {
         (true, true) => return refuse_input(host.errors),
-        (true, false) => return do_and_tell(asked.job, name, input, host),
+        (true, false) => return do_and_tell(asked.job, asked.aside, name, input, host),
         (false, true) => return rewrite_file(name, host),
         (false, false) => {}
     }
@@ -77,7 +77,7 @@ fn do_one<P: Files + Runtime + Sync, S: Shelf, R: Read, W: Write, E: Write, V: W
         return end_judged(asked.job, name, judged, host);
     }
     match fs::open(host.process, name.given()) {
-        Ok(file) => do_and_tell(asked.job, name, &mut Input::new(file), host),
+        Ok(file) => do_and_tell(asked.job, asked.aside, name, &mut Input::new(file), host),
         Err(error) => fail_to_open(name.given(), error.kind(), host.errors),
     }
 }

@@ -17,7 +17,7 @@ pub struct Host<'p, 's, 'o, 'e, 'v, P, S, W, E, V> {
     pub alloc: Global,
     /// What starts threads and, if words name files, opens them.
     pub process: &'p P,
-    /// Where a shell saves its stories.
+    /// Where a shell saves its stories, and where the files of parts are.
     pub shelf: &'s S,
     /// Whether a person sits at the input, for whom a shell writes a prompt.
     pub is_terminal: bool,

@@ -10,6 +10,7 @@ mod hosts;
 mod judging;
 mod making;
 mod names;
+mod parts;
 mod process;
 mod random;
 mod rewriting;

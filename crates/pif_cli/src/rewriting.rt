@@ -190,7 +190,7 @@ pub fn rewrite_file<P: Files + Runtime + Sync, S: Shelf, W: Write, E: Write, V: 
         }
         Ok(None) => {
             let mut input = Input::new(stored.0.as_slice());
-            do_and_tell(Job::Fill, name, &mut input, host)
+            do_and_tell(Job::Fill, "", name, &mut input, host)
         }
         Err(why) => tell_unwritten(given, why, host.errors),
     }

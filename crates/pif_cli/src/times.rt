@@ -1,4 +1,5 @@
 //! The time that a search may take.
+use pif_job_explore::WatchStates;
 use pif_job_judge::WatchLines;
 use std::time::{Clock, Instant};
 
@@ -45,6 +46,16 @@ impl<'c, 'v, C: Clock, V> Timed<'c, 'v, C, V> {
 impl<C: Clock, V: WatchLines> WatchLines for Timed<'_, '_, C, V> {
     fn line(&mut self, line: usize, states: usize) {
         self.watch.line(line, states);
+    }
+
+    fn goes_on(&mut self) -> bool {
+        self.watch.goes_on() && !self.is_over()
+    }
+}
+
+impl<C: Clock, V: WatchStates> WatchStates for Timed<'_, '_, C, V> {
+    fn found(&mut self, states: usize, steps: usize) {
+        self.watch.found(states, steps);
     }
 
     fn goes_on(&mut self) -> bool {

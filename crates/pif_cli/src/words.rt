@@ -6,13 +6,15 @@ ghost use Rattle.pif_cli_messages.specs.Messages.{TellsAt, TellsFault, TellsLine
 ghost use Rattle.pif_cli_messages.specs.Statuses.{fault_status, job_status};
 ghost use Rattle.pif_story.specs.Notes.{notes_text};
 ghost use Rattle.pif_cli.specs.Names.{noted_name, shown_name};
-ghost use Rattle.pif_cli.specs.Words.{Did, Does, EndsAsCli, HasNotes, as_job, EndsBy, HadNoMemory, RefusedFor, RefusesInput, Shows, ShowsHelp, ExploresAsked, as_explored};
+ghost use Rattle.pif_cli.specs.Words.{Did, Does, EndsAsCli, HasNotes, as_job, EndsBy, HadNoMemory, RefusedFor, RefusesInput, Shows, ShowsHelp, ExploresAsked, as_explored, exploring_of, found_form};
 
 use crate::drive::drive;
 use crate::hosts::{Host, Runtime};
 use crate::judging::judge_input;
 use crate::names::Name;
+use crate::parts::{join_input, split_input};
 use crate::random::write_random;
+use crate::times::Timed;
 use crate::told::Told;
 use clap::error::ErrorKind;
 use pif_cli_messages::{
@@ -22,7 +24,7 @@ use pif_cli_messages::{
 use pif_cli_words::{Job, first_name, near_command, read_words};
 use pif_job_check::{check_strictly, fill_as_one_of_several, fill_noting};
 use pif_job_draw::{Drawn, write_drawn, write_picture};
-use pif_job_explore::{ExploreFault, Exploring, WatchStates, explore_text};
+use pif_job_explore::{ExploreFault, Exploring, Form, Lines, WatchStates, explore_text};
 use pif_job_replay::{migrate_noting, replay_noting};
 use pif_job_run::trace_story;
 use pif_job_shell::{NoShelf, Shelf, shell};
@@ -32,6 +34,7 @@ use pif_story::{Note, write_notes};
 use std::alloc::{AllocError, Global};
 use std::convert::AsStr;
 use std::io::{Read, Write};
+use std::time::Clock;
 
 /// The fault of a job over a script or a trace.
 fn as_job(done: Result<(), CliFault>) -> Result<(), JobFault>
@@ -52,12 +55,42 @@ fn as_explored(done: Result<(), ExploreFault>) -> Result<(), JobFault>
         Err(ExploreFault::Cli(fault)) => Err(JobFault::Cli(fault)),
         Err(ExploreFault::Undecided) => Err(JobFault::Undecided(1)),
         Err(ExploreFault::NotOnCore(mutex)) => Err(JobFault::NotOnCore(mutex)),
+        Err(ExploreFault::Faulty) => Err(JobFault::Faulty),
     }
 }
 
-/// Explores a program.
-fn explore_input<R: Read, W: Write, V: WatchStates>(
+/// The form in which is told what was found.
+fn found_form(asked: pif_cli_words::Exploring) -> Form
+    ensures { result ≡ found_form asked }
+{
+    if asked.html {
+        Form::Page
+    } else if asked.json {
+        Form::Json
+    } else {
+        Form::Lines(Lines {
+            schedules: asked.witness,
+            calls: asked.calls,
+        })
+    }
+}
+
+/// How a program is explored.
+fn exploring_of(asked: pif_cli_words::Exploring) -> Exploring
+    ensures { result ≡ exploring_of asked }
+{
+    Exploring {
+        form: found_form(asked),
+        states: asked.states,
+        core: asked.core,
+        strict: asked.strict,
+    }
+}
+
+/// Explores a program, in the time that it may take by this clock.
+fn explore_input<C: Clock, R: Read, W: Write, V: WatchStates>(
     alloc: Global,
+    clock: &C,
     asked: pif_cli_words::Exploring,
     input: &mut R,
     output: &mut W,
@@ -65,12 +98,9 @@ fn explore_input<R: Read, W: Write, V: WatchStates>(
 ) -> Result<(), JobFault>
     ensures { ExploresAsked asked (R.remaining input.old) (R.remaining input.new) (W.contents output.old) (W.contents output.new) result }
 {
-    let exploring = Exploring {
-        witness: asked.witness,
-        states: asked.states,
-        core: asked.core,
-    };
-    as_explored(explore_text(alloc, &exploring, input, output, watch))
+    let exploring = exploring_of(asked);
+    let mut timed = Timed::new(clock, asked.seconds, watch);
+    as_explored(explore_text(alloc, &exploring, input, output, &mut timed))
 }
 
 /// Draws a story, and has `told` keep the line that ends it.
@@ -92,9 +122,11 @@ fn draw_input<R: Read, W: Write, V: WatchSteps>(
     as_job(write_drawn(drawn, told.alloc, input, output, &mut told.notice, watch))
 }
 
-/// Does a job over an input of this name. `told` keeps the line that ends it, and its notes.
+/// Does a job over an input of this name. `aside` names the folder into which parts are written, or their index; it has
+/// no byte for another job. `told` keeps the line that ends it, and its notes.
 fn do_job<P: Runtime + Sync, S: Shelf, R: Read, W: Write, E, V: WatchJob>(
     job: Job,
+    aside: &str,
     name: &Name<'_>,
     input: &mut R,
     host: &mut Host<P, S, W, E, V>,
@@ -129,7 +161,11 @@ fn do_job<P: Runtime + Sync, S: Shelf, R: Read, W: Write, E, V: WatchJob>(
         Job::Judge(asked) => {
             judge_input(alloc, host.process, asked, name, input, output, host.watch)
         },
-        Job::Explore(asked) => explore_input(alloc, asked, input, output, host.watch),
+        Job::Split(least) => { split_input(alloc, host.shelf, aside, least, input, output, notice) }
+        Job::Joined => join_input(alloc, host.shelf, aside, input, output, notice),
+        Job::Explore(asked) => {
+            explore_input(alloc, host.process, asked, input, output, host.watch)
+        },
         Job::Random(recipe) => write_random(alloc, recipe, output, host.watch),
         Job::Drive(clients) => drive(alloc, host.process, clients, output),
     }
@@ -142,7 +178,7 @@ fn kept_of(job: Job) -> Keeps {
         Job::Check | Job::Strict | Job::Fill | Job::FillSeveral => Keeps::All,
         Job::Picture(_) | Job::Draw(_) | Job::Show(_) | Job::Trace => Keeps::All,
         Job::Explore(_) => Keeps::All,
-        Job::Judge(_) => Keeps::LastLines,
+        Job::Judge(_) | Job::Split(_) => Keeps::LastLines,
         _ => Keeps::Nothing,
     }
 }
@@ -199,11 +235,13 @@ pub fn tell_end<P, S, W: Write, E: Write, V>(
     }
 }
 
-/// Does a job over an input of this name. Standard error gets the notes of the job, or is told of its fault. That the
-/// output cannot be written is told once, and not if nobody reads it any more. Answers the status, which is that of the
-/// job, also if standard error cannot be written.
+/// Does a job over an input of this name. `aside` names the folder into which parts are written, or their index; it has
+/// no byte for another job. Standard error gets the notes of the job, or is told of its fault. That the output cannot be
+/// written is told once, and not if nobody reads it any more. Answers the status, which is that of the job, also if
+/// standard error cannot be written.
 pub fn do_and_tell<P: Runtime + Sync, S: Shelf, R: Read, W: Write, E: Write, V: WatchJob>(
     job: Job,
+    aside: &str,
     name: &Name<'_>,
     input: &mut Input<R>,
     host: &mut Host<P, S, W, E, V>,
@@ -215,7 +253,7 @@ pub fn do_and_tell<P: Runtime + Sync, S: Shelf, R: Read, W: Write, E: Write, V: 
 {
     let mut told = Told::new(host.alloc);
     input.begin(host.alloc, kept_of(job));
-    let done = do_job(job, name, &mut *input, host, &mut told);
+    let done = do_job(job, aside, name, &mut *input, host, &mut told);
     let given = Given {
         job,
         name: name.given(),
@@ -321,6 +359,7 @@ pub fn refuse<W: Write, E: Write>(
 ///   each refusal. With `--print` it writes the story with its answers, as `fill` does. `--write` is refused, since
 ///   `input` is no file.
 /// - `judge` reads a history, and writes whether it is legal, as `judge` does in the form that its flags name.
+/// - `judge --split` and `judge --joined` have no files here: the first writes none, and the second reads no index.
 /// - `explore` reads a small program that locks, and writes all its outcomes, as `explore_text` does.
 /// - `shell` reads the lines of a person, and answers each, as `shell` does without a prompt. It saves and loads no
 ///   story.
@@ -381,7 +420,7 @@ pub fn command<T: Runtime + Sync, S: AsStr, R: Read, W: Write, E: Write>(
                 watch: &mut Unwatched,
                 told_of_output: false,
             };
-            do_and_tell(asked.job, &name, input, &mut host)
+            do_and_tell(asked.job, asked.aside, &name, input, &mut host)
         }
         Err(error) => refuse(alloc, error, near_command(words), output, errors),
     }

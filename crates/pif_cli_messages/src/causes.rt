@@ -1,4 +1,5 @@
 use crate::messages::Message;
+use crate::parts::{joined_message, parts_message};
 use crate::places::Place;
 use crate::statuses::JobFault;
 use crate::streams::Kept;
@@ -58,7 +59,13 @@ impl<'n, 's> Given<'n, 's> {
     ///
     /// There is no error, and nothing is written. What has no room in a message is left out.
     pub fn message(&self, fault: JobFault, notice: &Notice) -> Message {
+        if let Job::Joined = self.job {
+            if let Some(message) = joined_message(fault) {
+                return message;
+            }
+        }
         match fault {
+            JobFault::Parts(fault) => parts_message(self.name, fault, notice),
             JobFault::Cli(CliFault::Read) => unread_message(self.name, self.why),
             JobFault::Cli(CliFault::Script(number, cause)) => {
                 self.fault_message(number, cause, notice)
@@ -89,6 +96,12 @@ impl<'n, 's> Given<'n, 's> {
                 )
             }
             JobFault::NotOnCore(mutex) => off_core_message(self.name, mutex),
+            JobFault::Faulty => {
+                line_message(
+                    &self.place(1),
+                    "a fault of the program is reported, and --strict wants none",
+                )
+            }
             JobFault::NoCall => {
                 line_message(&self.place(1), "no call begins, so that nothing was judged")
             }
@@ -98,7 +111,7 @@ impl<'n, 's> Given<'n, 's> {
     /// The text of a story, if it was kept.
     fn story(&self) -> Option<&'s [u8]> {
         match (self.job, self.kept) {
-            (Job::Judge(_) | Job::Explore(_), _) => None,
+            (Job::Judge(_) | Job::Split(_) | Job::Explore(_), _) => None,
             (_, Some(kept)) => Some(kept.text),
             (_, None) => None,
         }
@@ -124,7 +137,7 @@ impl<'n, 's> Given<'n, 's> {
         let mut message = Message::empty();
         let place = self.place_of_fault(number, cause);
         match (self.job, cause) {
-            (Job::Judge(_) | Job::Explore(_), _) => {
+            (Job::Judge(_) | Job::Split(_) | Job::Explore(_), _) => {
                 self.say_text_fault(&place, number, cause, &mut message)
             }
             (Job::Replay | Job::Migrate, Cause::Command) => {
@@ -261,7 +274,7 @@ fn story_difference(notice: &Notice) -> &'static str {
 }
 
 /// What is told by these words alone.
-fn words_message(words: &str) -> Message {
+pub(crate) fn words_message(words: &str) -> Message {
     let mut message = Message::new();
     message.say(words);
     message
@@ -280,7 +293,7 @@ fn off_core_message(name: &str, mutex: u32) -> Message {
 }
 
 /// What is told of a line by its place and these words.
-fn line_message(place: &Place<'_, '_>, words: &str) -> Message {
+pub(crate) fn line_message(place: &Place<'_, '_>, words: &str) -> Message {
     let mut message = Message::empty();
     say_line(place, 1, words, b"", &mut message);
     message
@@ -333,6 +346,9 @@ fn column_of(most: usize, cause: Cause, line: &[u8]) -> usize {
 /// What is said if not all was decided.
 fn undecided_words(job: Job) -> &'static str {
     match job {
+        Job::Explore(asked) if asked.seconds.is_some() => {
+            "there are more states than may be kept or made at once, or the time was over"
+        }
         Job::Explore(_) => "there are more states than may be kept or made at once",
         Job::Judge(asked) if asked.seconds.is_some() => {
             "too many states were made to decide it, or the time was over"

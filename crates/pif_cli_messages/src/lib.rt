@@ -6,6 +6,7 @@
 //! | `messages` | a line for the standard error |
 //! | `places` | where in an input a fault stands |
 //! | `causes` | what a person is told of a fault |
+//! | `parts` | what a person is told of a history in parts |
 //! | `replaced` | which answers of a story were replaced |
 //! | `statuses` | faults of jobs, and their statuses |
 //! | `streams` | what jobs read and write, and why that has failed |
@@ -14,6 +15,7 @@
 
 mod causes;
 mod messages;
+mod parts;
 mod places;
 mod progress;
 mod replaced;
@@ -22,6 +24,7 @@ mod streams;
 
 pub use causes::{Given, Unwritten, plain_message, unread_message, unwritten_message};
 pub use messages::{Message, are_printable};
+pub use parts::InParts;
 pub use progress::{Progress, Unwatched, WatchFiles, WatchJob};
 pub use replaced::Replaced;
 pub use statuses::{JobFault, fault_status, is_output, job_fault_status};

@@ -31,6 +31,10 @@ impl WatchLines for Unwatched {
 
 impl WatchStates for Unwatched {
     fn found(&mut self, _states: usize, _steps: usize) {}
+
+    fn goes_on(&mut self) -> bool {
+        true
+    }
 }
 
 impl WatchSteps for Unwatched {
@@ -112,6 +116,10 @@ impl<C: Clock, E: Write> WatchLines for Progress<'_, '_, C, E> {
 impl<C: Clock, E: Write> WatchStates for Progress<'_, '_, C, E> {
     fn found(&mut self, states: usize, steps: usize) {
         self.tell(format_args!("{states} states, {steps} steps"));
+    }
+
+    fn goes_on(&mut self) -> bool {
+        true
     }
 }
 

@@ -1,6 +1,7 @@
 ghost use Rattle.std.specs.Prelude.{◌≡◌};
-ghost use Rattle.pif_cli_messages.specs.Statuses.{fault_status, is_output, job_fault_status};
+ghost use Rattle.pif_cli_messages.specs.Statuses.{fault_status, is_output, job_fault_status, parts_status};
 
+use crate::parts::InParts;
 use pif_script::CliFault;
 
 /// Why a job was not done.
@@ -26,12 +27,16 @@ pub enum JobFault {
     NoCall,
     /// The line of this number, from 1, of a history is a mistake of the log.
     Mistake(u64),
+    /// A fault of a program is reported, and none was to be.
+    Faulty,
+    /// A history is not written in parts, or the verdicts on its parts are not joined.
+    Parts(InParts),
 }
 
-/// The status of the program after this fault of a job: 6 if a thread could not be started, or the desk didn't settle, 7
-/// if a history was not decided or begins no call, or not all states of a program were found, 8 if POSIX allows what the
-/// machine doesn't, 9 if it may leave it undefined, and 10 for a mistake of a log. It is 2 for a program that the core can't
-/// play.
+/// The status of the program after this fault of a job: 5 if a fault of a program is reported and none was to be, 6 if a
+/// thread could not be started, or the desk didn't settle, 7 if a history was not decided or begins no call, or not all
+/// states of a program were found, 8 if POSIX allows what the machine doesn't, 9 if it may leave it undefined, and 10 for
+/// a mistake of a log. It is 2 for a program that the core can't play.
 pub fn job_fault_status(fault: JobFault) -> u8
     ensures { result ≡ job_fault_status fault }
 {
@@ -43,6 +48,18 @@ pub fn job_fault_status(fault: JobFault) -> u8
         JobFault::PosixUndefined(_) => 9,
         JobFault::Mistake(_) => 10,
         JobFault::NotOnCore(_) => 2,
+        JobFault::Faulty => 5,
+        JobFault::Parts(fault) => parts_status(fault),
+    }
+}
+
+/// The status of the program after this fault of parts: 3 if a file of theirs can't be read or written, and else 2.
+fn parts_status(fault: InParts) -> u8
+    ensures { result ≡ parts_status fault }
+{
+    match fault {
+        InParts::File => 3,
+        _ => 2,
     }
 }
 

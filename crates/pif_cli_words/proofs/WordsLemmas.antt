@@ -15,7 +15,7 @@ use Rattle.clap.proofs.WalkLemmas.{raw_values-rows}
 use Rattle.pif_cli_words.specs.declared.clashes.Clash.{Clash}
 use Rattle.pif_cli_words.specs.declared.jobs.Job.{Job}
 use Rattle.pif_cli_words.specs.Defaults.{completed}
-use Rattle.pif_cli_words.specs.Words.{clash_by, clash_kinds, command_of, files_by, files_in, files_of, job_by, job_named, job_of, program, refusals_of, rewrites, rewrites_by}
+use Rattle.pif_cli_words.specs.Words.{aside_by, aside_in, aside_of, clash_by, clash_kinds, command_of, files_by, files_in, files_of, job_by, job_named, job_of, program, refusals_of, rewrites, rewrites_by}
 
 -- a list that was empty, and got the words as they are completed
 pub room-filled : {A : Type 0} (now : A → Text) (before after lent : List A) (given : List (List ℕ)) → before ≡ []
@@ -62,6 +62,10 @@ module _ (pif : App) (words given : List (List ℕ)) (m : ArgMatches) (name : Te
   -- and its files
   pub files_read : (files : List Text) → files ≡ files_in (rows_of found) → files ≡ files_of given
   files_read files f = f ∙ sym (ap files_by there)
+
+  -- and the folder or the index that is given to it
+  pub aside_read : (aside : Text) → aside ≡ aside_in (rows_of found) → aside ≡ aside_of given
+  aside_read aside f = f ∙ sym (ap aside_by there)
 
   -- and whether its files are to be written
   pub rewrites_read : (rewrite : Bool) → rewrite ≡ rewrites_by (Some (name, rows_of found)) → rewrite ≡ rewrites given

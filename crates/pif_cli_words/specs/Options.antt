@@ -1,5 +1,5 @@
 -- Arguments of the program's commands: flags, numbers, rules and files.
-use Rattle.std.specs.Prelude.{ℕ, ◌==◌, Bool, true, false, List, [], ◌∷◌, Option, Some, None, codes, bytes_eq, if◌then◌else◌}
+use Rattle.std.specs.Prelude.{ℕ, ◌==◌, Bool, true, false, is_some, List, [], ◌∷◌, Option, Some, None, codes, bytes_eq, if◌then◌else◌}
 use Rattle.std.specs.Str.Parse.{digits_value, without_leading_plus}
 use Rattle.clap.specs.Lexer.{usize_max}
 use Rattle.clap.specs.ValueTests.{is_unsigned_in}
@@ -9,7 +9,7 @@ use Rattle.clap.specs.declared.builder.value_parser.ValueParser.TheVariants.{Uns
 use Rattle.pif_cli_words.specs.declared.options.Absent.{Absent}
 use Rattle.pif_cli_words.specs.declared.options.Absent.TheVariants.{Empty, Refused, Is}
 use Rattle.pif_cli_words.specs.declared.options.Form.{Form}
-use Rattle.pif_cli_words.specs.declared.options.Form.TheVariants.{Flag, Number, Rules, File, Files, Placed}
+use Rattle.pif_cli_words.specs.declared.options.Form.TheVariants.{Flag, Number, Rules, Name, File, Files, Placed}
 
 -- an option that is given or not
 abbrev pub flag_rule : Text → Rule
@@ -28,6 +28,10 @@ needed_rule name low high = record (number_rule name low high) { required = true
 abbrev pub chosen_rule : Text → (low high : ℕ) → (default : Text) → Rule
 chosen_rule name low high default = record (number_rule name low high) { defaults = default ∷ [] }
 
+-- an option with a name
+abbrev pub name_rule : Text → Rule
+name_rule name = record (new_rule name) { long = Some name; value_names = 1 }
+
 -- an option with a number, by what it has if none is given
 abbrev pub absent_rule : Absent → Rule → Rule
 absent_rule Empty rule = rule
@@ -39,6 +43,7 @@ abbrev pub form_rule : Text → Form → Rule
 form_rule name Flag = flag_rule name
 form_rule name (Number called low high absent) = absent_rule absent (number_rule name low high)
 form_rule name Rules = record (new_rule name) { long = Some name; value_names = 1; action = Some Append }
+form_rule name (Name called) = name_rule name
 form_rule name File = new_rule name
 form_rule name Files =
     record (new_rule name) { range = Some (record { start_inclusive = 0; end_inclusive = usize_max }) }
@@ -58,6 +63,10 @@ unless_zero n = if n == 0 then None else Some n
 abbrev pub is_yes : Option Text → Bool
 is_yes (Some text) = bytes_eq text (codes "true")
 is_yes None = false
+
+-- whether the option of this name has a value
+abbrev pub is_named : Text → List Row → Bool
+is_named name rows = is_some (first_of name rows)
 
 -- whether the flag of this name was given
 abbrev pub flag_in : Text → List Row → Bool

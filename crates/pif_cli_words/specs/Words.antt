@@ -8,14 +8,14 @@ use Rattle.clap.specs.declared.error.kind.ErrorKind.TheVariants.{ArgumentConflic
 use Rattle.pif_script_model.specs.declared.details.Detail.TheVariants.{Changes, All}
 use Rattle.pif_script_model.specs.declared.pictures.Picture.TheVariants.{States, Graph}
 use Rattle.pif_cli_words.specs.declared.clashes.Clash.{Clash}
-use Rattle.pif_cli_words.specs.declared.clashes.Clash.TheVariants.{Least, Forms, Json, Files, Rules, Checks, Range}
+use Rattle.pif_cli_words.specs.declared.clashes.Clash.TheVariants.{Least, Forms, Json, Files, Parts, PartsOfOne, Rules, Checks, Range, Page, Objects}
 use Rattle.pif_cli_words.specs.declared.jobs.Drawn.{Drawn}
 use Rattle.pif_cli_words.specs.declared.jobs.Exploring.{Exploring}
 use Rattle.pif_cli_words.specs.declared.jobs.Judging.{Judging}
 use Rattle.pif_cli_words.specs.declared.jobs.Job.{Job}
-use Rattle.pif_cli_words.specs.declared.jobs.Job.TheVariants.{Run, Replay, Trace, Migrate, Show, Picture, Draw, Shell, Check, Strict, Fill, FillSeveral, Judge, Explore, Random, Drive}
+use Rattle.pif_cli_words.specs.declared.jobs.Job.TheVariants.{Run, Replay, Trace, Migrate, Show, Picture, Draw, Shell, Check, Strict, Fill, FillSeveral, Judge, Split, Joined, Explore, Random, Drive}
 use Rattle.pif_cli_words.specs.Defaults.{completed}
-use Rattle.pif_cli_words.specs.Options.{chosen_rule, flag_in, flag_rule, number_between, number_rule, unless_zero}
+use Rattle.pif_cli_words.specs.Options.{chosen_rule, flag_in, flag_rule, is_named, name_rule, number_between, number_rule, unless_zero}
 use Rattle.pif_cli_words.specs.Random.{random_app, recipe_in}
 use Rattle.pif_cli_words.specs.Rules.{allow_rule, allowed_in, are_rules}
 
@@ -73,15 +73,26 @@ judged_app =
     with_rule (with_rule (with_rule flagged_app (chosen_rule (codes "states") 1 16777216 (codes "200000")))
     (number_rule (codes "seconds") 0 86400)) (number_rule (codes "jobs") 1 64)
 
-abbrev pub judge_app : App
-judge_app = with_rule (with_rule judged_app allow_rule) files_rule
+-- and for its parts: the folder into which they are written, how many lines each has at least, and their index
+abbrev pub parted_app : App
+parted_app =
+    with_rule (with_rule (with_rule (with_rule judged_app allow_rule) (name_rule (codes "split")))
+    (chosen_rule (codes "lines") 1 4294967295 (codes "10000"))) (name_rule (codes "joined"))
 
--- the command `explore`, with its flag for schedules, and its options for how many states may be kept and how many
--- schedules are played on cores
+abbrev pub judge_app : App
+judge_app = with_rule parted_app files_rule
+
+-- the command `explore`, with its flags for schedules, for calls, for programs, for a page, and for faults; its options
+-- for how many states may be kept, for how many seconds the search goes on, and for how many schedules are played on cores
+abbrev pub telling_app : App
+telling_app =
+    with_rule (with_rule (with_rule (with_rule (with_rule (new_app (codes "explore")) (flag_rule (codes "witness")))
+    (flag_rule (codes "calls"))) (flag_rule (codes "json"))) (flag_rule (codes "html"))) (flag_rule (codes "strict"))
+
 abbrev pub explored_app : App
 explored_app =
-    with_rule (with_rule (with_rule (new_app (codes "explore")) (flag_rule (codes "witness")))
-    (chosen_rule (codes "states") 1 16777216 (codes "1000000"))) (number_rule (codes "core") 1 1000000)
+    with_rule (with_rule (with_rule telling_app (chosen_rule (codes "states") 1 16777216 (codes "1000000")))
+    (number_rule (codes "seconds") 0 86400)) (number_rule (codes "core") 1 1000000)
 
 abbrev pub explore_app : App
 explore_app = with_rule explored_app file_rule
@@ -160,6 +171,12 @@ judging_in rows = record {
   allowed = allowed_in rows;
 }
 
+-- what is done with histories: they are judged; or one is written in parts, or their verdicts are joined
+abbrev pub histories_in : List Row → Job
+histories_in rows =
+    if is_named (codes "split") rows then Split (number_between 1 4294967295 (first_of (codes "lines") rows))
+    else (if is_named (codes "joined") rows then Joined else Judge (judging_in rows))
+
 -- how lines of JSON clash: they have a run already
 abbrev pub json_clash : List Row → Option Clash
 json_clash rows = if flag_in (codes "json") rows && flag_in (codes "witness") rows then Some Json else None
@@ -176,11 +193,39 @@ form_clash rows =
 abbrev pub has_form : List Row → Bool
 has_form rows = flag_in (codes "json") rows || (flag_in (codes "html") rows || flag_in (codes "witness") rows)
 
+-- whether parts are written, or their verdicts joined
+abbrev pub has_parts : List Row → Bool
+has_parts rows = is_named (codes "split") rows || is_named (codes "joined") rows
+
+-- whether what is asked for besides can't be had of parts: both at once, another form, a search or rules
+abbrev pub has_more : List Row → Bool
+has_more rows =
+    (is_named (codes "split") rows && is_named (codes "joined") rows)
+    || (has_form rows || (flag_in (codes "least") rows || (flag_in (codes "plain") rows
+    || (is_named (codes "seconds") rows || (is_named (codes "jobs") rows || is_named (codes "allow") rows)))))
+
+-- how parts clash: nothing else is asked for, and they are those of one history
+abbrev pub parts_clash : List Row → Option Clash
+parts_clash rows = if has_more rows then Some Parts else (if has_several rows then Some PartsOfOne else None)
+
 -- how `judge` clashes: what is allowed has to be rules, and the rules that a history needs are told in lines
 abbrev pub judging_clash : List Row → Option Clash
 judging_clash rows =
-    if are_rules rows then (if flag_in (codes "least") rows
+    if has_parts rows then parts_clash rows else if are_rules rows then (if flag_in (codes "least") rows
     then (if has_form rows then Some Least else None) else form_clash rows) else Some Rules
+
+-- whether something is given to `explore` that lines alone have
+abbrev pub has_lines : List Row → Bool
+has_lines rows =
+    flag_in (codes "witness") rows
+    || (flag_in (codes "calls") rows || nat_lt 0 (number_between 1 1000000 (first_of (codes "core") rows)))
+
+-- how `explore` clashes: lines of JSON and a page have all schedules and calls, and nothing of cores
+abbrev pub exploring_clash : List Row → Option Clash
+exploring_clash rows =
+    if flag_in (codes "html") rows
+    then (if flag_in (codes "json") rows || has_lines rows then Some Page else None)
+    else (if flag_in (codes "json") rows && has_lines rows then Some Objects else None)
 
 -- how `check` clashes: stories are checked strictly, printed or written, and two of these are not done at once
 abbrev pub checking_clash : List Row → Option Clash
@@ -208,16 +253,21 @@ clash_kinds (Some Least) = ArgumentConflict ∷ []
 clash_kinds (Some Forms) = ArgumentConflict ∷ []
 clash_kinds (Some Json) = ArgumentConflict ∷ []
 clash_kinds (Some Files) = TooManyValues ∷ []
+clash_kinds (Some Parts) = ArgumentConflict ∷ []
+clash_kinds (Some PartsOfOne) = TooManyValues ∷ []
 clash_kinds (Some Rules) = InvalidValue ∷ []
 clash_kinds (Some Checks) = ArgumentConflict ∷ []
 clash_kinds (Some Range) = InvalidValue ∷ []
+clash_kinds (Some Page) = ArgumentConflict ∷ []
+clash_kinds (Some Objects) = ArgumentConflict ∷ []
 
 -- how words of a command clash, by its name and what was given to it
 abbrev pub clash_by : Option (Text × List Row) → Option Clash
 clash_by (Some command) =
     if bytes_eq command.0 (codes "judge") then judging_clash command.1
     else (if bytes_eq command.0 (codes "check") then checking_clash command.1
-    else (if bytes_eq command.0 (codes "draw") then drawing_clash command.1 else None))
+    else (if bytes_eq command.0 (codes "explore") then exploring_clash command.1
+    else (if bytes_eq command.0 (codes "draw") then drawing_clash command.1 else None)))
 clash_by None = None
 
 -- the command that the words name, and what was given to it
@@ -232,7 +282,12 @@ refusals_of words = or_else (fault_of program (completed words)) (clash_kinds (c
 abbrev pub exploring_in : List Row → Exploring
 exploring_in rows = record {
   witness = flag_in (codes "witness") rows;
+  calls = flag_in (codes "calls") rows;
+  json = flag_in (codes "json") rows;
+  html = flag_in (codes "html") rows;
+  strict = flag_in (codes "strict") rows;
   states = number_between 1 16777216 (first_of (codes "states") rows);
+  seconds = unless_zero (number_between 0 86400 (first_of (codes "seconds") rows));
   core = unless_zero (number_between 1 1000000 (first_of (codes "core") rows));
 }
 
@@ -257,7 +312,7 @@ job_named name rows =
     else (if bytes_eq name (codes "draw") then Draw (drawn_in rows)
     else (if bytes_eq name (codes "shell") then Shell
     else (if bytes_eq name (codes "check") then checking_in rows
-    else (if bytes_eq name (codes "judge") then Judge (judging_in rows)
+    else (if bytes_eq name (codes "judge") then histories_in rows
     else (if bytes_eq name (codes "explore") then Explore (exploring_in rows)
     else (if bytes_eq name (codes "random") then Random (recipe_in rows)
     else (if bytes_eq name (codes "drive") then Drive (number_between 1 64 (first_of (codes "N") rows)) else Run))))))))))
@@ -291,6 +346,18 @@ rewrites_by None = false
 -- whether the words ask for that
 abbrev pub rewrites : List (List ℕ) → Bool
 rewrites words = rewrites_by (command_of words)
+
+-- the folder or the index that is given to a command, if one is
+abbrev pub aside_in : List Row → Text
+aside_in rows = unwrap_or (first_of (codes "split") rows) (unwrap_or (first_of (codes "joined") rows) [])
+
+abbrev pub aside_by : Option (Text × List Row) → Text
+aside_by (Some command) = aside_in command.1
+aside_by None = []
+
+-- the folder of `judge --split`, or the index of `judge --joined`
+abbrev pub aside_of : List (List ℕ) → Text
+aside_of words = aside_by (command_of words)
 
 -- the name of the standard input
 abbrev pub standard_name : Text

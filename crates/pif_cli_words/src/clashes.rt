@@ -1,10 +1,10 @@
 //! Words that `clap` takes one by one, and that ask for what cannot be had together.
 ghost use Rattle.std.specs.Prelude.{◌≡◌, ◌∷◌, [], Some};
 ghost use Rattle.clap.specs.Words.{HasKind, found_of, rows_of};
-ghost use Rattle.pif_cli_words.specs.Words.{checking_clash, clash_by, clash_kinds, drawing_clash, form_clash, has_form, judging_clash};
+ghost use Rattle.pif_cli_words.specs.Words.{checking_clash, clash_by, clash_kinds, drawing_clash, form_clash, has_form, has_more, has_parts, judging_clash, parts_clash, exploring_clash, has_lines};
 
 use crate::commands::program;
-use crate::options::{has_several, is_given, small_number_between};
+use crate::options::{has_several, is_given, is_named, small_number_between};
 use crate::rules::are_rules;
 use clap::error::ErrorKind;
 use std::alloc::Global;
@@ -20,12 +20,20 @@ pub enum Clash {
     Json,
     /// A page is asked for, of several files.
     Files,
+    /// Parts are to be written or joined, and more is asked for.
+    Parts,
+    /// Parts of several files are asked for.
+    PartsOfOne,
     /// What is to be allowed is no rule.
     Rules,
     /// Stories are to be checked, printed and written, two of these at once.
     Checks,
     /// The last line that is to be drawn stands before the first.
     Range,
+    /// A page of an exploration is asked for, and another form, too, or what lines alone have.
+    Page,
+    /// Lines of JSON of an exploration are asked for, and what other lines alone have.
+    Objects,
 }
 
 impl Clash {
@@ -34,10 +42,11 @@ impl Clash {
         ensures { clash_kinds (Some self) ≡ result ∷ [] }
     {
         match self {
-            Clash::Least | Clash::Forms | Clash::Json | Clash::Checks => {
+            Clash::Least | Clash::Forms | Clash::Json | Clash::Parts | Clash::Checks => {
                 ErrorKind::ArgumentConflict
             }
-            Clash::Files => ErrorKind::TooManyValues,
+            Clash::Page | Clash::Objects => ErrorKind::ArgumentConflict,
+            Clash::Files | Clash::PartsOfOne => ErrorKind::TooManyValues,
             Clash::Rules | Clash::Range => ErrorKind::InvalidValue,
         }
     }
@@ -49,8 +58,19 @@ impl Clash {
             Clash::Forms => "'judge --html' takes neither '--json' nor '--witness'",
             Clash::Json => "'judge --json' takes no '--witness': it has a run already",
             Clash::Files => "'judge --html' makes a page of one file",
+            Clash::Parts => {
+                "'judge --split' and 'judge --joined' go neither together nor with '--witness', \
+                '--json', '--html', '--least', '--plain', '--seconds', '--jobs' and '--allow'"
+            }
+            Clash::PartsOfOne => {
+                "'judge --split' takes one history, and 'judge --joined' one file with all verdicts"
+            }
             Clash::Checks => "'check' takes one of '--strict', '--print' and '--write'",
             Clash::Range => "'draw --from' names a line after that of '--to'",
+            Clash::Page => {
+                "'explore --html' takes none of '--json', '--witness', '--calls' and '--core'"
+            }
+            Clash::Objects => "'explore --json' takes none of '--witness', '--calls' and '--core'",
             Clash::Rules => {
                 "'judge --allow' takes a rule: steal, any_waiter, spurious, recursion=N (256 to \
                 4294967295) or recursion=A..B, own_errorcheck, any_consistent, held_wait, lost_signal, \
@@ -103,16 +123,78 @@ fn has_form(given: &clap::ArgMatches) -> bool
     is_given(given, "json") || is_given(given, "html") || is_given(given, "witness")
 }
 
+/// Whether parts are to be written, or their verdicts joined.
+fn has_parts(given: &clap::ArgMatches) -> bool
+    ensures { result ≡ has_parts (rows_of (found_of given.now)) }
+{
+    is_named(given, "split") || is_named(given, "joined")
+}
+
+/// Whether more is given to `judge` than can be had of parts.
+fn has_more(given: &clap::ArgMatches) -> bool
+    ensures { result ≡ has_more (rows_of (found_of given.now)) }
+{
+    (is_named(given, "split") && is_named(given, "joined"))
+        || has_form(given)
+        || is_given(given, "least")
+        || is_given(given, "plain")
+        || is_named(given, "seconds")
+        || is_named(given, "jobs")
+        || is_named(given, "allow")
+}
+
+/// How parts clash with what was given to `judge`.
+fn parts_clash(given: &clap::ArgMatches) -> Option<Clash>
+    ensures { result ≡ parts_clash (rows_of (found_of given.now)) }
+{
+    if has_more(given) {
+        Some(Clash::Parts)
+    } else if has_several(given) {
+        Some(Clash::PartsOfOne)
+    } else {
+        None
+    }
+}
+
 /// How `judge` clashes with what was given to it.
 fn judging_clash(given: &clap::ArgMatches) -> Option<Clash>
     ensures { result ≡ judging_clash (rows_of (found_of given.now)) }
 {
-    if !are_rules(given) {
+    if has_parts(given) {
+        parts_clash(given)
+    } else if !are_rules(given) {
         Some(Clash::Rules)
     } else if !is_given(given, "least") {
         form_clash(given)
     } else if has_form(given) {
         Some(Clash::Least)
+    } else {
+        None
+    }
+}
+
+/// Whether something is given to `explore` that lines alone have.
+fn has_lines(given: &clap::ArgMatches) -> bool
+    ensures { result ≡ has_lines (rows_of (found_of given.now)) }
+{
+    is_given(given, "witness")
+        || is_given(given, "calls")
+        || small_number_between(given, "core", 1, 1_000_000) > 0
+}
+
+/// How `explore` clashes with what was given to it.
+fn exploring_clash(given: &clap::ArgMatches) -> Option<Clash>
+    ensures { result ≡ exploring_clash (rows_of (found_of given.now)) }
+{
+    let (json, has_lines) = (is_given(given, "json"), has_lines(given));
+    if is_given(given, "html") {
+        if json || has_lines {
+            Some(Clash::Page)
+        } else {
+            None
+        }
+    } else if json && has_lines {
+        Some(Clash::Objects)
     } else {
         None
     }
@@ -151,6 +233,8 @@ pub fn clash_in(name: &str, given: &clap::ArgMatches) -> Option<Clash>
         judging_clash(given)
     } else if name == "check" {
         checking_clash(given)
+    } else if name == "explore" {
+        exploring_clash(given)
     } else if name == "draw" {
         drawing_clash(given)
     } else {

@@ -65,19 +65,28 @@ pub const ABOUT_RUN_HTML: &str = "Writes a page with the verdict and a run; of o
 pub const ABOUT_LEAST: &str = "Says which of the rules of --allow a history needs";
 
 /// What the flag of `judge` against the second line does.
-pub const ABOUT_PLAIN: &str = "Doesn't say what POSIX says of a history that isn't legal";
+pub const ABOUT_PLAIN: &str = "Doesn't say what POSIX says if a history isn't legal";
 
 /// What the option of `judge` for states does.
 pub const ABOUT_STATES: &str = "Most states for a line, 1 to 16777216";
 
 /// What the option of `judge` for a time does.
-pub const ABOUT_SECONDS: &str = "Searches no line after N seconds, 0 to 86400; 0: no limit";
+pub const ABOUT_SECONDS: &str = "Searches no line after N seconds, to 86400; 0: no limit";
 
 /// What the option of `judge` for several histories does.
 pub const ABOUT_JOBS: &str = "Most histories judged side by side, 1 to 64";
 
 /// What the option of `judge` for rules does.
-pub const ABOUT_ALLOW: &str = "Allows a rule, as 'steal', 'recursion=300', 'posix', 'all'";
+pub const ABOUT_ALLOW: &str = "Allows a rule: 'steal', 'recursion=300', 'posix', 'all'";
+
+/// What the option of `judge` for parts does.
+pub const ABOUT_SPLIT: &str = "Writes the parts of the history, and an index, into DIR";
+
+/// What the option of `judge` for the lines of a part does.
+pub const ABOUT_PART_LINES: &str = "Least lines of a part, 1 to 4294967295";
+
+/// What the option of `judge` for the verdicts on parts does.
+pub const ABOUT_JOINED: &str = "Joins the verdicts on the parts of INDEX into one";
 
 /// What the files of `judge` are.
 pub const ABOUT_HISTORIES: &str = "The histories to read; '-' or none is the standard input";
@@ -88,8 +97,23 @@ pub const ABOUT_EXPLORE: &str = "Reads a small program that locks, and tells all
 /// What the flag of `explore` does.
 pub const ABOUT_SCHEDULES: &str = "Writes a schedule of each outcome, too";
 
+/// What the flag of `explore` for calls does.
+pub const ABOUT_CALLS: &str = "Names the call before each answer of an outcome";
+
+/// What the flag of `explore` for programs does.
+pub const ABOUT_FOUND_JSON: &str = "Writes lines of JSON, with a schedule of each outcome";
+
+/// What the flag of `explore` for a page does.
+pub const ABOUT_FOUND_HTML: &str = "Writes a page with all that is found, and its schedules";
+
+/// What the flag of `explore` for faults does.
+pub const ABOUT_FAULTS: &str = "Ends with status 5 if a fault is reported, too";
+
+/// What the option of `explore` for a time does.
+pub const ABOUT_SEARCHED: &str = "Searches for at most N seconds, 0 to 86400; 0: no limit";
+
 /// What the option of `explore` for cores does.
-pub const ABOUT_CORE: &str = "Plays N schedules on the core, 1 to 1000000; 10000 without N";
+pub const ABOUT_CORE: &str = "Plays N schedules on the core, 1 to 1000000; else 10000";
 
 /// What the option of `explore` for states does.
 pub const ABOUT_KEPT: &str = "Most states that are kept, 1 to 16777216";
@@ -117,7 +141,8 @@ pub const USAGE_JUDGE: &str =
     "pif judge [--witness | --json | --html | --least] [OPTIONS] [FILE]...";
 
 /// How `explore` is called.
-pub const USAGE_EXPLORE: &str = "pif explore [--witness] [--states N] [--core [N]] [FILE]";
+pub const USAGE_EXPLORE: &str =
+    "pif explore [--witness] [--calls] [--json | --html] [OPTIONS] [FILE]";
 
 /// How `run` is called.
 pub const USAGE_RUN: &str = "pif run [FILE]";
@@ -434,6 +459,15 @@ given up for some rules, it prints 'undecided at L with' and these rules.
 Several files are judged side by side, by as many threads as there are
 processors, or as --jobs says. What is printed is the same, in their order.
 
+With --split DIR a long history is written into the folder DIR in parts, which
+are histories of their own, with the file 'index'; the names of the parts are
+printed. It is cut where no call is open, nobody holds a mutex and no thread is
+dying. With --joined INDEX what 'pif judge' printed of the parts is read, in any
+order, and the verdict on the whole is printed:
+  pif judge --split parts long.history | parallel --tag pif judge --plain |
+    pif judge --joined parts/index
+A history with rules, 'none', 'process', 'halted' or 'resumed' isn't cut.
+
 Example:
   printf 'thread 10\\nmutex normal\\nbegin t1 lock m1\\nanswer t1 0\\n' | pif judge
 prints 'legal 4, 1 call'.
@@ -455,11 +489,12 @@ lines:
   cell xN V                   the value of a cell at first, 0 to 255. These four
                               may have a name: 'thread P NAME', 'cell NAME V'
   do tN ..: S; S; ..          what the threads do. S is a call, as 'lock m1',
-                              'set x1 1' or 'add x1 1' for a cell, 'break', or
-                              has a block, which may have several lines:
+                              'set x1 1', 'add x1 x2' or 'choose x1 0..3' for
+                              a cell, 'join tN', 'exit' or 'break', or has a
+                              block, which may have several lines:
                               'if T { .. } else if T { .. } else { .. }' and
                               'while T { .. }'. T asks for the last answer, as
-                              '130', or for a cell, as 'x1 = 0' or 'x1 < 5',
+                              '130', or for a cell, as 'x1 = 0' or 'x1 < x2',
                               also with 'not', 'and', 'or' and '(..)'
   ends N, ticks N N ..        at most N threads end, and these times come
   never: C, always: C         of all states that are reached
@@ -470,7 +505,7 @@ lines:
                               'tN waits for mN', 'tN blocked on cN',
                               'tN holds mN N times', 'mN free',
                               'mN held by tN', 'mN inconsistent',
-                              'mN unusable', 'xN = V', 'xN = xN', 'xN < V',
+                              'mN unusable', 'xN = V', 'xN < xN', 'xN > V',
                               'not', 'and', 'or' and '(..)'
 
 It runs the programs in all interleavings, and prints a line for each outcome:
@@ -480,7 +515,7 @@ is stuck, and mutexes and cells. Then, and last:
                               that breaks it, or, of 'sometimes', meets it
   undecided at L              no state that was found breaks it, and there are
                               more
-  race: tN tN xN              two next steps access xN, and the first writes it
+  race: tN tN xN              two accesses to xN unordered; the first writes it
   misuse: tN CALL             POSIX leaves tN's call undefined, or refuses it
   deadlock: tN                at the end tN waits for a mutex
   cycle: tN mN                tN locks mN next, whose owner waits for tN
@@ -488,8 +523,13 @@ is stuck, and mutexes and cells. Then, and last:
   stuck: tN WHY               at the end tN is not through its program
   livelock                    from some state no final one is reached
   N outcomes, S states, T steps
-It begins with 'undecided: ' if there are more states than --states. The first
-line that is a fault is told by 'fault L CAUSE', alone. With --core a line for
+It begins with 'undecided: ' if there are more states than --states, or the time
+of --seconds was over. The first line that is a fault is told by 'fault L
+CAUSE', alone. With --calls an outcome has 't1 lock m1 0; wait c1 m1 -; ..'.
+With --json it prints an object for the program, and one for each claim, delay,
+fault and outcome, with a schedule and the state after each step; the last one
+has the counts. With --html they stand in a page, which needs nothing from
+elsewhere. A fault of the file has no object and no page. With --core a line for
 each outcome follows, 'outcome K: seen on the core' or 'not seen on the core',
 one for each claim, and 'N schedules on the core', where N is 10000 if no number
 stands after --core. The core has no mutex with 'none'.
@@ -499,8 +539,8 @@ Example:
 prints 't1 0; m1 held by t1' and '1 outcomes, 4 states, 3 steps'.
 
 Status: 0 all is kept, 1 wrong words, 2 a fault, 3 a read or write failed, 4 out
-of memory, 5 a claim is broken, 7 undecided. Standard error says what went
-wrong.";
+of memory, 5 a claim is broken or, with --strict, a fault such as 'race' is
+reported, 7 undecided. Standard error says what went wrong.";
 
 /// The end of the help of `check`.
 pub const MORE_CHECK: &str =

@@ -1,12 +1,14 @@
 //! Jobs: what the words ask for, and over which files.
 ghost use Rattle.std.specs.Prelude.{◌≡◌, [], IfOk, Some, map};
 ghost use Rattle.clap.specs.Words.{FailsBy, found_of, rows_of};
-ghost use Rattle.pif_cli_words.specs.Words.{refusals_of, job_of, job_named, checking_in, rewrites, rewrites_by, files_in, files_of, first_name, drawn_in, exploring_in, judging_in, shown_in};
+ghost use Rattle.pif_cli_words.specs.Words.{aside_in, aside_of, refusals_of, job_of, job_named, checking_in, rewrites, rewrites_by, files_in, files_of, first_name, drawn_in, exploring_in, histories_in, judging_in, shown_in};
 
 use crate::clashes::clash_in;
 use crate::commands::program;
 use crate::defaults::complete;
-use crate::options::{has_several, is_given, number_if_given, small_number_between};
+use crate::options::{
+    has_several, is_given, is_named, number_if_given, small_number_between, value_in,
+};
 use crate::random::{Recipe, recipe_in};
 use crate::rules::allowed_in;
 use pif_rules_model::Rules;
@@ -47,8 +49,18 @@ pub struct Judging {
 pub struct Exploring {
     /// Whether a schedule of each outcome is written.
     pub witness: bool,
+    /// Whether each answer of an outcome stands behind its call.
+    pub calls: bool,
+    /// Whether lines of JSON are written.
+    pub json: bool,
+    /// Whether a page is written.
+    pub html: bool,
+    /// Whether a fault ends as a claim does that is broken.
+    pub strict: bool,
     /// How many states may be kept.
     pub states: u32,
+    /// After how many seconds the search is given up, 1 to 86,400, if at all.
+    pub seconds: Option<u32>,
     /// How many schedules are played on a core of their own, 1 to 1,000,000, if any are.
     pub core: Option<u32>,
 }
@@ -94,6 +106,10 @@ pub enum Job {
     FillSeveral,
     /// `judge`: say whether a history is legal.
     Judge(Judging),
+    /// `judge --split`: write a history in parts, each but the last with at least so many lines.
+    Split(u32),
+    /// `judge --joined`: say the verdict on a history by those on its parts.
+    Joined,
     /// `explore`: tell all outcomes of small programs.
     Explore(Exploring),
     /// `random`: write a random script.
@@ -109,6 +125,8 @@ pub struct Asked<'a> {
     pub job: Job,
     /// The files over which it is to be done, in their order; none if it is the standard input.
     pub files: Vec<&'a str>,
+    /// The folder of `judge --split`, or the index of `judge --joined`; no byte for any other job.
+    pub aside: &'a str,
     /// Whether what is made of each file is to take its place.
     pub rewrites: bool,
 }
@@ -135,6 +153,7 @@ pub fn read_words<'r, 'a, S: AsStr>(
     ensures job { IfOk result (λ asked. asked.job ≡ job_of (map S.text words.now)) }
     ensures files { IfOk result (λ asked. map (λ file. file.now) asked.files.items ≡ files_of (map S.text words.now)) }
     ensures rewrites { IfOk result (λ asked. asked.rewrites ≡ rewrites (map S.text words.now)) }
+    ensures aside { IfOk result (λ asked. asked.aside.now ≡ aside_of (map S.text words.now)) }
 {
     complete(words, room)?;
     let pif = Box::into_inner(program(alloc)?);
@@ -145,12 +164,14 @@ pub fn read_words<'r, 'a, S: AsStr>(
             None => Ok(Asked {
                 job: job_named(name, given),
                 files: files_in(alloc, given)?,
+                aside: aside_in(given),
                 rewrites: rewrites(name, given),
             }),
         },
         None => Ok(Asked {
             job: Job::Run,
             files: Vec::new(alloc),
+            aside: "",
             rewrites: false,
         }),
     }
@@ -197,13 +218,41 @@ fn judging_in(given: &clap::ArgMatches) -> Judging
     }
 }
 
+/// What `judge` does with its histories. `--split` and `--joined` at once were refused before.
+fn histories_in(given: &clap::ArgMatches) -> Job
+    ensures { result ≡ histories_in (rows_of (found_of given.now)) }
+{
+    if is_named(given, "split") {
+        Job::Split(small_number_between(given, "lines", 1, u32::MAX))
+    } else if is_named(given, "joined") {
+        Job::Joined
+    } else {
+        Job::Judge(judging_in(given))
+    }
+}
+
+/// The folder or the index that is given to a command, if one is.
+fn aside_in<'a>(given: &clap::ArgMatches<'a>) -> &'a str
+    ensures { result.now ≡ aside_in (rows_of (found_of given.now)) }
+{
+    if let Some(folder) = value_in(given, "split") {
+        return folder;
+    }
+    value_in(given, "joined").unwrap_or("")
+}
+
 /// How `explore` is to explore its programs.
 fn exploring_in(given: &clap::ArgMatches) -> Exploring
     ensures { result ≡ exploring_in (rows_of (found_of given.now)) }
 {
     Exploring {
         witness: is_given(given, "witness"),
+        calls: is_given(given, "calls"),
+        json: is_given(given, "json"),
+        html: is_given(given, "html"),
+        strict: is_given(given, "strict"),
         states: small_number_between(given, "states", 1, 16_777_216),
+        seconds: number_if_given(given, "seconds", 0, 86_400),
         core: number_if_given(given, "core", 1, 1_000_000),
     }
 }
@@ -256,7 +305,7 @@ fn job_named(name: &str, given: &clap::ArgMatches) -> Job
     } else if name == "check" {
         checking_in(given)
     } else if name == "judge" {
-        Job::Judge(judging_in(given))
+        histories_in(given)
     } else if name == "explore" {
         Job::Explore(exploring_in(given))
     } else if name == "random" {

@@ -3,7 +3,7 @@ ghost use Rattle.std.specs.Prelude.{◌≡◌, ◌≤◌, ℕ, List, [], ◌∷�
 ghost use Rattle.clap.specs.declared.error.kind.ErrorKind.TheVariants.{ArgumentConflict, DisplayHelp, DisplayVersion, InvalidSubcommand, InvalidValue, MissingRequiredArgument, MissingSubcommand, TooManyValues, ValueValidation};
 ghost use Rattle.pif_rules_model.specs.Sets.{no_rules};
 ghost use Rattle.pif_cli_words.specs.Random.{plain_shape};
-ghost use Rattle.pif_cli_words.specs.Words.{refusals_of, job_of, files_of, rewrites};
+ghost use Rattle.pif_cli_words.specs.Words.{aside_of, refusals_of, job_of, files_of, rewrites};
 
 use crate::jobs::Job;
 use crate::random::Recipe;
@@ -11,11 +11,13 @@ use pif_script_model::{Detail, Picture};
 
 /// Which words ask for which job: `run`, `show`, `draw`, `shell`, `replay`, `trace` and `migrate` alone, `show` with
 /// each of its flags, `draw` with all of its options, `run` with a file, `check` alone, with each of its flags and with
-/// two files, `judge` alone, with its options and two files, with `--least`, and with `--html` and one, `explore` alone,
-/// with its options, and with `--core` without its number, `random` with a seed and from 1 to 262,144 lines, and `drive`
-/// with a number from 1 to 64 do; no word, `--help`, `--version`, `judge --html` with another form or two files, `judge
-/// --least` with `--json`, `judge --json` with `--witness`, `judge --allow` with no rule, `check` with two of its
-/// flags, and `draw` with a last line before the first don't.
+/// two files, `judge` alone, with its options and two files, with `--least`, with `--html` and one, with `--split` and
+/// a folder, and with `--joined` and an index, `explore` alone, with its options, with `--html`, and with `--core`
+/// without its number, `random` with a seed and from 1 to 262,144 lines, and `drive` with a number from 1 to 64 do; no
+/// word, `--help`, `--version`, `judge --html` with another form or two files, `judge --least` with `--json`, `judge
+/// --json` with `--witness`, `judge --split` with `--joined`, a rule or two files, `judge --allow` with no rule,
+/// `explore --html` with `--json` or `--core`, `explore --json` with `--calls`, `check` with two of its flags, and
+/// `draw` with a last line before the first don't.
 #[tactic(auto, unfolding(clap::proofs::OnLiterals::clap_on_literals, pif_rules::specs::Words::rule_in))]
 pub fn words_of_the_program()
     ensures run { (name : List ℕ) → (refusals_of (name ∷ codes "run" ∷ []) ≡ []) × (job_of (name ∷ codes "run" ∷ []) ≡ Job.Run) }
@@ -79,17 +81,34 @@ pub fn words_of_the_program()
     ensures too_many_jobs { (name : List ℕ) → refusals_of (name ∷ codes "judge" ∷ codes "--jobs=65" ∷ []) ≡ ValueValidation ∷ [] }
     ensures no_states { (name : List ℕ) → refusals_of (name ∷ codes "judge" ∷ codes "--states=0" ∷ []) ≡ ValueValidation ∷ [] }
     ensures too_many_states { (name : List ℕ) → refusals_of (name ∷ codes "judge" ∷ codes "--states=16777217" ∷ []) ≡ ValueValidation ∷ [] }
+    ensures judge_split { (name : List ℕ) → (refusals_of (name ∷ codes "judge" ∷ codes "--split" ∷ codes "d" ∷ codes "--lines=9" ∷ codes "a" ∷ []) ≡ [])
+        × (job_of (name ∷ codes "judge" ∷ codes "--split" ∷ codes "d" ∷ codes "--lines=9" ∷ codes "a" ∷ []) ≡ Job.Split 9)
+        × (aside_of (name ∷ codes "judge" ∷ codes "--split" ∷ codes "d" ∷ codes "--lines=9" ∷ codes "a" ∷ []) ≡ codes "d")
+        × (files_of (name ∷ codes "judge" ∷ codes "--split" ∷ codes "d" ∷ codes "--lines=9" ∷ codes "a" ∷ []) ≡ codes "a" ∷ []) }
+    ensures judge_joined { (name : List ℕ) → (refusals_of (name ∷ codes "judge" ∷ codes "--joined=i" ∷ []) ≡ [])
+        × (job_of (name ∷ codes "judge" ∷ codes "--joined=i" ∷ []) ≡ Job.Joined)
+        × (aside_of (name ∷ codes "judge" ∷ codes "--joined=i" ∷ []) ≡ codes "i") }
+    ensures split_or_joined { (name : List ℕ) → refusals_of (name ∷ codes "judge" ∷ codes "--split=d" ∷ codes "--joined=i" ∷ []) ≡ ArgumentConflict ∷ [] }
+    ensures split_by_rules { (name : List ℕ) → refusals_of (name ∷ codes "judge" ∷ codes "--split=d" ∷ codes "--allow=steal" ∷ []) ≡ ArgumentConflict ∷ [] }
+    ensures split_of_one { (name : List ℕ) → refusals_of (name ∷ codes "judge" ∷ codes "--split=d" ∷ codes "a" ∷ codes "b" ∷ []) ≡ TooManyValues ∷ [] }
     ensures explore { (name : List ℕ) → (refusals_of (name ∷ codes "explore" ∷ []) ≡ [])
-        × (job_of (name ∷ codes "explore" ∷ []) ≡ Job.Explore (record { witness = false; states = 1000000; core = None })) }
+        × (job_of (name ∷ codes "explore" ∷ []) ≡ Job.Explore (record { witness = false; calls = false; json = false; html = false; strict = false; states = 1000000; seconds = None; core = None })) }
     ensures explores { (name : List ℕ) → (refusals_of (name ∷ codes "explore" ∷ codes "--witness" ∷ codes "--states=7" ∷ codes "--core=5" ∷ codes "a" ∷ []) ≡ [])
-        × (job_of (name ∷ codes "explore" ∷ codes "--witness" ∷ codes "--states=7" ∷ codes "--core=5" ∷ codes "a" ∷ []) ≡ Job.Explore (record { witness = true; states = 7; core = Some 5 })) }
+        × (job_of (name ∷ codes "explore" ∷ codes "--witness" ∷ codes "--states=7" ∷ codes "--core=5" ∷ codes "a" ∷ []) ≡ Job.Explore (record { witness = true; calls = false; json = false; html = false; strict = false; states = 7; seconds = None; core = Some 5 })) }
     ensures explores_plainly { (name : List ℕ) → (refusals_of (name ∷ codes "explore" ∷ codes "--core" ∷ []) ≡ [])
-        × (job_of (name ∷ codes "explore" ∷ codes "--core" ∷ []) ≡ Job.Explore (record { witness = false; states = 1000000; core = Some 10000 })) }
+        × (job_of (name ∷ codes "explore" ∷ codes "--core" ∷ []) ≡ Job.Explore (record { witness = false; calls = false; json = false; html = false; strict = false; states = 1000000; seconds = None; core = Some 10000 })) }
     ensures explores_file { (name : List ℕ) → (refusals_of (name ∷ codes "explore" ∷ codes "--core" ∷ codes "a" ∷ []) ≡ [])
-        × (job_of (name ∷ codes "explore" ∷ codes "--core" ∷ codes "a" ∷ []) ≡ Job.Explore (record { witness = false; states = 1000000; core = Some 10000 }))
+        × (job_of (name ∷ codes "explore" ∷ codes "--core" ∷ codes "a" ∷ []) ≡ Job.Explore (record { witness = false; calls = false; json = false; html = false; strict = false; states = 1000000; seconds = None; core = Some 10000 }))
         × (files_of (name ∷ codes "explore" ∷ codes "--core" ∷ codes "a" ∷ []) ≡ codes "a" ∷ []) }
     ensures explores_so_often { (name : List ℕ) → (refusals_of (name ∷ codes "explore" ∷ codes "--core" ∷ codes "5" ∷ []) ≡ [])
-        × (job_of (name ∷ codes "explore" ∷ codes "--core" ∷ codes "5" ∷ []) ≡ Job.Explore (record { witness = false; states = 1000000; core = Some 5 })) }
+        × (job_of (name ∷ codes "explore" ∷ codes "--core" ∷ codes "5" ∷ []) ≡ Job.Explore (record { witness = false; calls = false; json = false; html = false; strict = false; states = 1000000; seconds = None; core = Some 5 })) }
+    ensures explores_strictly { (name : List ℕ) → (refusals_of (name ∷ codes "explore" ∷ codes "--calls" ∷ codes "--strict" ∷ codes "--seconds=9" ∷ []) ≡ [])
+        × (job_of (name ∷ codes "explore" ∷ codes "--calls" ∷ codes "--strict" ∷ codes "--seconds=9" ∷ []) ≡ Job.Explore (record { witness = false; calls = true; json = false; html = false; strict = true; states = 1000000; seconds = Some 9; core = None })) }
+    ensures explores_in_a_page { (name : List ℕ) → (refusals_of (name ∷ codes "explore" ∷ codes "--html" ∷ []) ≡ [])
+        × (job_of (name ∷ codes "explore" ∷ codes "--html" ∷ []) ≡ Job.Explore (record { witness = false; calls = false; json = false; html = true; strict = false; states = 1000000; seconds = None; core = None })) }
+    ensures found_page_or_objects { (name : List ℕ) → refusals_of (name ∷ codes "explore" ∷ codes "--html" ∷ codes "--json" ∷ []) ≡ ArgumentConflict ∷ [] }
+    ensures found_objects_or_calls { (name : List ℕ) → refusals_of (name ∷ codes "explore" ∷ codes "--json" ∷ codes "--calls" ∷ []) ≡ ArgumentConflict ∷ [] }
+    ensures found_page_or_cores { (name : List ℕ) → refusals_of (name ∷ codes "explore" ∷ codes "--html" ∷ codes "--core" ∷ []) ≡ ArgumentConflict ∷ [] }
     ensures explores_strange_file { (name : List ℕ) → files_of (name ∷ codes "explore" ∷ codes "--" ∷ codes "--core" ∷ []) ≡ codes "--core" ∷ [] }
     ensures file { (name : List ℕ) → (refusals_of (name ∷ codes "run" ∷ codes "a" ∷ []) ≡ [])
         × (files_of (name ∷ codes "run" ∷ codes "a" ∷ []) ≡ codes "a" ∷ []) }

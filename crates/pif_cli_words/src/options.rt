@@ -1,6 +1,6 @@
 ghost use Rattle.std.specs.Prelude.{◌≡◌, ◌≤◌, false, option_map};
 ghost use Rattle.clap.specs.Words.{first_of, found_of, rows_of, rule_of};
-ghost use Rattle.pif_cli_words.specs.Options.{flag_in, form_rule, number_between, unless_zero};
+ghost use Rattle.pif_cli_words.specs.Options.{flag_in, form_rule, is_named, number_between, unless_zero};
 ghost use Rattle.pif_cli_words.specs.Words.{has_several};
 
 use clap::ArgAction;
@@ -27,6 +27,8 @@ pub enum Form<'a> {
     Number(&'a str, u64, u64, Absent<'a>),
     /// An option that names a rule, and that may be given again for more.
     Rules,
+    /// An option that names a file or a folder: what help calls it.
+    Name(&'a str),
     /// The file of one input, which may be left out.
     File,
     /// The files of any number of inputs.
@@ -55,6 +57,7 @@ pub fn argument<'a>(alloc: Global, name: &'a str, help: &'a str, form: Form<'a>)
             }
         }
         Form::Rules => arg.long(name).value_name("RULE").action(ArgAction::Append),
+        Form::Name(called) => arg.long(name).value_name(called),
         Form::File => arg,
         Form::Files => arg.num_args(0..),
         Form::Placed(low, high) => arg
@@ -64,10 +67,17 @@ pub fn argument<'a>(alloc: Global, name: &'a str, help: &'a str, form: Form<'a>)
 }
 
 /// What was given to the option of this name, or its default.
-fn value_in<'a>(given: &clap::ArgMatches<'a>, name: &str) -> Option<&'a str>
+pub fn value_in<'a>(given: &clap::ArgMatches<'a>, name: &str) -> Option<&'a str>
     ensures { option_map (λ s. s.now) result ≡ first_of name.now (rows_of (found_of given.now)) }
 {
     given.get_str(name)
+}
+
+/// Whether the option of this name has a value.
+pub fn is_named(given: &clap::ArgMatches, name: &str) -> bool
+    ensures { result ≡ is_named name.now (rows_of (found_of given.now)) }
+{
+    value_in(given, name).is_some()
 }
 
 /// Whether the flag of this name was given.

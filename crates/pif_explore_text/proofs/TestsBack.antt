@@ -9,13 +9,14 @@ use Rattle.pif_explore_model.specs.declared.programs.Wanted.{Wanted}
 use Rattle.pif_explore_model.specs.declared.programs.Wanted.TheVariants.{Is, IsBelow, IsAbove}
 use Rattle.pif_explore_text.specs.declared.programs.Guard.{Guard}
 use Rattle.pif_explore_text.specs.declared.programs.Guard.TheVariants.{Answered, Holds}
+use Rattle.pif_explore_text.specs.declared.operands.Sign.TheVariants as sign
 use Rattle.pif_explore_text.specs.declared.tests.Want.{Want}
 use Rattle.pif_explore_text.specs.declared.tests.Want.TheVariants as want
 use Rattle.pif_explore_text.specs.Tests.{Asked, Tested, asked_end, asked_with, begun_by, joined_by, tested_by, tested_from, unasked, untested, with_answer}
 use Rattle.pif_explore_text.specs.Trees.{Trial, asks, opposite, all_of, one_of}
-use Rattle.pif_explore_text.specs.Written.{IsCell, cell_name}
-use Rattle.pif_explore_text.specs.WrittenTests.{IsAsked, IsWritten, asked_words, enclosed_words, guard_words, wanted_words}
-use Rattle.pif_explore_text.proofs.ConditionsBack.{and_false, answer_said, between, cell_said, no_number, no_word, value_said}
+use Rattle.pif_explore_text.specs.Written.{IsCell, IsWritten, cell_name, operand_word}
+use Rattle.pif_explore_text.specs.WrittenTests.{IsAsked, asked_words, enclosed_words, guard_words}
+use Rattle.pif_explore_text.proofs.ConditionsBack.{and_false, answer_said, between, cell_said, no_number, no_word, operand_said}
 
 -- one word more
 step : (a : Asked) (o : List Asked) (w : Want) (word : List ℕ) (rest : List (List ℕ)) (s : Tested)
@@ -69,18 +70,18 @@ of_a_cell x is a o rest =
     ∙ rw (no_answer x, cell_said x is) refl)
 
 of_a_value : (x : ℕ) → IsCell x → (wanted : Wanted) → IsWritten wanted → AsOperand (asks (Holds x wanted))
-of_a_value x is (Is v) fits a o rest =
-    of_a_cell x is a o (codes "=" ∷ decimal v ∷ rest)
-    ∙ step a o (want.Sign x) (codes "=") (decimal v ∷ rest) _ refl
-    ∙ step a o (want.Value x) (decimal v) rest _ (rw (value_said v fits) refl)
-of_a_value x is (IsBelow v) fits a o rest =
-    of_a_cell x is a o (codes "<" ∷ decimal v ∷ rest)
-    ∙ step a o (want.Sign x) (codes "<") (decimal v ∷ rest) _ refl
-    ∙ step a o (want.Bound x) (decimal v) rest _ (rw (value_said v fits) refl)
-of_a_value x is (IsAbove v) fits a o rest =
-    of_a_cell x is a o (codes ">" ∷ decimal v ∷ rest)
-    ∙ step a o (want.Sign x) (codes ">") (decimal v ∷ rest) _ refl
-    ∙ step a o (want.Floor x) (decimal v) rest _ (rw (value_said v fits) refl)
+of_a_value x is (Is z) fits a o rest =
+    of_a_cell x is a o (codes "=" ∷ operand_word z ∷ rest)
+    ∙ step a o (want.Sign x) (codes "=") (operand_word z ∷ rest) _ refl
+    ∙ step a o (want.Operand x sign.Is) (operand_word z) rest _ (rw (operand_said z fits) refl)
+of_a_value x is (IsBelow z) fits a o rest =
+    of_a_cell x is a o (codes "<" ∷ operand_word z ∷ rest)
+    ∙ step a o (want.Sign x) (codes "<") (operand_word z ∷ rest) _ refl
+    ∙ step a o (want.Operand x sign.IsBelow) (operand_word z) rest _ (rw (operand_said z fits) refl)
+of_a_value x is (IsAbove z) fits a o rest =
+    of_a_cell x is a o (codes ">" ∷ operand_word z ∷ rest)
+    ∙ step a o (want.Sign x) (codes ">") (operand_word z ∷ rest) _ refl
+    ∙ step a o (want.Operand x sign.IsAbove) (operand_word z) rest _ (rw (operand_said z fits) refl)
 
 of_a_guard : (guard : Guard) → IsAsked (asks guard) → AsOperand (asks guard)
 of_a_guard (Answered n) asked = of_an_answer n asked

@@ -7,6 +7,7 @@ abbrev pub is_of_statements : List ℕ → Bool
 is_of_statements word =
     bytes_eq word (codes "if") || bytes_eq word (codes "else") || bytes_eq word (codes "while")
     || bytes_eq word (codes "break") || bytes_eq word (codes "set") || bytes_eq word (codes "add")
+    || bytes_eq word (codes "choose") || bytes_eq word (codes "join") || bytes_eq word (codes "exit")
     || bytes_eq word (codes "not") || bytes_eq word (codes "and") || bytes_eq word (codes "or")
 
 -- words with which conditions speak of threads

@@ -1,17 +1,9 @@
 -- The words by which a line writes a test: each part that has parts itself stands in brackets.
 use Rattle.std.specs.Prelude.{ℕ, ◌<◌, Bool, true, false, List, [], ◌∷◌, ◌++◌, if◌then◌else◌, codes, decimal}
-use Rattle.pif_explore_model.specs.declared.programs.Wanted.{Wanted}
-use Rattle.pif_explore_model.specs.declared.programs.Wanted.TheVariants.{Is, IsBelow, IsAbove}
 use Rattle.pif_explore_text.specs.declared.programs.Guard.{Guard}
 use Rattle.pif_explore_text.specs.declared.programs.Guard.TheVariants.{Answered, Holds}
 use Rattle.pif_explore_text.specs.Trees.{Trial, asks, opposite, all_of, one_of}
-use Rattle.pif_explore_text.specs.Written.{IsCell, cell_name}
-
--- a value of a cell, as a line can write it
-abbrev pub IsWritten : Wanted → Type 0
-IsWritten (Is v) = v < 256
-IsWritten (IsBelow v) = v < 256
-IsWritten (IsAbove v) = v < 256
+use Rattle.pif_explore_text.specs.Written.{IsCell, IsWritten, cell_name, wanted_words}
 
 -- a test with cells that there are, and numbers that a line can write
 abbrev pub IsAsked : Trial → Type 0
@@ -20,12 +12,6 @@ IsAsked (asks (Holds x wanted)) = IsCell x × IsWritten wanted
 IsAsked (opposite t) = IsAsked t
 IsAsked (all_of t u) = IsAsked t × IsAsked u
 IsAsked (one_of t u) = IsAsked t × IsAsked u
-
--- the words behind a cell
-abbrev pub wanted_words : Wanted → List (List ℕ)
-wanted_words (Is v) = codes "=" ∷ decimal v ∷ []
-wanted_words (IsBelow v) = codes "<" ∷ decimal v ∷ []
-wanted_words (IsAbove v) = codes ">" ∷ decimal v ∷ []
 
 -- the words of a question
 abbrev pub guard_words : Guard → List (List ℕ)

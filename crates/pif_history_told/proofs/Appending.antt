@@ -1,5 +1,5 @@
 -- What is appended piece by piece.
-use Rattle.std.proofs.Common.{◌≡◌, ◌∙◌, ◌-◌, ℕ, Bool, List, ◌++◌, length, ap, append_assoc, Result, Ok, Err, OnOk, is_ok, if◌then◌else◌}
+use Rattle.std.proofs.Common.{◌≡◌, ◌∙◌, ◌-◌, ℕ, Bool, List, ◌++◌, length, ap, sym, append_assoc, Result, Ok, Err, OnOk, is_ok, if◌then◌else◌}
 use Rattle.pif_model.specs.World.{World, effective_of, is_living, rests, thread_at}
 use Rattle.pif_rules_model.specs.Rules.{Wide}
 use Rattle.pif_history_model.specs.declared.lines.Line.{Line}
@@ -67,14 +67,17 @@ line_appended whole number line moves names w v old new n text counted read all 
     all ∙ ap (λ k. old ++ line_members whole k text moves names w v) counted
     ∙ ap (λ l. old ++ line_members whole number l moves names w v) read
 
--- By a page: by the lines between its front and what stands beside them, and then by its end.
-pub page_grown : (old before lines beside behind mid new : List ℕ) → mid ≡ old ++ (before ++ lines ++ beside)
-    → new ≡ mid ++ behind → IsPageOf lines old new
-page_grown old before lines beside behind mid new first second = (
+-- By a page: by its front, by the lines and what stands beside them, and then by its end.
+pub page_grown : (old before lines beside behind one two new : List ℕ) → one ≡ old ++ before → two ≡ one ++ (lines ++ beside)
+    → new ≡ two ++ behind → IsPageOf lines old new
+page_grown old before lines beside behind one two new first second third = (
   before,
   beside ++ behind,
-  second
-      ∙ (ap (λ (l : List ℕ). l ++ behind) first
-      ∙ (append_assoc old (before ++ lines ++ beside) behind
-      ∙ ap (λ (l : List ℕ). old ++ l) (append_assoc (before ++ lines) beside behind))),
+  third
+      ∙ (ap (λ (l : List ℕ). l ++ behind) (second ∙ ap (λ (l : List ℕ). l ++ (lines ++ beside)) first)
+      ∙ (ap (λ (l : List ℕ). l ++ behind) (append_assoc old before (lines ++ beside))
+      ∙ (append_assoc old (before ++ (lines ++ beside)) behind
+      ∙ ap (λ (l : List ℕ). old ++ l)
+      (append_assoc before (lines ++ beside) behind ∙ ap (λ (l : List ℕ). before ++ l) (append_assoc lines beside behind)
+      ∙ sym (append_assoc before lines (beside ++ behind)))))),
 )

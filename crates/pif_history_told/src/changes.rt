@@ -159,6 +159,10 @@ fn append_conds<'a>(
 
 /// Appends what a step changes, or the whole state after it, as members. Of threads the states as lending sees them are
 /// told, in which they have their priorities.
+///
+/// # Errors
+///
+/// Out of memory, or a number got too great for a state. A part of the text may have been appended.
 pub fn append_changes(alloc: Global, change: &Change<'_>, out: &mut Vec<u8>) -> Result<(), Stop>
     ensures { OnOk result (out.new.items ≡ out.old.items ++ change_members change.now.is_whole change.now.from.now change.now.to.now) }
 {

@@ -30,8 +30,8 @@
 //! | `verdicts` | a verdict, as a line of JSON |
 //! | `names` | the names and places that a history gives, beside numbers |
 //! | `pages` | a page around such lines |
-//! | `page_style` | how the page looks |
-//! | `page_script` | what the page does |
+//! | `page_style`, `page_lanes` | how all pages look, and what all of them do |
+//! | `page_body`, `page_script` | what a page with a verdict has, and does |
 #![tactic(auto)]
 
 mod calls;
@@ -44,6 +44,8 @@ mod leading;
 mod likely;
 mod names;
 mod open_calls;
+mod page_body;
+mod page_lanes;
 mod page_script;
 mod page_style;
 mod pages;
@@ -58,14 +60,16 @@ mod unlisted;
 mod verdicts;
 mod ways;
 
+pub use changes::{Change, append_changes};
 pub use clues::{Clues, LegalIf, tell_clues};
 pub use ends::{AtEnd, tell_at_end};
 pub use following::{rules_of_run, witness_text};
 pub use in_the_way::InTheWay;
 pub use names::{beside_in_page, names_line, names_object, places_line, places_object};
 pub use open_calls::open_at_end;
-pub use pages::{PAGE_LINES, append_page, first_shown};
+pub use pages::{PAGE_LINES, PageParts, append_page, append_page_with, first_shown};
 pub use places::{line_at, number_at};
+pub use run_lines::{Leap, append_move};
 pub use runs::run_text;
 pub use sets::{added, sets_of_size};
 pub use telling::{began_before, began_of, tell_undecided, tell_why};

@@ -1,9 +1,6 @@
-/// A page before its lines of JSON: its looks, its legend, and its parts.
-pub const STYLE: &str = r##"<!DOCTYPE html>
-<html lang="en"><head><meta charset="utf-8"><title>pif judge</title>
-<meta name="viewport" content="width=device-width, initial-scale=1">
-<style>
-:root{--back:#fff;--text:#1f2328;--faint:#59636e;--line:#d0d7de;--bar:#ddf4ff;--edge:#54aeff;--run:#8250df;--red:#cf222e;--seen:#bf5b04;--lit:#fff8c5}
+/// How all pages look.
+pub const SHEET: &str =
+    r##":root{--back:#fff;--text:#1f2328;--faint:#59636e;--line:#d0d7de;--bar:#ddf4ff;--edge:#54aeff;--run:#8250df;--red:#cf222e;--seen:#bf5b04;--lit:#fff8c5}
 @media(prefers-color-scheme:dark){:root{--back:#0d1117;--text:#e6edf3;--faint:#9198a1;--line:#30363d;--bar:#0c2d6b;--edge:#388bfd;--run:#d2a8ff;--red:#ff7b72;--seen:#f0a04b;--lit:#4d3800;color-scheme:dark}}
 body{font:14px/1.45 system-ui,sans-serif;margin:0 16px 16px;background:var(--back);color:var(--text)}
 [hidden]{display:none!important}
@@ -56,25 +53,4 @@ table{border-collapse:collapse}
 th,td{border:1px solid var(--line);padding:2px 7px;text-align:left;vertical-align:top;overflow-wrap:break-word}
 th{font-weight:600}
 tr.lit td{background:var(--lit)}
-</style></head><body>
-<p id="file" class="faint"></p>
-<h1 id="verdict"></h1>
-<div id="why"></div>
-<div id="bar"><label id="switch" hidden><input type="checkbox" id="all"> show all</label>
-<label>width <input type="range" id="width" min="6" max="80" value="30"></label>
-<span class="faint">click a mark, or use the arrow keys</span></div>
-<div id="legend">
-<span><svg width="30" height="14"><rect class="bar" x="1" y="1" width="28" height="12" rx="3"/></svg>a call</span>
-<span><svg width="30" height="14"><rect class="bar open" x="1" y="1" width="28" height="12" rx="3"/></svg>one without an answer</span>
-<span><svg width="12" height="14"><circle class="line" cx="6" cy="7" r="5"/></svg>a line: its begin or answer</span>
-<span><svg width="12" height="14"><circle class="move" cx="6" cy="7" r="4.5"/></svg>an effect, where the run has it</span>
-<span><svg width="12" height="14"><path class="seen" d="M6 1l6 6-6 6-6-6z"/></svg>what was seen of a thread</span>
-<span><svg width="12" height="14"><path class="end" d="M1 2l10 10m0-10l-10 10"/></svg>the end of a thread</span>
-<span id="red" hidden><svg width="12" height="14"><path class="wrong" d="M1 2l10 10m0-10l-10 10"/></svg></span>
-</div>
-<div id="view"><div id="names"></div><div id="track"><svg></svg></div></div>
-<h2 id="where"></h2>
-<p id="words"></p>
-<div id="state"></div>
-<script type="application/json" id="lines">
 "##;

@@ -72,8 +72,12 @@ fn append_rules(names: &[u8], out: &mut Vec<u8>) -> Result<(), AllocError>
 }
 
 /// Appends a move of a thread that no line shows, as an object.
+///
+/// # Errors
+///
+/// Out of memory, or a number got too great for a state. A part of the text may have been appended.
 #[tactic(auto, unfolding(crate::specs::Runs::move_object))]
-fn append_move(
+pub fn append_move(
     alloc: Global,
     name: &str,
     thread: Tid,

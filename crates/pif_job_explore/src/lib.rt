@@ -17,6 +17,7 @@
 //! | `faults` | why a program was not found to keep its claims |
 //! | `starts` | what the text of a file stands for: a plan and its start |
 //! | `rulings`, `delays` | what is found of the claims of a file, and of the delays that it asks for |
+//! | `forms` | what is told of what was found, in a form |
 //! | `exploring` | a file, read and explored |
 //! | `player` | a core, and where each thread is in its program |
 //! | `standing`, `meeting` | the outcome to which the programs have come, and which claims are broken |
@@ -27,6 +28,7 @@
 mod delays;
 mod exploring;
 mod faults;
+mod forms;
 mod meeting;
 mod player;
 mod playing;
@@ -38,5 +40,6 @@ mod telling;
 
 pub use exploring::{Exploring, explore_text};
 pub use faults::ExploreFault;
-pub use pif_explore_told::schedules_are_runs;
+pub use forms::Form;
+pub use pif_explore_told::{Lines, schedules_are_runs};
 pub use pif_reach::WatchStates;

@@ -5,7 +5,7 @@ ghost use Rattle.pif_job_explore.specs.Looking.{fate_by, fate_of, fates, has_die
 
 use crate::player::{Player, thread_at};
 use pif_core::Status;
-use pif_explore::{Outcome, Plan};
+use pif_explore::{Outcome, Plan, fate_at};
 use pif_explore_model::Fate;
 use pif_posix::named_by;
 use pif_search::{Stop, push};
@@ -47,15 +47,15 @@ fn health_by(health: Health, died: bool) -> Health
 
 impl Player {
     /// What has become of a thread that is not through its program, by what it does.
-    fn fate_by(&self, status: Status, thread: Tid) -> Fate
-        ensures { result ≡ fate_by self.now thread status }
+    fn fate_by(&self, plan: &Plan, status: Status, thread: Tid) -> Fate
+        ensures { result ≡ fate_by plan.now self.now thread status }
     {
         match status {
             Status::Ended => Fate::HasEnded,
             Status::Queued(mutex) => Fate::WaitsFor(mutex.get() as usize),
             Status::Parked(cond) => Fate::IsBlockedOn(cond.get() as usize),
             Status::Stopped => Fate::WaitsForGood(named_in(&self.core.open_call(thread))),
-            Status::Ready(_) => Fate::IsUnderWay,
+            Status::Ready(_) => fate_at(&self.point_of(plan, thread)),
         }
     }
 
@@ -67,7 +67,7 @@ impl Player {
             return Fate::IsThrough;
         }
         match self.core.status(thread) {
-            Some(status) => self.fate_by(status, thread),
+            Some(status) => self.fate_by(plan, status, thread),
             None => Fate::HasEnded,
         }
     }

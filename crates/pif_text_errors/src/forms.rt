@@ -33,8 +33,6 @@ pub enum Part {
     Colon,
     /// `=`
     Equals,
-    /// `=` or `<`
-    Sign,
     /// `=`, `<` or `>`
     Comparison,
     /// The name of a cell, or a new name.
@@ -46,7 +44,9 @@ pub enum Part {
     /// The word `none`, or a new name.
     LendingOrName,
     /// The value of a cell, or the name of a cell.
-    CellValue,
+    Operand,
+    /// The values that a cell may be given.
+    Values,
     /// `by`
     By,
     /// `at`
@@ -99,11 +99,11 @@ impl Part {
             Part::Processors => "a number from 1 to 64 is wanted here",
             Part::Colon => "a ':' is wanted here",
             Part::Equals => "a '=' is wanted here",
-            Part::Sign => "a '=' or a '<' is wanted here",
             Part::Comparison => "a '=', a '<' or a '>' is wanted here",
             Part::NewCell | Part::Name | Part::ModifierOrName | Part::LendingOrName =>
                 "a new name is wanted here, neither a word of programs nor like t1",
-            Part::CellValue => "a number from 0 to 255 is wanted here",
+            Part::Operand => "a number from 0 to 255, or a cell, is wanted here",
+            Part::Values => "two numbers from 0 to 255 that don't fall are wanted here, as 0..3",
             Part::By => "'by' is wanted here",
             Part::At => "'at' is wanted here",
             Part::For => "'for' is wanted here",

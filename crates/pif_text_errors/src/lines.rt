@@ -4,8 +4,8 @@ use crate::parts::{
     ends_early, is_answer, is_cell, near_part, number_named, wrong_with_part, wrong_with_word,
 };
 use crate::tables::{
-    FAULTS, KINDS, KINDS_OF_PROGRAM, KINDS_OF_PROTOCOL, OF_CELL, OF_CELLS, OF_MUTEXES, OF_TESTS,
-    OF_THREADS, RULE_COUNT, RULES,
+    FAULTS, KINDS, KINDS_OF_PROGRAM, KINDS_OF_PROTOCOL, OF_CELL, OF_CELLS, OF_MUTEXES, OF_THREADS,
+    RULE_COUNT, RULES,
 };
 use crate::{Misplaced, Wrong};
 use arrayvec::ArrayVec;
@@ -442,10 +442,10 @@ impl LineSoFar {
         }
     }
 
-    /// Takes what a test asks of a cell.
-    fn take_comparison(&mut self, word: &[u8]) -> Result<(), Slip> {
+    /// Takes what is said of a cell, before this.
+    fn take_comparison(&mut self, word: &[u8], next: Next) -> Result<(), Slip> {
         let wrong = Wrong::Not(Part::Comparison);
-        let form = self.take_form(word, Table::of(&OF_TESTS), wrong, Next::Alternative);
+        let form = self.take_form(word, Table::of(&OF_CELLS), wrong, next);
         form.map_err(|slip| Slip { near: None, ..slip })?;
         Ok(())
     }
@@ -528,8 +528,8 @@ impl LineSoFar {
             Next::Subject(may_deny) => self.take_subject(word, may_deny),
             Next::OfThread => self.take_said(word, &OF_THREADS, Part::OfThread),
             Next::OfMutex => self.take_said(word, &OF_MUTEXES, Part::OfMutex),
-            Next::OfCell => self.take_said(word, &OF_CELLS, Part::Sign),
-            Next::OfTest => self.take_comparison(word),
+            Next::OfCell => self.take_comparison(word, Next::Connective),
+            Next::OfTest => self.take_comparison(word, Next::Alternative),
             Next::Connective => self.take_connective(word),
         }
     }

@@ -37,21 +37,27 @@ fn is_between(word: &[u8], least: u32, most: u32) -> bool {
     number_of(word).is_some_and(|number| number >= least && number <= most)
 }
 
+/// The two numbers of a word as `1..300`.
+fn bounds_of(word: &[u8]) -> Option<(u32, u32)> {
+    let end = word.iter().position(|byte| *byte == b'.')?;
+    let least = number_of(&word[..end])?;
+    let most = number_of(word[end..].strip_prefix(b"..")?)?;
+    Some((least, most))
+}
+
 /// Whether a word has bounds of `recursion`: a number from 256 on, or two that don't fall, as `1..300`. Those of the machine
 /// itself, 255 for both, are none.
 fn is_recursion(word: &[u8]) -> bool {
-    let Some(end) = word.iter().position(|byte| *byte == b'.') else {
-        return is_between(word, 256, u32::MAX);
-    };
-    let most = match word[end..].strip_prefix(b"..") {
-        Some(most) => number_of(most),
-        None => None,
-    };
-    match (number_of(&word[..end]), most) {
-        (Some(255), Some(255)) => false,
-        (Some(least), Some(most)) => least > 0 && least <= most,
-        _ => false,
+    match bounds_of(word) {
+        Some((255, 255)) => false,
+        Some((least, most)) => least > 0 && least <= most,
+        None => is_between(word, 256, u32::MAX),
     }
+}
+
+/// Whether a word has the least and the greatest of some values of a cell, as `0..3`.
+fn is_range(word: &[u8]) -> bool {
+    bounds_of(word).is_some_and(|(least, most)| least <= most && most < 256)
 }
 
 /// Whether a word is an answer: a number, or the name of an error.
@@ -125,7 +131,8 @@ fn is_plain(word: &[u8], part: Part) -> bool {
         Part::Lending => is_lending(word),
         Part::Colon => word == b":".as_slice(),
         Part::Equals => word == b"=".as_slice(),
-        Part::CellValue => is_between(word, 0, 255) || is_cell(word),
+        Part::Operand => is_between(word, 0, 255) || is_cell(word),
+        Part::Values => is_range(word),
         Part::By => word == b"by".as_slice(),
         Part::At => word == b"at".as_slice(),
         Part::For => word == b"for".as_slice(),

@@ -361,13 +361,16 @@ pub static KINDS_OF_PROGRAM: [Form; 4] = [
 ];
 
 /// The words of programs that are no calls and no errors: none of them is a name.
-pub static RESERVED: [&str; 55] = [
+pub static RESERVED: [&str; 58] = [
     "if",
     "else",
     "while",
     "break",
     "set",
     "add",
+    "choose",
+    "join",
+    "exit",
     "not",
     "and",
     "or",
@@ -696,48 +699,32 @@ pub static OF_MUTEXES: [Form; 4] = [
     },
 ];
 
-/// What a condition may say of a cell.
-pub static OF_CELLS: [Form; 2] = [
+/// What a test or a condition may say of a cell.
+pub static OF_CELLS: [Form; 3] = [
     Form {
         name: "=",
-        text: "xN = V",
-        parts: Parts::Of(&[Part::CellValue]),
+        text: "xN = O",
+        parts: Parts::Of(&[Part::Operand]),
         rest: Rest::End,
     },
     Form {
         name: "<",
-        text: "xN < V",
-        parts: Parts::Of(&[Part::Value]),
-        rest: Rest::End,
-    },
-];
-
-/// What a test may ask of a cell.
-pub static OF_TESTS: [Form; 3] = [
-    Form {
-        name: "=",
-        text: "xN = V",
-        parts: Parts::Of(&[Part::Value]),
-        rest: Rest::End,
-    },
-    Form {
-        name: "<",
-        text: "xN < V",
-        parts: Parts::Of(&[Part::Value]),
+        text: "xN < O",
+        parts: Parts::Of(&[Part::Operand]),
         rest: Rest::End,
     },
     Form {
         name: ">",
-        text: "xN > V",
-        parts: Parts::Of(&[Part::Value]),
+        text: "xN > O",
+        parts: Parts::Of(&[Part::Operand]),
         rest: Rest::End,
     },
 ];
 
-/// What a test may say of a cell.
+/// What is said of a cell first.
 pub static OF_CELL: Form = Form {
     name: "",
-    text: "xN = V",
-    parts: Parts::Of(&[Part::Equals, Part::Value]),
+    text: "xN = O",
+    parts: Parts::Of(&[Part::Equals, Part::Operand]),
     rest: Rest::End,
 };

@@ -2,10 +2,12 @@ use Rattle.std.proofs.Common.{◌≡◌, inl, inr, ℕ, ◌≤◌, List, Option,
 use Rattle.clap.specs.Words.{Text, kind_of}
 use Rattle.pif_script_model.specs.declared.faults.CliFault.{CliFault}
 use Rattle.pif_script_model.specs.declared.faults.CliFault.TheVariants.{Read, Write, NoMemory, Script, Differs}
+use Rattle.pif_cli_messages.specs.declared.parts.InParts.{InParts}
+use Rattle.pif_cli_messages.specs.declared.parts.InParts.TheVariants.{File, Foreign, Index, Missing, Rules, Uncut}
 use Rattle.pif_cli_messages.specs.declared.statuses.JobFault.{JobFault}
-use Rattle.pif_cli_messages.specs.declared.statuses.JobFault.TheVariants.{Cli, Threads, Unsettled, Undecided, PosixAllows, PosixUndefined, NotOnCore, NoCall, Mistake}
+use Rattle.pif_cli_messages.specs.declared.statuses.JobFault.TheVariants.{Cli, Threads, Unsettled, Undecided, PosixAllows, PosixUndefined, NotOnCore, NoCall, Mistake, Faulty, Parts}
 use Rattle.pif_cli_messages.specs.Messages.{TellsAt, TellsFault, TellsLine, TellsOf}
-use Rattle.pif_cli_messages.specs.Statuses.{fault_status, job_fault_status, job_status}
+use Rattle.pif_cli_messages.specs.Statuses.{fault_status, job_fault_status, job_status, parts_status}
 use Rattle.pif_story.specs.Notes.{notes_text}
 use Rattle.pif_cli_words.specs.declared.jobs.Job.{Job}
 use Rattle.pif_cli.specs.Names.{noted_name}
@@ -34,6 +36,18 @@ cli_fault_tells (Script line cause) status held holds is told =
 cli_fault_tells (Differs line) status held holds is told =
     tells_line status 5 held holds (omega arith) (omega arith) is told
 
+-- what a fault of parts tells them
+parts_fault_tells : (fault : InParts) (status : ℕ) (held holds : Option (List ℕ)) → status ≡ parts_status fault
+    → TellsLine held holds → TellsAt status held holds
+parts_fault_tells File status held holds is told = tells_line status 3 held holds (omega arith) (omega arith) is told
+parts_fault_tells Rules status held holds is told = tells_line status 2 held holds (omega arith) (omega arith) is told
+parts_fault_tells (Uncut n) status held holds is told = tells_line status 2 held holds (omega arith) (omega arith) is told
+parts_fault_tells (Index n) status held holds is told = tells_line status 2 held holds (omega arith) (omega arith) is told
+parts_fault_tells (Foreign n) status held holds is told =
+    tells_line status 2 held holds (omega arith) (omega arith) is told
+parts_fault_tells (Missing k) status held holds is told =
+    tells_line status 2 held holds (omega arith) (omega arith) is told
+
 -- what a fault of a job tells them
 fault_tells : (fault : JobFault) (status : ℕ) (held holds : Option (List ℕ)) → status ≡ job_fault_status fault
     → TellsFault fault held holds → TellsAt status held holds
@@ -47,13 +61,15 @@ fault_tells (NotOnCore mutex) status held holds is told = tells_line status 2 he
 fault_tells (PosixUndefined line) status held holds is told =
     tells_line status 9 held holds (omega arith) (omega arith) is told
 fault_tells (Mistake line) status held holds is told = tells_line status 10 held holds (omega arith) (omega arith) is told
+fault_tells Faulty status held holds is told = tells_line status 5 held holds (omega arith) (omega arith) is told
+fault_tells (Parts fault) status held holds is told = parts_fault_tells fault status held holds is told
 fault_tells NoCall status held holds is told = tells_line status 7 held holds (omega arith) (omega arith) is told
 
 -- what a job tells them
 job_tells : (notes : List ℕ) (result : Result (Unit {0}) JobFault) (status : ℕ) (held holds : Option (List ℕ))
     → status ≡ job_status result → TellsOf notes result held holds → TellsAt status held holds
 job_tells notes (Ok x) status held holds is told = inl (is, (notes, told))
-job_tells notes (Err fault) status held holds is told = fault_tells fault status held holds is told
+job_tells notes (Err end) status held holds is told = fault_tells end status held holds is told
 
 did_tells : (job : Job) (name : Text) (a b h k e f : Option (List ℕ)) (status : ℕ) → Did job name a b h k e f status
     → TellsAt status e f

@@ -3,7 +3,7 @@ use Rattle.std.specs.Borrow.{Bor}
 use Rattle.clap.specs.Words.{HasKind, Kinds, app_of, found_of}
 use Rattle.clap.proofs.FaultLemmas.{failed_up}
 use Rattle.pif_cli_words.specs.Words.{refusals_of}
-use Rattle.pif_cli_words.proofs.WordsLemmas.{clash_read, files_read, job_read, refusals-told, rewrites_read, room-filled, unrefused}
+use Rattle.pif_cli_words.proofs.WordsLemmas.{aside_read, clash_read, files_read, job_read, refusals-told, rewrites_read, room-filled, unrefused}
 use Rattle.pif_cli_words.proofs.jobs.read_words.Goals as goal
 
 pub returns-in_err-matches-clause-refusals : goal.returns-in_err-matches-clause-refusals
@@ -59,3 +59,11 @@ returns-in-Some-clause-rewrites g c =
     (map g.S.AsStr.text c.args.words.now) c.requires c.in_ok-complete.ensures c.as_slice.ensures.value)
     (ap app_of c.into_inner-pif.ensures ∙ c.in_ok-program.ensures.0)
     c.in_ok-matches.ensures.matches c.in-Some.ensures.name c.in-Some.ensures.rows _ c.rewrites.ensures
+
+pub returns-in-Some-clause-aside : goal.returns-in-Some-clause-aside
+returns-in-Some-clause-aside g c =
+    aside_read _ _ (map g.S.AsStr.text c.args.words.now) c.in_ok-matches.matches c.in-Some.name.now (found_of c.in-Some.given.now)
+    (room-filled (λ (word : Bor (List ℕ)). word.now) c.args.room.now.items c.complete.new.out.items c.as_slice.result.now
+    (map g.S.AsStr.text c.args.words.now) c.requires c.in_ok-complete.ensures c.as_slice.ensures.value)
+    (ap app_of c.into_inner-pif.ensures ∙ c.in_ok-program.ensures.0)
+    c.in_ok-matches.ensures.matches c.in-Some.ensures.name c.in-Some.ensures.rows _ c.aside_in.ensures

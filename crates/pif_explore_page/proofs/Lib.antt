@@ -1,0 +1,2 @@
+mod StepLemmas
+mod Pieces

@@ -1,0 +1,4 @@
+mod JoiningLemmas
+mod NumberLemmas
+mod SplittingLemmas
+mod ToldLemmas

@@ -1,0 +1,4 @@
+pub mod Indexes
+pub mod Joining
+pub mod Splitting
+pub mod Told
