@@ -1,5 +1,5 @@
 //! Readers of a core: how many there are, the time, who rests, and which call is open, of which a script says nothing,
-//! and the others once. What a script can say of the same scenes is in crates/pif_test_transcripts/data/cores.txt.
+//! and the others once. What a script can say of the same scenes is in transcripts/cores.txt.
 use super::driver::{Scene, Turn, Wish};
 use pif_core::Seen;
 use pif_types::{Kind, Refusal};

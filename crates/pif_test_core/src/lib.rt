@@ -17,7 +17,7 @@
 //! | `quick` | `pif_quick`: words from a try to a meeting, passes that wait, sums over many turns |
 //!
 //! A test of `cores`, `uses` or `desk` is a table of what is asked, and of the answers. What scripts can say of a core is
-//! tested by transcripts: crates/pif_test_transcripts/data/cores.txt and expiries.txt.
+//! tested by transcripts: cores.txt and expiries.txt of transcripts/.
 #![tactic(auto)]
 
 #[cfg(test)]

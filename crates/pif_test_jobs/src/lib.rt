@@ -6,8 +6,9 @@
 //! |---|---|
 //! | `sizes` | `pif_script` and `pif_job_replay`: scripts and traces that are too large, and the longest chain |
 //! | `reading` | `pif_script` and `pif_job_run`: when is read and written |
-//! | `traces` | `pif_job_run`: traces of scripts |
+//! | `traces` | `pif_job_run`: traces of scripts; `pif_job_replay`: traces whose input fails as if it had ended |
 //! | `notices` | what a notice keeps of a script, a trace or a story, by each job |
+//! | `messages` | `pif_cli_messages`: what is told of faults that no job can be brought to |
 //! | `random` | `pif_job_random`: what follows an end in a random script |
 //! | `streams` | none: the stream, which moves few bytes a call or fails once where it is told to |
 //! | `searches` | `pif_search`: verdicts and numbers of states that were worked out by hand |
@@ -18,7 +19,7 @@
 //! | `cloud` | none: all states in which the POSIX machine may be, after what was seen |
 //! | `plays` | `pif_history`: how often a player plays lines until it finds a run, and which open calls make few states |
 //!
-//! What words, an input and a stream that fails can ask is a transcript of `pif_test_transcripts`.
+//! What words, an input and a stream that fails can ask is a transcript.
 #![tactic(auto)]
 
 #[cfg(test)]
@@ -27,6 +28,8 @@ mod beside;
 mod cloud;
 #[cfg(test)]
 mod counters;
+#[cfg(test)]
+mod messages;
 #[cfg(test)]
 mod notices;
 #[cfg(test)]

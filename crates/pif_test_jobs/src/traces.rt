@@ -1,6 +1,7 @@
-//! Traces of scripts that are read from a stream.
+//! Traces of scripts that are read from a stream, and traces that are read from one.
 
 use crate::streams::Stream;
+use pif_job_replay::{migrate, replay};
 use pif_job_run::trace_noting;
 use pif_script::{CliFault, Notice};
 use pif_text::Cause;
@@ -132,5 +133,50 @@ fn failing_reader_and_writer_of_a_trace(rt: HostRuntime) {
     for (row, asked) in ROWS.iter().enumerate() {
         check_traced(&rt, rt.alloc(), row, asked, 4096);
         check_traced(&rt, rt.alloc(), row, asked, 1);
+    }
+}
+
+/// What is read of a trace before a read fails as if the input had ended, and whether the trace is migrated or replayed. A
+/// replay ends with the first line that is no trace's.
+static BEGINNINGS: [(&str, bool); 9] = [
+    ("", false),
+    ("pif-trace 1\n", false),
+    ("pif-trace 1\nthread 10 = t1\ngo", false),
+    ("pif-trace 1\nthread 10 = t1\nthr", false),
+    ("", true),
+    ("pif-trace 1\n", true),
+    ("pif-trace 1\nthread 10 = t1\ngo", true),
+    ("pif-trace 1\nthread 10 = t1\nthr", true),
+    ("pif-trace 3\n", true),
+];
+
+/// How a replay or a migration ends whose input fails so, with more behind that.
+fn end_early(
+    alloc: Global,
+    beginning: &str,
+    is_migrated: bool,
+    output: &mut Stream<'_>,
+) -> Result<(), CliFault> {
+    let parts = [(beginning, 1), (" t1 = refused idle\n", 1)];
+    let mut input = Stream::failing(&parts, beginning.len(), EARLY);
+    if is_migrated {
+        migrate(alloc, &mut input, output)
+    } else {
+        replay(alloc, &mut input, output)
+    }
+}
+
+/// Such a trace is refused, and nothing is written.
+fn check_early(rt: &impl Abort, alloc: Global, beginning: &str, is_migrated: bool) {
+    let mut output = Stream::new(&[]);
+    let ended = end_early(alloc, beginning, is_migrated, &mut output);
+    assert!(rt; ended == READ && output.is_met(), "{beginning}: {ended:?}");
+}
+
+#[test]
+fn input_that_fails_as_if_it_had_ended_is_no_trace(rt: HostRuntime) {
+    for row in &BEGINNINGS {
+        let (beginning, is_migrated) = *row;
+        check_early(&rt, rt.alloc(), beginning, is_migrated);
     }
 }
