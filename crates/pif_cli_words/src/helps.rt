@@ -490,13 +490,14 @@ lines:
                               may have a name: 'thread P NAME', 'cell NAME V'
   do tN ..: S; S; ..          what the threads do. S is a call, as 'lock m1',
                               'set x1 1', 'add x1 x2' or 'choose x1 0..3' for
-                              a cell, 'join tN', 'exit' or 'break', or has a
-                              block, which may have several lines:
+                              a cell, 'join tN', 'start tN', 'exit', 'break', or
+                              has a block, which may have several lines:
                               'if T { .. } else if T { .. } else { .. }' and
                               'while T { .. }'. T asks for the last answer, as
                               '130', or for a cell, as 'x1 = 0' or 'x1 < x2',
                               also with 'not', 'and', 'or' and '(..)'
-  ends N, ticks N N ..        at most N threads end, and these times come
+  ends N [of tN ..]           at most N threads end, if 'of' is there only these
+  ticks N N ..                these times come
   never: C, always: C         of all states that are reached
   finally: C                  of those from which only ends lead
   sometimes: C                of some state. C is made of 'tN stuck',

@@ -8,6 +8,7 @@ is_of_statements word =
     bytes_eq word (codes "if") || bytes_eq word (codes "else") || bytes_eq word (codes "while")
     || bytes_eq word (codes "break") || bytes_eq word (codes "set") || bytes_eq word (codes "add")
     || bytes_eq word (codes "choose") || bytes_eq word (codes "join") || bytes_eq word (codes "exit")
+    || bytes_eq word (codes "start")
     || bytes_eq word (codes "not") || bytes_eq word (codes "and") || bytes_eq word (codes "or")
 
 -- words with which conditions speak of threads
@@ -47,7 +48,7 @@ abbrev pub is_of_claims : List ℕ → Bool
 is_of_claims word =
     bytes_eq word (codes "do") || bytes_eq word (codes "ends") || bytes_eq word (codes "ticks")
     || bytes_eq word (codes "never") || bytes_eq word (codes "always") || bytes_eq word (codes "finally")
-    || bytes_eq word (codes "sometimes")
+    || bytes_eq word (codes "sometimes") || bytes_eq word (codes "of")
 
 -- words of kinds of mutexes
 abbrev pub is_of_kinds : List ℕ → Bool

@@ -16,6 +16,7 @@ fn is_of_statements(word: &[u8]) -> bool
         || is_word(word, b"choose")
         || is_word(word, b"join")
         || is_word(word, b"exit")
+        || is_word(word, b"start")
         || is_word(word, b"not")
         || is_word(word, b"and")
         || is_word(word, b"or")
@@ -95,6 +96,7 @@ fn is_of_claims(word: &[u8]) -> bool
         || is_word(word, b"always")
         || is_word(word, b"finally")
         || is_word(word, b"sometimes")
+        || is_word(word, b"of")
 }
 
 /// Whether a word is one of those of kinds of mutexes.

@@ -150,6 +150,8 @@ pub enum Rest {
     Ticks,
     /// More threads, or none.
     Threads,
+    /// `of` and threads, or nothing.
+    OfThreads,
 }
 
 /// Parts that stand one behind the other.

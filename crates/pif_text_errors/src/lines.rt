@@ -110,6 +110,8 @@ enum Next {
     Tick,
     /// A thread, or the end.
     Threads,
+    /// `of`, or the end.
+    Of,
     /// A statement, or what ends none.
     Statement,
     /// What ends a statement.
@@ -192,6 +194,7 @@ fn after_parts(rest: Rest) -> Next {
         Rest::Condition => Next::Subject(true),
         Rest::Ticks => Next::Tick,
         Rest::Threads => Next::Threads,
+        Rest::OfThreads => Next::Of,
     }
 }
 
@@ -261,6 +264,15 @@ impl LineSoFar {
     fn take_thread(&mut self, word: &[u8]) -> Result<(), Slip> {
         self.parts = Parts::Of(&[Part::Thread]);
         self.take_part(word)
+    }
+
+    /// Takes `of`, behind which threads stand.
+    fn take_of(&mut self, word: &[u8]) -> Result<(), Slip> {
+        if word != b"of".as_slice() {
+            return Err(self.slip(Wrong::TooMany, None));
+        }
+        self.begin(Parts::Of(&[Part::Thread]), Next::Threads);
+        Ok(())
     }
 
     /// Takes a word of a table, behind whose parts this may stand. `other` is wrong with a word that is none of them.
@@ -514,6 +526,7 @@ impl LineSoFar {
             Next::Rule | Next::Rules => self.take_rule(word),
             Next::Tick => self.take_tick(word),
             Next::Threads => self.take_thread(word),
+            Next::Of => self.take_of(word),
             Next::Statement => self.take_statement(word),
             Next::Else if word == b"else".as_slice() => {
                 self.next = Next::Brace;
@@ -550,7 +563,8 @@ impl LineSoFar {
     /// Ends the line, unless another word is wanted. A program may go on in the next line.
     pub fn end(&self) -> Result<(), Slip> {
         let wrong = match self.next {
-            Next::End | Next::Optional | Next::Rules | Next::Tick | Next::Threads => return Ok(()),
+            Next::End | Next::Optional | Next::Rules | Next::Tick => return Ok(()),
+            Next::Threads | Next::Of => return Ok(()),
             Next::Statement | Next::Semicolon | Next::Closed | Next::Else => return Ok(()),
             Next::Connective if self.brackets == 0 => return Ok(()),
             Next::Connective => Wrong::OpenBrackets,

@@ -223,9 +223,9 @@ pub static PROGRAM: [Form; 15] = [
     },
     Form {
         name: "ends",
-        text: "ends N",
+        text: "ends N [of tN ..]",
         parts: Parts::Of(&[Part::Value]),
-        rest: Rest::End,
+        rest: Rest::OfThreads,
     },
     Form {
         name: "ticks",
@@ -361,7 +361,7 @@ pub static KINDS_OF_PROGRAM: [Form; 4] = [
 ];
 
 /// The words of programs that are no calls and no errors: none of them is a name.
-pub static RESERVED: [&str; 58] = [
+pub static RESERVED: [&str; 60] = [
     "if",
     "else",
     "while",
@@ -370,6 +370,7 @@ pub static RESERVED: [&str; 58] = [
     "add",
     "choose",
     "join",
+    "start",
     "exit",
     "not",
     "and",
@@ -408,6 +409,7 @@ pub static RESERVED: [&str; 58] = [
     "schedule",
     "do",
     "ends",
+    "of",
     "ticks",
     "never",
     "always",
