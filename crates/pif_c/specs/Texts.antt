@@ -31,7 +31,7 @@ judged_number (Err (Undecided n)) = pif.undecided
 judged_number (Err NoCall) = pif.undecided
 judged_number (Err (PosixAllows n)) = pif.differs
 judged_number (Err (PosixUndefined n)) = pif.differs
-judged_number (Err (Log n)) = pif.mistake
+judged_number (Err (Log n noted)) = pif.mistake
 
 -- what a job says of a reader and a writer: what the reader had and has left, what the writer held and holds, and how
 -- the job ended

@@ -58,7 +58,7 @@ fn judged_number(done: Result<(), JudgeFault>) -> u32
         Err(JudgeFault::Undecided(_)) | Err(JudgeFault::NoCall) => UNDECIDED,
         // POSIX isn't asked.
         Err(JudgeFault::PosixAllows(_) | JudgeFault::PosixUndefined(_)) => DIFFERS,
-        Err(JudgeFault::Log(_)) => MISTAKE,
+        Err(JudgeFault::Log(_, _)) => MISTAKE,
     }
 }
 

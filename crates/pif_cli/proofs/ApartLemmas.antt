@@ -110,7 +110,7 @@ as-before (Err (judge.Undecided line)) end is e = cc
 as-before (Err (judge.PosixAllows line)) end is e = cc
 as-before (Err (judge.PosixUndefined line)) end is e = cc
 as-before (Err judge.NoCall) end is e = cc
-as-before (Err (judge.Log line)) end is e = cc
+as-before (Err (judge.Log line noted)) end is e = cc
 
 -- what was judged of a history that is told under this name is written again
 pub written-again : (asked : Judging) (name : Text) (judged : Judged) (held holds : Option (List ℕ)) (result : Result (Unit {0}) JobFault)

@@ -1,5 +1,5 @@
 -- A history that is written in parts, and the verdicts on them that are joined.
-use Rattle.std.specs.Prelude.{ℕ, zero, suc, ◌≡◌, ◌+◌, ◌⊎◌, List, [], ◌∷◌, ◌++◌, codes, vec_len, Option, Result, Ok, Err}
+use Rattle.std.specs.Prelude.{ℕ, zero, suc, ◌≡◌, ◌+◌, ◌⊎◌, List, [], ◌∷◌, ◌++◌, codes, vec_len, Option, None, Result, Ok, Err}
 use Rattle.std.specs.Io.KnownBytes.{Appends, Keeps}
 use Rattle.pif_script_model.specs.declared.faults.CliFault.TheVariants.{Write}
 use Rattle.pif_script_model.specs.Migrating.{ReadsTo}
@@ -24,7 +24,7 @@ parted_fault (parts_fault.Foreign n) = job_fault.Parts (in_parts.Foreign n)
 parted_fault (parts_fault.Missing k) = job_fault.Parts (in_parts.Missing k)
 parted_fault (parts_fault.Undecided n) = job_fault.Undecided n
 parted_fault parts_fault.NoCall = job_fault.NoCall
-parted_fault (parts_fault.Log n) = job_fault.Mistake n
+parted_fault (parts_fault.Log n) = job_fault.Mistake n None
 
 abbrev pub as_parted : Result (Unit {0}) PartsFault → Result (Unit {0}) JobFault
 as_parted (Ok x) = Ok x

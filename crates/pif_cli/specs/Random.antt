@@ -15,6 +15,6 @@ WritesRandom lines held holds (Err (PosixAllows line)) = ⊥
 WritesRandom lines held holds (Err (NotOnCore mutex)) = ⊥
 WritesRandom lines held holds (Err (PosixUndefined line)) = ⊥
 WritesRandom lines held holds (Err NoCall) = ⊥
-WritesRandom lines held holds (Err (Mistake line)) = ⊥
+WritesRandom lines held holds (Err (Mistake line noted)) = ⊥
 WritesRandom lines held holds (Err Faulty) = ⊥
 WritesRandom lines held holds (Err (Parts fault)) = ⊥

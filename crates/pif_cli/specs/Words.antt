@@ -64,7 +64,7 @@ as_judged (Err (judge_fault.Cli e)) = Err (Cli e)
 as_judged (Err (judge_fault.Undecided line)) = Err (Undecided line)
 as_judged (Err (judge_fault.PosixAllows line)) = Err (PosixAllows line)
 as_judged (Err (judge_fault.PosixUndefined line)) = Err (PosixUndefined line)
-as_judged (Err (judge_fault.Log line)) = Err (Mistake line)
+as_judged (Err (judge_fault.Log line noted)) = Err (Mistake line noted)
 as_judged (Err judge_fault.NoCall) = Err NoCall
 
 -- the form in which a verdict is told

@@ -22,7 +22,7 @@ fn as_judged(done: Result<(), JudgeFault>) -> Result<(), JobFault>
         Err(JudgeFault::PosixAllows(line)) => Err(JobFault::PosixAllows(line)),
         Err(JudgeFault::PosixUndefined(line)) => Err(JobFault::PosixUndefined(line)),
         Err(JudgeFault::NoCall) => Err(JobFault::NoCall),
-        Err(JudgeFault::Log(line)) => Err(JobFault::Mistake(line)),
+        Err(JudgeFault::Log(line, note)) => Err(JobFault::Mistake(line, note)),
     }
 }
 

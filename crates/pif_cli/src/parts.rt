@@ -25,7 +25,7 @@ fn parted_fault(fault: PartsFault) -> JobFault
         PartsFault::Missing(part) => JobFault::Parts(InParts::Missing(part)),
         PartsFault::Undecided(line) => JobFault::Undecided(line),
         PartsFault::NoCall => JobFault::NoCall,
-        PartsFault::Log(line) => JobFault::Mistake(line),
+        PartsFault::Log(line) => JobFault::Mistake(line, None),
     }
 }
 

@@ -5,7 +5,8 @@ use crate::statuses::JobFault;
 use crate::streams::Kept;
 use pif_cli_words::{Job, STANDARD_NAME};
 use pif_script::{CliFault, MOST_BYTES, MOST_LINE, Notice};
-use pif_text::{Cause, Command, errno_name, errno_of};
+use pif_story::{Note, append_missing};
+use pif_text::{Cause, Command, Text, errno_name, errno_of};
 use pif_text_errors::{
     SyntaxError, TextKind, Wrong, cause_words, history_error, other_kind, program_error,
     read_command,
@@ -13,6 +14,9 @@ use pif_text_errors::{
 use pif_types::Errno;
 use std::fmt::Write;
 use std::str::from_utf8;
+
+/// What is said of a mistake of the log, if nothing is noted.
+pub(crate) const MISTAKE: &str = "a mistake of the log: the lines before this one refuse it";
 
 /// Why the answers of a story are not written into its file.
 #[derive(Clone, Copy)]
@@ -89,12 +93,8 @@ impl<'n, 's> Given<'n, 's> {
                     "POSIX may leave undefined what this call does",
                 )
             }
-            JobFault::Mistake(number) => {
-                line_message(
-                    &self.place(number),
-                    "a mistake of the log: the lines before this one refuse it",
-                )
-            }
+            JobFault::Mistake(number, None) => line_message(&self.place(number), MISTAKE),
+            JobFault::Mistake(number, Some(note)) => noted_message(&self.place(number), &note),
             JobFault::NotOnCore(mutex) => off_core_message(self.name, mutex),
             JobFault::Faulty => {
                 line_message(
@@ -296,6 +296,16 @@ fn off_core_message(name: &str, mutex: u32) -> Message {
 pub(crate) fn line_message(place: &Place<'_, '_>, words: &str) -> Message {
     let mut message = Message::empty();
     say_line(place, 1, words, b"", &mut message);
+    message
+}
+
+/// What is told of a line by its place and what is noted of it, in the words of the notes on scripts.
+fn noted_message(place: &Place<'_, '_>, note: &Note) -> Message {
+    let mut text = Text::new();
+    append_missing(&mut text, &note.missing);
+    let mut message = Message::empty();
+    place.say(note.column as usize, &mut message);
+    message.show(text.as_slice());
     message
 }
 

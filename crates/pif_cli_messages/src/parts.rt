@@ -1,4 +1,4 @@
-use crate::causes::{file_message, line_message, words_message};
+use crate::causes::{MISTAKE, file_message, line_message, words_message};
 use crate::messages::Message;
 use crate::places::Place;
 use crate::statuses::JobFault;
@@ -80,10 +80,7 @@ pub(crate) fn joined_message(fault: JobFault) -> Option<Message> {
             "no run of the POSIX machine shows the lines up to here",
         ),
         JobFault::Undecided(number) => (number, "too many states were made to decide it"),
-        JobFault::Mistake(number) => (
-            number,
-            "a mistake of the log: the lines before this one refuse it",
-        ),
+        JobFault::Mistake(number, _) => (number, MISTAKE),
         JobFault::NoCall => {
             return Some(words_message("no call begins, so that nothing was judged"));
         }

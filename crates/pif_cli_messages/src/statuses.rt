@@ -3,6 +3,7 @@ ghost use Rattle.pif_cli_messages.specs.Statuses.{fault_status, is_output, job_f
 
 use crate::parts::InParts;
 use pif_script::CliFault;
+use pif_story::Note;
 
 /// Why a job was not done.
 #[derive(Clone, Copy)]
@@ -25,8 +26,9 @@ pub enum JobFault {
     PosixUndefined(u64),
     /// A history is legal and begins no call, so that nothing was judged.
     NoCall,
-    /// The line of this number, from 1, of a history is a mistake of the log.
-    Mistake(u64),
+    /// The line of this number, from 1, of a history is a mistake of the log. If it names or asks for what isn't there,
+    /// that may be noted.
+    Mistake(u64, Option<Note>),
     /// A fault of a program is reported, and none was to be.
     Faulty,
     /// A history is not written in parts, or the verdicts on its parts are not joined.
@@ -46,7 +48,7 @@ pub fn job_fault_status(fault: JobFault) -> u8
         JobFault::Undecided(_) | JobFault::NoCall => 7,
         JobFault::PosixAllows(_) => 8,
         JobFault::PosixUndefined(_) => 9,
-        JobFault::Mistake(_) => 10,
+        JobFault::Mistake(_, _) => 10,
         JobFault::NotOnCore(_) => 2,
         JobFault::Faulty => 5,
         JobFault::Parts(fault) => parts_status(fault),

@@ -1,23 +1,23 @@
 -- What lines tell of threads, line by line, and that a line is not refused that may come behind lines that tell this.
-use Rattle.std.proofs.Common.{ℕ, ◌≡◌, ◌≢◌, ◌⊎◌, ◌<◌, ◌-◌, ◌+◌, ◌∙◌, ◌&&◌, ◌||◌, ◌==◌, Bool, true, false, not, nat_lt, List, [], ◌∷◌, ◌++◌, length, get_or, Option, Some, None, IfSome, IfOk, Result, Ok, Err, reverse, take, slice_get, zero, suc, refl, sym, ap, subst, inl, inr, arith, slice_set, if◌then◌else◌}
+use Rattle.std.proofs.Common.{ℕ, ◌≡◌, ◌≢◌, ◌⊎◌, ◌<◌, ◌-◌, ◌+◌, ◌∙◌, ◌&&◌, ◌||◌, ◌==◌, Bool, true, false, not, nat_lt, List, [], ◌∷◌, ◌++◌, length, get_or, Option, Some, None, IfSome, IfOk, Result, Ok, Err, reverse, take, slice_get, refl, sym, ap, subst, inl, inr, arith, slice_set, if◌then◌else◌}
 use Rattle.std.specs.List.{filter}
-use Rattle.std.proofs.lemmas.Bool.{cases_eq, cases_order, true≢false, eq-eqb, ne_eqb, eqb-true, ltb-true}
+use Rattle.std.proofs.lemmas.Bool.{cases_eq, cases_order, true≢false, eq-eqb, ne_eqb, ltb-true}
 use Rattle.std.proofs.lemmas.List.{length-set, length_push, get_or-set_same, get_or-set_other, get_or_push, get_or_append_left, get_or_past, reverse-append, take_more}
 use Rattle.std.proofs.lemmas.Option.{same_Some, slice_get-get_or}
 use Rattle.pif_types.specs.Bounds.{Bounds}
 use Rattle.pif_types.specs.declared.errors.AddFault.TheVariants.{BadPrio, NoSuch}
 use Rattle.pif_types.specs.declared.errors.Refusal.TheVariants as refusal
-use Rattle.pif_types.specs.declared.requests.Request.{Request}
 use Rattle.pif_model.specs.Graph.{is_priority}
 use Rattle.pif_model.specs.Refusals.{begin_refused, end_refused, go_refused}
 use Rattle.pif_model.specs.Posix.{names_known}
 use Rattle.pif_model_lemmas.proofs.Numbers.{within, from_within}
+use Rattle.pif_model_lemmas.proofs.kernel.Numbers.{among-filter}
 use Rattle.pif_history_model.specs.declared.lines.Line.{Line}
 use Rattle.pif_history_model.specs.declared.lines.Line.TheVariants.{Thread, Mutex, Cond, Begin, Answer, Dying, End, Tick, Rests, Prio, Process, Halted, Resumed, Asks}
 use Rattle.pif_history_model.specs.declared.refusals.LineRefusal.{LineRefusal}
 use Rattle.pif_history_model.specs.declared.refusals.LineRefusal.TheVariants.{Addition, Halt}
-use Rattle.pif_history_model.specs.Lines.{comes_while, dying_by, halted_after, halted_by, is_among, thread_of}
-use Rattle.pif_history_model.specs.Refused.{conds_in, event_refused, is_gone, is_known, is_open, living_refused, mutexes_in, refusal_of_line, refusal_while_running, room_refused, threads_in, time_by}
+use Rattle.pif_history_model.specs.Lines.{comes_while, dying_by, halted_by, is_among, thread_of}
+use Rattle.pif_history_model.specs.Refused.{conds_in, event_refused, is_gone, is_known, is_open, living_refused, mutexes_in, refusal_of_line, refusal_while_running, room_refused, threads_in}
 use Rattle.pif_history_model.proofs.Telling.{begin_ok, go_ok, room_ok}
 use Rattle.pif_job_judge.specs.declared.before.Come.{Come}
 use Rattle.pif_job_judge.specs.declared.before.Counts.{Counts}
@@ -94,26 +94,12 @@ not_it t u n = ne_eqb u t (λ e. n (sym e))
 
 -- a thread that was left out is not among the others
 left_out : (us : List ℕ) (t : ℕ) → is_among (filter (λ x. not (x == t)) us) t ≡ false
-left_out [] t = refl
-left_out (x ∷ us) t = go (left_out us t) (x == t) refl
-  where
-    go : is_among (filter (λ y. not (y == t)) us) t ≡ false → (b : Bool) → (x == t) ≡ b
-        → is_among (if not b then x ∷ filter (λ y. not (y == t)) us else filter (λ y. not (y == t)) us) t ≡ false
-    go ih true e = ih
-    go ih false e = rw e ih
+left_out us t = among-filter (λ x. not (x == t)) us t ∙ ap (λ b. if not b then is_among us t else false) (eq-eqb t t refl)
 
 -- another one is as before
 left_in : (us : List ℕ) (t u : ℕ) → u ≢ t → is_among (filter (λ x. not (x == u)) us) t ≡ is_among us t
-left_in [] t u n = refl
-left_in (x ∷ us) t u n = go (left_in us t u n) (x == u) refl
-  where
-    go : is_among (filter (λ y. not (y == u)) us) t ≡ is_among us t → (b : Bool) → (x == u) ≡ b
-        → is_among (if not b then x ∷ filter (λ y. not (y == u)) us else filter (λ y. not (y == u)) us) t ≡ is_among (x ∷ us) t
-    go ih true e =
-        let same : x ≡ u = eqb-true x u e in
-        let other : (x == t) ≡ false = ne_eqb x t (λ h. n (sym same ∙ h)) in
-        ih ∙ sym (ap (λ b. b || is_among us t) other)
-    go ih false e = ap (λ b. (x == t) || b) ih
+left_in us t u n =
+    among-filter (λ x. not (x == u)) us t ∙ ap (λ b. if not b then is_among us t else false) (ne_eqb t u (λ e. n (sym e)))
 
 pub come : (line : Line) (before : List Line) (threads : List Come) → HaveCome before threads
     → IfSome (thread_of line) (λ t. is_added threads t ≡ true) → HaveCome (line ∷ before) (threads_after line threads)
@@ -334,23 +320,6 @@ pub record AreHeard (l : Bounds) (lines : List Line) (n : ℕ) (threads : List C
   pub come : HaveCome (reverse (take n lines)) threads
   pub counted : IsCounted (reverse (take n lines)) x
   pub taken : AreTaken l lines n
-
-pub heard_none : (l : Bounds) (lines : List Line) (threads : List Come) (x : Counts) → threads ≡ nothing ∷ []
-    → x ≡ record { halted = false; mutexes = 0; conds = 0; time = 0 } → AreHeard l lines 0 threads x
-heard_none l lines threads x a b =
-    subst (λ (ts : List Come). AreHeard l lines 0 ts x) (sym a)
-    (subst (λ (y : Counts). AreHeard l lines 0 (nothing ∷ []) y) (sym b) (record {
-      come = record { count = refl; nobody = refl; each = each };
-      counted = record { halted = refl; mutexes = refl; conds = refl; time = refl };
-      taken = λ k less. absurd (omega (arith, less));
-    }))
-  where
-    none : (t : ℕ) → get_or (nothing ∷ []) t nothing ≡ nothing
-    none zero = refl
-    none (suc t) = refl
-
-    each : (t : ℕ) → HasCome [] t (get_or (nothing ∷ []) t nothing)
-    each t = subst (λ (y : Come). HasCome [] t y) (sym (none t)) (record { calling = refl; gone = refl; dying = refl })
 
 pub heard_more : (l : Bounds) (lines : List Line) (n : ℕ) (threads more : List Come) (x y : Counts) (line : Line) (o : Option LineRefusal)
     → n < length lines → slice_get lines n ≡ Some line → AreHeard l lines n threads x → (((why : LineRefusal) → o ≡ Some why → ⊥)) → o ≡ refusal_of_line l (reverse (take n lines)) line

@@ -1,5 +1,5 @@
 -- Judging a history with sets of rules, put together.
-use Rattle.std.proofs.Common.{◌≡◌, ◌∙◌, ℕ, Bool, false, inl, inr, List, ◌++◌, Option, Result, Ok, Err, ap, append_assoc, refl, subst, sym}
+use Rattle.std.proofs.Common.{◌≡◌, ◌∙◌, ℕ, Bool, false, inl, inr, List, ◌++◌, Option, Result, Ok, Err, ap, append_assoc, subst, sym}
 use Rattle.pif_script_model.specs.declared.faults.CliFault.{CliFault}
 use Rattle.pif_rules_model.specs.declared.rules.Rules.{Rules}
 use Rattle.pif_history_text.specs.Histories.{Heard}

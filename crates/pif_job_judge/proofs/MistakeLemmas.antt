@@ -16,10 +16,9 @@ use Rattle.pif_history_told.specs.Why.{IsNumbered}
 use Rattle.pif_rules_model.specs.declared.rules.Rules.{Rules}
 use Rattle.pif_text.specs.Json.{quoted}
 use Rattle.pif_job_judge.specs.declared.faults.Ended.{Ended}
-use Rattle.pif_job_judge.specs.declared.faults.Ended.TheVariants as ended
 use Rattle.pif_job_judge.specs.declared.forms.Form.{Form}
 use Rattle.pif_job_judge.specs.declared.forms.Form.TheVariants.{Text, Witness, Json, Page}
-use Rattle.pif_job_judge.specs.Mistakes.{AppendsLog, AppendsLogLines, AppendsLogObjects, IsMistake, log_object, log_text}
+use Rattle.pif_job_judge.specs.Mistakes.{AppendsLog, AppendsLogLines, AppendsLogObjects, IsMistake, log_end, log_object, log_text}
 use Rattle.pif_job_judge.specs.Objects.{AppendsSteps, left_out_of}
 use Rattle.pif_job_judge.proofs.ObjectLemmas.{both}
 
@@ -73,22 +72,23 @@ log_appended number line why left_out text word old one two new texts words firs
     ∙ rw (texts, words) refl
 
 -- what is told of a mistake of the log
-pub log_line : (h : Heard) (n number : ℕ) (why : LineRefusal) (labels : List Label) (old new : List ℕ) → IsMistake h n why labels
-    → IsNumbered h n number → new ≡ old ++ log_text number why → AppendsLogLines h (ended.Log number) old new
-log_line h n number why labels old new is numbered grown =
-    (log_text number why, (n, number, why, labels, is, numbered, refl, refl), grown)
+pub log_line : (h : Heard) (n number : ℕ) (line : Line) (why : LineRefusal) (labels : List Label) (end : Ended) (old new : List ℕ)
+    → IsMistake h n why labels → IsNumbered h n number → slice_get h.shown (n - 1) ≡ Some line → end ≡ log_end h n number line why
+    → new ≡ old ++ log_text number why → AppendsLogLines h end old new
+log_line h n number line why labels end old new is numbered there ends grown =
+    (log_text number why, (n, number, line, why, labels, is, numbered, there, refl, ends), grown)
 
 pub log_objects : (form : Form) (h : Heard) (n number : ℕ) (line : Line) (why : LineRefusal) (labels given : List Label) (left m : ℕ)
-    (old mid new : List ℕ) → IsMistake h n why labels → IsNumbered h n number → slice_get h.shown (n - 1) ≡ Some line
-    → left ≡ left_out_of form (n - 1) → m ≡ left → given ≡ labels → mid ≡ old ++ log_object number line why m
-    → AppendsSteps h left given mid new → AppendsLogObjects form h (ended.Log number) old new
-log_objects form h n number line why labels given left m old mid new is numbered there out written same first told =
+    (end : Ended) (old mid new : List ℕ) → IsMistake h n why labels → IsNumbered h n number → slice_get h.shown (n - 1) ≡ Some line
+    → end ≡ log_end h n number line why → left ≡ left_out_of form (n - 1) → m ≡ left → given ≡ labels
+    → mid ≡ old ++ log_object number line why m → AppendsSteps h left given mid new → AppendsLogObjects form h end old new
+log_objects form h n number line why labels given left m end old mid new is numbered there ends out written same first told =
     let object : List ℕ = log_object number line why (left_out_of form (n - 1)) in
     let number_is = ap (λ (k : ℕ). log_object number line why k) (written ∙ out) in
     let one = subst (λ (k : ℕ). AppendsSteps h k given mid new) out told in
     let run = subst (λ (xs : List Label). AppendsSteps h (left_out_of form (n - 1)) xs mid new) same one in (
       object ++ run.0,
-      (n, number, line, why, labels, run.0, is, numbered, there, run.1, refl, refl),
+      (n, number, line, why, labels, run.0, is, numbered, there, run.1, refl, ends),
       both old mid new object run.0 (first ∙ ap (λ (l : List ℕ). old ++ l) number_is) run.2,
     )
 

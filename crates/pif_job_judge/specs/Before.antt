@@ -1,5 +1,5 @@
 -- What the lines of a history tell of whether the next one is refused, in one table for all threads.
-use Rattle.std.specs.Prelude.{ℕ, ◌≡◌, ◌<◌, ◌≤◌, ◌-◌, ◌+◌, reverse, take, slice_get, Option, Some, None, ◌&&◌, ◌||◌, ◌==◌, Bool, true, false, not, nat_lt, List, [], ◌∷◌, ◌++◌, length, get_or, slice_set, if◌then◌else◌}
+use Rattle.std.specs.Prelude.{ℕ, ◌≡◌, ◌<◌, ◌≤◌, ◌-◌, ◌+◌, take, slice_get, Option, Some, None, ◌&&◌, ◌||◌, ◌==◌, Bool, true, false, not, nat_lt, List, [], ◌∷◌, ◌++◌, length, get_or, slice_set, if◌then◌else◌}
 use Rattle.pif_types.specs.Bounds.{Bounds}
 use Rattle.pif_model.specs.Graph.{is_priority}
 use Rattle.pif_model.specs.Posix.{names_known}
@@ -7,7 +7,7 @@ use Rattle.pif_history_model.specs.declared.lines.Line.{Line}
 use Rattle.pif_history_model.specs.declared.lines.Line.TheVariants.{Thread, Mutex, Cond, Begin, Answer, Dying, End, Tick, Rests, Prio, Process, Halted, Resumed, Asks}
 use Rattle.pif_history_model.specs.Lines.{is_among, dying_by, halted_after, halted_by}
 use Rattle.pif_history_model.specs.declared.refusals.LineRefusal.{LineRefusal}
-use Rattle.pif_history_model.specs.Refused.{conds_in, is_gone, is_known, is_open, mutexes_in, refusal_of_line, threads_in, time_by}
+use Rattle.pif_history_model.specs.Refused.{conds_in, is_gone, is_known, is_open, mutexes_in, threads_in, time_by}
 use Rattle.pif_history_machine.specs.Verdicts.{IsRefusalThere}
 use Rattle.pif_job_judge.specs.declared.before.Refused.{Refused}
 use Rattle.pif_job_judge.specs.declared.before.Counts.{Counts}

@@ -26,5 +26,5 @@ result_of ended.NoCall = Err fault.NoCall
 result_of (ended.Illegal line) = Err (fault.Cli (Differs line))
 result_of (ended.Undecided line) = Err (fault.Undecided line)
 result_of (ended.PosixAllows line) = Err (fault.PosixAllows line)
-result_of (ended.Log line) = Err (fault.Log line)
+result_of (ended.Log line note) = Err (fault.Log line note)
 result_of (ended.PosixUndefined line) = Err (fault.PosixUndefined line)

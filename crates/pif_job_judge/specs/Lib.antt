@@ -11,6 +11,7 @@ pub mod LegalIf
 pub mod InTheWay
 pub mod Clues
 pub mod Lines
+pub mod Missing
 pub mod Mistakes
 pub mod Needed
 pub mod Objects

@@ -1,6 +1,6 @@
 -- Mistakes of a log: a line that the lines before it refuse by themselves, whatever was answered. It says nothing of
 -- what was recorded.
-use Rattle.std.specs.Prelude.{ℕ, ◌≡◌, ◌-◌, Bool, false, List, [], ◌++◌, take, slice_get, IfSome, Some, codes, decimal}
+use Rattle.std.specs.Prelude.{ℕ, ◌≡◌, ◌-◌, Bool, false, List, ◌++◌, take, slice_get, IfSome, Some, codes, decimal}
 use Rattle.pif_history_model.specs.declared.labels.Label.{Label}
 use Rattle.pif_history_model.specs.declared.lines.Line.{Line}
 use Rattle.pif_history_model.specs.declared.refusals.LineRefusal.{LineRefusal}
@@ -20,6 +20,7 @@ use Rattle.pif_job_judge.specs.declared.mistakes.Outcome.TheVariants.{Log, Verdi
 use Rattle.pif_job_judge.specs.Before.{IsRefusedAt}
 use Rattle.pif_job_judge.specs.Endings.{is_legal}
 use Rattle.pif_job_judge.specs.Fronts.{IsFront}
+use Rattle.pif_job_judge.specs.Missing.{note_on}
 use Rattle.pif_job_judge.specs.Objects.{TellsSteps, left_out_of}
 
 -- The nth line of a history is refused for this reason.
@@ -56,18 +57,23 @@ log_object number line why left_out =
     codes "{\"verdict\":\"log\"," ++ at_line number line ++ left_out_member left_out ++ codes ",\"refused\":"
     ++ quoted (line_refusal_word why) ++ codes "}\n"
 
+-- How telling of it ends: with the number of the nth line, and the note on it if there is one.
+abbrev pub log_end : Heard → (n number : ℕ) → Line → LineRefusal → Ended
+log_end h n number line why = ended.Log number (note_on (take (n - 1) h.shown) number line why)
+
 -- A text tells of it in lines, and this is how that ends.
 abbrev pub AreLogLines : Heard → (text : List ℕ) → Ended → Type 0
 AreLogLines h text end =
-    (n number : ℕ) × (why : LineRefusal) × (labels : List Label) × IsMistake h n why labels × IsNumbered h n number
-    × (text ≡ log_text number why) × (end ≡ ended.Log number)
+    (n number : ℕ) × (line : Line) × (why : LineRefusal) × (labels : List Label) × IsMistake h n why labels
+    × IsNumbered h n number × (slice_get h.shown (n - 1) ≡ Some line) × (text ≡ log_text number why)
+    × (end ≡ log_end h n number line why)
 
 -- A text tells of it in lines of JSON, and after it the run that shows the lines before it, and this is how that ends.
 abbrev pub AreLogObjects : Form → Heard → (text : List ℕ) → Ended → Type 0
 AreLogObjects form h text end =
     (n number : ℕ) × (line : Line) × (why : LineRefusal) × (labels : List Label) × (run : List ℕ) × IsMistake h n why labels
     × IsNumbered h n number × (slice_get h.shown (n - 1) ≡ Some line) × TellsSteps h (left_out_of form (n - 1)) labels run
-    × (text ≡ log_object number line why (left_out_of form (n - 1)) ++ run) × (end ≡ ended.Log number)
+    × (text ≡ log_object number line why (left_out_of form (n - 1)) ++ run) × (end ≡ log_end h n number line why)
 
 -- In each form.
 abbrev pub TellsLog : Form → Heard → (text : List ℕ) → Ended → Type 0

@@ -4,6 +4,7 @@ ghost use Rattle.pif_job_judge.specs.Endings.{legal_end, result_of};
 
 use pif_script_model::CliFault;
 use pif_search::Stop;
+use pif_story::Note;
 
 /// Why a history was not found to be legal.
 #[derive(Clone, Copy)]
@@ -19,8 +20,9 @@ pub enum JudgeFault {
     PosixUndefined(u64),
     /// It is legal, and begins no call, so that nothing was judged.
     NoCall,
-    /// The line of this number, from 1, is a mistake of the log: the lines before it are legal, and refuse it.
-    Log(u64),
+    /// The line of this number, from 1, is a mistake of the log: the lines before it are legal, and refuse it. If it names
+    /// or asks for what isn't there, that is noted.
+    Log(u64, Option<Note>),
 }
 
 /// What was told of a history.
@@ -38,8 +40,8 @@ pub enum Ended {
     PosixAllows(u64),
     /// At the line of this number, from 1, a call begins whose behaviour POSIX leaves undefined.
     PosixUndefined(u64),
-    /// The line of this number, from 1, is a mistake of the log.
-    Log(u64),
+    /// The line of this number, from 1, is a mistake of the log. If it names or asks for what isn't there, that is noted.
+    Log(u64, Option<Note>),
 }
 
 impl Ended {
@@ -65,7 +67,7 @@ impl Ended {
             Ended::Undecided(line) => Err(JudgeFault::Undecided(line)),
             Ended::PosixAllows(line) => Err(JudgeFault::PosixAllows(line)),
             Ended::PosixUndefined(line) => Err(JudgeFault::PosixUndefined(line)),
-            Ended::Log(line) => Err(JudgeFault::Log(line)),
+            Ended::Log(line, note) => Err(JudgeFault::Log(line, note)),
         }
     }
 }

@@ -18,6 +18,7 @@
 //! | `lines` | verdicts in lines for a person |
 //! | `objects` | a history as lines of JSON: its verdict, and its run |
 //! | `before` | the first line that those before it refuse |
+//! | `missing` | what a mistake of the log names or asks for that isn't there |
 //! | `mistakes` | mistakes of the log |
 //! | `posix` | what POSIX says of a history that isn't legal |
 //! | `undefined` | calls whose behaviour POSIX leaves undefined |
@@ -45,6 +46,7 @@ mod known;
 mod least;
 mod legal_if;
 mod lines;
+mod missing;
 mod mistakes;
 mod needed;
 mod objects;

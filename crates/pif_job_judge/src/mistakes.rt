@@ -5,13 +5,14 @@ ghost use Rattle.pif_history_model.specs.Verdicts.{IsLegal};
 ghost use Rattle.pif_history_text.specs.Histories.{Heard, limits_of};
 ghost use Rattle.pif_history_text.specs.Reading.{IsPaired, heard_of};
 ghost use Rattle.pif_job_judge.specs.Before.{IsFirstRefused};
-ghost use Rattle.pif_job_judge.specs.Mistakes.{AppendsLog, AppendsLogLines, AppendsLogObjects, IsFound, IsMistake, IsRefused, is_found_legal, log_object, log_text};
+ghost use Rattle.pif_job_judge.specs.Mistakes.{AppendsLog, AppendsLogLines, AppendsLogObjects, IsFound, IsMistake, IsRefused, is_found_legal, log_end, log_object, log_text};
 
 use crate::before::{Refused, first_refused};
 use crate::faults::Ended;
 use crate::forms::{Form, Judging};
 use crate::fronts::front_found;
 use crate::judging::Numbered;
+use crate::missing::note_on;
 use crate::objects::{append_steps, left_out, written};
 use pif_history::judge_lines;
 use pif_history_machine::Verdict;
@@ -117,15 +118,38 @@ pub fn judged_before<V: WatchLines>(
     }
 }
 
+/// What is told of a mistake of the log: this line, of this number, and the note on it.
+fn log_end(
+    alloc: Global,
+    history: &History,
+    mistake: &Mistake,
+    number: u32,
+    line: &Line,
+) -> Result<Ended, Stop>
+    requires { IsMistake (heard_of history.now) mistake.now.count mistake.now.why mistake.now.labels.items }
+    ensures { IfOk result (λ end. end ≡ log_end (heard_of history.now) mistake.now.count number line.now mistake.now.why) }
+{
+    let before = &history.shown.as_slice()[..mistake.count - 1];
+    let note = note_on(alloc, before, number, line, mistake.why)?;
+    Ok(Ended::Log(u64::from(number), note))
+}
+
 /// Appends the line that tells of a mistake of the log. Answers what that is.
-fn tell_log_line(history: &History, mistake: &Mistake, out: &mut Vec<u8>) -> Result<Ended, Stop>
+fn tell_log_line(
+    alloc: Global,
+    history: &History,
+    mistake: &Mistake,
+    out: &mut Vec<u8>,
+) -> Result<Ended, Stop>
     requires paired { IsPaired history.now }
     requires mistake { IsMistake (heard_of history.now) mistake.now.count mistake.now.why mistake.now.labels.items }
     ensures { IfOk result (λ end. AppendsLogLines (heard_of history.now) end out.old.items out.new.items) }
 {
     let number = number_at(history, mistake.count);
+    let line = line_at(history, mistake.count);
+    let end = log_end(alloc, history, mistake, number, &line)?;
     push_log(number, mistake.why, out)?;
-    Ok(Ended::Log(u64::from(number)))
+    Ok(end)
 }
 
 /// Appends that the line of this number is a mistake of the log, and why.
@@ -182,9 +206,10 @@ fn append_log_history(
     let number = number_at(history, mistake.count);
     let line = line_at(history, mistake.count);
     let left = left_out(form, mistake.count - 1);
+    let end = log_end(alloc, history, mistake, number, &line)?;
     append_log(number, line, mistake.why, written(left)?, out)?;
     append_steps(alloc, history, left, mistake.labels.as_slice(), out)?;
-    Ok(Ended::Log(u64::from(number)))
+    Ok(end)
 }
 
 /// Appends what is told of a mistake of the log. Answers what that is.
@@ -204,7 +229,7 @@ pub fn tell_log(
     ensures { IfOk result (λ end. AppendsLog form (heard_of history.now) end out.old.items out.new.items) }
 {
     match form {
-        Form::Text | Form::Witness => tell_log_line(history, mistake, out),
+        Form::Text | Form::Witness => tell_log_line(alloc, history, mistake, out),
         Form::Json | Form::Page => append_log_history(alloc, form, history, mistake, out),
     }
 }

@@ -308,7 +308,7 @@ fn allowed_at(told: Ended) -> Ended
     match told {
         Ended::Illegal(line) | Ended::Undecided(line) => Ended::PosixAllows(line),
         Ended::Legal | Ended::NoCall | Ended::PosixAllows(_) => told,
-        Ended::PosixUndefined(_) | Ended::Log(_) => told,
+        Ended::PosixUndefined(_) | Ended::Log(_, _) => told,
     }
 }
 

@@ -60,7 +60,7 @@ fault_tells (PosixAllows line) status held holds is told =
 fault_tells (NotOnCore mutex) status held holds is told = tells_line status 2 held holds (omega arith) (omega arith) is told
 fault_tells (PosixUndefined line) status held holds is told =
     tells_line status 9 held holds (omega arith) (omega arith) is told
-fault_tells (Mistake line) status held holds is told = tells_line status 10 held holds (omega arith) (omega arith) is told
+fault_tells (Mistake line noted) status held holds is told = tells_line status 10 held holds (omega arith) (omega arith) is told
 fault_tells Faulty status held holds is told = tells_line status 5 held holds (omega arith) (omega arith) is told
 fault_tells (Parts fault) status held holds is told = parts_fault_tells fault status held holds is told
 fault_tells NoCall status held holds is told = tells_line status 7 held holds (omega arith) (omega arith) is told

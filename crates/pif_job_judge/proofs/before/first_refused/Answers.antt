@@ -1,8 +1,8 @@
-use Rattle.std.proofs.Common.{List, ap, refl, reverse, slice_get, Some, subst, sym, take, ◌≡◌, ◌∙◌}
+use Rattle.std.proofs.Common.{List, refl, reverse, subst, sym, take}
 use Rattle.std.proofs.lemmas.Option.{slice_get_read}
 use Rattle.pif_job_judge.specs.declared.before.Come.{Come}
 use Rattle.pif_job_judge.specs.Before.{HaveCome}
-use Rattle.pif_job_judge.proofs.BeforeLemmas.{heard_more, heard_none, refused_at}
+use Rattle.pif_job_judge.proofs.BeforeLemmas.{heard_more, refused_at}
 use Rattle.pif_job_judge.proofs.before.first_refused.Goals as goal
 
 pub returns-in-Some : goal.returns-in-Some

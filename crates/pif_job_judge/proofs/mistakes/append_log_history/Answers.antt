@@ -9,10 +9,11 @@ use Rattle.pif_job_judge.proofs.mistakes.append_log_history.Goals as goal
 pub returns : goal.returns
 returns c =
     let m = c.args.mistake.now in
-    rw c.from.ensures (log_objects c.args.form (heard_of c.args.history.now) m.count c.number_at-number.result c.line_at-line.result m.why
-    m.labels.items c.as_slice.result.now c.left_out-left.result c.in_ok-written.field-0 c.args.out.now.items c.append_log.new.out.items
-    c.append_steps.new.out.items c.requires.mistake c.number_at-number.ensures c.line_at-line.ensures c.left_out-left.ensures
-    c.in_ok-written.ensures c.as_slice.ensures.value c.in_ok-append_log.ensures c.in_ok-append_steps.ensures)
+    log_objects c.args.form (heard_of c.args.history.now) m.count c.number_at-number.result c.line_at-line.result m.why
+    m.labels.items c.as_slice.result.now c.left_out-left.result c.in_ok-written.field-0 c.in_ok-end.end c.args.out.now.items
+    c.append_log.new.out.items c.append_steps.new.out.items c.requires.mistake c.number_at-number.ensures c.line_at-line.ensures
+    c.in_ok-end.ensures c.left_out-left.ensures c.in_ok-written.ensures c.as_slice.ensures.value c.in_ok-append_log.ensures
+    c.in_ok-append_steps.ensures
 
 pub append_steps-requires : goal.append_steps-requires
 append_steps-requires c =
