@@ -20,7 +20,7 @@ use Rattle.pif_explore_orders.specs.declared.all_faults.AllFaults.{AllFaults}
 use Rattle.pif_explore_told.specs.declared.delays.Held.{Held}
 use Rattle.pif_explore_told.specs.declared.verdicts.Ruling.{Ruling}
 use Rattle.pif_explore_told.specs.OutcomeLines.{outcome_line, why_text}
-use Rattle.pif_explore_page.specs.Objects.{counts_object, cycle_object, deadlock_object, delay_object, fault_objects, if_found, limits_told, lost_wake_up_object, misuse_object, objects_told, outcome_object, program_object, program_told, race_object, ruling_object, stuck_object, verdict_members, way_member}
+use Rattle.pif_explore_page.specs.Objects.{counts_object, cycle_object, deadlock_object, delay_object, fault_objects, if_found, limits_told, lost_wake_up_object, misuse_object, objects_told, outcome_object, program_object, program_told, race_object, ruling_object, scheduled, stuck_object, verdict_members, way_member}
 use Rattle.pif_explore_page.specs.Steps.{state_members}
 use Rattle.pif_explore_page.specs.Texts.{escaped, without_end}
 
@@ -123,6 +123,13 @@ ruling_grown p nodes r number text out one two new same same_text e f g =
     ∙ (λ i. out
     ++ (codes "{\"claim\":"
     ++ (decimal (same i) ++ (codes ",\"text\":\"" ++ (escaped (same_text i) ++ (codes "\"" ++ verdict))))))
+
+-- a stretch that ends
+pub longest_grown : (count : ℕ) (steps all out one new : List ℕ) → steps ≡ all → one ≡ out ++ (codes ",\"steps\":" ++ (decimal count ++ []))
+    → new ≡ one ++ scheduled steps → new ≡ out ++ (codes ",\"steps\":" ++ (decimal count ++ scheduled all))
+longest_grown count steps all out one new same e f =
+    two_more out one new (codes ",\"steps\":" ++ (decimal count ++ [])) (scheduled steps) e f
+    ∙ (λ i. out ++ (codes ",\"steps\":" ++ (append-nil (decimal count) i ++ scheduled (same i))))
 
 -- a stretch that goes round
 pub endless_grown : (steps all way out one new : List ℕ) → steps ≡ all → one ≡ out ++ (codes ",\"steps\":null,\"again\":[" ++ (steps ++ codes "]"))

@@ -1,17 +1,7 @@
--- Elements of an array of JSON (RFC 8259), with commas between them.
-use Rattle.std.specs.Prelude.{ℕ, zero, suc, ◌+◌, List, [], ◌∷◌, ◌++◌, codes}
+-- Arrays of JSON.
+use Rattle.std.specs.Prelude.{ℕ, List, codes}
+use Rattle.std.specs.List.{join_by}
 
--- elements, up to where the next one stands
-abbrev pub continued : (elements : List ℕ) → List ℕ
-continued [] = []
-continued (byte ∷ more) = (byte ∷ more) ++ codes ","
-
--- with one element more, if it is one
-abbrev pub with_element : (elements element : List ℕ) → List ℕ
-with_element elements [] = elements
-with_element elements (byte ∷ more) = continued elements ++ (byte ∷ more)
-
--- with the elements of the numbers 1 up to n
-abbrev pub with_numbered : (ℕ → List ℕ) → (elements : List ℕ) → (n : ℕ) → List ℕ
-with_numbered text elements zero = elements
-with_numbered text elements (suc n) = continued (with_numbered text elements n) ++ text (n + 1)
+-- the elements of an array, each by its text: a comma stands between each two (RFC 8259, section 5)
+abbrev pub elements : {A : Type 0} → (A → List ℕ) → List A → List ℕ
+elements text xs = join_by text (codes ",") xs

@@ -1,5 +1,6 @@
--- Steps as objects of JSON, and schedules as arrays of them. The state after a step is told by what is other than before.
-use Rattle.std.specs.Prelude.{ℕ, ◌-◌, Bool, false, List, [], ◌++◌, codes, decimal, fold, get_or, length, reverse, slice_get, Option, Some, None}
+-- Steps as objects of JSON (RFC 8259, section 4), and schedules as arrays of them, with the members that
+-- docs/explore.schema.json has. The state after a step is told by what is other than before.
+use Rattle.std.specs.Prelude.{ℕ, ◌≡◌, Bool, false, List, [], ◌∷◌, ◌++◌, codes, decimal, drop, flat_map, length, reverse, slice_get, Option, Some, None}
 use Rattle.pif_rules_model.specs.declared.rules.Rule.{Rule}
 use Rattle.pif_rules_model.specs.declared.rules.Rule.TheVariants.{EndsApart}
 use Rattle.pif_rules_model.specs.Sets.{no_rules}
@@ -12,16 +13,13 @@ use Rattle.pif_explore_model.specs.declared.labels.Label.{Label}
 use Rattle.pif_explore_model.specs.declared.labels.Label.TheVariants.{Moves, Ends, ByRule, EndsByRule}
 use Rattle.pif_explore_model.specs.Situations.{Plan, Situation, wide_of}
 use Rattle.pif_explore.specs.declared.legs.Leg.{Leg}
-use Rattle.pif_explore_told.specs.FoundSchedules.{back_from, step_line, way_at}
-use Rattle.pif_explore_page.specs.Elements.{with_element, with_numbered}
+use Rattle.pif_explore_told.specs.FoundSchedules.{back_from, schedule, step_line, way_at}
+use Rattle.pif_explore_page.specs.Elements.{elements}
 use Rattle.pif_explore_page.specs.Texts.{trimmed}
 
 -- the values of cells, that of cell 1 first. Place 0 stands for none
-abbrev pub cell_value : List ℕ → ℕ → List ℕ
-cell_value cells x = decimal (get_or cells x 0)
-
 abbrev pub cells_told : List ℕ → List ℕ
-cells_told cells = with_numbered (cell_value cells) [] (length cells - 1)
+cells_told cells = elements decimal (drop 1 cells)
 
 -- the cells of a state, and its threads, mutexes and variables: those that are other than in another one, or all
 abbrev pub state_members : (whole : Bool) → Plan → Situation → Situation → List ℕ
@@ -48,37 +46,43 @@ step_object p (EndsByRule t rule) s n =
     move_object (codes "end") t (names_of (only p.rules rule)) (wide_of p s) (wide_of p n)
 step_object p l s n = text_object p l s n
 
--- the step to a state, by how it was found
-abbrev pub object_from : Plan → Label → Option (Node Situation Label) → Situation → List ℕ
-object_from p l None n = []
-object_from p l (Some m) n = step_object p l m.state n
+-- a step of a run: its label, the state before it, and the state after it
+abbrev pub Step : Type 0
+Step = Label × Situation × Situation
 
-abbrev pub object_by : Plan → List (Node Situation Label) → Option (Node Situation Label) → Option (Way Label) → List ℕ
-object_by p nodes (Some n) (Some w) = object_from p w.label (slice_get nodes w.from) n.state
-object_by p nodes n w = []
+-- the step from one node to another, if there are both
+abbrev pub step_between : Label → Option (Node Situation Label) → Option (Node Situation Label) → List Step
+step_between l (Some m) (Some n) = (l, m.state, n.state) ∷ []
+step_between l m n = []
 
--- the step to the node at a place
-abbrev pub object_to : Plan → List (Node Situation Label) → ℕ → List ℕ
-object_to p nodes k = object_by p nodes (slice_get nodes k) (way_at nodes k)
+-- the step to a node, if it was found by one
+abbrev pub step_by : List (Node Situation Label) → Option (Node Situation Label) → Option (Way Label) → List Step
+step_by nodes n None = []
+step_by nodes n (Some w) = step_between w.label (slice_get nodes w.from) n
 
-abbrev pub with_step : Plan → List (Node Situation Label) → (steps : List ℕ) → ℕ → List ℕ
-with_step p nodes steps k = with_element steps (object_to p nodes k)
+abbrev pub step_to : List (Node Situation Label) → ℕ → List Step
+step_to nodes k = step_by nodes (slice_get nodes k) (way_at nodes k)
 
--- the steps of the schedule of the node at a place
-unfoldable pub steps_told : Plan → List (Node Situation Label) → ℕ → List ℕ
-steps_told p nodes k = fold (with_step p nodes) [] (reverse (back_from nodes (length nodes) k))
+-- the steps of the schedule of the node at a place: those of the run by which it was found
+unfoldable pub steps_to : List (Node Situation Label) → ℕ → List Step
+steps_to nodes k = flat_map (step_to nodes) (reverse (back_from nodes (length nodes) k))
 
--- the steps from one node to another of a stretch
-abbrev pub object_between : Plan → Label → Option (Node Situation Label) → Option (Node Situation Label) → List ℕ
-object_between p l (Some m) (Some n) = step_object p l m.state n.state
-object_between p l m n = []
+-- the schedule that is told in lines has just these steps
+abbrev pub HasTheseSteps : Type 0
+HasTheseSteps =
+    (p : Plan) (nodes : List (Node Situation Label)) (k : ℕ)
+    → schedule p nodes k ≡ flat_map (λ (x : Step). step_line p x.0 x.1 x.2) (steps_to nodes k)
 
-abbrev pub leg_object : Plan → List (Node Situation Label) → Leg → List ℕ
-leg_object p nodes g = object_between p g.label (slice_get nodes g.from) (slice_get nodes g.to)
+-- the steps of a stretch
+abbrev pub leg_step : List (Node Situation Label) → Leg → List Step
+leg_step nodes g = step_between g.label (slice_get nodes g.from) (slice_get nodes g.to)
 
-abbrev pub with_leg : Plan → List (Node Situation Label) → (steps : List ℕ) → Leg → List ℕ
-with_leg p nodes steps g = with_element steps (leg_object p nodes g)
+abbrev pub leg_steps : List (Node Situation Label) → List Leg → List Step
+leg_steps nodes legs = flat_map (leg_step nodes) legs
 
--- steps, and behind them those of a stretch
-abbrev pub with_legs : Plan → List (Node Situation Label) → (steps : List ℕ) → List Leg → List ℕ
-with_legs p nodes steps legs = fold (with_leg p nodes) steps legs
+-- steps as the elements of an array: an object for each of them
+abbrev pub object_of : Plan → Step → List ℕ
+object_of p x = step_object p x.0 x.1 x.2
+
+unfoldable pub steps_told : Plan → List Step → List ℕ
+steps_told p steps = elements (object_of p) steps

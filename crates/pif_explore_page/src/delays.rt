@@ -1,6 +1,6 @@
-ghost use Rattle.std.specs.Prelude.{◌≡◌, ◌++◌, [], OnOk, codes, decimal, flat_map};
+ghost use Rattle.std.specs.Prelude.{◌≡◌, ◌++◌, OnOk, codes, decimal, flat_map};
 ghost use Rattle.pif_explore_page.specs.Objects.{delay_members, delay_object, scheduled, way_member};
-ghost use Rattle.pif_explore_page.specs.Steps.{steps_told, with_legs};
+ghost use Rattle.pif_explore_page.specs.Steps.{leg_steps, steps_to, steps_told};
 
 use crate::schedules::{push_legs, push_scheduled, push_way_member, steps_to};
 use crate::texts::push_between;
@@ -19,7 +19,7 @@ fn push_longest(
     stretch: &Stretch,
     out: &mut Vec<u8>,
 ) -> Result<(), Stop>
-    ensures { OnOk result (out.new.items ≡ out.old.items ++ (codes ",\"steps\":" ++ (decimal stretch.now.count ++ scheduled (with_legs plan.now nodes.now (steps_told plan.now nodes.now stretch.now.place) stretch.now.legs.items)))) }
+    ensures { OnOk result (out.new.items ≡ out.old.items ++ (codes ",\"steps\":" ++ (decimal stretch.now.count ++ scheduled (steps_told plan.now (steps_to nodes.now stretch.now.place ++ leg_steps nodes.now stretch.now.legs.items))))) }
 {
     let mut steps = steps_to(alloc, plan, nodes, stretch.place)?;
     push_legs(alloc, plan, nodes, stretch.legs.as_slice(), &mut steps)?;
@@ -35,7 +35,7 @@ fn push_endless(
     stretch: &Stretch,
     out: &mut Vec<u8>,
 ) -> Result<(), Stop>
-    ensures { OnOk result (out.new.items ≡ out.old.items ++ (codes ",\"steps\":null,\"again\":[" ++ (with_legs plan.now nodes.now [] stretch.now.legs.items ++ (codes "]" ++ way_member plan.now nodes.now stretch.now.place)))) }
+    ensures { OnOk result (out.new.items ≡ out.old.items ++ (codes ",\"steps\":null,\"again\":[" ++ (steps_told plan.now (leg_steps nodes.now stretch.now.legs.items) ++ (codes "]" ++ way_member plan.now nodes.now stretch.now.place)))) }
 {
     let mut legs = Vec::new(alloc);
     push_legs(alloc, plan, nodes, stretch.legs.as_slice(), &mut legs)?;

@@ -6,13 +6,14 @@
 //!
 //! | Module | What it has |
 //! |---|---|
-//! | `elements` | elements of an array |
+//! | `elements` | the comma between elements of an array |
 //! | `texts` | texts as strings |
 //! | `steps` | a step |
 //! | `schedules` | the steps by which a state was found |
 //! | `program` | the program, and the state in which it starts |
 //! | `claims`, `delays`, `faults`, `outcomes` | what was found of each |
 //! | `objects` | all of it |
+//! | `laws` | a law, which its function states |
 //! | `pages` | a page around such lines |
 //! | `page_body`, `page_script` | what the page has and does, beside what all pages do |
 #![tactic(auto)]
@@ -21,6 +22,7 @@ mod claims;
 mod delays;
 mod elements;
 mod faults;
+mod laws;
 mod objects;
 mod outcomes;
 mod page_body;
@@ -31,5 +33,6 @@ mod schedules;
 mod steps;
 mod texts;
 
+pub use laws::schedules_have_these_steps;
 pub use objects::push_objects;
 pub use pages::push_page;

@@ -1,8 +1,8 @@
-ghost use Rattle.std.specs.Prelude.{◌≡◌, ◌++◌, IfOk, OnOk};
+ghost use Rattle.std.specs.Prelude.{◌≡◌, ◌++◌, ◌∷◌, [], List, IfOk, OnOk};
 ghost use Rattle.pif_explore_page.specs.Objects.{scheduled, way_member};
-ghost use Rattle.pif_explore_page.specs.Steps.{leg_object, object_to, steps_told, with_leg, with_legs, with_step};
+ghost use Rattle.pif_explore_page.specs.Steps.{Step, leg_step, leg_steps, step_to, steps_to, steps_told};
 
-use crate::elements::push_element;
+use crate::elements::push_comma;
 use crate::steps::push_step_object;
 use crate::texts::push_between;
 use pif_explore::{Leg, Plan, Situation};
@@ -12,15 +12,30 @@ use pif_reach::Node;
 use pif_search::Stop;
 use std::alloc::Global;
 
+/// Appends a step from a state to another, as a further element.
+fn add_step(
+    alloc: Global,
+    plan: &Plan,
+    label: &Label,
+    from: &Situation,
+    to: &Situation,
+    steps: &mut Vec<u8>,
+) -> Result<(), Stop>
+    ensures { OnOk result ((done : List Step) → steps.old.items ≡ steps_told plan.now done → steps.new.items ≡ steps_told plan.now (done ++ (label.now, from.now, to.now) ∷ [])) }
+{
+    push_comma(steps)?;
+    push_step_object(alloc, plan, label, from, to, steps)
+}
+
 /// Appends the step by which the node at a place was found, if it was by a step.
-fn push_step_to(
+fn add_step_to(
     alloc: Global,
     plan: &Plan,
     nodes: &[Node<Situation, Label>],
     at: usize,
-    out: &mut Vec<u8>,
+    steps: &mut Vec<u8>,
 ) -> Result<(), Stop>
-    ensures { OnOk result (out.new.items ≡ out.old.items ++ object_to plan.now nodes.now at) }
+    ensures { OnOk result ((done : List Step) → steps.old.items ≡ steps_told plan.now done → steps.new.items ≡ steps_told plan.now (done ++ step_to nodes.now at)) }
 {
     if at >= nodes.len() {
         return Ok(());
@@ -33,22 +48,7 @@ fn push_step_to(
         return Ok(());
     }
     let first = &nodes[way.from];
-    push_step_object(alloc, plan, &way.label, &first.state, &node.state, out)
-}
-
-/// Appends it as a further element.
-fn add_step(
-    alloc: Global,
-    plan: &Plan,
-    nodes: &[Node<Situation, Label>],
-    at: usize,
-    steps: &mut Vec<u8>,
-) -> Result<(), Stop>
-    ensures { OnOk result (steps.new.items ≡ with_step plan.now nodes.now steps.old.items at) }
-{
-    let mut step = Vec::new(alloc);
-    push_step_to(alloc, plan, nodes, at, &mut step)?;
-    push_element(steps, step.as_slice())
+    add_step(alloc, plan, &way.label, &first.state, &node.state, steps)
 }
 
 /// The steps by which the node at a place was found, as elements.
@@ -56,42 +56,24 @@ fn add_step(
 /// # Errors
 ///
 /// Out of memory, or a number got too great for a state.
-#[tactic(auto, unfolding(crate::specs::Steps::steps_told))]
+#[tactic(auto, unfolding(crate::specs::Steps::steps_to))]
 pub fn steps_to(
     alloc: Global,
     plan: &Plan,
     nodes: &[Node<Situation, Label>],
     place: usize,
 ) -> Result<Vec<u8>, Stop>
-    ensures { IfOk result (λ v. v.items ≡ steps_told plan.now nodes.now place) }
+    ensures { IfOk result (λ v. v.items ≡ steps_told plan.now (steps_to nodes.now place)) }
 {
     let mut steps = Vec::new(alloc);
     let mut back = back_from(alloc, nodes, place)?;
     while let Some(at) = back.pop() {
-        add_step(alloc, plan, nodes, at, &mut steps)?;
+        add_step_to(alloc, plan, nodes, at, &mut steps)?;
     }
     Ok(steps)
 }
 
-/// Appends the step from one node to another.
-fn push_leg(
-    alloc: Global,
-    plan: &Plan,
-    nodes: &[Node<Situation, Label>],
-    leg: &Leg,
-    out: &mut Vec<u8>,
-) -> Result<(), Stop>
-    ensures { OnOk result (out.new.items ≡ out.old.items ++ leg_object plan.now nodes.now leg.now) }
-{
-    if leg.from >= nodes.len() || leg.to >= nodes.len() {
-        return Ok(());
-    }
-    let first = &nodes[leg.from];
-    let second = &nodes[leg.to];
-    push_step_object(alloc, plan, &leg.label, &first.state, &second.state, out)
-}
-
-/// Appends it as a further element.
+/// Appends the step from one node to another, as a further element.
 fn add_leg(
     alloc: Global,
     plan: &Plan,
@@ -99,11 +81,14 @@ fn add_leg(
     leg: &Leg,
     steps: &mut Vec<u8>,
 ) -> Result<(), Stop>
-    ensures { OnOk result (steps.new.items ≡ with_leg plan.now nodes.now steps.old.items leg.now) }
+    ensures { OnOk result ((done : List Step) → steps.old.items ≡ steps_told plan.now done → steps.new.items ≡ steps_told plan.now (done ++ leg_step nodes.now leg.now)) }
 {
-    let mut step = Vec::new(alloc);
-    push_leg(alloc, plan, nodes, leg, &mut step)?;
-    push_element(steps, step.as_slice())
+    if leg.from >= nodes.len() || leg.to >= nodes.len() {
+        return Ok(());
+    }
+    let first = &nodes[leg.from];
+    let second = &nodes[leg.to];
+    add_step(alloc, plan, &leg.label, &first.state, &second.state, steps)
 }
 
 /// Appends the steps of a stretch, as further elements.
@@ -118,7 +103,7 @@ pub fn push_legs(
     legs: &[Leg],
     steps: &mut Vec<u8>,
 ) -> Result<(), Stop>
-    ensures { OnOk result (steps.new.items ≡ with_legs plan.now nodes.now steps.old.items legs.now) }
+    ensures { OnOk result ((done : List Step) → steps.old.items ≡ steps_told plan.now done → steps.new.items ≡ steps_told plan.now (done ++ leg_steps nodes.now legs.now)) }
 {
     for leg in legs {
         add_leg(alloc, plan, nodes, leg, steps)?;

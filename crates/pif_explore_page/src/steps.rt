@@ -1,11 +1,9 @@
-ghost use Rattle.std.specs.Prelude.{◌≡◌, ◌-◌, ◌++◌, [], OnOk, length};
+ghost use Rattle.std.specs.Prelude.{◌≡◌, ◌++◌, OnOk, codes, decimal, flat_map};
 ghost use Rattle.pif_rules.specs.Sets.{names_of};
 ghost use Rattle.pif_history_told.specs.Runs.{move_object};
 ghost use Rattle.pif_explore_model.specs.Situations.{wide_of};
-ghost use Rattle.pif_explore_page.specs.Elements.{with_numbered};
-ghost use Rattle.pif_explore_page.specs.Steps.{cell_value, cells_told, rule_kind, state_members, step_object, text_object};
+ghost use Rattle.pif_explore_page.specs.Steps.{cells_told, rule_kind, state_members, step_object, text_object};
 
-use crate::elements::go_on;
 use crate::texts::{push_between, trimmed};
 use pif_explore::{Plan, Situation};
 use pif_explore_model::Label;
@@ -13,20 +11,34 @@ use pif_explore_told::{push_all, push_numbers, push_step};
 use pif_history_told::{Change, Leap, append_changes, append_move};
 use pif_rules::{only, push_names};
 use pif_rules_model::{Rule, Rules, no_rules};
-use pif_search::{Stop, at_or};
+use pif_search::Stop;
 use pif_types::{Request, Tid};
 use std::alloc::Global;
 
-/// Appends the values of cells, as elements.
-fn push_cells(elements: &mut Vec<u8>, cells: &[u8]) -> Result<(), Stop>
-    ensures { OnOk result (elements.new.items ≡ with_numbered (cell_value cells.now) elements.old.items (length cells.now - 1)) }
+/// Appends the values of cells, each behind a comma.
+fn push_more_cells(elements: &mut Vec<u8>, cells: &[u8]) -> Result<(), Stop>
+    ensures { OnOk result (elements.new.items ≡ elements.old.items ++ flat_map (λ x. codes "," ++ decimal x) cells.now) }
 {
-    let count = cells.len().saturating_sub(1);
-    for place in 0..count {
-        go_on(elements)?;
-        push_numbers(elements, &[("", u64::from(at_or(cells, place + 1, 0)))], "")?;
+    for cell in cells {
+        push_numbers(elements, &[(",", u64::from(*cell))], "")?;
     }
     Ok(())
+}
+
+/// Appends the values of cells, as elements.
+fn push_cells(elements: &mut Vec<u8>, cells: &[u8]) -> Result<(), Stop>
+    ensures { OnOk result (elements.new.items ≡ elements.old.items ++ cells_told cells.now) }
+{
+    match cells {
+        [] => Ok(()),
+        [_, cells @ ..] => match cells {
+            [] => Ok(()),
+            [first, more @ ..] => {
+                push_numbers(elements, &[("", u64::from(*first))], "")?;
+                push_more_cells(elements, more)
+            }
+        },
+    }
 }
 
 /// Appends the cells of a state, and its threads, mutexes and variables: those that are other than in another one, or all.

@@ -1,6 +1,8 @@
-use Rattle.std.proofs.Common.{◌≡◌, take}
-use Rattle.pif_explore_page.specs.Steps.{with_legs}
+use Rattle.std.proofs.Common.{◌≡◌, List, ◌++◌, take}
+use Rattle.pif_explore_page.specs.Steps.{Step, leg_steps, steps_told}
 use Rattle.pif_explore_page.proofs.schedules.push_legs.Given as goal
 
 abbrev pub invariant-loop-leg : goal.invariant-loop-leg
-invariant-loop-leg l = l.steps.items ≡ with_legs l.plan l.nodes l.initial.steps.items (take l.leg-index l.legs)
+invariant-loop-leg l =
+    (done : List Step) → l.initial.steps.items ≡ steps_told l.plan done
+    → l.steps.items ≡ steps_told l.plan (done ++ leg_steps l.nodes (take l.leg-index l.legs))
