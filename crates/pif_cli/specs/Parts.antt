@@ -1,9 +1,10 @@
--- A history that is written in parts, and the verdicts on them that are joined.
+-- A history that is written in parts, and the verdicts on them that are joined; and one that is followed.
 use Rattle.std.specs.Prelude.{ℕ, zero, suc, ◌≡◌, ◌+◌, ◌⊎◌, List, [], ◌∷◌, ◌++◌, codes, vec_len, Option, None, Result, Ok, Err}
 use Rattle.std.specs.Io.KnownBytes.{Appends, Keeps}
 use Rattle.pif_script_model.specs.declared.faults.CliFault.TheVariants.{Write}
 use Rattle.pif_script_model.specs.Migrating.{ReadsTo}
 use Rattle.pif_script_model.specs.Runs.{WritesPart}
+use Rattle.pif_job_follow.specs.Following.{FollowsTo}
 use Rattle.pif_job_parts.specs.declared.faults.PartsFault.{PartsFault}
 use Rattle.pif_job_parts.specs.declared.faults.PartsFault.TheVariants as parts_fault
 use Rattle.pif_job_parts.specs.declared.splitting.Parts.{Parts}
@@ -68,3 +69,8 @@ abbrev pub JoinsBy : (before after held holds : Option (List ℕ)) → Result (U
 JoinsBy before after held holds result =
     ((verdicts : List ℕ) × ReadsTo before after verdicts × JoinsRead verdicts held holds result)
     ⊎ GivesUp held holds result
+
+-- the history of a reader was followed
+abbrev pub FollowsInto : (before after held holds : Option (List ℕ)) → Result (Unit {0}) JobFault → Type 0
+FollowsInto before after held holds result =
+    (done : Result (Unit {0}) PartsFault) × FollowsTo before after held holds done × (result ≡ as_parted done)

@@ -33,13 +33,13 @@ use Rattle.pif_job_shell.specs.Talks.{TalksTo}
 use Rattle.pif_cli_words.specs.declared.jobs.Exploring.{Exploring}
 use Rattle.pif_cli_words.specs.declared.jobs.Judging.{Judging}
 use Rattle.pif_cli_words.specs.declared.jobs.Job.{Job}
-use Rattle.pif_cli_words.specs.declared.jobs.Job.TheVariants.{Run, Replay, Trace, Migrate, Show, Picture, Draw, Shell, Check, Strict, Fill, FillSeveral, Judge, Split, Joined, Explore, Random, Drive}
+use Rattle.pif_cli_words.specs.declared.jobs.Job.TheVariants.{Run, Replay, Trace, Migrate, Show, Picture, Draw, Shell, Check, Strict, Fill, FillSeveral, Judge, Split, Joined, Follow, Explore, Random, Drive}
 use Rattle.pif_cli_words.specs.Words.{files_of, inputs_of, job_of, refusals_of, rewrites, standard_name}
 use Rattle.pif_cli_messages.specs.declared.statuses.JobFault.{JobFault}
 use Rattle.pif_cli_messages.specs.declared.statuses.JobFault.TheVariants.{Cli, NotOnCore, PosixAllows, PosixUndefined, Undecided, NoCall, Mistake, Faulty, Parts}
 use Rattle.pif_cli_messages.specs.Messages.{TellsLine, TellsOf}
 use Rattle.pif_cli.specs.Names.{noted_name, shown_name}
-use Rattle.pif_cli.specs.Parts.{JoinsBy, SplitsInto}
+use Rattle.pif_cli.specs.Parts.{FollowsInto, JoinsBy, SplitsInto}
 use Rattle.pif_cli.specs.Random.{WritesRandom}
 use Rattle.pif_cli_messages.specs.Statuses.{job_status}
 use Rattle.pif_cli.specs.Driving.{Drives}
@@ -141,6 +141,7 @@ Does FillSeveral name before after held holds result =
 Does (Judge asked) name before after held holds result = JudgesNamed asked name before after held holds result
 Does (Split least) name before after held holds result = SplitsInto before after held holds result
 Does Joined name before after held holds result = JoinsBy before after held holds result
+Does (Follow asked) name before after held holds result = FollowsInto before after held holds result
 Does (Explore asked) name before after held holds result = ExploresAsked asked before after held holds result
 Does (Random recipe) name before after held holds result =
     Keeps before after × WritesRandom recipe.lines held holds result

@@ -1,9 +1,11 @@
-//! `judge --split` and `judge --joined`: the files of a history in parts.
+//! `judge --split` and `judge --joined`: the files of a history in parts. `judge --follow`: one that is still read.
 ghost use Rattle.std.specs.Prelude.{◌≡◌, ◌++◌, IfOk, Ok, OnOk, codes, vec_len};
 ghost use Rattle.pif_job_parts.specs.Indexes.{file_name};
-ghost use Rattle.pif_cli.specs.Parts.{JoinsBy, JoinsRead, SavesParts, SplitsInto, WritesNames, as_parted, names_text, parted_fault};
+ghost use Rattle.pif_cli.specs.Parts.{FollowsInto, JoinsBy, JoinsRead, SavesParts, SplitsInto, WritesNames, as_parted, names_text, parted_fault};
 
 use pif_cli_messages::{InParts, JobFault};
+use pif_job_follow::{Following, WatchParts, follow};
+use pif_job_judge::WatchLines;
 use pif_job_parts::{Parts, PartsFault, join, split};
 use pif_job_shell::{LoadFault, SaveFault, Shelf};
 use pif_script::{CliFault, Notice, read_all, write_whole};
@@ -281,4 +283,44 @@ pub fn join_input<S: Shelf, R: Read, W: Write>(
         Ok(verdicts) => join_read(alloc, shelf, name, verdicts.as_slice(), output, notice),
         Err(fault) => Err(JobFault::Cli(fault)),
     }
+}
+
+/// Who is told of the lines and the parts of a history that is followed.
+#[derive(Drop)]
+struct Watched<'v, V> {
+    watch: &'v mut V,
+}
+
+impl<V: WatchLines> WatchLines for Watched<'_, V> {
+    fn line(&mut self, line: usize, states: usize) {
+        self.watch.line(line, states);
+    }
+
+    fn goes_on(&mut self) -> bool {
+        self.watch.goes_on()
+    }
+}
+
+impl<V: pif_cli_messages::WatchParts> WatchParts for Watched<'_, V> {
+    fn legal_up_to(&mut self, line: u32) {
+        self.watch.legal_up_to(line);
+    }
+}
+
+/// Judges a history while it is read, and writes the verdict on all lines that were read.
+pub fn follow_input<R: Read, W: Write, V: WatchLines + pif_cli_messages::WatchParts>(
+    alloc: Global,
+    asked: pif_cli_words::Followed,
+    input: &mut R,
+    output: &mut W,
+    watch: &mut V,
+) -> Result<(), JobFault>
+    ensures { FollowsInto (R.remaining input.old) (R.remaining input.new) (W.contents output.old) (W.contents output.new) result }
+{
+    let following = Following {
+        least: asked.least,
+        states: asked.states,
+    };
+    let mut watched = Watched { watch };
+    as_parted(follow(alloc, following, input, output, &mut watched))
 }

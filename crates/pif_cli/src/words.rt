@@ -12,7 +12,7 @@ use crate::drive::drive;
 use crate::hosts::{Host, Runtime};
 use crate::judging::judge_input;
 use crate::names::Name;
-use crate::parts::{join_input, split_input};
+use crate::parts::{follow_input, join_input, split_input};
 use crate::random::write_random;
 use crate::times::Timed;
 use crate::told::Told;
@@ -163,6 +163,7 @@ fn do_job<P: Runtime + Sync, S: Shelf, R: Read, W: Write, E, V: WatchJob>(
         },
         Job::Split(least) => { split_input(alloc, host.shelf, aside, least, input, output, notice) }
         Job::Joined => join_input(alloc, host.shelf, aside, input, output, notice),
+        Job::Follow(asked) => follow_input(alloc, asked, input, output, host.watch),
         Job::Explore(asked) => {
             explore_input(alloc, host.process, asked, input, output, host.watch)
         },
@@ -178,7 +179,7 @@ fn kept_of(job: Job) -> Keeps {
         Job::Check | Job::Strict | Job::Fill | Job::FillSeveral => Keeps::All,
         Job::Picture(_) | Job::Draw(_) | Job::Show(_) | Job::Trace => Keeps::All,
         Job::Explore(_) => Keeps::All,
-        Job::Judge(_) | Job::Split(_) => Keeps::LastLines,
+        Job::Judge(_) | Job::Split(_) | Job::Follow(_) => Keeps::LastLines,
         _ => Keeps::Nothing,
     }
 }

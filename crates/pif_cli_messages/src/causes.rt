@@ -111,7 +111,7 @@ impl<'n, 's> Given<'n, 's> {
     /// The text of a story, if it was kept.
     fn story(&self) -> Option<&'s [u8]> {
         match (self.job, self.kept) {
-            (Job::Judge(_) | Job::Split(_) | Job::Explore(_), _) => None,
+            (Job::Judge(_) | Job::Split(_) | Job::Follow(_) | Job::Explore(_), _) => None,
             (_, Some(kept)) => Some(kept.text),
             (_, None) => None,
         }
@@ -137,7 +137,7 @@ impl<'n, 's> Given<'n, 's> {
         let mut message = Message::empty();
         let place = self.place_of_fault(number, cause);
         match (self.job, cause) {
-            (Job::Judge(_) | Job::Split(_) | Job::Explore(_), _) => {
+            (Job::Judge(_) | Job::Split(_) | Job::Follow(_) | Job::Explore(_), _) => {
                 self.say_text_fault(&place, number, cause, &mut message)
             }
             (Job::Replay | Job::Migrate, Cause::Command) => {
@@ -203,7 +203,9 @@ impl<'n, 's> Given<'n, 's> {
         let words = match self.job {
             job if is_of_story(job) => story_difference(notice),
             Job::Explore(_) => "the claim is broken",
-            Job::Judge(_) => "no run of the POSIX machine shows the lines up to here",
+            Job::Judge(_) | Job::Follow(_) => {
+                "no run of the POSIX machine shows the lines up to here"
+            }
             _ => {
                 let mut message = Message::empty();
                 say_difference(&place, notice, &mut message);

@@ -25,7 +25,7 @@ mod streams;
 pub use causes::{Given, Unwritten, plain_message, unread_message, unwritten_message};
 pub use messages::{Message, are_printable};
 pub use parts::InParts;
-pub use progress::{Progress, Unwatched, WatchFiles, WatchJob};
+pub use progress::{Progress, Unwatched, WatchFiles, WatchJob, WatchParts};
 pub use replaced::Replaced;
 pub use statuses::{JobFault, fault_status, is_output, job_fault_status};
 pub use streams::{Input, Keeps, Kept, Output, words_of};

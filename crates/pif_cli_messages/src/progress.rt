@@ -12,10 +12,16 @@ pub trait WatchFiles {
     fn file(&mut self, done: usize, count: usize);
 }
 
-/// Who is told how far any job over one input has come.
-pub trait WatchJob: WatchLines + WatchStates + WatchSteps {}
+/// Who is told how far a history was judged that is still read.
+pub trait WatchParts {
+    /// The lines of its text up to that of this number, from 1, are legal.
+    fn legal_up_to(&mut self, line: u32);
+}
 
-impl<V: WatchLines + WatchStates + WatchSteps> WatchJob for V {}
+/// Who is told how far any job over one input has come.
+pub trait WatchJob: WatchLines + WatchStates + WatchSteps + WatchParts {}
+
+impl<V: WatchLines + WatchStates + WatchSteps + WatchParts> WatchJob for V {}
 
 /// Nobody is told of anything.
 #[derive(Drop)]
@@ -41,9 +47,14 @@ impl WatchSteps for Unwatched {
     fn step(&mut self, _done: usize, _count: usize) {}
 }
 
+impl WatchParts for Unwatched {
+    fn legal_up_to(&mut self, _line: u32) {}
+}
+
 /// How far a job has come, as a person at a terminal is told: a line each second after the first. Of a job over several
 /// files it says how many are done, of a history which line is judged and how many states were made for it, of an
-/// exploration how many states and steps were found, and of a drawing or a random script how much of it is done.
+/// exploration how many states and steps were found, and of a drawing or a random script how much of it is done. Of a
+/// history that is followed each line is told up to which it is legal, also if nobody sits there.
 #[derive(Drop)]
 pub struct Progress<'c, 'e, C, E> {
     clock: &'c C,
@@ -120,6 +131,14 @@ impl<C: Clock, E: Write> WatchStates for Progress<'_, '_, C, E> {
 
     fn goes_on(&mut self) -> bool {
         true
+    }
+}
+
+impl<C: Clock, E: Write> WatchParts for Progress<'_, '_, C, E> {
+    fn legal_up_to(&mut self, line: u32) {
+        let mut message = Message::new();
+        let _ = write!(message, "legal up to {line}");
+        message.tell(self.errors);
     }
 }
 

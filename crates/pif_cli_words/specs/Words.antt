@@ -11,9 +11,10 @@ use Rattle.pif_cli_words.specs.declared.clashes.Clash.{Clash}
 use Rattle.pif_cli_words.specs.declared.clashes.Clash.TheVariants.{Least, Forms, Json, Files, Parts, PartsOfOne, Rules, Checks, Range, Page, Objects}
 use Rattle.pif_cli_words.specs.declared.jobs.Drawn.{Drawn}
 use Rattle.pif_cli_words.specs.declared.jobs.Exploring.{Exploring}
+use Rattle.pif_cli_words.specs.declared.jobs.Followed.{Followed}
 use Rattle.pif_cli_words.specs.declared.jobs.Judging.{Judging}
 use Rattle.pif_cli_words.specs.declared.jobs.Job.{Job}
-use Rattle.pif_cli_words.specs.declared.jobs.Job.TheVariants.{Run, Replay, Trace, Migrate, Show, Picture, Draw, Shell, Check, Strict, Fill, FillSeveral, Judge, Split, Joined, Explore, Random, Drive}
+use Rattle.pif_cli_words.specs.declared.jobs.Job.TheVariants.{Run, Replay, Trace, Migrate, Show, Picture, Draw, Shell, Check, Strict, Fill, FillSeveral, Judge, Split, Joined, Follow, Explore, Random, Drive}
 use Rattle.pif_cli_words.specs.Defaults.{completed}
 use Rattle.pif_cli_words.specs.Options.{chosen_rule, flag_in, flag_rule, is_named, name_rule, number_between, number_rule, unless_zero}
 use Rattle.pif_cli_words.specs.Random.{random_app, recipe_in}
@@ -73,11 +74,12 @@ judged_app =
     with_rule (with_rule (with_rule flagged_app (chosen_rule (codes "states") 1 16777216 (codes "200000")))
     (number_rule (codes "seconds") 0 86400)) (number_rule (codes "jobs") 1 64)
 
--- and for its parts: the folder into which they are written, how many lines each has at least, and their index
+-- and for its parts: the folder into which they are written, how many lines each has at least, and their index; and the
+-- flag for a history that is followed
 abbrev pub parted_app : App
 parted_app =
-    with_rule (with_rule (with_rule (with_rule judged_app allow_rule) (name_rule (codes "split")))
-    (chosen_rule (codes "lines") 1 4294967295 (codes "10000"))) (name_rule (codes "joined"))
+    with_rule (with_rule (with_rule (with_rule (with_rule judged_app allow_rule) (name_rule (codes "split")))
+    (chosen_rule (codes "lines") 1 4294967295 (codes "10000"))) (name_rule (codes "joined"))) (flag_rule (codes "follow"))
 
 abbrev pub judge_app : App
 judge_app = with_rule parted_app files_rule
@@ -171,11 +173,19 @@ judging_in rows = record {
   allowed = allowed_in rows;
 }
 
--- what is done with histories: they are judged; or one is written in parts, or their verdicts are joined
+-- how a history is followed
+abbrev pub followed_in : List Row → Followed
+followed_in rows = record {
+  least = number_between 1 4294967295 (first_of (codes "lines") rows);
+  states = number_between 1 16777216 (first_of (codes "states") rows);
+}
+
+-- what is done with histories: they are judged; or one is written in parts or followed, or their verdicts are joined
 abbrev pub histories_in : List Row → Job
 histories_in rows =
     if is_named (codes "split") rows then Split (number_between 1 4294967295 (first_of (codes "lines") rows))
-    else (if is_named (codes "joined") rows then Joined else Judge (judging_in rows))
+    else (if is_named (codes "joined") rows then Joined
+    else (if flag_in (codes "follow") rows then Follow (followed_in rows) else Judge (judging_in rows)))
 
 -- how lines of JSON clash: they have a run already
 abbrev pub json_clash : List Row → Option Clash
@@ -193,14 +203,20 @@ form_clash rows =
 abbrev pub has_form : List Row → Bool
 has_form rows = flag_in (codes "json") rows || (flag_in (codes "html") rows || flag_in (codes "witness") rows)
 
--- whether parts are written, or their verdicts joined
+-- whether parts are written or followed, or their verdicts joined
 abbrev pub has_parts : List Row → Bool
-has_parts rows = is_named (codes "split") rows || is_named (codes "joined") rows
+has_parts rows = is_named (codes "split") rows || (is_named (codes "joined") rows || flag_in (codes "follow") rows)
+
+-- whether two of these are asked for
+abbrev pub has_two : List Row → Bool
+has_two rows =
+    (is_named (codes "split") rows && is_named (codes "joined") rows)
+    || (flag_in (codes "follow") rows && (is_named (codes "split") rows || is_named (codes "joined") rows))
 
 -- whether what is asked for besides can't be had of parts: both at once, another form, a search or rules
 abbrev pub has_more : List Row → Bool
 has_more rows =
-    (is_named (codes "split") rows && is_named (codes "joined") rows)
+    has_two rows
     || (has_form rows || (flag_in (codes "least") rows || (flag_in (codes "plain") rows
     || (is_named (codes "seconds") rows || (is_named (codes "jobs") rows || is_named (codes "allow") rows)))))
 

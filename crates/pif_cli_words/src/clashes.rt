@@ -1,7 +1,7 @@
 //! Words that `clap` takes one by one, and that ask for what cannot be had together.
 ghost use Rattle.std.specs.Prelude.{◌≡◌, ◌∷◌, [], Some};
 ghost use Rattle.clap.specs.Words.{HasKind, found_of, rows_of};
-ghost use Rattle.pif_cli_words.specs.Words.{checking_clash, clash_by, clash_kinds, drawing_clash, form_clash, has_form, has_more, has_parts, judging_clash, parts_clash, exploring_clash, has_lines};
+ghost use Rattle.pif_cli_words.specs.Words.{checking_clash, clash_by, clash_kinds, drawing_clash, form_clash, has_form, has_more, has_two, has_parts, judging_clash, parts_clash, exploring_clash, has_lines};
 
 use crate::commands::program;
 use crate::options::{has_several, is_given, is_named, small_number_between};
@@ -59,11 +59,12 @@ impl Clash {
             Clash::Json => "'judge --json' takes no '--witness': it has a run already",
             Clash::Files => "'judge --html' makes a page of one file",
             Clash::Parts => {
-                "'judge --split' and 'judge --joined' go neither together nor with '--witness', \
+                "'judge --split', '--joined' and '--follow' go neither together nor with '--witness', \
                 '--json', '--html', '--least', '--plain', '--seconds', '--jobs' and '--allow'"
             }
             Clash::PartsOfOne => {
-                "'judge --split' takes one history, and 'judge --joined' one file with all verdicts"
+                "'judge --split' and 'judge --follow' take one history, and 'judge --joined' one file \
+                with all verdicts"
             }
             Clash::Checks => "'check' takes one of '--strict', '--print' and '--write'",
             Clash::Range => "'draw --from' names a line after that of '--to'",
@@ -123,18 +124,26 @@ fn has_form(given: &clap::ArgMatches) -> bool
     is_given(given, "json") || is_given(given, "html") || is_given(given, "witness")
 }
 
-/// Whether parts are to be written, or their verdicts joined.
+/// Whether parts are to be written or followed, or their verdicts joined.
 fn has_parts(given: &clap::ArgMatches) -> bool
     ensures { result ≡ has_parts (rows_of (found_of given.now)) }
 {
-    is_named(given, "split") || is_named(given, "joined")
+    is_named(given, "split") || is_named(given, "joined") || is_given(given, "follow")
+}
+
+/// Whether two of these are asked for.
+fn has_two(given: &clap::ArgMatches) -> bool
+    ensures { result ≡ has_two (rows_of (found_of given.now)) }
+{
+    let (split, joined) = (is_named(given, "split"), is_named(given, "joined"));
+    (split && joined) || (is_given(given, "follow") && (split || joined))
 }
 
 /// Whether more is given to `judge` than can be had of parts.
 fn has_more(given: &clap::ArgMatches) -> bool
     ensures { result ≡ has_more (rows_of (found_of given.now)) }
 {
-    (is_named(given, "split") && is_named(given, "joined"))
+    has_two(given)
         || has_form(given)
         || is_given(given, "least")
         || is_given(given, "plain")

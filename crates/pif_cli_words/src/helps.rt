@@ -88,6 +88,9 @@ pub const ABOUT_PART_LINES: &str = "Least lines of a part, 1 to 4294967295";
 /// What the option of `judge` for the verdicts on parts does.
 pub const ABOUT_JOINED: &str = "Joins the verdicts on the parts of INDEX into one";
 
+/// What the flag of `judge` for a history that is still written does.
+pub const ABOUT_FOLLOW: &str = "Judges one history while it is read, to its end";
+
 /// What the files of `judge` are.
 pub const ABOUT_HISTORIES: &str = "The histories to read; '-' or none is the standard input";
 
@@ -466,6 +469,10 @@ dying. With --joined INDEX what 'pif judge' printed of the parts is read, in any
 order, and the verdict on the whole is printed:
   pif judge --split parts long.history | parallel --tag pif judge --plain |
     pif judge --joined parts/index
+With --follow one history is judged as it is read, at such places, after each
+--lines lines, and what was judged is forgotten. Each time standard error
+says 'legal up to K'. Input that still grows is read to its end, as of a pipe:
+  tail -n +1 -f --pid=PID a.history | pif judge --follow
 A history with rules, 'none', 'process', 'halted' or 'resumed' isn't cut.
 
 Example:

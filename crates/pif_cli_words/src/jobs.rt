@@ -1,7 +1,7 @@
 //! Jobs: what the words ask for, and over which files.
 ghost use Rattle.std.specs.Prelude.{◌≡◌, [], IfOk, Some, map};
 ghost use Rattle.clap.specs.Words.{FailsBy, found_of, rows_of};
-ghost use Rattle.pif_cli_words.specs.Words.{aside_in, aside_of, refusals_of, job_of, job_named, checking_in, rewrites, rewrites_by, files_in, files_of, first_name, drawn_in, exploring_in, histories_in, judging_in, shown_in};
+ghost use Rattle.pif_cli_words.specs.Words.{aside_in, aside_of, refusals_of, job_of, job_named, checking_in, rewrites, rewrites_by, files_in, files_of, first_name, drawn_in, exploring_in, followed_in, histories_in, judging_in, shown_in};
 
 use crate::clashes::clash_in;
 use crate::commands::program;
@@ -42,6 +42,15 @@ pub struct Judging {
     pub several: bool,
     /// The rules that hold beside those of each history.
     pub allowed: Rules,
+}
+
+/// How a history is followed.
+#[derive(Clone, Copy)]
+pub struct Followed {
+    /// So many lines at least are judged at a time.
+    pub least: u32,
+    /// How many states may be made for a line.
+    pub states: u32,
 }
 
 /// How programs are explored.
@@ -110,6 +119,8 @@ pub enum Job {
     Split(u32),
     /// `judge --joined`: say the verdict on a history by those on its parts.
     Joined,
+    /// `judge --follow`: judge a history while it is read.
+    Follow(Followed),
     /// `explore`: tell all outcomes of small programs.
     Explore(Exploring),
     /// `random`: write a random script.
@@ -218,7 +229,17 @@ fn judging_in(given: &clap::ArgMatches) -> Judging
     }
 }
 
-/// What `judge` does with its histories. `--split` and `--joined` at once were refused before.
+/// How `judge` is to follow a history.
+fn followed_in(given: &clap::ArgMatches) -> Followed
+    ensures { result ≡ followed_in (rows_of (found_of given.now)) }
+{
+    Followed {
+        least: small_number_between(given, "lines", 1, u32::MAX),
+        states: small_number_between(given, "states", 1, 16_777_216),
+    }
+}
+
+/// What `judge` does with its histories. Two of `--split`, `--joined` and `--follow` at once were refused before.
 fn histories_in(given: &clap::ArgMatches) -> Job
     ensures { result ≡ histories_in (rows_of (found_of given.now)) }
 {
@@ -226,6 +247,8 @@ fn histories_in(given: &clap::ArgMatches) -> Job
         Job::Split(small_number_between(given, "lines", 1, u32::MAX))
     } else if is_named(given, "joined") {
         Job::Joined
+    } else if is_given(given, "follow") {
+        Job::Follow(followed_in(given))
     } else {
         Job::Judge(judging_in(given))
     }

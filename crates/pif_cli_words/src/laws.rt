@@ -12,12 +12,12 @@ use pif_script_model::{Detail, Picture};
 /// Which words ask for which job: `run`, `show`, `draw`, `shell`, `replay`, `trace` and `migrate` alone, `show` with
 /// each of its flags, `draw` with all of its options, `run` with a file, `check` alone, with each of its flags and with
 /// two files, `judge` alone, with its options and two files, with `--least`, with `--html` and one, with `--split` and
-/// a folder, and with `--joined` and an index, `explore` alone, with its options, with `--html`, and with `--core`
-/// without its number, `random` with a seed and from 1 to 262,144 lines, and `drive` with a number from 1 to 64 do; no
-/// word, `--help`, `--version`, `judge --html` with another form or two files, `judge --least` with `--json`, `judge
-/// --json` with `--witness`, `judge --split` with `--joined`, a rule or two files, `judge --allow` with no rule,
-/// `explore --html` with `--json` or `--core`, `explore --json` with `--calls`, `check` with two of its flags, and
-/// `draw` with a last line before the first don't.
+/// a folder, with `--joined` and an index, and with `--follow`, `explore` alone, with its options, with `--html`, and
+/// with `--core` without its number, `random` with a seed and from 1 to 262,144 lines, and `drive` with a number from 1
+/// to 64 do; no word, `--help`, `--version`, `judge --html` with another form or two files, `judge --least` with
+/// `--json`, `judge --json` with `--witness`, `judge --split` with `--joined`, a rule or two files, `judge --allow`
+/// with no rule, `explore --html` with `--json` or `--core`, `explore --json` with `--calls`, `check` with two of its
+/// flags, and `draw` with a last line before the first don't.
 #[tactic(auto, unfolding(clap::proofs::OnLiterals::clap_on_literals, pif_rules::specs::Words::rule_in))]
 pub fn words_of_the_program()
     ensures run { (name : List ℕ) → (refusals_of (name ∷ codes "run" ∷ []) ≡ []) × (job_of (name ∷ codes "run" ∷ []) ≡ Job.Run) }
@@ -88,6 +88,9 @@ pub fn words_of_the_program()
     ensures judge_joined { (name : List ℕ) → (refusals_of (name ∷ codes "judge" ∷ codes "--joined=i" ∷ []) ≡ [])
         × (job_of (name ∷ codes "judge" ∷ codes "--joined=i" ∷ []) ≡ Job.Joined)
         × (aside_of (name ∷ codes "judge" ∷ codes "--joined=i" ∷ []) ≡ codes "i") }
+    ensures judge_follow { (name : List ℕ) → (refusals_of (name ∷ codes "judge" ∷ codes "--follow" ∷ codes "--lines=9" ∷ codes "a" ∷ []) ≡ [])
+        × (job_of (name ∷ codes "judge" ∷ codes "--follow" ∷ codes "--lines=9" ∷ codes "a" ∷ []) ≡ Job.Follow (record { least = 9; states = 200000 })) }
+    ensures follow_or_split { (name : List ℕ) → refusals_of (name ∷ codes "judge" ∷ codes "--follow" ∷ codes "--split=d" ∷ []) ≡ ArgumentConflict ∷ [] }
     ensures split_or_joined { (name : List ℕ) → refusals_of (name ∷ codes "judge" ∷ codes "--split=d" ∷ codes "--joined=i" ∷ []) ≡ ArgumentConflict ∷ [] }
     ensures split_by_rules { (name : List ℕ) → refusals_of (name ∷ codes "judge" ∷ codes "--split=d" ∷ codes "--allow=steal" ∷ []) ≡ ArgumentConflict ∷ [] }
     ensures split_of_one { (name : List ℕ) → refusals_of (name ∷ codes "judge" ∷ codes "--split=d" ∷ codes "a" ∷ codes "b" ∷ []) ≡ TooManyValues ∷ [] }

@@ -28,7 +28,9 @@ mod random;
 mod rules;
 mod tables;
 
-pub use jobs::{Asked, Drawn, Exploring, Job, Judging, STANDARD_NAME, first_name, read_words};
+pub use jobs::{
+    Asked, Drawn, Exploring, Followed, Job, Judging, STANDARD_NAME, first_name, read_words,
+};
 pub use laws::{random_lines_have_a_bound, words_of_the_program};
 pub use near::near_command;
 pub use random::Recipe;

@@ -1,1 +1,2 @@
+mod FollowingLemmas
 mod JudgedLemmas

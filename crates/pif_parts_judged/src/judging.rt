@@ -25,7 +25,7 @@ fn alone(alloc: Global, lines: &[Line], part: &Part) -> Result<Vec<Line>, Stop>
 }
 
 /// The verdict on a part, by that of a search.
-fn verdict_of(found: Verdict) -> PartVerdict
+pub fn verdict_of(found: Verdict) -> PartVerdict
     ensures { result ≡ verdict_of found }
 {
     match found {

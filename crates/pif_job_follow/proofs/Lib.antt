@@ -1,0 +1,6 @@
+mod FollowedLemmas
+mod FrontLemmas
+mod ReadingLemmas
+mod TakingLemmas
+mod TellingLemmas
+mod TextLemmas

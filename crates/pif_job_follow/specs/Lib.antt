@@ -1,0 +1,4 @@
+pub mod Fronts
+pub mod Followed
+pub mod Telling
+pub mod Following

@@ -1,0 +1,112 @@
+-- A history that is judged while it is read is one in two parts: its front, and the open lines.
+use Rattle.std.proofs.Common.{ℕ, ◌≡◌, ◌∙◌, ◌+◌, List, [], ◌∷◌, ◌++◌, append_assoc, append-nil, arith, ap, drop, length, length-append, refl, reverse, subst, sym, take}
+use Rattle.std.proofs.Math.Seq.{drop-append_seam, take-append_seam, take-length}
+use Rattle.std.proofs.lemmas.List.{reverse-append}
+use Rattle.std.specs.Global.{Vec}
+use Rattle.pif_types.specs.Bounds.{Bounds}
+use Rattle.pif_rules_model.specs.Sets.{no_rules}
+use Rattle.pif_model.specs.Posix.{empty_world}
+use Rattle.pif_model.specs.Posix.IsRun.{start}
+use Rattle.pif_history_model.specs.declared.lines.Line.{Line}
+use Rattle.pif_history_model.specs.Shown.{IsShown}
+use Rattle.pif_history_model.specs.Shown.IsCut.{no_line}
+use Rattle.pif_history_model.specs.Verdicts.{IsIllegal}
+use Rattle.pif_history_model.proofs.Widening.{plain-from_shown}
+use Rattle.pif_history_machine.specs.declared.verdicts.Verdict.{Verdict}
+use Rattle.pif_history_machine.specs.declared.verdicts.Verdict.TheVariants.{Legal, Illegal, Undecided}
+use Rattle.pif_history_machine.specs.Verdicts.{IsVerdictOf}
+use Rattle.pif_parts_model.specs.Quiet.{IsQuiet}
+use Rattle.pif_parts.specs.declared.parts.Part.{Part}
+use Rattle.pif_parts.specs.declared.joining.PartVerdict.{PartVerdict}
+use Rattle.pif_parts.specs.declared.joining.PartVerdict.TheVariants as part
+use Rattle.pif_parts.specs.Parts.{AreOfParts, ArePartsOf, IsOfPart, alone}
+use Rattle.pif_parts.specs.Standing.{IsPast, StandFor}
+use Rattle.pif_parts_judged.specs.declared.following.Judged.{Judged}
+use Rattle.pif_parts_judged.specs.Following.{IsJudged, IsOfOpen, both}
+use Rattle.pif_parts_judged.specs.Judged.{verdict_of}
+
+-- BEFORE ANY LINE
+
+quiet_at_first : IsQuiet []
+quiet_at_first = record { orderly = tt; idle = λ t. record { closed = refl; free = λ m. refl }; nobody_dying = refl }
+
+pub nothing_stands : StandFor [] []
+nothing_stands = record { quiet = quiet_at_first; others_quiet = quiet_at_first; same = λ l. refl }
+
+pub none_shown : (l : Bounds) → IsShown l []
+none_shown l = record { history = []; before = []; last = empty_world l.signals; run = start refl; cut = no_line }
+
+-- ONE MORE LINE
+
+pub next_open : (front later : List Line) (x : Line) → reverse (front ++ (later ++ x ∷ [])) ≡ x ∷ reverse (front ++ later)
+next_open front later x = ap reverse (sym (append_assoc front later (x ∷ []))) ∙ reverse-append (front ++ later) (x ∷ [])
+
+-- THE TWO PARTS
+
+module _ (l : Bounds) (front later : List Line) (j : Judged) (h : IsJudged l front later j) (none : Vec Line)
+    (empty : none.items ≡ []) (n : ℕ) (len : length later ≡ n) where
+  front_taken : take j.count (front ++ later) ≡ front
+  front_taken = ap (λ k. take k (front ++ later)) h.count ∙ take-append_seam front later
+
+  open_taken : take n (drop j.count (front ++ later)) ≡ later
+  open_taken =
+      ap (take n) (ap (λ k. drop k (front ++ later)) h.count ∙ drop-append_seam front later)
+      ∙ ap (λ k. take k later) (sym len) ∙ take-length later
+
+  abbrev pub first_part : Part
+  first_part = record { first = 0; count = j.count; before = none }
+
+  abbrev pub last_part : Part
+  last_part = record { first = j.count; count = n; before = j.before }
+
+  pub are_parts : ArePartsOf (front ++ later) (first_part ∷ last_part ∷ [])
+  are_parts =
+      let zero_more : 0 + j.count ≡ j.count = omega arith in
+      let all : 0 + j.count + n ≡ length (front ++ later) =
+      let e = h.count in let both_lengths = length-append front later in omega (arith, e, both_lengths, len) in (
+        refl,
+        subst (λ (ys : List Line). StandFor (reverse ys) []) (sym empty) nothing_stands,
+        (
+          sym zero_more,
+          subst (λ (ys : List Line). StandFor (reverse j.before.items) (reverse ys))
+              (sym (ap (λ k. take k (front ++ later)) zero_more ∙ front_taken)) h.stands,
+          all,
+        ),
+      )
+
+  -- the open lines with those that stand for the front
+  last_alone : alone (front ++ later) last_part ≡ both j.before.items later
+  last_alone = ap (λ (ys : List Line). j.before.items ++ ys) open_taken
+
+  first_alone : alone (front ++ later) first_part ≡ front
+  first_alone = ap (λ (ys : List Line). ys ++ take j.count (front ++ later)) empty ∙ front_taken
+
+  last_verdict : (v : PartVerdict) → IsOfOpen l j later v → IsOfPart l (front ++ later) last_part v
+  last_verdict part.Legal x = subst (λ (ys : List Line). IsShown l (reverse ys)) (sym last_alone) x
+  last_verdict (part.Illegal k) x = subst (λ (ys : List Line). IsIllegal no_rules l ys k) (sym last_alone) x
+  last_verdict part.Undecided x = tt
+
+  pub are_verdicts : (v : PartVerdict) → IsOfOpen l j later v
+      → AreOfParts l (front ++ later) (first_part ∷ last_part ∷ []) (part.Legal ∷ v ∷ [])
+  are_verdicts v x =
+      (subst (λ (ys : List Line). IsShown l (reverse ys)) (sym first_alone) h.legal, (last_verdict v x, tt))
+
+-- what a search says of the open lines
+pub of_open : (l : Bounds) (j : Judged) (later : List Line) (v : Verdict) → IsVerdictOf no_rules l (both j.before.items later) v
+    → IsOfOpen l j later (verdict_of v)
+of_open l j later (Legal w) x = plain-from_shown l (reverse (both j.before.items later)) x.legal
+of_open l j later (Illegal n) x = x.2
+of_open l j later (Undecided n) x = tt
+
+-- THE FRONT GROWS
+
+pub grown : (l : Bounds) (front later : List Line) (old new : Judged) → IsJudged l front later old
+    → new.count ≡ old.count + length later → new.past ≡ old.past → IsShown l (reverse (front ++ later))
+    → StandFor (reverse new.before.items) (reverse (front ++ later)) → IsJudged l (front ++ later) [] new
+grown l front later old new h e p legal stands = record {
+  count = let both_lengths = length-append front later in let c = h.count in omega (arith, both_lengths, c, e);
+  legal = legal;
+  stands = stands;
+  past = subst (λ (ys : List Line). IsPast (reverse ys) new.past) (sym (append-nil (front ++ later)))
+      (subst (λ q. IsPast (reverse (front ++ later)) q) (sym p) h.past);
+}
