@@ -97,7 +97,6 @@ RENAMED = {
         "pif_program_tests",
     ],
     "pif_test_blocks": ["pif_blocks"],
-    "pif_test_transcripts": ["pif_test_transcripts", "pif_transcripts", "pif_test_cli", "pif_cli_tests"],
 }
 
 
