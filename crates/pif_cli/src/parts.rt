@@ -8,7 +8,7 @@ use pif_job_follow::{Following, WatchParts, follow};
 use pif_job_judge::WatchLines;
 use pif_job_parts::{Parts, PartsFault, join, split};
 use pif_job_shell::{LoadFault, SaveFault, Shelf};
-use pif_script::{CliFault, Notice, read_all, write_whole};
+use pif_script::{CliFault, MOST_LINE, Notice, read_all, write_whole};
 use pif_text::append_decimal;
 use std::alloc::{AllocError, Global};
 use std::io::{Read, Write};
@@ -89,10 +89,27 @@ fn words_of(why: SaveFault) -> Option<&'static str> {
     }
 }
 
-/// A name, and why its file can't be read or written.
+/// Whether a character of UTF-8 begins with this byte.
+fn begins_character(byte: u8) -> bool {
+    byte & 0xc0 != 0x80
+}
+
+/// The end of a name, of at most so many bytes. A name in UTF-8 is cut between two characters.
+fn end_of_name(name: &[u8], most: usize) -> &[u8] {
+    let least = name.len().saturating_sub(most);
+    for (place, byte) in name.iter().enumerate() {
+        if place >= least && begins_character(*byte) {
+            return name.get(place..).unwrap_or(b"");
+        }
+    }
+    b""
+}
+
+/// A name, and why its file can't be read or written. If both don't fit into a notice, the end of the name stands there.
 fn name_and_words(alloc: Global, name: &[u8], words: &str) -> Result<Vec<u8>, AllocError> {
+    let most = MOST_LINE.saturating_sub(words.len()).saturating_sub(2);
     let mut text = Vec::new(alloc);
-    text.extend_from_slice(name)?;
+    text.extend_from_slice(end_of_name(name, most))?;
     text.extend_from_slice(b": ")?;
     text.extend_from_slice(words.as_bytes())?;
     Ok(text)
