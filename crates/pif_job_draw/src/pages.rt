@@ -18,6 +18,7 @@ const PAGE_HEAD: &str = "<!DOCTYPE html>\n\
     svg rect.lit{fill:#ffd8a8;opacity:.4}\n\
     svg .now{fill:#0969da;fill-opacity:.14;stroke:#0969da;stroke-width:1.5}\n\
     @media(prefers-color-scheme:dark){body{background:#0d1117;color:#e6edf3;color-scheme:dark}td,th{border-color:#30363d}\n\
+    .lit{background:#4d3800}.lit,.lit td{color:#e6edf3}svg .lit{fill:#ffa36e}svg rect.lit{fill:#ffa36e;opacity:.18}\n\
     svg .now{fill:#58a6ff;fill-opacity:.2;stroke:#58a6ff}}\n\
     </style></head><body>\n\
     <div id=\"drawing\">\n";
