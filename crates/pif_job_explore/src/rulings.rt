@@ -1,11 +1,12 @@
 //! What is found of the claims of a file.
-ghost use Rattle.std.specs.Prelude.{◌≡◌, ◌<◌, IfOk, length, map, true};
+ghost use Rattle.std.specs.Prelude.{◌≡◌, All, IfOk, length, map, true};
 ghost use Rattle.pif_explore_model.specs.Spaces.{AreFinalBelow, LeadToFinals};
 ghost use Rattle.pif_explore_model.specs.Exploring.{Steps};
 ghost use Rattle.pif_explore_model.specs.Forgetting.{AreSameSoFar};
 ghost use Rattle.pif_explore_model.specs.Situations.{Situation as Situated};
 ghost use Rattle.pif_explore_text.specs.Views.{claim_view};
-ghost use Rattle.pif_reach.specs.Spaces.{AreEdges, IsWhole};
+ghost use Rattle.pif_explore.specs.Finding.{IsEnoughOf};
+ghost use Rattle.pif_reach.specs.Spaces.{AreEdges};
 ghost use Rattle.pif_job_explore.specs.Exploring.{AreRuled, IsFoundOf, IsRuled, first_broken};
 
 use pif_explore::{Explored, Plan};
@@ -25,7 +26,7 @@ fn verdict_on(
     requires finals { AreFinalBelow plan.now explored.now.nodes.items explored.now.finals.items (length explored.now.nodes.items) }
     requires edges { AreEdges (Steps plan.now) AreSameSoFar explored.now.nodes.items explored.now.edges.items }
     requires finals_are_led_to { explored.now.is_whole ≡ true → LeadToFinals plan.now explored.now.nodes.items explored.now.edges.items explored.now.finals.items }
-    ensures { IfOk result (λ v. (start : Situated) → (explored.now.is_whole ≡ true → IsWhole (Steps plan.now) AreSameSoFar start explored.now.nodes.items) → IsFoundOf plan.now start explored.now.nodes.items assertion.now v) }
+    ensures { IfOk result (λ v. (start : Situated) → (explored.now.is_whole ≡ true → IsEnoughOf plan.now start explored.now.nodes.items assertion.now) → IsFoundOf plan.now start explored.now.nodes.items assertion.now v) }
 {
     match assertion {
         Assertion::Of(scope, condition) => verdict_of(plan, alloc, explored, scope, condition),
@@ -38,7 +39,7 @@ fn ruling(plan: &Plan, alloc: Global, explored: &Explored, claim: &Claim) -> Res
     requires finals { AreFinalBelow plan.now explored.now.nodes.items explored.now.finals.items (length explored.now.nodes.items) }
     requires edges { AreEdges (Steps plan.now) AreSameSoFar explored.now.nodes.items explored.now.edges.items }
     requires finals_are_led_to { explored.now.is_whole ≡ true → LeadToFinals plan.now explored.now.nodes.items explored.now.edges.items explored.now.finals.items }
-    ensures { IfOk result (λ r. (start : Situated) → (explored.now.is_whole ≡ true → IsWhole (Steps plan.now) AreSameSoFar start explored.now.nodes.items) → IsRuled plan.now start explored.now.nodes.items (claim_view claim.now) r) }
+    ensures { IfOk result (λ r. (start : Situated) → (explored.now.is_whole ≡ true → IsEnoughOf plan.now start explored.now.nodes.items claim.now.assertion) → IsRuled plan.now start explored.now.nodes.items (claim_view claim.now) r) }
 {
     let verdict = verdict_on(plan, alloc, explored, &claim.assertion)?;
     let text = Vec::from_slice(alloc, claim.text.as_slice())?;
@@ -63,7 +64,7 @@ pub fn rulings(
     requires finals { AreFinalBelow plan.now explored.now.nodes.items explored.now.finals.items (length explored.now.nodes.items) }
     requires edges { AreEdges (Steps plan.now) AreSameSoFar explored.now.nodes.items explored.now.edges.items }
     requires finals_are_led_to { explored.now.is_whole ≡ true → LeadToFinals plan.now explored.now.nodes.items explored.now.edges.items explored.now.finals.items }
-    ensures { IfOk result (λ v. (start : Situated) → (0 < length claims.now → explored.now.is_whole ≡ true → IsWhole (Steps plan.now) AreSameSoFar start explored.now.nodes.items) → AreRuled plan.now start explored.now.nodes.items (map claim_view claims.now) v.items) }
+    ensures { IfOk result (λ v. (start : Situated) → (explored.now.is_whole ≡ true → All (λ x. IsEnoughOf plan.now start explored.now.nodes.items x.assertion) claims.now) → AreRuled plan.now start explored.now.nodes.items (map claim_view claims.now) v.items) }
 {
     let mut all = Vec::new(alloc);
     for claim in claims {
