@@ -1,5 +1,5 @@
 -- How a program is explored, and how that ends, in numbers.
-use Rattle.std.specs.Prelude.{ℕ, Bool, false, None, Result, Ok, Err}
+use Rattle.std.specs.Prelude.{ℕ, Bool, true, false, None, Result, Ok, Err}
 use Rattle.pif_job_explore.specs.declared.exploring.Exploring.{Exploring}
 use Rattle.pif_job_explore.specs.declared.faults.ExploreFault.{ExploreFault}
 use Rattle.pif_job_explore.specs.declared.faults.ExploreFault.TheVariants.{Cli, Faulty, NotOnCore, Undecided}
@@ -19,6 +19,7 @@ explored_number (Err Faulty) = pif.fault
 abbrev pub exploring_of : (states : ℕ) → (witness : Bool) → Exploring
 exploring_of states witness = record {
   form = Lines (record { schedules = witness; calls = false });
+  answers = true;
   states = states;
   core = None;
   strict = false;

@@ -42,6 +42,7 @@ fn exploring_of(states: u32, witness: bool) -> Exploring
             schedules: witness,
             calls: false,
         }),
+        answers: true,
         states,
         core: None,
         strict: false,

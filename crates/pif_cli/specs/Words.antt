@@ -1,5 +1,5 @@
 -- What the program does by its words, what is written, and its status.
-use Rattle.std.specs.Prelude.{ℕ, ◌≡◌, ◌⊎◌, ◌==◌, ◌||◌, MatchBool, OnOk, Bool, List, [], ◌∷◌, Option, Some, None, Result, Ok, Err, codes, bytes_eq, if◌then◌else◌}
+use Rattle.std.specs.Prelude.{ℕ, ◌≡◌, ◌⊎◌, ◌==◌, ◌||◌, MatchBool, OnOk, Bool, List, [], ◌∷◌, Option, Some, None, Result, Ok, Err, not, codes, bytes_eq, if◌then◌else◌}
 use Rattle.std.specs.Io.KnownBytes.{Appends, Keeps}
 use Rattle.clap.specs.Words.{IsAmong, Kinds, Text}
 use Rattle.clap.specs.declared.error.kind.ErrorKind.{ErrorKind}
@@ -110,6 +110,7 @@ found_form asked =
 abbrev pub exploring_of : Exploring → Explored
 exploring_of asked = record {
   form = found_form asked;
+  answers = not asked.claims;
   states = asked.states;
   core = asked.core;
   strict = asked.strict;

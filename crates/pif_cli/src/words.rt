@@ -81,6 +81,7 @@ fn exploring_of(asked: pif_cli_words::Exploring) -> Exploring
 {
     Exploring {
         form: found_form(asked),
+        answers: !asked.claims,
         states: asked.states,
         core: asked.core,
         strict: asked.strict,

@@ -8,7 +8,7 @@ use Rattle.clap.specs.declared.error.kind.ErrorKind.TheVariants.{ArgumentConflic
 use Rattle.pif_script_model.specs.declared.details.Detail.TheVariants.{Changes, All}
 use Rattle.pif_script_model.specs.declared.pictures.Picture.TheVariants.{States, Graph}
 use Rattle.pif_cli_words.specs.declared.clashes.Clash.{Clash}
-use Rattle.pif_cli_words.specs.declared.clashes.Clash.TheVariants.{Least, Forms, Json, Files, Parts, PartsOfOne, Rules, Checks, Range, Page, Objects}
+use Rattle.pif_cli_words.specs.declared.clashes.Clash.TheVariants.{Least, Forms, Json, Files, Parts, PartsOfOne, Rules, Checks, Range, Page, Objects, Answers}
 use Rattle.pif_cli_words.specs.declared.jobs.Drawn.{Drawn}
 use Rattle.pif_cli_words.specs.declared.jobs.Exploring.{Exploring}
 use Rattle.pif_cli_words.specs.declared.jobs.Followed.{Followed}
@@ -84,12 +84,13 @@ parted_app =
 abbrev pub judge_app : App
 judge_app = with_rule parted_app files_rule
 
--- the command `explore`, with its flags for schedules, for calls, for programs, for a page, and for faults; its options
+-- the command `explore`, with its flags for schedules, for calls, for claims alone, for programs, for a page, and for
+-- faults; its options
 -- for how many states may be kept, for how many seconds the search goes on, and for how many schedules are played on cores
 abbrev pub telling_app : App
 telling_app =
-    with_rule (with_rule (with_rule (with_rule (with_rule (new_app (codes "explore")) (flag_rule (codes "witness")))
-    (flag_rule (codes "calls"))) (flag_rule (codes "json"))) (flag_rule (codes "html"))) (flag_rule (codes "strict"))
+    with_rule (with_rule (with_rule (with_rule (with_rule (with_rule (new_app (codes "explore")) (flag_rule (codes "witness")))
+    (flag_rule (codes "calls"))) (flag_rule (codes "claims"))) (flag_rule (codes "json"))) (flag_rule (codes "html"))) (flag_rule (codes "strict"))
 
 abbrev pub explored_app : App
 explored_app =
@@ -236,12 +237,16 @@ has_lines rows =
     flag_in (codes "witness") rows
     || (flag_in (codes "calls") rows || nat_lt 0 (number_between 1 1000000 (first_of (codes "core") rows)))
 
--- how `explore` clashes: lines of JSON and a page have all schedules and calls, and nothing of cores
-abbrev pub exploring_clash : List Row → Option Clash
-exploring_clash rows =
+-- how the form of an exploration clashes: lines of JSON and a page have all schedules and calls, and nothing of cores
+abbrev pub found_clash : List Row → Option Clash
+found_clash rows =
     if flag_in (codes "html") rows
     then (if flag_in (codes "json") rows || has_lines rows then Some Page else None)
     else (if flag_in (codes "json") rows && has_lines rows then Some Objects else None)
+
+-- how `explore` clashes: answers of calls that are left out can't be told
+abbrev pub exploring_clash : List Row → Option Clash
+exploring_clash rows = if flag_in (codes "claims") rows && flag_in (codes "calls") rows then Some Answers else found_clash rows
 
 -- how `check` clashes: stories are checked strictly, printed or written, and two of these are not done at once
 abbrev pub checking_clash : List Row → Option Clash
@@ -276,6 +281,7 @@ clash_kinds (Some Checks) = ArgumentConflict ∷ []
 clash_kinds (Some Range) = InvalidValue ∷ []
 clash_kinds (Some Page) = ArgumentConflict ∷ []
 clash_kinds (Some Objects) = ArgumentConflict ∷ []
+clash_kinds (Some Answers) = ArgumentConflict ∷ []
 
 -- how words of a command clash, by its name and what was given to it
 abbrev pub clash_by : Option (Text × List Row) → Option Clash
@@ -299,6 +305,7 @@ abbrev pub exploring_in : List Row → Exploring
 exploring_in rows = record {
   witness = flag_in (codes "witness") rows;
   calls = flag_in (codes "calls") rows;
+  claims = flag_in (codes "claims") rows;
   json = flag_in (codes "json") rows;
   html = flag_in (codes "html") rows;
   strict = flag_in (codes "strict") rows;

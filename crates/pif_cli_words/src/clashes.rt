@@ -1,7 +1,7 @@
 //! Words that `clap` takes one by one, and that ask for what cannot be had together.
 ghost use Rattle.std.specs.Prelude.{◌≡◌, ◌∷◌, [], Some};
 ghost use Rattle.clap.specs.Words.{HasKind, found_of, rows_of};
-ghost use Rattle.pif_cli_words.specs.Words.{checking_clash, clash_by, clash_kinds, drawing_clash, form_clash, has_form, has_more, has_two, has_parts, judging_clash, parts_clash, exploring_clash, has_lines};
+ghost use Rattle.pif_cli_words.specs.Words.{checking_clash, clash_by, clash_kinds, drawing_clash, form_clash, has_form, has_more, has_two, has_parts, judging_clash, parts_clash, exploring_clash, found_clash, has_lines};
 
 use crate::commands::program;
 use crate::options::{has_several, is_given, is_named, small_number_between};
@@ -34,6 +34,8 @@ pub enum Clash {
     Page,
     /// Lines of JSON of an exploration are asked for, and what other lines alone have.
     Objects,
+    /// Answers of calls are to be left out of an exploration, and to be told.
+    Answers,
 }
 
 impl Clash {
@@ -45,7 +47,7 @@ impl Clash {
             Clash::Least | Clash::Forms | Clash::Json | Clash::Parts | Clash::Checks => {
                 ErrorKind::ArgumentConflict
             }
-            Clash::Page | Clash::Objects => ErrorKind::ArgumentConflict,
+            Clash::Page | Clash::Objects | Clash::Answers => ErrorKind::ArgumentConflict,
             Clash::Files | Clash::PartsOfOne => ErrorKind::TooManyValues,
             Clash::Rules | Clash::Range => ErrorKind::InvalidValue,
         }
@@ -72,6 +74,7 @@ impl Clash {
                 "'explore --html' takes none of '--json', '--witness', '--calls' and '--core'"
             }
             Clash::Objects => "'explore --json' takes none of '--witness', '--calls' and '--core'",
+            Clash::Answers => "'explore --claims' takes no '--calls': it leaves their answers out",
             Clash::Rules => {
                 "'judge --allow' takes a rule: steal, any_waiter, spurious, recursion=N (256 to \
                 4294967295) or recursion=A..B, own_errorcheck, any_consistent, held_wait, lost_signal, \
@@ -191,9 +194,9 @@ fn has_lines(given: &clap::ArgMatches) -> bool
         || small_number_between(given, "core", 1, 1_000_000) > 0
 }
 
-/// How `explore` clashes with what was given to it.
-fn exploring_clash(given: &clap::ArgMatches) -> Option<Clash>
-    ensures { result ≡ exploring_clash (rows_of (found_of given.now)) }
+/// How the form of an exploration clashes with what else was given to `explore`.
+fn found_clash(given: &clap::ArgMatches) -> Option<Clash>
+    ensures { result ≡ found_clash (rows_of (found_of given.now)) }
 {
     let (json, has_lines) = (is_given(given, "json"), has_lines(given));
     if is_given(given, "html") {
@@ -206,6 +209,17 @@ fn exploring_clash(given: &clap::ArgMatches) -> Option<Clash>
         Some(Clash::Objects)
     } else {
         None
+    }
+}
+
+/// How `explore` clashes with what was given to it.
+fn exploring_clash(given: &clap::ArgMatches) -> Option<Clash>
+    ensures { result ≡ exploring_clash (rows_of (found_of given.now)) }
+{
+    if is_given(given, "claims") && is_given(given, "calls") {
+        Some(Clash::Answers)
+    } else {
+        found_clash(given)
     }
 }
 

@@ -103,6 +103,9 @@ pub const ABOUT_SCHEDULES: &str = "Writes a schedule of each outcome, too";
 /// What the flag of `explore` for calls does.
 pub const ABOUT_CALLS: &str = "Names the call before each answer of an outcome";
 
+/// What the flag of `explore` for claims alone does.
+pub const ABOUT_CLAIMS: &str = "Leaves the answers of calls out; makes fewer states";
+
 /// What the flag of `explore` for programs does.
 pub const ABOUT_FOUND_JSON: &str = "Writes lines of JSON, with a schedule of each outcome";
 
@@ -534,12 +537,14 @@ is stuck, and mutexes and cells. Then, and last:
 It begins with 'undecided: ' if there are more states than --states, or the time
 of --seconds was over. The first line that is a fault is told by 'fault L
 CAUSE', alone. With --calls an outcome has 't1 lock m1 0; wait c1 m1 -; ..'.
-With --json it prints an object for the program, and one for each claim, delay,
-fault and outcome, with a schedule and the state after each step; the last one
-has the counts. With --html they stand in a page, which needs nothing from
-elsewhere. A fault of the file has no object and no page. With --core a line for
-each outcome follows, 'outcome K: seen on the core' or 'not seen on the core',
-one for each claim, and 'N schedules on the core', where N is 10000 if no number
+With --claims it has no answers of calls: 't1; t2 ended; m1 free'. Then fewer
+states are made, and claims, delays and faults are the same. With --json it
+prints an object for the program, and one for each claim, delay, fault and
+outcome, with a schedule and the state after each step; the last one has the
+counts. With --html they stand in a page, which needs nothing from elsewhere. A
+fault of the file has no object and no page. With --core a line for each outcome
+follows, 'outcome K: seen on the core' or 'not seen on the core', one for each
+claim, and 'N schedules on the core', where N is 10000 if no number
 stands after --core. The core has no mutex with 'none'.
 
 Example:

@@ -60,6 +60,8 @@ pub struct Exploring {
     pub witness: bool,
     /// Whether each answer of an outcome stands behind its call.
     pub calls: bool,
+    /// Whether the answers of calls are left out of states and outcomes.
+    pub claims: bool,
     /// Whether lines of JSON are written.
     pub json: bool,
     /// Whether a page is written.
@@ -271,6 +273,7 @@ fn exploring_in(given: &clap::ArgMatches) -> Exploring
     Exploring {
         witness: is_given(given, "witness"),
         calls: is_given(given, "calls"),
+        claims: is_given(given, "claims"),
         json: is_given(given, "json"),
         html: is_given(given, "html"),
         strict: is_given(given, "strict"),

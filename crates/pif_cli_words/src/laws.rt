@@ -16,8 +16,8 @@ use pif_script_model::{Detail, Picture};
 /// with `--core` without its number, `random` with a seed and from 1 to 262,144 lines, and `drive` with a number from 1
 /// to 64 do; no word, `--help`, `--version`, `judge --html` with another form or two files, `judge --least` with
 /// `--json`, `judge --json` with `--witness`, `judge --split` with `--joined`, a rule or two files, `judge --allow`
-/// with no rule, `explore --html` with `--json` or `--core`, `explore --json` with `--calls`, `check` with two of its
-/// flags, and `draw` with a last line before the first don't.
+/// with no rule, `explore --html` with `--json` or `--core`, `explore --json` and `explore --claims` with `--calls`,
+/// `check` with two of its flags, and `draw` with a last line before the first don't.
 #[tactic(auto, unfolding(clap::proofs::OnLiterals::clap_on_literals, pif_rules::specs::Words::rule_in))]
 pub fn words_of_the_program()
     ensures run { (name : List ℕ) → (refusals_of (name ∷ codes "run" ∷ []) ≡ []) × (job_of (name ∷ codes "run" ∷ []) ≡ Job.Run) }
@@ -95,20 +95,23 @@ pub fn words_of_the_program()
     ensures split_by_rules { (name : List ℕ) → refusals_of (name ∷ codes "judge" ∷ codes "--split=d" ∷ codes "--allow=steal" ∷ []) ≡ ArgumentConflict ∷ [] }
     ensures split_of_one { (name : List ℕ) → refusals_of (name ∷ codes "judge" ∷ codes "--split=d" ∷ codes "a" ∷ codes "b" ∷ []) ≡ TooManyValues ∷ [] }
     ensures explore { (name : List ℕ) → (refusals_of (name ∷ codes "explore" ∷ []) ≡ [])
-        × (job_of (name ∷ codes "explore" ∷ []) ≡ Job.Explore (record { witness = false; calls = false; json = false; html = false; strict = false; states = 1000000; seconds = None; core = None })) }
+        × (job_of (name ∷ codes "explore" ∷ []) ≡ Job.Explore (record { witness = false; calls = false; claims = false; json = false; html = false; strict = false; states = 1000000; seconds = None; core = None })) }
     ensures explores { (name : List ℕ) → (refusals_of (name ∷ codes "explore" ∷ codes "--witness" ∷ codes "--states=7" ∷ codes "--core=5" ∷ codes "a" ∷ []) ≡ [])
-        × (job_of (name ∷ codes "explore" ∷ codes "--witness" ∷ codes "--states=7" ∷ codes "--core=5" ∷ codes "a" ∷ []) ≡ Job.Explore (record { witness = true; calls = false; json = false; html = false; strict = false; states = 7; seconds = None; core = Some 5 })) }
+        × (job_of (name ∷ codes "explore" ∷ codes "--witness" ∷ codes "--states=7" ∷ codes "--core=5" ∷ codes "a" ∷ []) ≡ Job.Explore (record { witness = true; calls = false; claims = false; json = false; html = false; strict = false; states = 7; seconds = None; core = Some 5 })) }
     ensures explores_plainly { (name : List ℕ) → (refusals_of (name ∷ codes "explore" ∷ codes "--core" ∷ []) ≡ [])
-        × (job_of (name ∷ codes "explore" ∷ codes "--core" ∷ []) ≡ Job.Explore (record { witness = false; calls = false; json = false; html = false; strict = false; states = 1000000; seconds = None; core = Some 10000 })) }
+        × (job_of (name ∷ codes "explore" ∷ codes "--core" ∷ []) ≡ Job.Explore (record { witness = false; calls = false; claims = false; json = false; html = false; strict = false; states = 1000000; seconds = None; core = Some 10000 })) }
     ensures explores_file { (name : List ℕ) → (refusals_of (name ∷ codes "explore" ∷ codes "--core" ∷ codes "a" ∷ []) ≡ [])
-        × (job_of (name ∷ codes "explore" ∷ codes "--core" ∷ codes "a" ∷ []) ≡ Job.Explore (record { witness = false; calls = false; json = false; html = false; strict = false; states = 1000000; seconds = None; core = Some 10000 }))
+        × (job_of (name ∷ codes "explore" ∷ codes "--core" ∷ codes "a" ∷ []) ≡ Job.Explore (record { witness = false; calls = false; claims = false; json = false; html = false; strict = false; states = 1000000; seconds = None; core = Some 10000 }))
         × (files_of (name ∷ codes "explore" ∷ codes "--core" ∷ codes "a" ∷ []) ≡ codes "a" ∷ []) }
     ensures explores_so_often { (name : List ℕ) → (refusals_of (name ∷ codes "explore" ∷ codes "--core" ∷ codes "5" ∷ []) ≡ [])
-        × (job_of (name ∷ codes "explore" ∷ codes "--core" ∷ codes "5" ∷ []) ≡ Job.Explore (record { witness = false; calls = false; json = false; html = false; strict = false; states = 1000000; seconds = None; core = Some 5 })) }
+        × (job_of (name ∷ codes "explore" ∷ codes "--core" ∷ codes "5" ∷ []) ≡ Job.Explore (record { witness = false; calls = false; claims = false; json = false; html = false; strict = false; states = 1000000; seconds = None; core = Some 5 })) }
     ensures explores_strictly { (name : List ℕ) → (refusals_of (name ∷ codes "explore" ∷ codes "--calls" ∷ codes "--strict" ∷ codes "--seconds=9" ∷ []) ≡ [])
-        × (job_of (name ∷ codes "explore" ∷ codes "--calls" ∷ codes "--strict" ∷ codes "--seconds=9" ∷ []) ≡ Job.Explore (record { witness = false; calls = true; json = false; html = false; strict = true; states = 1000000; seconds = Some 9; core = None })) }
+        × (job_of (name ∷ codes "explore" ∷ codes "--calls" ∷ codes "--strict" ∷ codes "--seconds=9" ∷ []) ≡ Job.Explore (record { witness = false; calls = true; claims = false; json = false; html = false; strict = true; states = 1000000; seconds = Some 9; core = None })) }
+    ensures explores_claims { (name : List ℕ) → (refusals_of (name ∷ codes "explore" ∷ codes "--claims" ∷ []) ≡ [])
+        × (job_of (name ∷ codes "explore" ∷ codes "--claims" ∷ []) ≡ Job.Explore (record { witness = false; calls = false; claims = true; json = false; html = false; strict = false; states = 1000000; seconds = None; core = None })) }
+    ensures claims_or_calls { (name : List ℕ) → refusals_of (name ∷ codes "explore" ∷ codes "--claims" ∷ codes "--calls" ∷ []) ≡ ArgumentConflict ∷ [] }
     ensures explores_in_a_page { (name : List ℕ) → (refusals_of (name ∷ codes "explore" ∷ codes "--html" ∷ []) ≡ [])
-        × (job_of (name ∷ codes "explore" ∷ codes "--html" ∷ []) ≡ Job.Explore (record { witness = false; calls = false; json = false; html = true; strict = false; states = 1000000; seconds = None; core = None })) }
+        × (job_of (name ∷ codes "explore" ∷ codes "--html" ∷ []) ≡ Job.Explore (record { witness = false; calls = false; claims = false; json = false; html = true; strict = false; states = 1000000; seconds = None; core = None })) }
     ensures found_page_or_objects { (name : List ℕ) → refusals_of (name ∷ codes "explore" ∷ codes "--html" ∷ codes "--json" ∷ []) ≡ ArgumentConflict ∷ [] }
     ensures found_objects_or_calls { (name : List ℕ) → refusals_of (name ∷ codes "explore" ∷ codes "--json" ∷ codes "--calls" ∷ []) ≡ ArgumentConflict ∷ [] }
     ensures found_page_or_cores { (name : List ℕ) → refusals_of (name ∷ codes "explore" ∷ codes "--html" ∷ codes "--core" ∷ []) ≡ ArgumentConflict ∷ [] }

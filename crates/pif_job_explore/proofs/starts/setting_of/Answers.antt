@@ -6,7 +6,7 @@ use Rattle.pif_job_explore.proofs.starts.setting_of.Goals as goal
 
 pub returns-clause-start : goal.returns-clause-start
 returns-clause-start c =
-    started (sheet_view c.args.sheet.now) c.limits_of-limits.result c.as_slice-additions.result.now c.in_ok-world.world
+    started c.args.answers (sheet_view c.args.sheet.now) c.limits_of-limits.result c.as_slice-additions.result.now c.in_ok-world.world
     c.in_ok-start.start (c.limits_of-limits.ensures ∙ c.limits.ensures) c.as_slice-additions.ensures.value
     c.in_ok-world.ensures c.in_ok-start.ensures
 
