@@ -1,5 +1,5 @@
 -- Texts that grow by pieces.
-use Rattle.std.proofs.Common.{ℕ, ◌≡◌, ◌∙◌, true, List, [], ◌++◌, Option, Some, length, ap, sym, append_assoc}
+use Rattle.std.proofs.Common.{ℕ, ◌≡◌, ◌∙◌, true, List, [], ◌++◌, length, ap, append_assoc}
 use Rattle.std.proofs.lemmas.List.{append-nil}
 use Rattle.std.specs.Prelude.{codes, decimal, flat_map}
 use Rattle.std.specs.List.{slice_get}
@@ -8,23 +8,19 @@ use Rattle.pif_reach.specs.declared.system.Node.{Node}
 use Rattle.pif_explore_model.specs.declared.labels.Label.{Label}
 use Rattle.pif_explore_model.specs.Situations.{Plan, Situation}
 use Rattle.pif_text_model.specs.CommandTexts.{request_text}
-use Rattle.pif_explore.specs.declared.cycles.Cycle.{Cycle}
-use Rattle.pif_explore.specs.declared.deadlocks.Deadlocked.{Deadlocked}
 use Rattle.pif_explore.specs.declared.exploring.Explored.{Explored}
 use Rattle.pif_explore.specs.declared.misuses.Misuse.{Misuse}
-use Rattle.pif_explore.specs.declared.races.Racing.{Racing}
 use Rattle.pif_explore.specs.declared.stuck_threads.StuckThread.{StuckThread}
-use Rattle.pif_explore.specs.declared.wake_ups.LostWakeUp.{LostWakeUp}
 use Rattle.pif_explore.specs.declared.exploring.Told.{Told}
 use Rattle.pif_explore_orders.specs.declared.all_faults.AllFaults.{AllFaults}
 use Rattle.pif_explore_told.specs.declared.delays.Held.{Held}
 use Rattle.pif_explore_told.specs.declared.verdicts.Ruling.{Ruling}
 use Rattle.pif_explore_told.specs.OutcomeLines.{outcome_line, why_text}
-use Rattle.pif_explore_page.specs.Objects.{counts_object, cycle_object, deadlock_object, delay_object, fault_objects, if_found, limits_told, lost_wake_up_object, misuse_object, objects_told, outcome_object, program_object, program_told, race_object, ruling_object, scheduled, stuck_object, verdict_members, way_member}
+use Rattle.pif_explore_page.specs.Objects.{counts_object, delay_object, fault_objects, limits_told, misuse_object, objects_told, outcome_object, program_object, program_told, ruling_object, scheduled, stuck_object, verdict_members, way_member}
 use Rattle.pif_explore_page.specs.Steps.{state_members}
 use Rattle.pif_explore_page.specs.Texts.{escaped, without_end}
 
--- two pieces more, three, four, six and seven
+-- two pieces more, three, four and six
 two_more : (out mid new a b : List ℕ) → mid ≡ out ++ a → new ≡ mid ++ b → new ≡ out ++ (a ++ b)
 two_more out mid new a b e f = f ∙ ((λ i. e i ++ b) ∙ append_assoc out a b)
 
@@ -40,12 +36,6 @@ pub six_more : (out one two three four five new a b c d e f : List ℕ) → one 
 six_more out one two three four five new a b c d e f g h k l m n =
     two_more out one new a (b ++ (c ++ (d ++ (e ++ f)))) g
     (two_more one two new b (c ++ (d ++ (e ++ f))) h (four_more two three four five new c d e f k l m n))
-
-pub seven_more : (out one two three four five six new a b c d e f g : List ℕ) → one ≡ out ++ a → two ≡ one ++ b → three ≡ two ++ c
-    → four ≡ three ++ d → five ≡ four ++ e → six ≡ five ++ f → new ≡ six ++ g
-    → new ≡ out ++ (a ++ (b ++ (c ++ (d ++ (e ++ (f ++ g))))))
-seven_more out one two three four five six new a b c d e f g h k l m n o p =
-    two_more out one new a (b ++ (c ++ (d ++ (e ++ (f ++ g))))) h (six_more one two three four five six new b c d e f g k l m n o p)
 
 -- all that was found
 pub objects_grown : (program : List ℕ) (p : Plan) (spans : List ℕ) (e : Explored) (rulings : List Ruling) (delays : List Held) (faults : AllFaults)
@@ -97,16 +87,6 @@ program_grown program p s out one two three new e f g h =
     ∙ ap (λ (l : List ℕ). out ++ (codes "{\"program\":\"" ++ l))
     (append_assoc (escaped program) (codes "\",\"limits\":") (limits_told p.limits ++ (state_members true p s s ++ codes "\n")))
 
--- numbers between words, and what stands behind them
-two_numbers : (a g b q w : List ℕ) → (a ++ (g ++ (b ++ q))) ++ w ≡ a ++ (g ++ (b ++ (q ++ w)))
-two_numbers a g b q w =
-    append_assoc a (g ++ (b ++ q)) w ∙ ap (λ (l : List ℕ). a ++ l) (append_assoc g (b ++ q) w ∙ ap (λ (l : List ℕ). g ++ l) (append_assoc b q w))
-
-three_numbers : (a g b h c q w : List ℕ) → (a ++ (g ++ (b ++ (h ++ (c ++ q))))) ++ w ≡ a ++ (g ++ (b ++ (h ++ (c ++ (q ++ w)))))
-three_numbers a g b h c q w =
-    append_assoc a (g ++ (b ++ (h ++ (c ++ q)))) w
-    ∙ ap (λ (l : List ℕ). a ++ l) (append_assoc g (b ++ (h ++ (c ++ q))) w ∙ ap (λ (l : List ℕ). g ++ l) (two_numbers b h c q w))
-
 -- what was found of a claim
 pub ruling_grown : (p : Plan) (nodes : List (Node Situation Label)) (r : Ruling) (number : ℕ) (text out one two new : List ℕ)
     → number ≡ r.number → text ≡ r.text.items → one ≡ out ++ (codes "{\"claim\":" ++ (decimal number ++ []))
@@ -139,44 +119,8 @@ endless_grown steps all way out one new same e f =
     ∙ ap (λ (l : List ℕ). out ++ (codes ",\"steps\":null,\"again\":[" ++ l)) (append_assoc steps (codes "]") way)
     ∙ ap (λ (l : List ℕ). out ++ (codes ",\"steps\":null,\"again\":[" ++ (l ++ (codes "]" ++ way)))) same
 
--- faults
+-- a misuse
 module _ (p : Plan) (nodes : List (Node Situation Label)) where
-  pub race_grown : (o : Option Racing) (r : Racing) (new out : List ℕ) → o ≡ Some r
-      → new ≡ out ++ ((codes "{\"fault\":\"race\",\"thread\":\"t" ++ (decimal r.first ++ (codes "\",\"other\":\"t" ++ (decimal r.second ++ (codes "\",\"cell\":\"x" ++ (decimal r.cell ++ codes "\"")))))) ++ way_member p nodes r.place)
-      → new ≡ out ++ if_found (race_object p nodes) o
-  race_grown o r new out is e =
-      e
-      ∙ ap (λ (l : List ℕ). out ++ (codes "{\"fault\":\"race\",\"thread\":\"t" ++ l))
-      (three_numbers (decimal r.first) (codes "\",\"other\":\"t") (decimal r.second) (codes "\",\"cell\":\"x") (decimal r.cell) (codes "\"") (way_member p nodes r.place))
-      ∙ ap (λ (x : Option Racing). out ++ if_found (race_object p nodes) x) (sym is)
-
-  pub deadlock_grown : (o : Option Deadlocked) (d : Deadlocked) (new out : List ℕ) → o ≡ Some d
-      → new ≡ out ++ ((codes "{\"fault\":\"deadlock\",\"thread\":\"t" ++ (decimal d.thread ++ codes "\"")) ++ way_member p nodes d.place)
-      → new ≡ out ++ if_found (deadlock_object p nodes) o
-  deadlock_grown o d new out is e =
-      e
-      ∙ ap (λ (l : List ℕ). out ++ (codes "{\"fault\":\"deadlock\",\"thread\":\"t" ++ l))
-      (append_assoc (decimal d.thread) (codes "\"") (way_member p nodes d.place))
-      ∙ ap (λ (x : Option Deadlocked). out ++ if_found (deadlock_object p nodes) x) (sym is)
-
-  pub cycle_grown : (o : Option Cycle) (k : Cycle) (new out : List ℕ) → o ≡ Some k
-      → new ≡ out ++ ((codes "{\"fault\":\"cycle\",\"thread\":\"t" ++ (decimal k.thread ++ (codes "\",\"mutex\":\"m" ++ (decimal k.mutex ++ codes "\"")))) ++ way_member p nodes k.place)
-      → new ≡ out ++ if_found (cycle_object p nodes) o
-  cycle_grown o k new out is e =
-      e
-      ∙ ap (λ (l : List ℕ). out ++ (codes "{\"fault\":\"cycle\",\"thread\":\"t" ++ l))
-      (two_numbers (decimal k.thread) (codes "\",\"mutex\":\"m") (decimal k.mutex) (codes "\"") (way_member p nodes k.place))
-      ∙ ap (λ (x : Option Cycle). out ++ if_found (cycle_object p nodes) x) (sym is)
-
-  pub lost_grown : (o : Option LostWakeUp) (k : LostWakeUp) (new out : List ℕ) → o ≡ Some k
-      → new ≡ out ++ ((codes "{\"fault\":\"lost wake-up\",\"thread\":\"t" ++ (decimal k.thread ++ (codes "\",\"cond\":\"c" ++ (decimal k.variable ++ codes "\"")))) ++ way_member p nodes k.place)
-      → new ≡ out ++ if_found (lost_wake_up_object p nodes) o
-  lost_grown o k new out is e =
-      e
-      ∙ ap (λ (l : List ℕ). out ++ (codes "{\"fault\":\"lost wake-up\",\"thread\":\"t" ++ l))
-      (two_numbers (decimal k.thread) (codes "\",\"cond\":\"c") (decimal k.variable) (codes "\"") (way_member p nodes k.place))
-      ∙ ap (λ (x : Option LostWakeUp). out ++ if_found (lost_wake_up_object p nodes) x) (sym is)
-
   pub misuse_grown : (m : Misuse) (out one two three new : List ℕ)
       → one ≡ out ++ (codes "{\"fault\":\"misuse\",\"thread\":\"t" ++ (decimal m.thread ++ codes "\",\"call\":\""))
       → two ≡ one ++ request_text m.request → three ≡ two ++ codes "\"" → new ≡ three ++ way_member p nodes m.place

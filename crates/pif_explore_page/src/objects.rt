@@ -3,12 +3,12 @@ ghost use Rattle.pif_explore_page.specs.Objects.{objects_told};
 
 use crate::claims::push_ruling_objects;
 use crate::delays::push_delay_objects;
-use crate::faults::push_fault_objects;
+use crate::faults::FaultObjects;
 use crate::outcomes::{push_counts_object, push_outcome_objects};
 use crate::program::push_program;
 use pif_explore::{Explored, Plan};
 use pif_explore_orders::AllFaults;
-use pif_explore_told::{Held, Ruling};
+use pif_explore_told::{Held, Ruling, push_faults};
 use pif_search::Stop;
 use std::alloc::Global;
 
@@ -36,7 +36,7 @@ pub fn push_objects(
     push_program(alloc, program, plan, nodes, out)?;
     push_ruling_objects(alloc, plan, nodes, rulings, out)?;
     push_delay_objects(alloc, plan, nodes, delays, out)?;
-    push_fault_objects(alloc, plan, nodes, faults, out)?;
+    push_faults(alloc, &FaultObjects { plan }, nodes, faults, out)?;
     push_outcome_objects(alloc, plan, spans, nodes, outcomes, out)?;
     let count = outcomes.len();
     let states = nodes.len();

@@ -11,6 +11,6 @@ returns c =
     (objects_grown c.args.program.now c.args.plan.now c.args.spans.now c.args.explored.now c.args.rulings.now c.args.delays.now c.args.faults.now
     c.as_slice-nodes.result.now c.as_slice-outcomes.result.now _ _ _ _ _ _ _ _ _ _ c.as_slice-nodes.ensures.value
     c.as_slice-outcomes.ensures.value refl refl (ap (λ (es : List (Edge Label)). length es) c.as_slice-edges.ensures.value)
-    c.in_ok-push_program.ensures c.in_ok-push_ruling_objects.ensures c.in_ok-push_delay_objects.ensures c.in_ok-push_fault_objects.ensures
+    c.in_ok-push_program.ensures c.in_ok-push_ruling_objects.ensures c.in_ok-push_delay_objects.ensures c.in_ok-push_faults.ensures
     c.in_ok-push_outcome_objects.ensures)
     c.push_counts_object.ensures

@@ -1,6 +1,6 @@
 use Rattle.std.proofs.lemmas.Result.{on_ok_weaker}
 use Rattle.pif_explore_page.proofs.Pieces.{misuse_grown}
-use Rattle.pif_explore_page.proofs.faults.push_misuse_object.Goals as goal
+use Rattle.pif_explore_page.proofs.faults.push_misuse.Goals as goal
 
 pub returns : goal.returns
 returns c =

@@ -1,9 +1,0 @@
-use Rattle.std.proofs.lemmas.Result.{on_ok_weaker}
-use Rattle.pif_explore_told.proofs.TellingLemmas.{cycle_more}
-use Rattle.pif_explore_told.proofs.dangers.push_cycle.Goals as goal
-
-pub returns-in-Some : goal.returns-in-Some
-returns-in-Some c =
-    on_ok_weaker c.push_found.result
-    (cycle_more c.args.plan.now c.args.nodes.now c.args.cycle.now c.in-Some.cycle c.push_found.new.out.items c.args.out.now.items c.in-Some.is)
-    c.push_found.ensures
