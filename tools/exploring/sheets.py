@@ -180,7 +180,7 @@ class Writer:
         if own == 3:
             text = atom(tree)
         elif own == 2:
-            text = "not " + self.joined(parts[0], 3, atom)
+            text = "not " + self.joined(parts[0], own, atom)
         else:
             text = (" %s " % word).join(self.joined(part, own, atom) for part in parts)
         return "(%s)" % text if own < level or self.chance.random() < 0.1 else text

@@ -1,5 +1,5 @@
 -- A test is read back from its words.
-use Rattle.std.proofs.Common.{◌≡◌, ℕ, ◌<◌, ◌&&◌, Bool, true, false, List, [], ◌∷◌, ◌++◌, Option, Some, None, Ok, refl, sym, ap, ◌∙◌, append_assoc, append-nil, codes, decimal}
+use Rattle.std.proofs.Common.{◌≡◌, ℕ, ◌<◌, Bool, true, false, List, [], ◌∷◌, ◌++◌, Option, Some, None, Ok, refl, sym, ap, ◌∙◌, append_assoc, append-nil, codes, decimal}
 use Rattle.std.specs.Prelude.{bytes_eq, option_map}
 use Rattle.pif_types.specs.Numbers.{number_of}
 use Rattle.pif_history_text.specs.Lines.{answer_in}
@@ -16,7 +16,7 @@ use Rattle.pif_explore_text.specs.Tests.{Asked, Tested, asked_end, asked_with, b
 use Rattle.pif_explore_text.specs.Trees.{Trial, asks, opposite, all_of, one_of}
 use Rattle.pif_explore_text.specs.Written.{IsCell, IsWritten, cell_name, operand_word}
 use Rattle.pif_explore_text.specs.WrittenTests.{IsAsked, asked_words, enclosed_words, guard_words}
-use Rattle.pif_explore_text.proofs.ConditionsBack.{and_false, answer_said, between, cell_said, no_number, no_word, operand_said}
+use Rattle.pif_explore_text.proofs.ConditionsBack.{answer_said, between, cell_said, no_number, no_word, operand_said}
 
 -- one word more
 step : (a : Asked) (o : List Asked) (w : Want) (word : List ℕ) (rest : List (List ℕ)) (s : Tested)
@@ -29,7 +29,7 @@ step a o w word rest s is = rw is refl
 front : (s : Tested) (word : List ℕ) → bytes_eq word (codes "not") ≡ false → bytes_eq word (codes "(") ≡ false
     → begun_by s word ≡ with_answer s word (answer_in word)
 unfolding begun_by
-front s word is_not is_bracket = rw (is_not, and_false _, is_bracket) refl
+front s word is_not is_bracket = rw (is_not, is_bracket) refl
 
 -- the name of a cell is no answer
 no_answer : (x : ℕ) → answer_in (cell_name x) ≡ None
@@ -94,7 +94,7 @@ in_brackets : (t : Trial) → AsWhole t → (a : Asked) (o : List Asked) (rest :
 unfolding begun_by joined_by
 in_brackets t whole a o rest =
     let inner = whole (a ∷ o) (codes ")" ∷ rest) in
-    step a o want.Guard (codes "(") ((asked_words t ++ codes ")" ∷ []) ++ rest) (record { asked = unasked; outside = a ∷ o; want = want.Guard }) (rw (and_false _) refl)
+    step a o want.Guard (codes "(") ((asked_words t ++ codes ")" ∷ []) ++ rest) (record { asked = unasked; outside = a ∷ o; want = want.Guard }) refl
     ∙ rw (append_assoc (asked_words t) (codes ")" ∷ []) rest) inner.comes
     ∙ step inner.asked (a ∷ o) want.Connective (codes ")") rest _ (rw inner.ends refl)
 

@@ -124,12 +124,12 @@ enum Next {
     Brace,
     /// A thread or `:`
     Colon,
-    /// What a test asks. Whether `not` may stand in front.
-    Guard(bool),
+    /// What a test asks.
+    Guard,
     /// `and`, `or`, `)` or `{`
     Alternative,
-    /// What a condition speaks of. Whether `not` may stand in front.
-    Subject(bool),
+    /// What a condition speaks of.
+    Subject,
     /// What a condition says of a thread.
     OfThread,
     /// What a condition says of a mutex.
@@ -190,8 +190,8 @@ fn after_parts(rest: Rest) -> Next {
         Rest::KindOfProgram => Next::KindOfProgram,
         Rest::Rules => Next::Rule,
         Rest::Program => Next::Colon,
-        Rest::Test => Next::Guard(true),
-        Rest::Condition => Next::Subject(true),
+        Rest::Test => Next::Guard,
+        Rest::Condition => Next::Subject,
         Rest::Ticks => Next::Tick,
         Rest::Threads => Next::Threads,
         Rest::OfThreads => Next::Of,
@@ -343,7 +343,7 @@ impl LineSoFar {
             Open::While
         };
         if let Rest::Test = form.rest {
-            self.next = Next::Guard(true);
+            self.next = Next::Guard;
         }
         Ok(())
     }
@@ -412,12 +412,12 @@ impl LineSoFar {
     }
 
     /// Takes what a test asks.
-    fn take_guard(&mut self, word: &[u8], may_deny: bool) -> Result<(), Slip> {
-        if may_deny && word == b"not".as_slice() {
-            self.next = Next::Guard(false);
+    fn take_guard(&mut self, word: &[u8]) -> Result<(), Slip> {
+        if word == b"not".as_slice() {
+            self.next = Next::Guard;
         } else if word == b"(".as_slice() {
             self.brackets = self.brackets.saturating_add(1);
-            self.next = Next::Guard(true);
+            self.next = Next::Guard;
         } else if is_answer(word) {
             self.next = Next::Alternative;
         } else if is_cell(word) {
@@ -431,7 +431,7 @@ impl LineSoFar {
     /// Takes what stands behind what a test asks.
     fn take_alternative(&mut self, word: &[u8]) -> Result<(), Slip> {
         if word == b"and".as_slice() || word == b"or".as_slice() {
-            self.next = Next::Guard(true);
+            self.next = Next::Guard;
             return Ok(());
         }
         if word == b")".as_slice() {
@@ -463,12 +463,12 @@ impl LineSoFar {
     }
 
     /// Takes what a condition speaks of.
-    fn take_subject(&mut self, word: &[u8], may_deny: bool) -> Result<(), Slip> {
-        if may_deny && word == b"not".as_slice() {
-            self.next = Next::Subject(false);
+    fn take_subject(&mut self, word: &[u8]) -> Result<(), Slip> {
+        if word == b"not".as_slice() {
+            self.next = Next::Subject;
         } else if word == b"(".as_slice() {
             self.brackets = self.brackets.saturating_add(1);
-            self.next = Next::Subject(true);
+            self.next = Next::Subject;
         } else if is_cell(word) {
             self.form = OF_CELL.shape();
             self.next = Next::OfCell;
@@ -501,7 +501,7 @@ impl LineSoFar {
     fn take_connective(&mut self, word: &[u8]) -> Result<(), Slip> {
         if word == b"and".as_slice() || word == b"or".as_slice() {
             self.form = self.line;
-            self.next = Next::Subject(true);
+            self.next = Next::Subject;
             return Ok(());
         }
         if word != b")".as_slice() {
@@ -536,9 +536,9 @@ impl LineSoFar {
             Next::Closed | Next::Else => self.take_behind(word),
             Next::Brace => self.take_other(word),
             Next::Colon => self.take_colon(word),
-            Next::Guard(may_deny) => self.take_guard(word, may_deny),
+            Next::Guard => self.take_guard(word),
             Next::Alternative => self.take_alternative(word),
-            Next::Subject(may_deny) => self.take_subject(word, may_deny),
+            Next::Subject => self.take_subject(word),
             Next::OfThread => self.take_said(word, &OF_THREADS, Part::OfThread),
             Next::OfMutex => self.take_said(word, &OF_MUTEXES, Part::OfMutex),
             Next::OfCell => self.take_comparison(word, Next::Connective),
