@@ -1,5 +1,5 @@
 -- A test is read back from its words.
-use Rattle.std.proofs.Common.{◌≡◌, ℕ, ◌<◌, Bool, true, false, List, [], ◌∷◌, ◌++◌, Option, Some, None, Ok, refl, sym, ap, ◌∙◌, append_assoc, append-nil, codes, decimal}
+use Rattle.std.proofs.Common.{◌≡◌, ℕ, ◌<◌, true, false, List, [], ◌∷◌, ◌++◌, Option, Some, None, Ok, refl, ap, ◌∙◌, append_assoc, append-nil, codes, decimal}
 use Rattle.std.specs.Prelude.{bytes_eq, option_map}
 use Rattle.pif_types.specs.Numbers.{number_of}
 use Rattle.pif_history_text.specs.Lines.{answer_in}
@@ -15,7 +15,7 @@ use Rattle.pif_explore_text.specs.declared.tests.Want.TheVariants as want
 use Rattle.pif_explore_text.specs.Tests.{Asked, Tested, asked_end, asked_with, begun_by, joined_by, tested_by, tested_from, unasked, untested, with_answer}
 use Rattle.pif_explore_text.specs.Trees.{Trial, asks, opposite, all_of, one_of}
 use Rattle.pif_explore_text.specs.Written.{IsCell, IsWritten, cell_name, operand_word}
-use Rattle.pif_explore_text.specs.WrittenTests.{IsAsked, asked_words, enclosed_words, guard_words}
+use Rattle.pif_explore_text.specs.WrittenTests.{IsAsked, asked_words, enclosed_words}
 use Rattle.pif_explore_text.proofs.ConditionsBack.{answer_said, between, cell_said, no_number, no_word, operand_said}
 
 -- one word more
