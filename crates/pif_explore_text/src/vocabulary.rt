@@ -1,126 +1,91 @@
-ghost use Rattle.std.specs.Prelude.{◌≡◌};
-ghost use Rattle.pif_explore_text.specs.Vocabulary.{is_of_claims, is_of_faults, is_of_fronts, is_of_holds, is_of_kinds, is_of_mutexes, is_of_programs, is_of_statements, is_of_threads};
+ghost use Rattle.std.specs.Prelude.{◌≡◌, map};
+ghost use Rattle.pif_explore_text.specs.Vocabulary.{is_among, is_of_programs};
 
-use pif_text::is_word;
+/// The words of the grammar that are no calls, no errors and no names.
+const WORDS: [&[u8]; 60] = [
+    // Statements and tests.
+    b"if",
+    b"else",
+    b"while",
+    b"break",
+    b"set",
+    b"add",
+    b"choose",
+    b"join",
+    b"exit",
+    b"start",
+    b"not",
+    b"and",
+    b"or",
+    // What conditions say of threads.
+    b"stuck",
+    b"ended",
+    b"answered",
+    b"runs",
+    b"at",
+    b"least",
+    b"waits",
+    b"for",
+    b"blocked",
+    b"on",
+    b"holds",
+    b"once",
+    b"twice",
+    b"times",
+    // What they say of mutexes.
+    b"free",
+    b"inconsistent",
+    b"unusable",
+    b"held",
+    b"by",
+    // What they say of faults.
+    b"race",
+    b"misuse",
+    b"deadlock",
+    b"lost",
+    b"wake-up",
+    b"livelock",
+    // The first words of lines, and what stands in some of them.
+    b"limits",
+    b"allow",
+    b"thread",
+    b"mutex",
+    b"cond",
+    b"cell",
+    b"schedule",
+    b"delay",
+    b"do",
+    b"ends",
+    b"of",
+    b"ticks",
+    b"never",
+    b"always",
+    b"finally",
+    b"sometimes",
+    // Kinds of mutexes.
+    b"normal",
+    b"default",
+    b"errorcheck",
+    b"recursive",
+    b"robust",
+    b"none",
+];
 
-/// Whether a word is one of those of statements and tests.
-fn is_of_statements(word: &[u8]) -> bool
-    ensures { result ≡ is_of_statements word.now }
+/// Whether a word is one of these.
+fn is_among(words: &[&[u8]], word: &[u8]) -> bool
+    ensures { result ≡ is_among (map (λ w. w.now) words.now) word.now }
 {
-    is_word(word, b"if")
-        || is_word(word, b"else")
-        || is_word(word, b"while")
-        || is_word(word, b"break")
-        || is_word(word, b"set")
-        || is_word(word, b"add")
-        || is_word(word, b"choose")
-        || is_word(word, b"join")
-        || is_word(word, b"exit")
-        || is_word(word, b"start")
-        || is_word(word, b"not")
-        || is_word(word, b"and")
-        || is_word(word, b"or")
-}
-
-/// Whether a word is one of those with which conditions speak of threads.
-fn is_of_threads(word: &[u8]) -> bool
-    ensures { result ≡ is_of_threads word.now }
-{
-    is_word(word, b"stuck")
-        || is_word(word, b"ended")
-        || is_word(word, b"answered")
-        || is_word(word, b"runs")
-        || is_word(word, b"at")
-        || is_word(word, b"least")
-        || is_word(word, b"waits")
-        || is_word(word, b"for")
-        || is_word(word, b"blocked")
-}
-
-/// Whether a word is one of those with which conditions speak of what a thread holds or is blocked on.
-fn is_of_holds(word: &[u8]) -> bool
-    ensures { result ≡ is_of_holds word.now }
-{
-    is_word(word, b"on")
-        || is_word(word, b"holds")
-        || is_word(word, b"once")
-        || is_word(word, b"twice")
-        || is_word(word, b"times")
-}
-
-/// Whether a word is one of those with which conditions speak of mutexes.
-fn is_of_mutexes(word: &[u8]) -> bool
-    ensures { result ≡ is_of_mutexes word.now }
-{
-    is_word(word, b"free")
-        || is_word(word, b"inconsistent")
-        || is_word(word, b"unusable")
-        || is_word(word, b"held")
-        || is_word(word, b"by")
-}
-
-/// Whether a word is one of those with which conditions speak of faults.
-fn is_of_faults(word: &[u8]) -> bool
-    ensures { result ≡ is_of_faults word.now }
-{
-    is_word(word, b"race")
-        || is_word(word, b"misuse")
-        || is_word(word, b"deadlock")
-        || is_word(word, b"lost")
-        || is_word(word, b"wake-up")
-        || is_word(word, b"livelock")
-}
-
-/// Whether a word is one of those with which lines of what is there begin.
-fn is_of_fronts(word: &[u8]) -> bool
-    ensures { result ≡ is_of_fronts word.now }
-{
-    is_word(word, b"limits")
-        || is_word(word, b"allow")
-        || is_word(word, b"thread")
-        || is_word(word, b"mutex")
-        || is_word(word, b"cond")
-        || is_word(word, b"cell")
-        || is_word(word, b"schedule")
-        || is_word(word, b"delay")
-}
-
-/// Whether a word is one of those with which other lines begin.
-fn is_of_claims(word: &[u8]) -> bool
-    ensures { result ≡ is_of_claims word.now }
-{
-    is_word(word, b"do")
-        || is_word(word, b"ends")
-        || is_word(word, b"ticks")
-        || is_word(word, b"never")
-        || is_word(word, b"always")
-        || is_word(word, b"finally")
-        || is_word(word, b"sometimes")
-        || is_word(word, b"of")
-}
-
-/// Whether a word is one of those of kinds of mutexes.
-fn is_of_kinds(word: &[u8]) -> bool
-    ensures { result ≡ is_of_kinds word.now }
-{
-    is_word(word, b"normal")
-        || is_word(word, b"default")
-        || is_word(word, b"errorcheck")
-        || is_word(word, b"recursive")
-        || is_word(word, b"robust")
-        || is_word(word, b"none")
+    for own in words {
+        if word == *own {
+            return true;
+        }
+    }
+    false
 }
 
 /// Whether a word is one of the grammar that is no call, no error and no name.
 pub(crate) fn is_of_programs(word: &[u8]) -> bool
     ensures { result ≡ is_of_programs word.now }
 {
-    is_of_statements(word)
-        || is_of_threads(word)
-        || is_of_holds(word)
-        || is_of_mutexes(word)
-        || is_of_faults(word)
-        || is_of_fronts(word)
-        || is_of_claims(word)
-        || is_of_kinds(word)
+    is_among(&WORDS, word)
 }
