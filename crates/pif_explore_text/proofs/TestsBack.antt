@@ -12,16 +12,21 @@ use Rattle.pif_explore_text.specs.declared.programs.Guard.TheVariants.{Answered,
 use Rattle.pif_explore_text.specs.declared.operands.Sign.TheVariants as sign
 use Rattle.pif_explore_text.specs.declared.tests.Want.{Want}
 use Rattle.pif_explore_text.specs.declared.tests.Want.TheVariants as want
-use Rattle.pif_explore_text.specs.Tests.{Asked, Tested, asked_end, asked_with, begun_by, joined_by, tested_by, tested_from, unasked, untested, with_answer}
+use Rattle.pif_explore_text.specs.Brackets.{Level, blank, level_end, level_with}
+use Rattle.pif_explore_text.specs.Tests.{Tested, begun_by, joined_by, tested_by, tested_from, trials, untested, with_answer}
 use Rattle.pif_explore_text.specs.Trees.{Trial, asks, opposite, all_of, one_of}
 use Rattle.pif_explore_text.specs.Written.{IsCell, IsWritten, cell_name, operand_word}
 use Rattle.pif_explore_text.specs.WrittenTests.{IsAsked, asked_words, enclosed_words}
 use Rattle.pif_explore_text.proofs.ConditionsBack.{answer_said, between, cell_said, no_number, no_word, operand_said}
 
+-- in these brackets, where the next word may be this
+abbrev at : Level Trial → List (Level Trial) → Want → Tested
+at a o w = record { nest = record { level = a; outside = o }; want = w }
+
 -- one word more
-step : (a : Asked) (o : List Asked) (w : Want) (word : List ℕ) (rest : List (List ℕ)) (s : Tested)
-    → tested_by (record { asked = a; outside = o; want = w }) w word ≡ Ok s
-    → tested_from (record { asked = a; outside = o; want = w }) (word ∷ rest) ≡ tested_from s rest
+step : (a : Level Trial) (o : List (Level Trial)) (w : Want) (word : List ℕ) (rest : List (List ℕ)) (s : Tested)
+    → tested_by (at a o w) w word ≡ Ok s
+    → tested_from (at a o w) (word ∷ rest) ≡ tested_from s rest
 unfolding tested_from
 step a o w word rest s is = rw is refl
 
@@ -40,33 +45,33 @@ no_answer x =
 
 -- its words ask one thing more
 abbrev AsOperand : Trial → Type 0
-AsOperand t = (a : Asked) (o : List Asked) (rest : List (List ℕ))
-    → tested_from (record { asked = a; outside = o; want = want.Guard }) (enclosed_words t (asked_words t) ++ rest)
-    ≡ tested_from (record { asked = asked_with a t; outside = o; want = want.Connective }) rest
+AsOperand t = (a : Level Trial) (o : List (Level Trial)) (rest : List (List ℕ))
+    → tested_from (at a o want.Guard) (enclosed_words t (asked_words t) ++ rest)
+    ≡ tested_from (at (level_with trials a t) o want.Connective) rest
 
 -- its words come from the front of brackets to a place at which it is all that stands there
-record IsWhole (t : Trial) (o : List Asked) (rest : List (List ℕ)) : Type 0 where
-  asked : Asked
-  comes : tested_from (record { asked = unasked; outside = o; want = want.Guard }) (asked_words t ++ rest)
-      ≡ tested_from (record { asked = asked; outside = o; want = want.Connective }) rest
-  ends : asked_end asked asked.ands ≡ Ok t
+record IsWhole (t : Trial) (o : List (Level Trial)) (rest : List (List ℕ)) : Type 0 where
+  asked : Level Trial
+  comes : tested_from (at blank o want.Guard) (asked_words t ++ rest)
+      ≡ tested_from (at asked o want.Connective) rest
+  ends : level_end trials asked asked.ands ≡ Ok t
 
 abbrev AsWhole : Trial → Type 0
-AsWhole t = (o : List Asked) (rest : List (List ℕ)) → IsWhole t o rest
+AsWhole t = (o : List (Level Trial)) (rest : List (List ℕ)) → IsWhole t o rest
 
 of_an_answer : (n : ℕ) → n < 4294967296 → AsOperand (asks (Answered n))
 unfolding number_in
 of_an_answer n fits a o rest =
     step a o want.Guard (decimal n) rest _
-    (front (record { asked = a; outside = o; want = want.Guard }) (decimal n) (no_word n (codes "not") fits refl) (no_word n (codes "(") fits refl)
+    (front (at a o want.Guard) (decimal n) (no_word n (codes "not") fits refl) (no_word n (codes "(") fits refl)
     ∙ rw (answer_said n fits) refl)
 
-of_a_cell : (x : ℕ) → IsCell x → (a : Asked) (o : List Asked) (rest : List (List ℕ))
-    → tested_from (record { asked = a; outside = o; want = want.Guard }) (cell_name x ∷ rest)
-    ≡ tested_from (record { asked = a; outside = o; want = want.Sign x }) rest
+of_a_cell : (x : ℕ) → IsCell x → (a : Level Trial) (o : List (Level Trial)) (rest : List (List ℕ))
+    → tested_from (at a o want.Guard) (cell_name x ∷ rest)
+    ≡ tested_from (at a o (want.Sign x)) rest
 of_a_cell x is a o rest =
-    step a o want.Guard (cell_name x) rest (record { asked = a; outside = o; want = want.Sign x })
-    (front (record { asked = a; outside = o; want = want.Guard }) (cell_name x) refl refl
+    step a o want.Guard (cell_name x) rest (at a o (want.Sign x))
+    (front (at a o want.Guard) (cell_name x) refl refl
     ∙ rw (no_answer x, cell_said x is) refl)
 
 of_a_value : (x : ℕ) → IsCell x → (wanted : Wanted) → IsWritten wanted → AsOperand (asks (Holds x wanted))
@@ -88,13 +93,13 @@ of_a_guard (Answered n) asked = of_an_answer n asked
 of_a_guard (Holds x wanted) asked = of_a_value x asked.0 wanted asked.1
 
 -- brackets around all that stands in them
-in_brackets : (t : Trial) → AsWhole t → (a : Asked) (o : List Asked) (rest : List (List ℕ))
-    → tested_from (record { asked = a; outside = o; want = want.Guard }) ((codes "(" ∷ (asked_words t ++ codes ")" ∷ [])) ++ rest)
-    ≡ tested_from (record { asked = asked_with a t; outside = o; want = want.Connective }) rest
+in_brackets : (t : Trial) → AsWhole t → (a : Level Trial) (o : List (Level Trial)) (rest : List (List ℕ))
+    → tested_from (at a o want.Guard) ((codes "(" ∷ (asked_words t ++ codes ")" ∷ [])) ++ rest)
+    ≡ tested_from (at (level_with trials a t) o want.Connective) rest
 unfolding begun_by joined_by
 in_brackets t whole a o rest =
     let inner = whole (a ∷ o) (codes ")" ∷ rest) in
-    step a o want.Guard (codes "(") ((asked_words t ++ codes ")" ∷ []) ++ rest) (record { asked = unasked; outside = a ∷ o; want = want.Guard }) refl
+    step a o want.Guard (codes "(") ((asked_words t ++ codes ")" ∷ []) ++ rest) (at blank (a ∷ o) want.Guard) refl
     ∙ rw (append_assoc (asked_words t) (codes ")" ∷ []) rest) inner.comes
     ∙ step inner.asked (a ∷ o) want.Connective (codes ")") rest _ (rw inner.ends refl)
 
@@ -107,15 +112,15 @@ as_operand (one_of t u) asked whole = in_brackets (one_of t u) whole
 as_whole : (t : Trial) → IsAsked t → AsWhole t
 unfolding begun_by joined_by
 as_whole (asks guard) asked o rest = record {
-  asked = asked_with unasked (asks guard);
-  comes = of_a_guard guard asked unasked o rest;
+  asked = level_with trials blank (asks guard);
+  comes = of_a_guard guard asked blank o rest;
   ends = refl;
 }
 as_whole (opposite t) asked o rest =
     let part = as_operand t asked (as_whole t asked) in
     record {
-      asked = asked_with (record { ors = None; ands = None; denies = true }) t;
-      comes = step unasked o want.Guard (codes "not") (enclosed_words t (asked_words t) ++ rest) _ refl
+      asked = level_with trials (record { ors = None; ands = None; denies = true }) t;
+      comes = step blank o want.Guard (codes "not") (enclosed_words t (asked_words t) ++ rest) _ refl
           ∙ part (record { ors = None; ands = None; denies = true }) o rest;
       ends = refl;
     }
@@ -123,21 +128,21 @@ as_whole (all_of t u) asked o rest =
     let one = as_operand t asked.0 (as_whole t asked.0) in
     let other = as_operand u asked.1 (as_whole u asked.1) in
     record {
-      asked = asked_with (asked_with unasked t) u;
+      asked = level_with trials (level_with trials blank t) u;
       comes = rw (between (enclosed_words t (asked_words t)) (enclosed_words u (asked_words u)) (codes "and") rest)
-          (one unasked o (codes "and" ∷ (enclosed_words u (asked_words u) ++ rest))
-          ∙ step (asked_with unasked t) o want.Connective (codes "and") (enclosed_words u (asked_words u) ++ rest) _ refl
-          ∙ other (asked_with unasked t) o rest);
+          (one blank o (codes "and" ∷ (enclosed_words u (asked_words u) ++ rest))
+          ∙ step (level_with trials blank t) o want.Connective (codes "and") (enclosed_words u (asked_words u) ++ rest) _ refl
+          ∙ other (level_with trials blank t) o rest);
       ends = refl;
     }
 as_whole (one_of t u) asked o rest =
     let one = as_operand t asked.0 (as_whole t asked.0) in
     let other = as_operand u asked.1 (as_whole u asked.1) in
     record {
-      asked = asked_with (record { ors = Some t; ands = None; denies = false }) u;
+      asked = level_with trials (record { ors = Some t; ands = None; denies = false }) u;
       comes = rw (between (enclosed_words t (asked_words t)) (enclosed_words u (asked_words u)) (codes "or") rest)
-          (one unasked o (codes "or" ∷ (enclosed_words u (asked_words u) ++ rest))
-          ∙ step (asked_with unasked t) o want.Connective (codes "or") (enclosed_words u (asked_words u) ++ rest) _ refl
+          (one blank o (codes "or" ∷ (enclosed_words u (asked_words u) ++ rest))
+          ∙ step (level_with trials blank t) o want.Connective (codes "or") (enclosed_words u (asked_words u) ++ rest) _ refl
           ∙ other (record { ors = Some t; ands = None; denies = false }) o rest);
       ends = refl;
     }
