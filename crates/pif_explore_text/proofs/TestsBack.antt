@@ -17,7 +17,7 @@ use Rattle.pif_explore_text.specs.Tests.{Tested, begun_by, joined_by, tested_by,
 use Rattle.pif_explore_text.specs.Trees.{Trial, asks, opposite, all_of, one_of}
 use Rattle.pif_explore_text.specs.Written.{IsCell, IsWritten, cell_name, operand_word}
 use Rattle.pif_explore_text.specs.WrittenTests.{IsAsked, asked_words, enclosed_words}
-use Rattle.pif_explore_text.proofs.ConditionsBack.{answer_said, between, cell_said, no_number, no_word, operand_said}
+use Rattle.pif_explore_text.proofs.ConditionsBack.{answer_said, between, cell_said, no_number, no_word, not_not, operand_said}
 
 -- in these brackets, where the next word may be this
 abbrev at : Level Trial → List (Level Trial) → Want → Tested
@@ -153,3 +153,9 @@ unfolding tested_from
 test_back t asked =
     let whole = as_whole t asked [] [] in
     rw (← append-nil (asked_words t)) (whole.comes ∙ whole.ends)
+
+-- two `not`s in a row ask nothing
+pub nots-test : (s : Tested) (rest : List (List ℕ)) → s.want ≡ want.Guard
+    → tested_from s (codes "not" ∷ codes "not" ∷ rest) ≡ tested_from s rest
+unfolding tested_from begun_by
+nots-test s rest front = rw (front, not_not s.nest.level.denies) refl
