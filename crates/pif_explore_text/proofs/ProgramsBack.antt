@@ -10,7 +10,6 @@ use Rattle.std.proofs.lemmas.Fmt.{decimal_nonempty, digits_decimal}
 use Rattle.std.proofs.lemmas.List.Splits.{slice_split-cons_no, slice_split-cons_yes}
 use Rattle.std.proofs.lemmas.Slice.Eq.{bytes_eq-Decides}
 use Rattle.pif_types.specs.declared.requests.Request.{Request}
-use Rattle.pif_types.specs.declared.requests.Request.TheVariants as request
 use Rattle.pif_text_model.specs.declared.calls.Arguments.{Arguments}
 use Rattle.pif_text_model.specs.declared.calls.CallKind.{CallKind}
 use Rattle.pif_text_model.specs.declared.calls.CallKind.TheVariants.{Lock}

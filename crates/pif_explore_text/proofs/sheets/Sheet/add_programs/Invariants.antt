@@ -1,4 +1,4 @@
-use Rattle.std.proofs.Common.{◌≡◌, ◌++◌, drop, map}
+use Rattle.std.proofs.Common.{◌≡◌, drop}
 use Rattle.pif_explore_text.specs.Trees.{body_of}
 use Rattle.pif_explore_text.specs.Sheets.{with_programs}
 use Rattle.pif_explore_text.specs.Views.{sheet_view}
