@@ -1,0 +1,4 @@
+pub mod Components
+pub mod Sides
+pub mod Laws
+pub mod Places
