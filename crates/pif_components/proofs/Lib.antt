@@ -1,0 +1,3 @@
+mod GroupLemmas
+mod HearingLemmas
+mod JudgingLemmas

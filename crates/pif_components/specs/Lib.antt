@@ -1,0 +1,4 @@
+pub mod Groups
+pub mod Hearing
+pub mod Sides
+pub mod Judging
