@@ -11,11 +11,8 @@ use Rattle.pif_history_model.specs.declared.lines.Line.{Line}
 use Rattle.pif_history_model.specs.Shown.{IsShown}
 use Rattle.pif_history_model.specs.Shown.IsCut.{no_line}
 use Rattle.pif_history_model.specs.Verdicts.{IsIllegal}
-use Rattle.pif_history_model.proofs.Widening.{plain-from_shown}
-use Rattle.pif_history_machine.specs.declared.verdicts.Verdict.{Verdict}
-use Rattle.pif_history_machine.specs.declared.verdicts.Verdict.TheVariants.{Legal, Illegal, Undecided}
-use Rattle.pif_history_machine.specs.Verdicts.{IsVerdictOf}
 use Rattle.pif_parts_model.specs.Quiet.{IsQuiet}
+use Rattle.pif_components.specs.Sides.{IsOf}
 use Rattle.pif_parts.specs.declared.parts.Part.{Part}
 use Rattle.pif_parts.specs.declared.joining.PartVerdict.{PartVerdict}
 use Rattle.pif_parts.specs.declared.joining.PartVerdict.TheVariants as part
@@ -23,7 +20,6 @@ use Rattle.pif_parts.specs.Parts.{AreOfParts, ArePartsOf, IsOfPart, alone}
 use Rattle.pif_parts.specs.Standing.{IsPast, StandFor}
 use Rattle.pif_parts_judged.specs.declared.following.Judged.{Judged}
 use Rattle.pif_parts_judged.specs.Following.{IsJudged, IsOfOpen, both}
-use Rattle.pif_parts_judged.specs.Judged.{verdict_of}
 
 -- BEFORE ANY LINE
 
@@ -91,12 +87,11 @@ module _ (l : Bounds) (front later : List Line) (j : Judged) (h : IsJudged l fro
   are_verdicts v x =
       (subst (λ (ys : List Line). IsShown l (reverse ys)) (sym first_alone) h.legal, (last_verdict v x, tt))
 
--- what a search says of the open lines
-pub of_open : (l : Bounds) (j : Judged) (later : List Line) (v : Verdict) → IsVerdictOf no_rules l (both j.before.items later) v
-    → IsOfOpen l j later (verdict_of v)
-of_open l j later (Legal w) x = plain-from_shown l (reverse (both j.before.items later)) x.legal
-of_open l j later (Illegal n) x = x.2
-of_open l j later (Undecided n) x = tt
+-- what is so of the open lines, with those that stand for the front
+pub of_open : (l : Bounds) (j : Judged) (later : List Line) (v : PartVerdict) → IsOf l (both j.before.items later) v → IsOfOpen l j later v
+of_open l j later part.Legal x = x
+of_open l j later (part.Illegal n) x = x
+of_open l j later part.Undecided x = tt
 
 -- THE FRONT GROWS
 

@@ -1,24 +1,20 @@
--- What a search says of a part is its verdict, and one more part is judged.
-use Rattle.std.proofs.Common.{ℕ, ◌≡◌, ◌∙◌, ◌<◌, ◌+◌, List, [], ◌∷◌, ◌++◌, get_or, length, map, reverse, sym, ap, subst, take}
+-- What is so of a part as it stands alone is its verdict, and one more part is judged.
+use Rattle.std.proofs.Common.{ℕ, ◌≡◌, ◌∙◌, ◌<◌, ◌+◌, List, [], ◌∷◌, ◌++◌, get_or, length, map, sym, ap, subst, take}
 use Rattle.std.proofs.lemmas.List.{map-append, take_more}
 use Rattle.pif_types.specs.Bounds.{Bounds}
-use Rattle.pif_rules_model.specs.Sets.{no_rules}
 use Rattle.pif_history_model.specs.declared.lines.Line.{Line}
-use Rattle.pif_history_model.proofs.Widening.{plain-from_shown}
-use Rattle.pif_history_machine.specs.declared.verdicts.Verdict.{Verdict}
-use Rattle.pif_history_machine.specs.declared.verdicts.Verdict.TheVariants.{Legal, Illegal, Undecided}
-use Rattle.pif_history_machine.specs.Verdicts.{IsVerdictOf}
+use Rattle.pif_components.specs.Sides.{IsOf}
 use Rattle.pif_parts.specs.declared.parts.Part.{Part}
 use Rattle.pif_parts.specs.declared.parts.Span.{Span}
 use Rattle.pif_parts.specs.declared.joining.PartVerdict.{PartVerdict}
+use Rattle.pif_parts.specs.declared.joining.PartVerdict.TheVariants as part
 use Rattle.pif_parts.specs.Parts.{AreOfParts, IsOfPart, alone, span_of}
-use Rattle.pif_parts_judged.specs.Judged.{verdict_of}
 
-pub of_search : (l : Bounds) (lines : List Line) (p : Part) (v : Verdict) → IsVerdictOf no_rules l (alone lines p) v
-    → IsOfPart l lines p (verdict_of v)
-of_search l lines p (Legal w) x = plain-from_shown l (reverse (alone lines p)) x.legal
-of_search l lines p (Illegal n) x = x.2
-of_search l lines p (Undecided n) x = tt
+-- what is so of a part as it stands alone
+pub of_part : (l : Bounds) (lines : List Line) (p : Part) (v : PartVerdict) → IsOf l (alone lines p) v → IsOfPart l lines p v
+of_part l lines p part.Legal x = x
+of_part l lines p (part.Illegal n) x = x
+of_part l lines p part.Undecided x = tt
 
 pub one_more : (l : Bounds) (lines : List Line) (ps : List Part) (vs : List PartVerdict) (p : Part) (v : PartVerdict)
     → AreOfParts l lines ps vs → IsOfPart l lines p v → AreOfParts l lines (ps ++ p ∷ []) (vs ++ v ∷ [])

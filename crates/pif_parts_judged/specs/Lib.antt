@@ -1,2 +1,1 @@
-pub mod Judged
 pub mod Following

@@ -6,11 +6,9 @@ ghost use Rattle.pif_parts.specs.Parts.{IsOfWhole};
 ghost use Rattle.pif_parts.specs.Standing.{StandFor};
 ghost use Rattle.pif_parts_judged.specs.Following.{ComesTo, IsJudged, IsOfOpen, both, span};
 
-use crate::judging::verdict_of;
-use pif_history::judge_lines;
+use pif_components::judge_components;
 use pif_history_model::{Fact, HistoryLimits, Line};
 use pif_parts::{PartVerdict, Past, Span, WholeVerdict, joined};
-use pif_rules_model::no_rules;
 use pif_search::{Stop, WatchLines};
 use pif_types::Request;
 use std::alloc::Global;
@@ -114,7 +112,8 @@ impl Judged {
         joined(&[first, last], &[PartVerdict::Legal, verdict])
     }
 
-    /// The verdict on all lines, of which these are open. At most so many states are made for a line.
+    /// The verdict on all lines, of which these are open: these are judged component by component, each with at most so
+    /// many states for a line.
     ///
     /// # Errors
     ///
@@ -132,8 +131,8 @@ impl Judged {
         let _no_request: Option<Request> = None;
         let _no_fact: Option<Fact> = None;
         let all = both(alloc, self.before.as_slice(), later)?;
-        let found = judge_lines(alloc, &no_rules(), limits, all.as_slice(), states, watch)?;
-        Ok(self.whole(alloc, later.len(), verdict_of(found)))
+        let verdict = judge_components(alloc, limits, all.as_slice(), states, watch)?;
+        Ok(self.whole(alloc, later.len(), verdict))
     }
 
     /// The open lines, of which there are so many, are legal and belong to the front, and these lines stand for it.

@@ -1,13 +1,9 @@
 ghost use Rattle.std.specs.Prelude.{◌≡◌, ◌++◌, take, drop, map, IfOk, OnOk};
-ghost use Rattle.pif_rules_model.specs.Sets.{no_rules};
 ghost use Rattle.pif_parts.specs.Parts.{ArePartsOf, IsOfPart, IsOfWhole, alone, span_of};
-ghost use Rattle.pif_parts_judged.specs.Judged.{verdict_of};
 
-use pif_history::judge_lines;
-use pif_history_machine::Verdict;
+use pif_components::judge_components;
 use pif_history_model::{Fact, HistoryLimits, Line};
 use pif_parts::{Part, PartVerdict, Span, WholeVerdict, joined, parts_of};
-use pif_rules_model::no_rules;
 use pif_search::{Stop, WatchLines, push};
 use pif_types::Request;
 use std::alloc::Global;
@@ -22,17 +18,6 @@ fn alone(alloc: Global, lines: &[Line], part: &Part) -> Result<Vec<Line>, Stop>
     let rest = &lines[part.first.min(lines.len())..];
     all.extend_from_slice(&rest[..part.count.min(rest.len())])?;
     Ok(all)
-}
-
-/// The verdict on a part, by that of a search.
-pub fn verdict_of(found: Verdict) -> PartVerdict
-    ensures { result ≡ verdict_of found }
-{
-    match found {
-        Verdict::Legal(_) => PartVerdict::Legal,
-        Verdict::Illegal(line) => PartVerdict::Illegal(line),
-        Verdict::Undecided(_) => PartVerdict::Undecided,
-    }
 }
 
 /// The place of a part.
@@ -66,8 +51,7 @@ fn judge_part<W: WatchLines>(
     ensures { IfOk result (IsOfPart limits lines.now part.now) }
 {
     let all = alone(alloc, lines, part)?;
-    let found = judge_lines(alloc, &no_rules(), limits, all.as_slice(), states, watch)?;
-    Ok(verdict_of(found))
+    judge_components(alloc, limits, all.as_slice(), states, watch)
 }
 
 /// Judges a part, if all before it are legal. Of one behind another part nothing is said.
