@@ -14,8 +14,7 @@
 
 #include "join.h"
 
-enum { WRITTEN, WRONG_WORDS, FAULT, NO_CALL, OUT_OF_MEMORY, NOWHERE = 7, MOST_OF_PATH = 4096 };
-enum { MOST_OF_HISTORY = 268435456 };
+enum { MOST_OF_PATH = 4096, MOST_OF_HISTORY = 268435456, LOOKS_WITHOUT_PROGRAM = 20 };
 
 static const char help[] =
     "join [OPTION..] DIRECTORY HISTORY: makes one history of the parts of a recording\n"
@@ -26,15 +25,18 @@ static const char help[] =
     "  --run RUN     which run, if the directory has several; RUN.run is its file\n"
     "  --first K     it begins in part K or after it\n"
     "  --last K      it ends with part K\n"
+    "  --follow      writes each line as soon as it is recorded, and ends with the program; HISTORY may be /dev/stdout\n"
     "  --help        prints this\n"
     "\n"
     "Statuses: 0 it is written; 1 wrong words, or something can't be read or written; 2 a part is missing, cut or of\n"
-    "something else; 3 no call was recorded; 4 no memory; 7 there is no place at which a history may begin.\n";
+    "something else; 3 no call was recorded; 4 no memory; 7 there is no place at which a history may begin, or what\n"
+    "--follow has written ends before the recording.\n";
 
 static const char *directory;
 static char run_name[MOST_OF_RUN];
+static bool follows;
 
-__attribute__((format(printf, 1, 2))) static int refuse_by(const char *format, ...)
+int refuse_by(const char *format, ...)
 {
     va_list more;
 
@@ -53,7 +55,7 @@ static bool is_name_of_run(const char *name)
     return length > 4 && length < MOST_OF_RUN + 4 && strcmp(name + length - 4, ".run") == 0;
 }
 
-/* The only run of the directory. */
+/* The only run of the directory; NO_CALL: there is none. */
 static int find_run(void)
 {
     DIR *opened = opendir(directory);
@@ -68,9 +70,16 @@ static int find_run(void)
     closedir(opened);
     if (count > 1)
         return refuse_by("%s: there are %d runs; name one by --run", directory, count);
-    if (count == 0)
-        refuse_by("%s: there is no recording", directory);
     return count == 0 ? NO_CALL : WRITTEN;
+}
+
+static int find_or_refuse(void)
+{
+    int status = find_run();
+
+    if (status == NO_CALL)
+        refuse_by("%s: there is no recording", directory);
+    return status;
 }
 
 static int read_file_of_run(void)
@@ -101,7 +110,7 @@ static bool is_part(const Head *head, uint64_t number)
            && head->standing <= SIZE_OF_STANDING / sizeof(Standing);
 }
 
-static int read_part(uint64_t number, Head **head)
+int read_part(uint64_t number, Head **head)
 {
     char path[MOST_OF_PATH];
     struct stat present;
@@ -117,7 +126,7 @@ static int read_part(uint64_t number, Head **head)
         close(file);
         return FAULT;
     }
-    *head = mmap(NULL, SIZE_OF_PART, PROT_READ | PROT_WRITE, MAP_PRIVATE, file, 0);
+    *head = mmap(NULL, SIZE_OF_PART, PROT_READ, MAP_SHARED, file, 0);
     close(file);
     if (*head == MAP_FAILED)
         return OUT_OF_MEMORY;
@@ -225,6 +234,46 @@ static int join_all(uint64_t first, uint64_t last)
     return status;
 }
 
+/* Its program makes the file before it maps it and writes its mark. */
+static int wait_for_file_of_run(void)
+{
+    char path[MOST_OF_PATH];
+    int why, looks = 0;
+
+    snprintf(path, sizeof path, "%s/%s.run", directory, run_name);
+    while (((why = watch_run(path)) == ENODATA || why == EILSEQ) && looks < LOOKS_WITHOUT_PROGRAM) {
+        looks = has_gone(run_name) ? looks + 1 : 0;
+        if (!rest_between_looks())
+            return NO_CALL;
+    }
+    if (why != 0 && why != EILSEQ && why != ENODATA)
+        return refuse_by("%s: %s", path, strerror(why));
+    if (why != 0)
+        refuse_by("%s: this is no recording in parts, or it is cut", path);
+    return why == 0 ? WRITTEN : FAULT;
+}
+
+/* It waits for the run if there is none yet. */
+static int follow(void)
+{
+    int status = begin_to_follow();
+
+    while (status == WRITTEN && run_name[0] == '\0' && (status = find_run()) == NO_CALL)
+        status = rest_between_looks() ? WRITTEN : NO_CALL;
+    if (status == WRITTEN)
+        status = wait_for_file_of_run();
+    return status == WRITTEN ? follow_run(run_name) : status;
+}
+
+static int join_once(uint64_t first, uint64_t last)
+{
+    int status = run_name[0] == '\0' ? find_or_refuse() : WRITTEN;
+
+    if (status == WRITTEN)
+        status = read_file_of_run();
+    return status == WRITTEN ? join_all(first, last) : status;
+}
+
 /* 0: it is none. */
 static uint64_t number_in(const char *word)
 {
@@ -238,8 +287,8 @@ static uint64_t number_in(const char *word)
 static bool take_words(int count, char **words, uint64_t *first, uint64_t *last)
 {
     static const struct option known[] = {
-        {"run", 1, NULL, 'r'},  {"first", 1, NULL, 'f'}, {"last", 1, NULL, 'l'},
-        {"help", 0, NULL, 'h'}, {NULL, 0, NULL, 0},
+        {"run", 1, NULL, 'r'},  {"first", 1, NULL, 'f'},  {"last", 1, NULL, 'l'},
+        {"help", 0, NULL, 'h'}, {"follow", 0, NULL, 'w'}, {NULL, 0, NULL, 0},
     };
     int option;
 
@@ -248,7 +297,9 @@ static bool take_words(int count, char **words, uint64_t *first, uint64_t *last)
             fputs(help, stdout);
             exit(WRITTEN);
         }
-        if (option == 'r')
+        if (option == 'w')
+            follows = true;
+        else if (option == 'r')
             snprintf(run_name, sizeof run_name, "%s", optarg);
         else if (option == 'f' && (*first = number_in(optarg)) == 0)
             return false;
@@ -259,7 +310,7 @@ static bool take_words(int count, char **words, uint64_t *first, uint64_t *last)
     }
     directory = words[optind];
     history_file = optind + 2 == count ? words[optind + 1] : NULL;
-    return history_file != NULL;
+    return history_file != NULL && !(follows && (*first != 0 || *last != 0));
 }
 
 int main(int count, char **words)
@@ -269,11 +320,7 @@ int main(int count, char **words)
     read_directory(NULL); /* this process isn't recorded itself */
     if (!take_words(count, words, &first, &last))
         return refuse_by("the words are DIRECTORY HISTORY; join --help has all");
-    int status = run_name[0] == '\0' ? find_run() : WRITTEN;
-    if (status == WRITTEN)
-        status = read_file_of_run();
-    if (status == WRITTEN)
-        status = join_all(first, last);
+    int status = follows ? follow() : join_once(first, last);
     if (status == OUT_OF_MEMORY)
         refuse_by("out of memory");
     return status;

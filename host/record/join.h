@@ -4,6 +4,13 @@
 
 #include "librecord/record.h"
 
+/* The statuses of join. */
+enum { WRITTEN, WRONG_WORDS, FAULT, NO_CALL, OUT_OF_MEMORY, NOWHERE = 7 };
+
+/* join.c */
+__attribute__((format(printf, 1, 2))) int refuse_by(const char *format, ...); /* says it; WRONG_WORDS */
+int read_part(uint64_t number, Head **head); /* a status; what isn't as it should be is said */
+
 /* The parts that are read, one behind another. */
 typedef struct {
     Head **heads;
@@ -20,5 +27,11 @@ Joined join_parts(const Parts *, History *, uint64_t *begin, const char **why);
 
 /* Of what takes longer than times of a history reach. */
 Joined number_times(History *);
+
+/* join_follow.c */
+int begin_to_follow(void);        /* opens the history; a status */
+bool rest_between_looks(void);    /* false: it is to end, by a signal */
+bool has_gone(const char *run_name); /* its program has ended, or runs another one */
+int follow_run(const char *run_name); /* writes the history to its end; a status */
 
 #endif

@@ -222,7 +222,7 @@ static void write_process(const History *history, const Process *process, uint64
         end_line();
 }
 
-static void write_dying(const Thread *thread)
+void write_dying(const Thread *thread)
 {
     put_text("dying ");
     put_name('t', thread->number);

@@ -104,6 +104,12 @@ int open_file(const char *name)
     return 0;
 }
 
+int open_in_place(const char *name)
+{
+    file = open(name, O_WRONLY | O_CREAT | O_TRUNC | O_CLOEXEC, 0666);
+    return file < 0 ? errno : 0;
+}
+
 int write_file(const char *bytes, size_t size) { return write_all(file, bytes, size); }
 
 static int copy_to_kept(void)

@@ -49,38 +49,34 @@ static uint64_t cancelled_threads(void)
     return number;
 }
 
-typedef struct {
-    uint64_t bad_times, refused, unwaited;
-} Dropped;
-
-static Dropped count_dropped(const History *history)
+void note_dropped(History *history, const Record *record)
 {
-    Dropped dropped = {0, 0, 0};
+    if (atomic_load(&record->thread->cancelled))
+        return;
+    if (record->what == CALL_SETPRIO)
+        history->refused += record->named->number != 0;
+    else if (atomic_load(&record->object->left_out) != KEPT)
+        return;
+    else if (record->bad_time)
+        history->bad_times++;
+    else
+        history->unwaited++;
+}
 
+static void count_dropped(History *history)
+{
     for (uint64_t place = 1; place < history->cut; place++) {
         const Record *record = history->at[place];
-        if (record == NULL || !is_call(record) || !is_begin(record, place) || is_written(record))
-            continue;
-        if (atomic_load(&record->thread->cancelled))
-            continue;
-        if (record->what == CALL_SETPRIO)
-            dropped.refused += record->named->number != 0;
-        else if (atomic_load(&record->object->left_out) != KEPT)
-            continue;
-        else if (record->bad_time)
-            dropped.bad_times++;
-        else
-            dropped.unwaited++;
+        if (record != NULL && is_call(record) && is_begin(record, place) && !is_written(record))
+            note_dropped(history, record);
     }
-    return dropped;
 }
 
 static void say_line(const char *line) { say(line, 0, NULL); }
 
-void say_left_out(const History *history)
+void say_left_out(History *history)
 {
-    Dropped dropped = count_dropped(history);
-
+    count_dropped(history);
     say_some(left_out(PROTECTED), "left out: mutexes with PTHREAD_PRIO_PROTECT: ");
     say_some(left_out(SHARED), "left out: mutexes and variables shared between processes: ");
     say_some(left_out(UNIDENTIFIED), "left out: shared mutexes and variables whose memory can't be identified: ");
@@ -90,9 +86,9 @@ void say_left_out(const History *history)
     say_some(left_out(WITH_CANCELLED), "left out: mutexes and variables that such threads used: ");
     say_some(left_out(IN_CALLS), "left out: mutexes and variables used inside another call of the same thread: ");
     say_some(left_out(WITH_LEFT_OUT), "left out: mutexes and variables used together with one that is left out: ");
-    say_some(dropped.bad_times, "left out: calls with a time that is none, answered EINVAL: ");
-    say_some(dropped.unwaited, "left out: signals and broadcasts of variables on which nobody waited: ");
-    say_some(dropped.refused, "left out: calls that give a priority, answered EPERM: ");
+    say_some(history->bad_times, "left out: calls with a time that is none, answered EINVAL: ");
+    say_some(history->unwaited, "left out: signals and broadcasts of variables on which nobody waited: ");
+    say_some(history->refused, "left out: calls that give a priority, answered EPERM: ");
     say_some(counted(FOREIGN_PRIORITIES), "left out: calls that give a policy or a priority which a history has not: ");
     say_some(counted(UNKNOWN_THREADS), "left out: calls that name a thread which isn't recorded: ");
     say_some(counted(PRIORITIES_IN_CALLS),

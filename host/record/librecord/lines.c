@@ -11,22 +11,30 @@ static const char *const calls[] = {
     [CALL_SETPRIO] = "setprio",
 };
 
+void write_mutex(const Object *mutex)
+{
+    put_text("mutex ");
+    put_text(kinds[mutex->kind & KIND_TYPE]);
+    put_text((mutex->kind & KIND_ROBUST) != 0 ? " robust" : "");
+    put_text((mutex->kind & KIND_INHERIT) == 0 ? " none" : "");
+    end_line();
+    write_name_of_object('m', mutex->number, mutex);
+}
+
+void write_variable(const Variable *variable)
+{
+    put_text("cond ");
+    put_name('m', variable->mutex->number);
+    end_line();
+    write_name_of_object('c', variable->number, variable->object);
+}
+
 static void write_objects(const History *history)
 {
-    for (const Object *mutex = history->first_mutex; mutex != NULL; mutex = mutex->next_line) {
-        put_text("mutex ");
-        put_text(kinds[mutex->kind & KIND_TYPE]);
-        put_text((mutex->kind & KIND_ROBUST) != 0 ? " robust" : "");
-        put_text((mutex->kind & KIND_INHERIT) == 0 ? " none" : "");
-        end_line();
-        write_name_of_object('m', mutex->number, mutex);
-    }
-    for (const Variable *variable = history->first_variable; variable != NULL; variable = variable->next_line) {
-        put_text("cond ");
-        put_name('m', variable->mutex->number);
-        end_line();
-        write_name_of_object('c', variable->number, variable->object);
-    }
+    for (const Object *mutex = history->first_mutex; mutex != NULL; mutex = mutex->next_line)
+        write_mutex(mutex);
+    for (const Variable *variable = history->first_variable; variable != NULL; variable = variable->next_line)
+        write_variable(variable);
 }
 
 static void write_about(const char *what, const Thread *thread)
@@ -129,7 +137,7 @@ static void write_begin(const History *history, const Record *record)
     end_line();
 }
 
-static void write_call(History *history, Record *record, uint64_t place)
+void write_call(History *history, Record *record, uint64_t place)
 {
     if (is_begin(record, place)) {
         write_begin(history, record);
@@ -143,7 +151,7 @@ static void write_call(History *history, Record *record, uint64_t place)
     record->thread->open = NULL;
 }
 
-static void write_added(Thread *thread)
+void write_added(Thread *thread)
 {
     put_text("thread ");
     put_number((uint64_t)atomic_load(&thread->priority));
@@ -163,7 +171,7 @@ static void write_record(History *history, Record *record, uint64_t place)
     write_deaths(history, record, place);
 }
 
-static void write_comment(const char *line)
+void write_comment(const char *line)
 {
     begin_comment();
     put_text(line);

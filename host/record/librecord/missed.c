@@ -62,7 +62,7 @@ static void note_lock(History *history, const Record *record, uint64_t place)
     get(record->object, record, place);
 }
 
-static void note_missed(History *history, Record *record, uint64_t place)
+void note_missed(History *history, Record *record, uint64_t place)
 {
     bool gives_up = record->what == CALL_UNLOCK || is_wait(record);
 

@@ -44,7 +44,7 @@ static void bind_variable(History *history, Object *object, Object *mutex)
         add_variable(history, object, mutex);
 }
 
-static void number_call(History *history, Record *record)
+void number_call(History *history, const Record *record)
 {
     if (is_wait(record)) {
         number_mutex(history, record->mutex);

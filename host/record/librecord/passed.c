@@ -78,6 +78,8 @@ static Passed kind_of(const Record *record)
     return reason == KEPT ? KINDS_PASSED : kinds_left_out[reason];
 }
 
+void note_passed(History *history, const Record *record) { history->passed[kind_of(record)]++; }
+
 static void count_records(const History *history, uint64_t numbers[KINDS_PASSED + 1])
 {
     for (uint64_t place = 1; place < history->cut; place++) {
@@ -92,6 +94,8 @@ static void count_all(const History *history, uint64_t numbers[KINDS_PASSED + 1]
     for (size_t i = 0; i < SHARDS; i++)
         for (Passed what = 0; what < KINDS_PASSED; what++)
             numbers[what] += atomic_load_explicit(&run->shards[i].of[what], memory_order_relaxed);
+    for (Passed what = 0; what < KINDS_PASSED; what++)
+        numbers[what] += history->passed[what];
     count_records(history, numbers);
     numbers[OF_PRIORITIES] += counted(FOREIGN_PRIORITIES) + counted(UNKNOWN_THREADS) + counted(PRIORITIES_IN_CALLS);
     numbers[OF_MISSED] += history->missed + history->found_free;

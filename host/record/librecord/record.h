@@ -376,6 +376,8 @@ extern Run *run;
 int join_run(const char *file);
 int make_parted_run(int file);
 int read_run(const char *file, RunKind);
+extern const Run *watched; /* what its program may still be writing; `run` has copies of what was read of it */
+int watch_run(const char *file);
 bool is_shared_run(void);
 bool is_parted_run(void);
 void *take_of_run(size_t size);
@@ -503,6 +505,8 @@ typedef struct {
     uint64_t *times;     /* of a long recording: all times, rising, of which each stands as its number */
     uint64_t time_count;
     const char *about;   /* a comment for the first line, or NULL */
+    uint64_t passed[KINDS_PASSED + 1]; /* calls whose records aren't there any more, and that have no lines: by kind */
+    uint64_t bad_times, refused, unwaited; /* of them: why nobody misses their lines */
     uint64_t missed;     /* answers that a thread got what it owns by all that was seen */
     uint64_t found_free; /* answers that a thread got what it found free, and another one owns by all that was seen */
 } History;
@@ -524,16 +528,26 @@ uint64_t ticks_of_deadline(const History *, uint64_t deadline);
 void leave_out_cancelled(History *);
 void place_deaths(History *);
 void note_holder(const Record *); /* at an answer */
+void write_dying(const Thread *);
 void write_end(Thread *);
 void write_deaths(const History *, const Record *, uint64_t place);
 void count_missed(History *);
-void say_left_out(const History *);
+void note_missed(History *, Record *, uint64_t place); /* at its begin and at its answer */
+void note_dropped(History *, const Record *); /* of a call that has no lines */
+void note_passed(History *, const Record *);
+void say_left_out(History *);
 void tell_passed(const History *, void (*tell)(const char *line));
 void number_all(History *);
+void number_call(History *, const Record *); /* its mutex, and of a wait its variable, if they have no number yet */
 bool make_clock(History *);
 void pass_time(History *, const Record *, uint64_t place);
 void forget_deadline(History *, Thread *);
 void write_lines(History *);
+void write_comment(const char *line);
+void write_mutex(const Object *);
+void write_variable(const Variable *);
+void write_added(Thread *);
+void write_call(History *, Record *, uint64_t place);
 
 /* names.c: the comments that say who is who */
 void note_name(Thread *); /* by itself */
@@ -545,12 +559,15 @@ void write_caller(const Record *);
 /* file.c: the file of the history. 0, or the number of an error */
 int keep_file(const char *file); /* opens it for the end, when the program may have fewer rights */
 int open_file(const char *file);
+int open_in_place(const char *file); /* it is written where it stands, from its beginning */
 int write_file(const char *bytes, size_t size);
 int close_file(const char *file, int failed); /* leaves it as it was, if something has failed */
 void leave_file(const char *file);           /* as it was before the first call */
 
 /* text.c */
 int open_text(const char *file);
+int open_growing_text(const char *file); /* that may be read while it is written */
+int write_text_so_far(void);
 int close_text(const char *file);
 void put_text(const char *);
 void put_number(uint64_t);

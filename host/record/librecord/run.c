@@ -28,6 +28,7 @@ static Run own;
 Run *run = &own;
 static RunKind kind = OWN_RUN;
 uint64_t size_of_run;
+const Run *watched;
 
 bool is_shared_run(void) { return kind == SHARED_RUN; }
 
@@ -127,6 +128,51 @@ int read_run(const char *name, RunKind wanted)
     int why = map_file_of_run(file, MAP_PRIVATE, wanted);
     close(file);
     return why;
+}
+
+static int map_watched(int file)
+{
+    struct stat present;
+    uint64_t size = sizes[PARTED_RUN];
+
+    if (fstat(file, &present) != 0)
+        return errno;
+    if (S_ISREG(present.st_mode) && present.st_size == 0)
+        return ENODATA;
+    if (!S_ISREG(present.st_mode) || (uint64_t)present.st_size != size)
+        return EILSEQ;
+    const Run *mapped = mmap(NULL, size, PROT_READ, MAP_SHARED, file, 0);
+    if (mapped == MAP_FAILED)
+        return errno;
+    if (atomic_load(&mapped->first_part) != 0 && memcmp(mapped->mark, marks[PARTED_RUN], MOST_OF_MARK) == 0) {
+        watched = mapped;
+        return 0;
+    }
+    int why = mapped->mark[0] == '\0' || memcmp(mapped->mark, marks[PARTED_RUN], MOST_OF_MARK) == 0 ? ENODATA : EILSEQ;
+    munmap((void *)mapped, size);
+    return why;
+}
+
+/* Of a recording in parts that may still be made; ENODATA: it isn't begun yet. Who reads it copies what it needs into
+   memory at the same address, so that a pointer means the same there. */
+int watch_run(const char *name)
+{
+    int file = open(name, O_RDONLY | O_CLOEXEC);
+
+    if (file < 0)
+        return errno;
+    int why = map_watched(file);
+    close(file);
+    if (why != 0)
+        return why;
+    Run *mapped = map_run(-1, sizes[PARTED_RUN], MAP_PRIVATE | MAP_ANONYMOUS);
+    if (mapped == MAP_FAILED)
+        return errno;
+    run = mapped;
+    kind = PARTED_RUN;
+    size_of_run = sizes[PARTED_RUN];
+    memcpy(run->name, watched->name, MOST_OF_RUN);
+    return 0;
 }
 
 /* A write to a page of a file ends the program by SIGBUS, if the file system is full. So pages are asked for first.

@@ -71,6 +71,18 @@ void end_line(void)
 
 int open_text(const char *name) { return open_file(name); }
 
+int open_growing_text(const char *name) { return open_in_place(name); }
+
+/* 0, or the number of an error. */
+int write_text_so_far(void)
+{
+    int why = failed != 0 ? failed : write_file(text, length);
+
+    failed = why;
+    length = 0;
+    return why;
+}
+
 /* If the file has the whole text now, 0; else it is what it was. */
 int close_text(const char *name)
 {
