@@ -18,7 +18,7 @@ static const char help[] =
     "  --threads N      how many run at once, 2 to 16; 4 without it\n"
     "  --mutexes N      1 to 4; 2 without it\n"
     "  --variables N    0 to 4, of the mutexes in turn; 1 without it\n"
-    "  --calls N        how many each makes, 1 to 1000000; 500 without it\n"
+    "  --calls N        how many each makes, 1 to 1000000000; 500 without it\n"
     "  --seed N         what they choose; 1 without it\n"
     "  --kinds          normal, errorcheck and recursive mutexes; without it all are normal\n"
     "  --robust         every other mutex is robust; without it none is\n"
@@ -27,6 +27,8 @@ static const char help[] =
     "  --timed P        of a hundred locks and waits P have a deadline of up to 2 ms; 20 without it\n"
     "  --waits P        of a hundred calls with a mutex held P wait, without one P signal; 20 without it\n"
     "  --ends P         after a hundred calls P threads end, with robust mutexes held; 0 without it\n"
+    "  --rests MS       all threads rest at once every MS milliseconds, with nothing held; without it they never do\n"
+    "  --idle MS        a rest takes so long, and not only until all have begun it\n"
     "  --fifo           SCHED_FIFO, priorities 10 to 25; without it SCHED_OTHER\n"
     "  --priorities P   with --fifo: of a hundred calls without a mutex P set the thread's priority; 5 without it\n"
     "  --plain          mutexes without PTHREAD_PRIO_INHERIT\n"
@@ -55,6 +57,8 @@ Mutex mutexes[MOST_MUTEXES];
 pthread_cond_t variables[MOST_VARIABLES];
 _Atomic unsigned waiting[MOST_VARIABLES];
 _Atomic unsigned long answers[MOST_ANSWERS];
+_Atomic bool is_resting;
+_Atomic unsigned resting;
 
 static Slot slots[MOST_THREADS];
 
@@ -69,13 +73,15 @@ static const Option options[] = {
     {"threads", &orders.threads, 2, MOST_THREADS, NULL, NULL},
     {"mutexes", &orders.mutexes, 1, MOST_MUTEXES, NULL, NULL},
     {"variables", &orders.variables, 0, MOST_VARIABLES, NULL, NULL},
-    {"calls", &orders.calls, 1, 1000000, NULL, NULL},
+    {"calls", &orders.calls, 1, 1000000000, NULL, NULL},
     {"seed", &orders.seed, 0, UINT32_MAX, NULL, NULL},
     {"trylock", &orders.trylocks, 0, 100, NULL, NULL},
     {"timed", &orders.timed, 0, 100, NULL, NULL},
     {"waits", &orders.waits, 0, 100, NULL, NULL},
     {"ends", &orders.ends, 0, 100, NULL, NULL},
     {"priorities", &orders.priorities, 0, 100, NULL, NULL},
+    {"rests", &orders.rests, 1, 3600000, NULL, NULL},
+    {"idle", &orders.idle, 0, 3600000, NULL, NULL},
     {"seconds", &orders.seconds, 1, 3600, NULL, NULL},
     {"kinds", NULL, 0, 0, &orders.kinds, NULL},
     {"robust", NULL, 0, 0, &orders.robust, NULL},
@@ -187,14 +193,37 @@ static bool is_any_running(void)
     return false;
 }
 
+static unsigned running(void)
+{
+    unsigned count = 0;
+
+    for (unsigned i = 0; i < orders.threads; i++)
+        count += slots[i].is_running && !atomic_load(&slots[i].has_ended);
+    return count;
+}
+
+/* A rest ends when all threads have begun it, and when it was as long as it is to be. */
+static void pace_rests(unsigned round)
+{
+    static unsigned begun;
+
+    if (orders.rests > 0 && round % orders.rests == 0) {
+        begun = round;
+        atomic_store(&is_resting, true);
+    } else if (round - begun >= orders.idle && atomic_load(&resting) >= running()) {
+        atomic_store(&is_resting, false);
+    }
+}
+
 /* Wakes who waits without a deadline, and follows threads that end. */
 static int pace(void)
 {
     struct timespec pause = {0, 1000L * PACE_MICROSECONDS};
     int status = STATUS_DONE;
 
-    while (status == STATUS_DONE && is_any_running()) {
+    for (unsigned round = 1; status == STATUS_DONE && is_any_running(); round++) {
         nanosleep(&pause, NULL);
+        pace_rests(round);
         for (unsigned i = 0; i < orders.variables; i++)
             if (atomic_load(&waiting[i]) > 0)
                 calls->broadcast(i);

@@ -14,6 +14,8 @@ typedef struct {
     unsigned threads, mutexes, variables, calls, seconds;
     unsigned seed;
     unsigned trylocks, timed, waits, ends, priorities; /* per cent */
+    unsigned rests; /* milliseconds from one rest of all threads to the next; 0: there is none */
+    unsigned idle;  /* so many it lasts at least */
     bool fifo, kinds, robust, all_robust, plain;
     bool std, parking_lot;
     bool recursive; /* all mutexes are: a library has only such */
@@ -56,6 +58,8 @@ extern Mutex mutexes[MOST_MUTEXES];
 extern pthread_cond_t variables[MOST_VARIABLES];
 extern _Atomic unsigned waiting[MOST_VARIABLES];
 extern _Atomic unsigned long answers[MOST_ANSWERS];
+extern _Atomic bool is_resting;   /* who holds nothing rests as long */
+extern _Atomic unsigned resting; /* so many do */
 
 void make_mutex(Mutex *, int type, bool is_robust);
 unsigned choose(Slot *, unsigned below);

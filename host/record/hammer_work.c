@@ -5,7 +5,7 @@
 
 #include "hammer.h"
 
-enum { MOST_HELD = 3, SPIN = 200, MOST_MICROSECONDS = 2000 };
+enum { MOST_HELD = 3, SPIN = 200, MOST_MICROSECONDS = 2000, MICROSECONDS_OF_REST = 50 };
 
 static uint64_t next_random(Slot *slot)
 {
@@ -162,6 +162,17 @@ static void give_all_up(Slot *slot, bool but_robust)
             give_up(slot, which);
 }
 
+/* No call of it is open meanwhile. */
+static void rest(void)
+{
+    struct timespec pause = {0, 1000L * MICROSECONDS_OF_REST};
+
+    atomic_fetch_add(&resting, 1);
+    while (atomic_load(&is_resting))
+        nanosleep(&pause, NULL);
+    atomic_fetch_sub(&resting, 1);
+}
+
 void *work(void *value)
 {
     Slot *slot = value;
@@ -170,6 +181,8 @@ void *work(void *value)
     name_thread(slot->number + 1);
     while (slot->left > 0 && !ends) {
         unsigned which = highest(slot);
+        if (which == 0 && atomic_load(&is_resting))
+            rest();
         if (which == 0)
             do_with_none(slot);
         else
