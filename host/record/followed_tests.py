@@ -116,7 +116,8 @@ def test_hammer(kit, place):
 
 
 def test_legal(kit, place):
-    words = "--threads 2 --mutexes 1 --variables 1 --robust --ends 1 --calls 400 --seed 1".split()
+    """Threads end with robust mutexes, and others get these before the ends are joined."""
+    words = "--threads 2 --mutexes 1 --variables 0 --robust --ends 5 --calls 100 --seed 1".split()
     follower = start(kit, place)
     kit.run([kit.HERE / "hammer", *words], env=names_of(kit, place))
     end(kit, follower, 0)
