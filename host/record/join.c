@@ -25,7 +25,7 @@ static const char help[] =
     "  --run RUN     which run, if the directory has several; RUN.run is its file\n"
     "  --first K     it begins in part K or after it\n"
     "  --last K      it ends with part K\n"
-    "  --follow      writes each line as soon as it is recorded, and ends with the program; HISTORY may be /dev/stdout\n"
+    "  --follow      writes each line when it is recorded, and ends with the program; HISTORY may be /dev/stdout\n"
     "  --help        prints this\n"
     "\n"
     "Statuses: 0 it is written; 1 wrong words, or something can't be read or written; 2 a part is missing, cut or of\n"

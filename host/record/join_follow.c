@@ -95,7 +95,10 @@ bool has_gone(const char *run_name)
 }
 
 /* Of what stands in `run`: the program's own. */
-static const void *watched_at(const void *own) { return (const char *)watched + ((const char *)own - (const char *)run); }
+static const void *watched_at(const void *own)
+{
+    return (const char *)watched + ((const char *)own - (const char *)run);
+}
 
 static bool is_of_run(const void *pointer, size_t size)
 {
@@ -388,6 +391,14 @@ static Look find_answer(Following *following, const Slot *begin, Record *answere
     return READ;
 }
 
+/* What was read may be damaged. */
+static bool is_sound(const Event *event)
+{
+    bool names_thread = event->what == CALL_SETPRIO || event->what == THREAD_ADDED || event->what == THREAD_ENDED;
+
+    return !names_thread || is_of_run(event->named, sizeof(Thread));
+}
+
 static Look take_slot(Following *following, const Slot *slot)
 {
     Record answered = {.answer_place = 0};
@@ -396,7 +407,7 @@ static Look take_slot(Following *following, const Slot *slot)
     if (asks_for_answer(slot) && find_answer(following, slot, &answered) == NOT_YET && !following->is_over)
         return following->status == WRITTEN ? NOT_YET : ENDS;
     meet_thread(of_run(slot->thread, sizeof(Thread)), following->place);
-    if (!read_slot(slot, following->place, &event))
+    if (!read_slot(slot, following->place, &event) || !is_sound(&event))
         return READ;
     following->why = take_event(following, &event, answered);
     if (following->history.no_memory)
