@@ -1,5 +1,5 @@
 -- Verdicts of parts are those of the whole.
-use Rattle.std.proofs.Common.{ℕ, suc, ◌≡◌, ◌+◌, ◌-◌, ◌∙◌, List, [], ◌∷◌, ◌++◌, take, reverse, length, length-append, refl, sym, ap, subst, arith}
+use Rattle.std.proofs.Common.{ℕ, suc, ◌≡◌, ◌≤◌, ◌+◌, ◌-◌, ◌∙◌, List, [], ◌∷◌, ◌++◌, take, reverse, length, length-append, refl, sym, ap, subst, arith}
 use Rattle.std.proofs.lemmas.List.{take-append-le, reverse-append}
 use Rattle.pif_types.specs.Bounds.{Bounds}
 use Rattle.pif_rules_model.specs.Sets.{no_rules}
@@ -64,6 +64,27 @@ module _ (l : Bounds) (first : List Line) (q : IsQuiet (reverse first)) (legal :
     where
       less : (length first + n) - 1 ≡ length first + (n - 1)
       less = omega (arith, x.some)
+
+-- and back: a part whose nth line is the first illegal one of the whole
+module _ (l : Bounds) (first : List Line) (q : IsQuiet (reverse first)) (second : List Line) (n : ℕ) (some : 1 ≤ n)
+    (x : IsIllegal no_rules l (first ++ second) (length first + n)) where
+  less_one : (length first + n) - 1 ≡ length first + (n - 1)
+  less_one = omega (arith, some)
+
+  before_that : IsShown l (reverse (take (n - 1) second) ++ reverse first)
+  before_that =
+      subst (λ (zs : List Line). IsShown l zs) (ap (λ k. reverse (take k (first ++ second))) less_one ∙ reverse_more first (n - 1) second)
+      (plain-from_shown l (reverse (take ((length first + n) - 1) (first ++ second))) x.legal)
+
+  pub illegal_from : IsIllegalFrom l (rest_by l (reverse first)) second n
+  illegal_from = (let cut = cut_there l (reverse first) q (reverse (take (n - 1) second)) before_that in record {
+    some = some;
+    within = omega (arith, x.within, length-append first second);
+    illegal = λ y.
+        x.illegal (plainly refl (subst (λ (zs : List Line). IsShown l zs) (sym (reverse_more first n second))
+        (join_there l (reverse first) q (reverse (take n second)) cut.0 y)));
+    legal = cut.1;
+  })
 
 -- the last state of a run that shows quiet lines
 pub state_of_run : (l : Bounds) (lines : List Line) → IsQuiet lines → (x : IsShown l lines) → IsAlike x.last (world_by l lines)

@@ -15,4 +15,5 @@ mod LaterMoves
 mod LaterEntries
 mod LaterRuns
 mod LaterRests
+pub mod FewUses
 mod Worked

@@ -1,7 +1,8 @@
-ghost use Rattle.std.specs.Prelude.{◌≡◌, ◌+◌, ◌↔◌, ℕ, List, ◌++◌, length, map, reverse};
+ghost use Rattle.std.specs.Prelude.{◌≡◌, ◌≤◌, ◌+◌, ◌↔◌, ℕ, List, ◌++◌, length, map, reverse};
 ghost use Rattle.pif_types.specs.Bounds.{Bounds};
 ghost use Rattle.pif_search.specs.Runs.{CanShow};
 ghost use Rattle.pif_posix_steps.specs.Alike.{IsAlike};
+ghost use Rattle.pif_uses_model.specs.Uses.{without_uses};
 ghost use Rattle.pif_rules_model.specs.Sets.{no_rules};
 ghost use Rattle.pif_history_model.specs.declared.lines.Line.{Line};
 ghost use Rattle.pif_history_model.specs.declared.labels.Label.TheVariants.{Shown};
@@ -12,6 +13,7 @@ ghost use Rattle.pif_history_model.specs.Forgetting.{StandsFor};
 ghost use Rattle.pif_history_model.specs.Verdicts.{IsIllegal};
 ghost use Rattle.pif_parts_model.specs.Quiet.{IsQuiet};
 ghost use Rattle.pif_parts_model.specs.Resting.{world_by, rest_by};
+ghost use Rattle.pif_parts_model.specs.FewUses.{AreSameButForUses, MayStandFor, StaysBelow};
 ghost use Rattle.pif_parts_model.specs.Parts.{IsShownFrom, IsIllegalFrom};
 ghost use Rattle.pif_parts_model.specs.Later.{later_line, later, with_time};
 
@@ -48,4 +50,20 @@ pub fn histories_that_rest_alike_go_on_alike()
 pub fn times_count_from_any_moment()
     ensures states { (limits : Bounds) (more : ℕ) (start : PlainConfiguration) (lines : List Line) → IsShownFrom limits start lines ↔ IsShownFrom limits (later more start) (map (later_line more) lines) }
     ensures parts { (limits : Bounds) (before : List Line) (time more : ℕ) (lines : List Line) → (world_by limits before).time ≡ time + more → IsShownFrom limits (with_time time (rest_by limits before)) lines ↔ IsShownFrom limits (rest_by limits before) (map (later_line more) lines) }
+{}
+
+/// A law: uses below the limit don't matter. Let no variable be used as often as it may be by these lines, from either of
+/// two states on that are the same but for uses. Then the lines are shown from the one exactly if they are from the other.
+/// So a history goes on behind lines that are quiet as it does behind others, which may have used its variables less often.
+/// Lines are newest first.
+pub fn uses_below_the_limit_change_nothing()
+    ensures states { (limits : Bounds) (start other : PlainConfiguration) (lines : List Line) → AreSameButForUses start other → StaysBelow start.world lines → StaysBelow other.world lines → IsShownFrom limits start lines ↔ IsShownFrom limits other lines }
+    ensures histories { (limits : Bounds) (before others later : List Line) → IsQuiet before → IsQuiet others → without_uses (world_by limits before) ≡ without_uses (world_by limits others) → StaysBelow (world_by limits before) later → StaysBelow (world_by limits others) later → IsShown limits before → IsShown limits others → IsShown limits (later ++ before) ↔ IsShown limits (later ++ others) }
+{}
+
+/// A law: a part may begin with lines that used variables less often than the lines before it did, if it stays below the
+/// limit either way. Its verdict is that of the whole, if the lines before it are legal. Lines are oldest first.
+pub fn a_part_may_begin_with_fewer_uses()
+    ensures legal { (limits : Bounds) (before first part : List Line) → MayStandFor limits before first part → IsShown limits (reverse first) → IsShown limits (reverse (before ++ part)) → IsShown limits (reverse (first ++ part)) }
+    ensures illegal { (limits : Bounds) (before first part : List Line) (count : ℕ) → MayStandFor limits before first part → 1 ≤ count → IsShown limits (reverse first) → IsIllegal no_rules limits (before ++ part) (length before + count) → IsIllegal no_rules limits (first ++ part) (length first + count) }
 {}
