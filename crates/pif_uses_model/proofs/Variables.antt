@@ -14,7 +14,8 @@ abbrev pub used_in : ℕ → List Variable → List Variable
 used_in c xs = set xs c (used_once (get_or xs c no_variable))
 
 module _ (xs ys : List Variable) (a : AreButForUses xs ys) where
-  same_unused : (c : ℕ) → unused (get_or xs c no_variable) ≡ unused (get_or ys c no_variable)
+  -- each is
+  pub same_unused : (c : ℕ) → unused (get_or xs c no_variable) ≡ unused (get_or ys c no_variable)
   same_unused c =
       sym (mapped_at unused xs c no_variable) ∙ ap (λ (l : List Variable). get_or l c no_variable) a ∙ mapped_at unused ys c no_variable
 
