@@ -83,7 +83,8 @@ other_limits : (front later : List Line) (j : Judged) (l m : Bounds) → (front 
 other_limits front later j l m (inl none) x = record {
   count = x.count;
   legal = subst (λ (ls : List Line). IsShown m (reverse ls)) (sym none) (none_shown m);
-  stands = x.stands;
+  stands = x.at_first none m;
+  at_first = x.at_first;
   past = x.past;
 }
 other_limits front later j l m (inr e) x = subst (λ k. IsJudged k front later j) (sym e) x

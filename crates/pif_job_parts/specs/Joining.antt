@@ -50,7 +50,7 @@ IsSaid i (whole.Foreign k) text end = ⊥
 -- verdicts on parts at these places come to this verdict on the whole, whatever its lines are
 abbrev pub ComeTo : List Span → List PartVerdict → WholeVerdict → Type 0
 ComeTo spans verdicts v =
-    (l : Bounds) (lines : List Line) (parts : List Part) → ArePartsOf lines parts → spans ≡ map span_of parts
+    (l : Bounds) (lines : List Line) (parts : List Part) → ArePartsOf l lines parts → spans ≡ map span_of parts
     → AreOfParts l lines parts verdicts → IsOfWhole l lines v
 
 -- by an index, and the verdicts that a text tells of its parts, this is told, and it ends so

@@ -44,7 +44,7 @@ pub record IsIndexOf (h : Heard) (cuts : List Part) (text : List ℕ) : Type 0 w
 pub record IsSplit (h : Heard) (parts : Parts) : Type 0 where
   pub rules : HasNoRules h.allowed
   pub cuts : List Part
-  pub of_history : ArePartsOf h.shown cuts
+  pub of_history : ArePartsOf (limits_of h) h.shown cuts
   pub texts : map (λ text. text.items) parts.texts.items ≡ map (part_text (limits_of h) h.shown) cuts
   pub index : IsIndexOf h cuts parts.index.items
 

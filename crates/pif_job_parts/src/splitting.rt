@@ -157,7 +157,7 @@ fn index_of(alloc: Global, history: &History, parts: &[Part]) -> Result<Vec<u8>,
 /// These parts of a history as texts, and their index.
 fn written(alloc: Global, history: &History, parts: &[Part]) -> Result<Parts, AllocError>
     requires rules { HasNoRules history.now.allowed }
-    requires parts { ArePartsOf history.now.shown.items parts.now }
+    requires parts { ArePartsOf (limits_of (heard_of history.now)) history.now.shown.items parts.now }
     ensures { IfOk result (λ written. IsSplit (heard_of history.now) written) }
 {
     let _no_request: Option<Request> = None;
@@ -209,7 +209,7 @@ fn split_history(alloc: Global, least: usize, history: &History) -> Result<Parts
     if !has_no_rules(&history.allowed) {
         return Err(fault_in(history));
     }
-    let parts = match parts_of(alloc, history.shown.as_slice(), least) {
+    let parts = match parts_of(alloc, history.limits(), history.shown.as_slice(), least) {
         Ok(parts) => parts,
         Err(stop) => return Err(fault_of(stop)),
     };

@@ -3,4 +3,5 @@ pub mod HoldingLemmas
 pub mod ToldLemmas
 pub mod WatchLemmas
 pub mod RestLemmas
+pub mod UseLemmas
 pub mod PartLemmas

@@ -16,7 +16,7 @@ use Rattle.pif_parts.proofs.HoldingLemmas.{held_heard, none_held}
 
 -- TESTS
 
-both_true : (a b : Bool) → (a && b) ≡ true → (a ≡ true) × (b ≡ true)
+pub both_true : (a b : Bool) → (a && b) ≡ true → (a ≡ true) × (b ≡ true)
 both_true true b e = (refl, e)
 both_true false b e = absurd (true≢false (sym e))
 

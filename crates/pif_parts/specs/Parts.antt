@@ -16,20 +16,20 @@ use Rattle.pif_parts.specs.Standing.{StandFor}
 
 -- PARTS
 
--- these lines stand for the first n
-abbrev pub StandForFirst : List Line → ℕ → List Line → Type 0
-StandForFirst lines n before = StandFor (reverse before) (reverse (take n lines))
+-- these lines stand for the first n, with these limits, whatever the lines behind those are
+abbrev pub StandForFirst : Bounds → List Line → ℕ → List Line → Type 0
+StandForFirst l lines n before = StandFor l (length lines - n) (reverse before) (reverse (take n lines))
 
 -- the parts cover the lines from the place a to the place b, in order, and what each begins with stands for all lines
 -- before it
-abbrev pub AreParts : List Line → ℕ → List Part → ℕ → Type 0
-AreParts lines a [] b = a ≡ b
-AreParts lines a (p ∷ ps) b =
-    (p.first ≡ a) × StandForFirst lines a p.before.items × AreParts lines (a + p.count) ps b
+abbrev pub AreParts : Bounds → List Line → ℕ → List Part → ℕ → Type 0
+AreParts l lines a [] b = a ≡ b
+AreParts l lines a (p ∷ ps) b =
+    (p.first ≡ a) × StandForFirst l lines a p.before.items × AreParts l lines (a + p.count) ps b
 
 -- they are the parts of these lines
-abbrev pub ArePartsOf : List Line → List Part → Type 0
-ArePartsOf lines ps = AreParts lines 0 ps (length lines)
+abbrev pub ArePartsOf : Bounds → List Line → List Part → Type 0
+ArePartsOf l lines ps = AreParts l lines 0 ps (length lines)
 
 -- the lines of a part as it stands alone
 abbrev pub alone : List Line → Part → List Line
@@ -40,9 +40,9 @@ abbrev pub span_of : Part → Span
 span_of p = record { first = p.first; count = p.count; before = length p.before.items }
 
 -- so far the lines were cut so
-pub record IsCutting (lines : List Line) (c : Cutting) : Type 0 where
-  pub parts : AreParts lines 0 c.parts.items c.first
-  pub before : StandForFirst lines c.first c.before.items
+pub record IsCutting (l : Bounds) (lines : List Line) (c : Cutting) : Type 0 where
+  pub parts : AreParts l lines 0 c.parts.items c.first
+  pub before : StandForFirst l lines c.first c.before.items
 
 -- VERDICTS
 

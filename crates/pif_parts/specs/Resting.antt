@@ -1,5 +1,6 @@
 -- The state in which a history rests, as lists that each line changes: what stays of threads, mutexes and variables.
-use Rattle.std.specs.Prelude.{ℕ, ◌≡◌, ◌+◌, ◌==◌, true, false, List, [], ◌∷◌, ◌++◌, get_or, map, set, Option, Some, None, if◌then◌else◌}
+use Rattle.std.specs.Prelude.{ℕ, ◌≡◌, ◌+◌, ◌==◌, ◌&&◌, Bool, nat_lt, true, false, List, [], ◌∷◌, ◌++◌, get_or, map, set, Option, Some, None, if◌then◌else◌}
+use Rattle.std.specs.List.{list_all}
 use Rattle.pif_types.specs.Bounds.{Bounds}
 use Rattle.pif_types.specs.declared.requests.Request.{Request}
 use Rattle.pif_types.specs.declared.requests.Request.TheVariants.{Signal, Broadcast, SetPrio}
@@ -47,6 +48,10 @@ nobody = record { base = 0; living = false }
 
 abbrev pub no_cond : RestingCond
 no_cond = record { mutex = 0; uses = 0 }
+
+-- a variable that was not used yet
+abbrev pub unused_cond : RestingCond → RestingCond
+unused_cond x = record x { uses = 0 }
 
 abbrev pub with_base : ℕ → ℕ → List RestingThread → List RestingThread
 with_base u p xs = set xs u (record (get_or xs u nobody) { base = p })
@@ -107,6 +112,21 @@ pub record Changes (line : Line) (o : Option Request) (before after : Rest) : Ty
   pub mutexes : after.mutexes.items ≡ mutexes_after line before.mutexes.items
   pub conds : after.conds.items ≡ conds_after line o before.conds.items
   pub time : after.time ≡ time_after line before.time
+
+-- whether each of these variables was used less often than this
+abbrev pub each_is_less : ℕ → List RestingCond → Bool
+each_is_less n cs = list_all (λ (x : RestingCond). nat_lt x.uses n) cs
+
+-- the same of all variables, also of those that weren't added yet
+abbrev pub are_used_less : ℕ → List RestingCond → Bool
+are_used_less n cs = nat_lt 0 n && each_is_less n cs
+
+-- they are one state but for uses
+pub record AreAlike (r z : Rest) : Type 0 where
+  pub threads : r.threads.items ≡ z.threads.items
+  pub mutexes : r.mutexes.items ≡ z.mutexes.items
+  pub conds : map unused_cond r.conds.items ≡ map unused_cond z.conds.items
+  pub time : r.time ≡ z.time
 
 -- they are one state
 pub record AreSame (r z : Rest) : Type 0 where

@@ -48,7 +48,7 @@ fn illegal_in(span: &Span, number: usize, line: usize) -> WholeVerdict
 /// The verdict on a history by the places of its parts, in order, and the verdicts on them: that of the first part that
 /// isn't legal.
 pub fn joined(spans: &[Span], verdicts: &[PartVerdict]) -> WholeVerdict
-    ensures { (limits : Bounds) (lines : List Line) (parts : List Part) → ArePartsOf lines parts → spans.now ≡ map span_of parts → AreOfParts limits lines parts verdicts.now → IsOfWhole limits lines result }
+    ensures { (limits : Bounds) (lines : List Line) (parts : List Part) → ArePartsOf limits lines parts → spans.now ≡ map span_of parts → AreOfParts limits lines parts verdicts.now → IsOfWhole limits lines result }
 {
     for number in 0..spans.len() {
         if number >= verdicts.len() {

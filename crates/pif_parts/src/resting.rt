@@ -1,7 +1,7 @@
 //! The state in which a history rests where it is quiet, by its lines alone.
-ghost use Rattle.std.specs.Prelude.{◌≡◌, ◌++◌, ◌∷◌, [], true, Some, Option, OnOk, IfOk, set};
+ghost use Rattle.std.specs.Prelude.{◌≡◌, ◌++◌, ◌∷◌, [], true, map, Some, Option, OnOk, IfOk, set};
 ghost use Rattle.pif_types.specs.declared.requests.Request.{Request};
-ghost use Rattle.pif_parts.specs.Resting.{AreSame, Changes, IsRest, conds_after, conds_behind, mutexes_after, returned, threads_after, threads_behind, time_after, with_base, with_end, with_use};
+ghost use Rattle.pif_parts.specs.Resting.{AreAlike, AreSame, Changes, IsRest, are_used_less, conds_after, conds_behind, each_is_less, mutexes_after, returned, threads_after, threads_behind, time_after, unused_cond, with_base, with_end, with_use};
 
 use pif_history_model::{Fact, Line};
 use pif_search::{Stop, at_or, one, push};
@@ -246,6 +246,37 @@ fn are_same<T: Same>(items: &[T], others: &[T]) -> bool
     true
 }
 
+/// Whether these are bound to the same mutexes, in the same order.
+fn are_bound_alike(conds: &[RestingCond], others: &[RestingCond]) -> bool
+    ensures { result ≡ true → map unused_cond conds.now ≡ map unused_cond others.now }
+{
+    if conds.len() != others.len() {
+        return false;
+    }
+    for place in 0..conds.len() {
+        let cond = &conds[place];
+        let other = &others[place];
+        if cond.mutex != other.mutex {
+            return false;
+        }
+    }
+    true
+}
+
+/// Whether each of these variables was used less often than this.
+fn is_each_less(conds: &[RestingCond], uses: usize) -> bool
+    ensures { result ≡ each_is_less uses conds.now }
+{
+    conds.iter().all(|cond| cond.uses < uses)
+}
+
+/// Whether all variables were used less often than this, also those that weren't added yet.
+fn are_used_less(conds: &[RestingCond], uses: usize) -> bool
+    ensures { result ≡ are_used_less uses conds.now }
+{
+    0 < uses && is_each_less(conds, uses)
+}
+
 impl Rest {
     /// Before any line.
     ///
@@ -276,6 +307,23 @@ impl Rest {
         hear_conds(&mut self.conds, line, call)?;
         self.time = time_after(line, self.time);
         Ok(())
+    }
+
+    /// Whether all variables were used less often than this, also those that weren't added yet.
+    pub fn is_used_less(&self, uses: usize) -> bool
+        ensures { result ≡ are_used_less uses self.now.conds.items }
+    {
+        are_used_less(self.conds.as_slice(), uses)
+    }
+
+    /// Whether the other is the same state, however often variables were used.
+    pub fn is_alike(&self, other: &Rest) -> bool
+        ensures { result ≡ true → AreAlike self.now other.now }
+    {
+        self.time == other.time
+            && are_same(self.threads.as_slice(), other.threads.as_slice())
+            && are_same(self.mutexes.as_slice(), other.mutexes.as_slice())
+            && are_bound_alike(self.conds.as_slice(), other.conds.as_slice())
     }
 
     /// Whether the other is the same state.

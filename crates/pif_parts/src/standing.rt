@@ -116,35 +116,69 @@ fn signal_lines(conds: &[RestingCond]) -> usize {
     count
 }
 
+/// Whether uses of variables are told.
+#[derive(Clone, Copy, PartialEq, Eq)]
+pub enum Uses {
+    /// Each variable is signalled as often as it was used.
+    Told,
+    /// No variable is signalled.
+    Untold,
+}
+
+/// How many lines tell the uses of these variables.
+fn use_lines(conds: &[RestingCond], uses: &Uses) -> usize {
+    match *uses {
+        Uses::Told => signal_lines(conds),
+        Uses::Untold => 0,
+    }
+}
+
+/// Tells the uses of variables.
+fn push_told(lines: &mut Vec<Line>, conds: &[RestingCond], uses: &Uses) -> Result<(), Stop> {
+    let _no_request: Option<Request> = None;
+    let _no_fact: Option<Fact> = None;
+    match *uses {
+        Uses::Told => match Tid::new(1) {
+            Some(first) => push_uses(lines, first, conds),
+            None => Ok(()),
+        },
+        Uses::Untold => Ok(()),
+    }
+}
+
 /// Whether at most so many additions and signals lead to this state.
-fn is_near(rest: &Rest, most: usize) -> bool {
+fn is_near(rest: &Rest, most: usize, uses: &Uses) -> bool {
     let added = rest
         .threads
         .len()
         .saturating_add(rest.mutexes.len())
         .saturating_add(rest.conds.len())
         .saturating_sub(3);
-    added.saturating_add(signal_lines(rest.conds.as_slice())) <= most
+    added.saturating_add(use_lines(rest.conds.as_slice(), uses)) <= most
 }
 
-/// Lines, oldest first, that lead to this state; `None` if it takes more than so many.
+/// Lines, oldest first, that lead to this state, or to the one in which no variable was used, if uses aren't told; `None`
+/// if it takes more than so many.
 ///
 /// # Errors
 ///
 /// Out of memory.
-pub fn standing_lines(alloc: Global, rest: &Rest, most: usize) -> Result<Option<Vec<Line>>, Stop> {
+pub fn standing_lines(
+    alloc: Global,
+    rest: &Rest,
+    most: usize,
+    uses: &Uses,
+) -> Result<Option<Vec<Line>>, Stop> {
     let _no_request: Option<Request> = None;
     let _no_fact: Option<Fact> = None;
-    if !is_near(rest, most) {
+    if !is_near(rest, most, uses) {
         return Ok(None);
     }
     let mut lines = Vec::new(alloc);
     push_threads(&mut lines, rest.threads.as_slice())?;
     push_mutexes(&mut lines, rest.mutexes.as_slice())?;
     push_conds(&mut lines, rest.conds.as_slice())?;
-    if let Some(first) = Tid::new(1) {
-        push_uses(&mut lines, first, rest.conds.as_slice())?;
-    }
+    push_told(&mut lines, rest.conds.as_slice(), uses)?;
     push_ends(&mut lines, rest.threads.as_slice())?;
     if rest.time != 0 {
         push(&mut lines, Line::Tick(rest.time))?;

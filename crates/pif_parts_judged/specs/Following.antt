@@ -17,11 +17,17 @@ use Rattle.pif_parts_judged.specs.declared.following.Judged.{Judged}
 use Rattle.pif_parts_judged.specs.declared.following.Step.{Step}
 use Rattle.pif_parts_judged.specs.declared.following.Step.TheVariants as step
 
--- so far the front is legal, other lines stand for it, and all lines are known
+-- the most lines that are judged at once: so many bytes are the most of a history that is read whole
+abbrev pub lines_most : ℕ
+lines_most = 268435456
+
+-- so far the front is legal, other lines stand for it, and all lines are known. For a front of no lines they stand with any
+-- limits, since a line `limits` may follow
 pub record IsJudged (l : Bounds) (front later : List Line) (j : Judged) : Type 0 where
   pub count : j.count ≡ length front
   pub legal : IsShown l (reverse front)
-  pub stands : StandFor (reverse j.before.items) (reverse front)
+  pub stands : StandFor l lines_most (reverse j.before.items) (reverse front)
+  pub at_first : front ≡ [] → (m : Bounds) → StandFor m lines_most (reverse j.before.items) (reverse front)
   pub past : IsPast (reverse (front ++ later)) j.past
 
 -- the lines that stand for the front, and those that are open

@@ -1,10 +1,10 @@
-ghost use Rattle.std.specs.Prelude.{◌≡◌, ◌++◌, ◌∷◌, [], List, length, reverse, IfOk, IfSome, OnOk};
+ghost use Rattle.std.specs.Prelude.{◌≡◌, ◌≤◌, ◌++◌, ◌∷◌, [], List, length, reverse, IfOk, IfSome, OnOk};
 ghost use Rattle.pif_types.specs.Bounds.{Bounds};
 ghost use Rattle.pif_history_model.specs.declared.lines.Line.{Line};
 ghost use Rattle.pif_history_model.specs.Shown.{IsShown};
 ghost use Rattle.pif_parts.specs.Parts.{IsOfWhole};
 ghost use Rattle.pif_parts.specs.Standing.{StandFor};
-ghost use Rattle.pif_parts_judged.specs.Following.{ComesTo, IsJudged, IsOfOpen, both, span};
+ghost use Rattle.pif_parts_judged.specs.Following.{ComesTo, IsJudged, IsOfOpen, both, lines_most, span};
 
 use pif_components::judge_components;
 use pif_history_model::{Fact, HistoryLimits, Line};
@@ -12,6 +12,9 @@ use pif_parts::{PartVerdict, Past, Span, WholeVerdict, joined};
 use pif_search::{Stop, WatchLines};
 use pif_types::Request;
 use std::alloc::Global;
+
+/// The most lines that are judged at once. A history that is read whole has at most so many bytes.
+const LINES_MOST: usize = 268_435_456;
 
 /// A history that is judged while it is read: its front was judged and found to be legal, and is forgotten.
 #[derive(Drop)]
@@ -102,7 +105,7 @@ impl Judged {
     /// The verdict on all lines, by that on the open ones, of which there are so many, with those that stand for the front.
     fn whole(&self, alloc: Global, later: usize, verdict: PartVerdict) -> WholeVerdict
         ensures { (limits : Bounds) (front lines : List Line) → IsJudged limits front lines self.now → length lines ≡ later
-            → IsOfOpen limits self.now lines verdict → IsOfWhole limits (front ++ lines) result }
+            → later ≤ lines_most → IsOfOpen limits self.now lines verdict → IsOfWhole limits (front ++ lines) result }
     {
         let _no_request: Option<Request> = None;
         let _no_fact: Option<Fact> = None;
@@ -113,7 +116,7 @@ impl Judged {
     }
 
     /// The verdict on all lines, of which these are open: these are judged component by component, each with at most so
-    /// many states for a line.
+    /// many states for a line. Nothing is known if more are open than are judged at once.
     ///
     /// # Errors
     ///
@@ -130,19 +133,26 @@ impl Judged {
     {
         let _no_request: Option<Request> = None;
         let _no_fact: Option<Fact> = None;
+        if later.len() > LINES_MOST {
+            return Ok(WholeVerdict::Undecided(1));
+        }
         let all = both(alloc, self.before.as_slice(), later)?;
         let verdict = judge_components(alloc, limits, all.as_slice(), states, watch)?;
         Ok(self.whole(alloc, later.len(), verdict))
     }
 
-    /// The open lines, of which there are so many, are legal and belong to the front, and these lines stand for it.
+    /// The open lines, of which there are so many, are legal and belong to the front, and these lines stand for it. If
+    /// there are none, all stays as it is.
     fn forget(&mut self, later: usize, before: Vec<Line>) -> Result<(), Stop>
         ensures { OnOk result ((limits : Bounds) (front lines : List Line) → IsJudged limits front lines self.old → length lines ≡ later
-            → IsShown limits (reverse (front ++ lines)) → StandFor (reverse before.items) (reverse (front ++ lines))
+            → IsShown limits (reverse (front ++ lines)) → StandFor limits lines_most (reverse before.items) (reverse (front ++ lines))
             → IsJudged limits (front ++ lines) [] self.new) }
     {
         let _no_request: Option<Request> = None;
         let _no_fact: Option<Fact> = None;
+        if later == 0 {
+            return Ok(());
+        }
         match self.count.checked_add(later) {
             Some(count) => {
                 self.count = count;
@@ -161,7 +171,7 @@ impl Judged {
         verdict: WholeVerdict,
     ) -> Result<Step, Stop>
         ensures { IfOk result (λ s. (limits : Bounds) (front lines : List Line) → IsJudged limits front lines self.old → length lines ≡ later
-            → IsOfWhole limits (front ++ lines) verdict → StandFor (reverse before.items) (reverse (front ++ lines))
+            → IsOfWhole limits (front ++ lines) verdict → StandFor limits lines_most (reverse before.items) (reverse (front ++ lines))
             → ComesTo limits front lines self.new s) }
     {
         let _no_request: Option<Request> = None;
@@ -197,7 +207,7 @@ impl Judged {
         if !self.past.is_quiet() {
             return Ok(Step::Waits);
         }
-        let Some(before) = self.past.stand_in(alloc, most)? else {
+        let Some(before) = self.past.stand_in(alloc, limits, most, LINES_MOST)? else {
             return Ok(Step::Waits);
         };
         let verdict = self.judge(alloc, limits, later, states, watch)?;

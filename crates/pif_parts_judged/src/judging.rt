@@ -83,7 +83,7 @@ fn judge_all<W: WatchLines>(
     states: usize,
     watch: &mut W,
 ) -> Result<WholeVerdict, Stop>
-    ensures { IfOk result (λ v. ArePartsOf lines.now parts.now → IsOfWhole limits lines.now v) }
+    ensures { IfOk result (λ v. ArePartsOf limits lines.now parts.now → IsOfWhole limits lines.now v) }
 {
     let _no_request: Option<Request> = None;
     let _no_fact: Option<Fact> = None;
@@ -116,6 +116,6 @@ pub fn judge_parts<W: WatchLines>(
 ) -> Result<WholeVerdict, Stop>
     ensures { IfOk result (IsOfWhole limits lines.now) }
 {
-    let parts = parts_of(alloc, lines, least)?;
+    let parts = parts_of(alloc, limits, lines, least)?;
     judge_all(alloc, limits, lines, parts.as_slice(), states, watch)
 }

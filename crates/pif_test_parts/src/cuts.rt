@@ -1,5 +1,5 @@
 //! Histories of two threads, cut by hand.
-use pif_history_model::{Fact, Line, Protocol};
+use pif_history_model::{Fact, HistoryLimits, Line, Protocol};
 use pif_parts::{Part, PartVerdict, Span, WholeVerdict, joined, parts_of};
 use pif_search::{Stop, push};
 use pif_types::{Answer, CondId, Kind, MutexId, Request, Tid};
@@ -49,12 +49,22 @@ fn added(alloc: Global) -> Result<Vec<Line>, Stop> {
     Ok(lines)
 }
 
-/// The last part of these lines, whose parts have at least ten lines: how many lines come before it, how many it has, and
-/// with how many it begins.
-fn last_part(alloc: Global, lines: &[Line]) -> Result<(usize, usize, usize), Stop> {
+/// Limits that the histories of this file keep, with this limit of signals and broadcasts on a variable.
+fn with_signals(signals: u32) -> HistoryLimits {
+    HistoryLimits {
+        threads: 2,
+        mutexes: 1,
+        conds: 1,
+        signals,
+    }
+}
+
+/// The last part of these lines, with a limit of so many uses, whose parts have at least ten lines: how many lines come
+/// before it, how many it has, and with how many it begins.
+fn last_part(alloc: Global, signals: u32, lines: &[Line]) -> Result<(usize, usize, usize), Stop> {
     let _no_request: Option<Request> = None;
     let _no_fact: Option<Fact> = None;
-    let parts = parts_of(alloc, lines, 10)?;
+    let parts = parts_of(alloc, with_signals(signals), lines, 10)?;
     let mut last = (0, 0, 0);
     for part in parts.as_slice() {
         last = (part.first, part.count, part.before.len());
@@ -79,8 +89,41 @@ pub fn whole(alloc: Global) -> Result<Vec<Line>, Stop> {
 fn a_history_is_cut_where_it_is_quiet(rt: HostRuntime) -> Result<(), Stop> {
     let lines = whole(rt.alloc())?;
     // Behind ten lines: two threads, a mutex and a variable. The signal comes later.
-    let last = last_part(rt.alloc(), lines.as_slice())?;
+    let last = last_part(rt.alloc(), 30, lines.as_slice())?;
     assert!(rt; last == (10, 11, 4), "the part behind a setprio");
+    Ok(())
+}
+
+/// t2 signals, and the threads take turns: ten lines, and eight behind them.
+fn used(alloc: Global) -> Result<Vec<Line>, Stop> {
+    let _no_fact: Option<Fact> = None;
+    let mut lines = added(alloc)?;
+    call(&mut lines, 2, &Request::Signal(cond()), 0)?;
+    turn(&mut lines, 1)?;
+    turn(&mut lines, 2)?;
+    turn(&mut lines, 1)?;
+    Ok(lines)
+}
+
+#[test]
+fn a_part_that_stays_below_the_limit_of_uses_begins_without_signals(
+    rt: HostRuntime,
+) -> Result<(), Stop> {
+    let lines = used(rt.alloc())?;
+    // One use, and at most one with each of the eight lines that follow: nine, which are fewer than ten.
+    let last = last_part(rt.alloc(), 10, lines.as_slice())?;
+    assert!(rt; last == (10, 8, 4), "two threads, a mutex and a variable");
+    Ok(())
+}
+
+#[test]
+fn a_part_that_may_come_to_the_limit_of_uses_begins_with_signals(
+    rt: HostRuntime,
+) -> Result<(), Stop> {
+    let lines = used(rt.alloc())?;
+    // Nine might come to the limit of nine. The one signal is two lines.
+    let last = last_part(rt.alloc(), 9, lines.as_slice())?;
+    assert!(rt; last == (10, 8, 6), "a signal, too");
     Ok(())
 }
 
@@ -88,7 +131,7 @@ fn a_history_is_cut_where_it_is_quiet(rt: HostRuntime) -> Result<(), Stop> {
 fn who_holds_a_mutex_keeps_a_history_together(rt: HostRuntime) -> Result<(), Stop> {
     let mut lines = added(rt.alloc())?;
     hold(&mut lines)?;
-    let last = last_part(rt.alloc(), lines.as_slice())?;
+    let last = last_part(rt.alloc(), 30, lines.as_slice())?;
     assert!(rt; last == (0, 20, 0), "a mutex is held");
     Ok(())
 }
@@ -106,7 +149,7 @@ fn hold(lines: &mut Vec<Line>) -> Result<(), Stop> {
 fn an_owner_that_ended_keeps_a_history_together(rt: HostRuntime) -> Result<(), Stop> {
     let mut lines = added(rt.alloc())?;
     die(&mut lines)?;
-    let last = last_part(rt.alloc(), lines.as_slice())?;
+    let last = last_part(rt.alloc(), 30, lines.as_slice())?;
     assert!(rt; last == (0, 21, 0), "a robust mutex was inconsistent");
     Ok(())
 }

@@ -8,5 +8,5 @@ use Rattle.pif_parts.proofs.joining.joined.Given as goal
 
 abbrev pub invariant-loop-number : goal.invariant-loop-number
 invariant-loop-number l =
-    (limits : Bounds) (lines : List Line) (parts : List Part) → ArePartsOf lines parts → l.spans ≡ map span_of parts
+    (limits : Bounds) (lines : List Line) (parts : List Part) → ArePartsOf limits lines parts → l.spans ≡ map span_of parts
     → AreOfParts limits lines parts l.verdicts → AreJoined limits lines parts l.verdicts l.number

@@ -8,10 +8,10 @@ use Rattle.pif_parts.proofs.parts.Cutting.cut.Goals as goal
 pub returns : goal.returns
 returns c = (
   refl,
-  λ lines x s. record {
-    parts = cut_more lines c.args.self.now c.args.place c.requires
+  λ limits lines x s. record {
+    parts = cut_more limits lines c.args.self.now c.args.place c.requires
         (record { first = c.args.self.now.first; count = c.args.place - c.args.self.now.first; before = c.replace-before.result })
         refl refl (ap (λ (v : Vec Line). v.items) c.replace-before.ensures.value) c.push.new.items.items c.in_ok-push.ensures x;
-    before = subst (λ ys. StandForFirst lines c.args.place ys) (sym (ap (λ (v : Vec Line). v.items) c.replace-before.ensures.after)) s;
+    before = subst (λ ys. StandForFirst limits lines c.args.place ys) (sym (ap (λ (v : Vec Line). v.items) c.replace-before.ensures.after)) s;
   },
 )

@@ -12,6 +12,7 @@ returns c =
       count = h.count;
       legal = h.legal;
       stands = h.stands;
+      at_first = h.at_first;
       past = subst (λ (ys : List Line). IsPast ys c.hear.new.self) (sym (next_open front later c.args.line.now))
           (x (reverse (front ++ later)) h.past);
     })

@@ -4,7 +4,7 @@ use Rattle.pif_parts_judged.proofs.FollowingLemmas.{are_parts, are_verdicts, fir
 use Rattle.pif_parts_judged.proofs.following.Judged.whole.Goals as goal
 
 pub returns : goal.returns
-returns c = λ limits front lines h len x.
+returns c = λ limits front lines h len few x.
     let none = c.new-none.result in
     let empty = c.new-none.ensures.items in
     let first : c.span-first.result ≡ span 0 c.args.self.now.count none.items =
@@ -12,8 +12,8 @@ returns c = λ limits front lines h len x.
     let last : c.span-last.result ≡ span c.args.self.now.count c.args.later c.args.self.now.before.items =
     c.span-last.ensures ∙ ap (span c.args.self.now.count c.args.later) c.as_slice-2.ensures.value in
     c.joined.ensures limits (front ++ lines)
-    (first_part limits front lines c.args.self.now h none empty c.args.later len
-    ∷ last_part limits front lines c.args.self.now h none empty c.args.later len ∷ [])
-    (are_parts limits front lines c.args.self.now h none empty c.args.later len)
+    (first_part limits front lines c.args.self.now h none empty c.args.later len few
+    ∷ last_part limits front lines c.args.self.now h none empty c.args.later len few ∷ [])
+    (are_parts limits front lines c.args.self.now h none empty c.args.later len few)
     (λ i. first i ∷ last i ∷ [])
-    (are_verdicts limits front lines c.args.self.now h none empty c.args.later len c.args.verdict x)
+    (are_verdicts limits front lines c.args.self.now h none empty c.args.later len few c.args.verdict x)
