@@ -13,6 +13,7 @@
    - What was cancelled, or used inside another call, is left out as a whole. If it has lines already, the history ends
      there. */
 #define _GNU_SOURCE
+#include <dirent.h>
 #include <errno.h>
 #include <signal.h>
 #include <stdio.h>
@@ -74,23 +75,42 @@ bool rest_between_looks(void)
     return !is_stopped;
 }
 
-/* The process of the run, whose number its name begins with, has the run's file mapped up to its end or its execve. */
-bool has_gone(const char *run_name)
+/* Whether the maps of a thread name this file; also if they can't be read although the thread is there. */
+static bool maps_file(const char *maps_of_thread, const char *name)
 {
-    char path[64], name[MOST_OF_RUN + 8], *line = NULL;
-    long process = strtol(run_name, NULL, 10);
+    FILE *maps = fopen(maps_of_thread, "re");
+    char *line = NULL;
     size_t room = 0;
     bool is_there = false;
 
-    snprintf(path, sizeof path, "/proc/%ld/maps", process);
-    snprintf(name, sizeof name, "/%s.run", run_name);
-    FILE *maps = fopen(path, "re");
     if (maps == NULL)
-        return process <= 0 || (kill((pid_t)process, 0) != 0 && errno == ESRCH);
+        return errno != ENOENT && errno != ESRCH;
     while (!is_there && getline(&line, &room, maps) >= 0)
         is_there = strstr(line, name) != NULL;
     free(line);
     fclose(maps);
+    return is_there;
+}
+
+/* The process of the run, whose number its name begins with, has the run's file mapped up to its end or its execve.
+   Each of its threads may show that: `main` may have ended before the others. */
+bool has_gone(const char *run_name)
+{
+    struct dirent *thread;
+    char path[64 + sizeof thread->d_name], name[MOST_OF_RUN + 8];
+    long process = strtol(run_name, NULL, 10);
+    bool is_there = false;
+
+    snprintf(path, sizeof path, "/proc/%ld/task", process);
+    snprintf(name, sizeof name, "/%s.run", run_name);
+    DIR *threads = opendir(path);
+    if (threads == NULL)
+        return process <= 0 || (kill((pid_t)process, 0) != 0 && errno == ESRCH);
+    while (!is_there && (thread = readdir(threads)) != NULL) {
+        snprintf(path, sizeof path, "/proc/%ld/task/%s/maps", process, thread->d_name);
+        is_there = thread->d_name[0] != '.' && maps_file(path, name);
+    }
+    closedir(threads);
     return !is_there;
 }
 

@@ -120,7 +120,7 @@ static void reset_on_fork(void)
 static void *lock_behind_main(void *unused)
 {
     (void)unused;
-    sleep_ms(SHORT_MS);
+    sleep_ms(10 * SHORT_MS);
     lock_and_unlock(&mutex);
     return NULL;
 }
