@@ -107,7 +107,8 @@ def test_refused(kit, place, _):
 
 def test_judge(kit, place, is_stored):
     kept = place / "kept"
-    kit.demand_judged(kit.judge_words("--shared", "--keep", kept, kit.FEATURES, "one_is_killed"), 0, ["legal 20, 5 calls"])
+    words, lines = kit.judge_words("--shared", "--keep", kept, kit.FEATURES, "one_is_killed"), ["legal 20, 5 calls"]
+    kit.demand_judged(words, 0, [*lines, "not seen: 2 calls on semaphores"])
     kit.compare("one_is_killed", kit.plain(kit.checked(kept)), "", is_stored)
     kit.demand_judged(kit.judge_words("--shared", kit.FEATURES, "no_call"), 3, [])
 
