@@ -19,7 +19,8 @@ use Rattle.pif_parts.specs.declared.joining.PartVerdict.TheVariants as part
 use Rattle.pif_components.specs.declared.groups.Groups.{Groups}
 use Rattle.pif_components.specs.declared.judging.Standing.{Standing}
 use Rattle.pif_components.specs.Groups.{AreGroupsOf, number_of}
-use Rattle.pif_components.specs.Sides.{IsOf, IsOfSide, side_of}
+use Rattle.pif_parts.specs.Parts.{IsOf}
+use Rattle.pif_components.specs.Sides.{IsOfSide, side_of}
 use Rattle.pif_components.specs.Judging.{AreJudged, IsTold, told, verdict_at, verdict_of, within}
 use Rattle.pif_components.proofs.HearingLemmas.{groups_numbered}
 

@@ -1,10 +1,8 @@
 -- The components of a history by the groups of their names, and the verdict on one of them.
 use Rattle.std.specs.Prelude.{ℕ, List, reverse}
 use Rattle.pif_types.specs.Bounds.{Bounds}
-use Rattle.pif_rules_model.specs.Sets.{no_rules}
 use Rattle.pif_history_model.specs.declared.lines.Line.{Line}
 use Rattle.pif_history_model.specs.Shown.{IsShown}
-use Rattle.pif_history_model.specs.Verdicts.{IsIllegal}
 use Rattle.pif_components_model.specs.Components.{Side, component, lines_of}
 use Rattle.pif_components_model.specs.Places.{IsIllegalAt}
 use Rattle.pif_parts.specs.declared.joining.PartVerdict.{PartVerdict}
@@ -22,10 +20,3 @@ abbrev pub IsOfSide : Bounds → Side → List Line → PartVerdict → Type 0
 IsOfSide l x lines part.Legal = IsShown l (reverse (lines_of x lines))
 IsOfSide l x lines (part.Illegal n) = IsIllegalAt l x lines n
 IsOfSide l x lines part.Undecided = Unit {0}
-
--- this is so of these lines: the POSIX machine has a run with them, or none with the first n, and one with one less. Of
--- lines that are undecided nothing is said
-abbrev pub IsOf : Bounds → List Line → PartVerdict → Type 0
-IsOf l lines part.Legal = IsShown l (reverse lines)
-IsOf l lines (part.Illegal n) = IsIllegal no_rules l lines n
-IsOf l lines part.Undecided = Unit {0}

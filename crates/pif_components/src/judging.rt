@@ -1,7 +1,8 @@
 //! A history judged component by component.
 ghost use Rattle.std.specs.Prelude.{◌≡◌, ◌<◌, ◌≤◌, ◌+◌, length, reverse, take, IfOk};
 ghost use Rattle.pif_components.specs.Groups.{AreGroupsOf};
-ghost use Rattle.pif_components.specs.Sides.{IsOf, IsOfSide, side_of};
+ghost use Rattle.pif_components.specs.Sides.{IsOfSide, side_of};
+ghost use Rattle.pif_parts.specs.Parts.{IsOf};
 ghost use Rattle.pif_components.specs.Judging.{AreJudged, IsTold, told, verdict_by, verdict_of, within};
 
 use crate::groups::Groups;

@@ -46,11 +46,16 @@ pub record IsCutting (l : Bounds) (lines : List Line) (c : Cutting) : Type 0 whe
 
 -- VERDICTS
 
--- this is so of a part as it stands alone. Of one that is undecided nothing is said
+-- this is so of these lines: the POSIX machine has a run with them, or none with the first n, and one with one less. Of
+-- lines that are undecided nothing is said
+abbrev pub IsOf : Bounds → List Line → PartVerdict → Type 0
+IsOf l lines part.Legal = IsShown l (reverse lines)
+IsOf l lines (part.Illegal n) = IsIllegal no_rules l lines n
+IsOf l lines part.Undecided = Unit {0}
+
+-- this is so of a part as it stands alone
 abbrev pub IsOfPart : Bounds → List Line → Part → PartVerdict → Type 0
-IsOfPart l lines p part.Legal = IsShown l (reverse (alone lines p))
-IsOfPart l lines p (part.Illegal n) = IsIllegal no_rules l (alone lines p) n
-IsOfPart l lines p part.Undecided = Unit {0}
+IsOfPart l lines p v = IsOf l (alone lines p) v
 
 -- these verdicts are those of these parts
 abbrev pub AreOfParts : Bounds → List Line → List Part → List PartVerdict → Type 0

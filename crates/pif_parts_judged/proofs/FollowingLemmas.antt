@@ -4,19 +4,16 @@ use Rattle.std.proofs.Math.Seq.{drop-append_seam, take-append_seam, take-length}
 use Rattle.std.proofs.lemmas.List.{reverse-append}
 use Rattle.std.specs.Global.{Vec}
 use Rattle.pif_types.specs.Bounds.{Bounds}
-use Rattle.pif_rules_model.specs.Sets.{no_rules}
 use Rattle.pif_model.specs.Posix.{World, empty_world}
 use Rattle.pif_model.specs.Posix.IsRun.{start}
 use Rattle.pif_history_model.specs.declared.lines.Line.{Line}
 use Rattle.pif_history_model.specs.Shown.{IsShown}
 use Rattle.pif_history_model.specs.Shown.IsCut.{no_line}
-use Rattle.pif_history_model.specs.Verdicts.{IsIllegal}
 use Rattle.pif_parts_model.specs.Quiet.{IsQuiet}
-use Rattle.pif_components.specs.Sides.{IsOf}
 use Rattle.pif_parts.specs.declared.parts.Part.{Part}
 use Rattle.pif_parts.specs.declared.joining.PartVerdict.{PartVerdict}
 use Rattle.pif_parts.specs.declared.joining.PartVerdict.TheVariants as part
-use Rattle.pif_parts.specs.Parts.{AreOfParts, ArePartsOf, IsOfPart, alone}
+use Rattle.pif_parts.specs.Parts.{AreOfParts, ArePartsOf, IsOf, IsOfPart, alone}
 use Rattle.pif_parts.specs.Standing.{GoOnAlike, IsPast, StandFor}
 use Rattle.pif_parts.specs.Standing.GoOnAlike.{but_for_uses, exactly}
 use Rattle.pif_parts_judged.specs.declared.following.Judged.{Judged}
@@ -90,20 +87,12 @@ module _ (l : Bounds) (front later : List Line) (j : Judged) (h : IsJudged l fro
   first_alone = ap (λ (ys : List Line). ys ++ take j.count (front ++ later)) empty ∙ front_taken
 
   last_verdict : (v : PartVerdict) → IsOfOpen l j later v → IsOfPart l (front ++ later) last_part v
-  last_verdict part.Legal x = subst (λ (ys : List Line). IsShown l (reverse ys)) (sym last_alone) x
-  last_verdict (part.Illegal k) x = subst (λ (ys : List Line). IsIllegal no_rules l ys k) (sym last_alone) x
-  last_verdict part.Undecided x = tt
+  last_verdict v x = subst (λ (ys : List Line). IsOf l ys v) (sym last_alone) x
 
   pub are_verdicts : (v : PartVerdict) → IsOfOpen l j later v
       → AreOfParts l (front ++ later) (first_part ∷ last_part ∷ []) (part.Legal ∷ v ∷ [])
   are_verdicts v x =
       (subst (λ (ys : List Line). IsShown l (reverse ys)) (sym first_alone) h.legal, (last_verdict v x, tt))
-
--- what is so of the open lines, with those that stand for the front
-pub of_open : (l : Bounds) (j : Judged) (later : List Line) (v : PartVerdict) → IsOf l (both j.before.items later) v → IsOfOpen l j later v
-of_open l j later part.Legal x = x
-of_open l j later (part.Illegal n) x = x
-of_open l j later part.Undecided x = tt
 
 -- THE FRONT GROWS
 

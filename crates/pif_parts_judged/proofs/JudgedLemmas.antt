@@ -1,20 +1,12 @@
--- What is so of a part as it stands alone is its verdict, and one more part is judged.
+-- One more part is judged.
 use Rattle.std.proofs.Common.{ℕ, ◌≡◌, ◌∙◌, ◌<◌, ◌+◌, List, [], ◌∷◌, ◌++◌, get_or, length, map, sym, ap, subst, take}
 use Rattle.std.proofs.lemmas.List.{map-append, take_more}
 use Rattle.pif_types.specs.Bounds.{Bounds}
 use Rattle.pif_history_model.specs.declared.lines.Line.{Line}
-use Rattle.pif_components.specs.Sides.{IsOf}
 use Rattle.pif_parts.specs.declared.parts.Part.{Part}
 use Rattle.pif_parts.specs.declared.parts.Span.{Span}
 use Rattle.pif_parts.specs.declared.joining.PartVerdict.{PartVerdict}
-use Rattle.pif_parts.specs.declared.joining.PartVerdict.TheVariants as part
-use Rattle.pif_parts.specs.Parts.{AreOfParts, IsOfPart, alone, span_of}
-
--- what is so of a part as it stands alone
-pub of_part : (l : Bounds) (lines : List Line) (p : Part) (v : PartVerdict) → IsOf l (alone lines p) v → IsOfPart l lines p v
-of_part l lines p part.Legal x = x
-of_part l lines p (part.Illegal n) x = x
-of_part l lines p part.Undecided x = tt
+use Rattle.pif_parts.specs.Parts.{AreOfParts, IsOfPart, span_of}
 
 pub one_more : (l : Bounds) (lines : List Line) (ps : List Part) (vs : List PartVerdict) (p : Part) (v : PartVerdict)
     → AreOfParts l lines ps vs → IsOfPart l lines p v → AreOfParts l lines (ps ++ p ∷ []) (vs ++ v ∷ [])

@@ -2,15 +2,12 @@
 -- Lines are oldest first.
 use Rattle.std.specs.Prelude.{ℕ, ◌≡◌, List, [], ◌++◌, length, reverse}
 use Rattle.pif_types.specs.Bounds.{Bounds}
-use Rattle.pif_rules_model.specs.Sets.{no_rules}
 use Rattle.pif_history_model.specs.declared.lines.Line.{Line}
 use Rattle.pif_history_model.specs.Shown.{IsShown}
-use Rattle.pif_history_model.specs.Verdicts.{IsIllegal}
 use Rattle.pif_parts.specs.declared.joining.PartVerdict.{PartVerdict}
-use Rattle.pif_parts.specs.declared.joining.PartVerdict.TheVariants as part
 use Rattle.pif_parts.specs.declared.joining.WholeVerdict.{WholeVerdict}
 use Rattle.pif_parts.specs.declared.joining.WholeVerdict.TheVariants as whole
-use Rattle.pif_parts.specs.Parts.{IsOfWhole}
+use Rattle.pif_parts.specs.Parts.{IsOf, IsOfWhole}
 use Rattle.pif_parts.specs.declared.parts.Span.{Span}
 use Rattle.pif_parts.specs.Standing.{IsPast, StandFor}
 use Rattle.pif_parts_judged.specs.declared.following.Judged.{Judged}
@@ -40,9 +37,7 @@ span first count before = record { first = first; count = count; before = length
 
 -- this is so of these
 abbrev pub IsOfOpen : Bounds → Judged → (later : List Line) → PartVerdict → Type 0
-IsOfOpen l j later part.Legal = IsShown l (reverse (both j.before.items later))
-IsOfOpen l j later (part.Illegal n) = IsIllegal no_rules l (both j.before.items later) n
-IsOfOpen l j later part.Undecided = Unit {0}
+IsOfOpen l j later v = IsOf l (both j.before.items later) v
 
 -- the whole isn't legal, or it isn't known whether it is
 abbrev pub IsAgainst : WholeVerdict → Type 0

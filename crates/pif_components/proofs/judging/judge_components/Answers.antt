@@ -1,7 +1,7 @@
 use Rattle.std.proofs.Common.{reverse, subst, sym}
 use Rattle.std.specs.Prelude.{IfSome}
 use Rattle.pif_components.specs.Groups.{AreGroupsOf}
-use Rattle.pif_components.specs.Sides.{IsOf}
+use Rattle.pif_parts.specs.Parts.{IsOf}
 use Rattle.pif_components.proofs.JudgingLemmas.{all_judged}
 use Rattle.pif_components.proofs.judging.judge_components.Goals as goal
 

@@ -1,13 +1,11 @@
 use Rattle.std.proofs.Common.{List, ◌∙◌, subst}
 use Rattle.std.proofs.lemmas.Result.{IfOk-weaker}
 use Rattle.pif_history_model.specs.declared.lines.Line.{Line}
-use Rattle.pif_components.specs.Sides.{IsOf}
-use Rattle.pif_parts_judged.proofs.JudgedLemmas.{of_part}
+use Rattle.pif_parts.specs.Parts.{IsOf}
 use Rattle.pif_parts_judged.proofs.judging.judge_part.Goals as goal
 
 pub returns : goal.returns
 returns g c =
     IfOk-weaker c.judge_components.result _ _
-    (λ v x. of_part c.args.limits c.args.lines.now c.args.part.now v
-    (subst (λ (ys : List Line). IsOf c.args.limits ys v) (c.as_slice.ensures.value ∙ c.in_ok-all.ensures) x))
+    (λ v x. subst (λ (ys : List Line). IsOf c.args.limits ys v) (c.as_slice.ensures.value ∙ c.in_ok-all.ensures) x)
     c.judge_components.ensures
